@@ -1,0 +1,33 @@
+-- Writes into a buffer, element by element. Assumes nothing.
+use Prim.Native.Nat.{ℕ, suc, _+_, _≤_, _<_}
+use mathlib.Core.List.{List, [], _∷_, _++_, append-assoc}
+use mathlib.Core.Path.{_≡_, ap, _∙_}
+use native.Mathlib.Nat.{add-zero}
+use native.Mathlib.Numerals.{add-one}
+use native.Mathlib.Omega.{arith}
+use lib.ListN.{length, take, drop, set, length-append, length-take, length-drop, take-append-drop}
+use lib.Seq.{take-suc-set, drop-set-lt}
+use Rattle.buffer.specs.Bytes.{overwrite}
+
+-- writing nothing changes nothing
+pub overwrite-nil : (b : List ℕ) (o : ℕ) → overwrite b o [] ≡ b
+unfolding overwrite
+overwrite-nil b o = rw (add-zero, take-append-drop)
+
+-- a write is the write of its first element, and then of the others behind it
+pub overwrite-step : (b : List ℕ) (o x : ℕ) (xs : List ℕ) → o < length b → overwrite b o (x ∷ xs) ≡ overwrite (set b o x) (o + 1) xs
+unfolding overwrite
+overwrite-step b o x xs h =
+    let place : o + 1 + length xs ≡ o + suc (length xs) = omega arith in
+    let after : drop (o + 1 + length xs) (set b o x) ≡ drop (o + suc (length xs)) b =
+    drop-set-lt (o + 1 + length xs) b o x (omega arith) ∙ ap (λ (k : ℕ). drop k b) place in
+    rw (after, add-one, take-suc-set b o x h, append-assoc)
+
+-- the write of one element
+pub overwrite-one : (b : List ℕ) (o x : ℕ) → o < length b → overwrite b o (x ∷ []) ≡ set b o x
+overwrite-one b o x h = overwrite-step b o x [] h ∙ overwrite-nil (set b o x) (o + 1)
+
+-- a write that fits keeps the buffer's length
+pub length-overwrite : (b : List ℕ) (o : ℕ) (ys : List ℕ) → o + length ys ≤ length b → length (overwrite b o ys) ≡ length b
+unfolding overwrite
+length-overwrite b o ys h = simp (length-append, length-take, length-drop) (omega arith)

@@ -1,0 +1,2 @@
+pub mod LawsOrder
+pub mod LawsBytes

@@ -1,0 +1,5 @@
+pub mod LawsLength
+pub mod LawsForm
+pub mod LawsRead
+pub mod LawsReadFrom
+pub mod LawsWrite

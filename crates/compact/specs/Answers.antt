@@ -1,0 +1,18 @@
+-- What the answers of the code mean: 01's number and values for each of their cases.
+use Prim.Native.Nat.{ℕ}
+use Rattle.error.specs.Refusal.{Answer, accepted, refused}
+use Rattle.compact.specs.Uleb128.{Reading}
+use Rattle.compact.specs.declared.ReadUleb128.{ReadUleb128}
+use Rattle.compact.specs.declared.ReadUleb128.the-variants.{Value, Refused}
+use Rattle.compact.specs.declared.WriteUleb128.{WriteUleb128}
+use Rattle.compact.specs.declared.WriteUleb128.the-variants.{Written, Refused as NotWritten}
+
+-- The answer of `read_uleb128`.
+abbrev pub readAnswer : ReadUleb128 → Answer Reading
+readAnswer (Value value len) = accepted (record { value = value; len = len })
+readAnswer (Refused number) = refused number
+
+-- The answer of `write_uleb128_into`.
+abbrev pub writeAnswer : WriteUleb128 → Answer ℕ
+writeAnswer (Written len) = accepted len
+writeAnswer (NotWritten number) = refused number

@@ -1,0 +1,2 @@
+pub mod Uleb128
+pub mod Answers
