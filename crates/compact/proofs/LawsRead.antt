@@ -9,7 +9,7 @@ use native.Mathlib.Nat.{le-trans, div-lt-iff-lt-mul, pow-le-pow-right}
 use native.Mathlib.Omega.{arith}
 use borrow.Author.Tests.{lt-leb, le-leb, lt-ltb, le-ltb, ltb-false, not-false}
 use lib.Dec.{leb, ltb, lit<}
-use lib.ListN.{length, take, drop, getD}
+use lib.ListN.{length, take, drop, getD, length-take}
 use Rattle.error.specs.Refusal.{Answer, accepted, refused, refuseIf}
 use Rattle.error.proofs.LawsAnswer.{passed, accepted-inj, neither}
 use Rattle.buffer.proofs.LawsOrder.{lt-or-ge}
@@ -50,6 +50,7 @@ pub record Accepted (bs : List ℕ) (r : Reading) : Type 0 where
   pub value-below : r .value < 2 ^ 64
   pub len-pos : 1 ≤ r .len
   pub len-at-most : r .len ≤ 10
+  pub len-within : r .len ≤ length bs
 
 -- an accepted form's value and length, its bounds, and that it is the beginning of the bytes
 pub read-accepted : (bs : List ℕ) (r : Reading) → readUleb bs ≡ accepted r → Accepted bs r
@@ -60,6 +61,8 @@ read-accepted bs r e =
     let whole = not-false (isForm (formAt bs)) (short .0) in
     let same = accepted-inj (short .1) in
     let limits = bounded (formAt bs) (over .0) in
+    let cut = simp length-take at (ap length (formAt-take bs)) in
+    let within : length (formAt bs) ≤ length bs = omega arith in
     record {
       form = whole;
       kept = over .0;
@@ -69,6 +72,7 @@ read-accepted bs r e =
       value-below = rw (ap (λ (x : Reading). x .value) same) at (limits .1);
       len-pos = rw (ap (λ (x : Reading). x .len) same) at (form-pos (formAt bs) whole);
       len-at-most = rw (ap (λ (x : Reading). x .len) same) at (limits .0);
+      len-within = rw (ap (λ (x : Reading). x .len) same) at within;
     }
 
 -- a form that doesn't overflow reads as its value and length, whatever follows

@@ -1,6 +1,7 @@
 // Unsigned LEB128, the part of the source's compact.rs that the posting lists use.
 ghost use mathlib.Core.Path.{_≡_};
 ghost use lib.ListN.{length};
+ghost use Rattle.error.specs.Refusal.{refusalOf};
 ghost use Rattle.compact.specs.Uleb128.{piece, passes, readUleb, ulebLen, writeUleb, afterWrite};
 ghost use Rattle.compact.specs.Answers.{readAnswer, writeAnswer};
 use error::Refusal;
@@ -15,6 +16,30 @@ pub enum ReadUleb128 {
 pub enum WriteUleb128 {
     Written(usize),
     Refused(Refusal),
+}
+
+impl ReadUleb128 {
+    // The refusal's number, and 0 of a value.
+    pub fn refusal(self) -> Refusal
+        ensures { λ r. ⌜ r ≡ refusalOf (readAnswer self) ⌝ }
+    {
+        match self {
+            ReadUleb128::Value { value: _, len: _ } => 0,
+            ReadUleb128::Refused(number) => number,
+        }
+    }
+}
+
+impl WriteUleb128 {
+    // The refusal's number, and 0 of a length.
+    pub fn refusal(self) -> Refusal
+        ensures { λ r. ⌜ r ≡ refusalOf (writeAnswer self) ⌝ }
+    {
+        match self {
+            WriteUleb128::Written(_) => 0,
+            WriteUleb128::Refused(number) => number,
+        }
+    }
 }
 
 // The length of n's shortest form: 9 / 64 of a byte less for each leading zero comes out like 1 / 7 less, rounded.

@@ -16,6 +16,24 @@ unfoldable pub andThen : {A B : Type 0} → Answer A → (A → Answer B) → An
 andThen (accepted x) after = after x
 andThen (refused number) after = refused number
 
+-- The same answer in other words: a refusal stays, and a value is given as `f` of it.
+unfoldable pub answered : {A B : Type 0} → (A → B) → Answer A → Answer B
+answered f (accepted x) = accepted (f x)
+answered f (refused number) = refused number
+
+-- The number of a refusal, and 0 of values.
+abbrev pub refusalOf : {A : Type 0} → Answer A → ℕ
+refusalOf (accepted x) = 0
+refusalOf (refused number) = number
+
+-- The first or only number offered is 0.
+abbrev pub offeredFirstZero : ℕ
+offeredFirstZero = 12
+
+-- A number offered has bit 63 set.
+abbrev pub offeredBit63 : ℕ
+offeredBit63 = 13
+
 -- The bytes end before a ULEB128 form does.
 abbrev pub ulebCutShort : ℕ
 ulebCutShort = 17
@@ -24,6 +42,30 @@ ulebCutShort = 17
 abbrev pub ulebOverflow : ℕ
 ulebOverflow = 18
 
+-- A stored first number is 0.
+abbrev pub storedFirstZero : ℕ
+storedFirstZero = 20
+
+-- A stored difference is 0.
+abbrev pub storedDifferenceZero : ℕ
+storedDifferenceZero = 21
+
+-- A stored sum passes 2^64 - 1.
+abbrev pub storedSumOverflow : ℕ
+storedSumOverflow = 22
+
+-- A stored number has bit 63 set.
+abbrev pub storedBit63 : ℕ
+storedBit63 = 23
+
+-- A number offered isn't above the one before.
+abbrev pub offeredNotRising : ℕ
+offeredNotRising = 32
+
 -- What is to be written doesn't fit its destination.
 abbrev pub doesNotFit : ℕ
 doesNotFit = 33
+
+-- The lent list is too short.
+abbrev pub listTooShort : ℕ
+listTooShort = 34

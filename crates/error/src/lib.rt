@@ -4,9 +4,25 @@
 // A refusal is its number.
 pub type Refusal = u32;
 
+// The first or only number offered is 0.
+pub const OFFERED_FIRST_ZERO: Refusal = 12;
+// A number offered has bit 63 set.
+pub const OFFERED_BIT_63: Refusal = 13;
 // The bytes end before a ULEB128 form does.
 pub const ULEB_CUT_SHORT: Refusal = 17;
 // A ULEB128 form overflows 64 bits.
 pub const ULEB_OVERFLOW: Refusal = 18;
+// A stored first number is 0.
+pub const STORED_FIRST_ZERO: Refusal = 20;
+// A stored difference is 0.
+pub const STORED_DIFFERENCE_ZERO: Refusal = 21;
+// A stored sum passes 2^64 - 1.
+pub const STORED_SUM_OVERFLOW: Refusal = 22;
+// A stored number has bit 63 set.
+pub const STORED_BIT_63: Refusal = 23;
+// A number offered isn't above the one before.
+pub const OFFERED_NOT_RISING: Refusal = 32;
 // What is to be written doesn't fit its destination.
 pub const DOES_NOT_FIT: Refusal = 33;
+// The lent list is too short.
+pub const LIST_TOO_SHORT: Refusal = 34;
