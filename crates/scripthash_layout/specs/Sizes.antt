@@ -15,6 +15,14 @@ slabSlots c = 4 * 2 ^ c
 abbrev pub maxSlabClass : ℕ
 maxSlabClass = 7
 
+-- The bytes of the largest slab.
+abbrev pub maxSlabBytes : ℕ
+maxSlabBytes = 2048
+
+-- The most numbers that a slab may hold.
+abbrev pub maxSlabCount : ℕ
+maxSlabCount = 256
+
 -- The class of a page.
 abbrev pub pageClass : ℕ
 pageClass = 8

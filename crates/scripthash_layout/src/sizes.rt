@@ -8,6 +8,8 @@ pub const SH_SLAB_BASE: u32 = 4;
 pub const SH_SLAB_BASE_BYTES: u64 = 16;
 // The largest class of a slab.
 pub const SH_MAX_SLAB_CLASS: u8 = 7;
+// The bytes of the largest slab.
+pub const SH_MAX_SLAB_BYTES: usize = 2048;
 // The class of a page.
 pub const SH_PAGE_SLAB_CLASS: u8 = 8;
 // The bytes of a page.
@@ -17,11 +19,7 @@ pub const SH_PAGE_SIZE: usize = 4096;
 pub fn slab_cap(class: u8) -> u32
     ensures { λ r. ⌜ r ≡ whereBelow 32 (slabSlots class) ⌝ }
 {
-    if class < 30 {
-        SH_SLAB_BASE << class
-    } else {
-        0
-    }
+    if class < 30 { SH_SLAB_BASE << class } else { 0 }
 }
 
 // How many bytes a block of a class has, or 0 where that passes 64 bits.
