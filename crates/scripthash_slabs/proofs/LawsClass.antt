@@ -4,8 +4,8 @@ use mathlib.Core.Path.{_≡_, refl, sym, _∙_}
 use mathlib.Core.Bool.{Bool, true, false, cond, _&&_, false≢true}
 use mathlib.Core.Logic.{_⊎_, inl, inr, ⊎-elim, _↔_}
 use mathlib.Core.Option.{Option, none, some}
-use Prim.Native.Nat.{ℕ, zero, suc, _+_, _-_, _/_, _^_, _≤_, _<_}
-use native.Mathlib.Nat.{eq-or-lt-of-le, le-antisymm, le-of-suc-le-suc, le-refl, le-trans, lt-of-not-le, pow-suc}
+use Prim.Native.Nat.{ℕ, zero, suc, _+_, _-_, _*_, _/_, _^_, _≤_, _<_}
+use native.Mathlib.Nat.{eq-or-lt-of-le, le-antisymm, le-of-suc-le-suc, le-refl, le-trans, le-div-iff-mul-le, div-lt-iff-lt-mul, lt-of-not-le, mul-comm, pow-suc}
 use native.Mathlib.Omega.{arith}
 use native.Mathlib.Numerals.{add-one, lt-of-le-of-ne}
 use lib.Dec.{leb, lit≤}
@@ -148,6 +148,22 @@ module _ (rule : Rule) where
           let (c, f) = class-given n top (leb-true _ _ p) (leb-true _ _ q) s (le-trans (leb-true _ _ q) w) in
           let z : _≡_ {A = ℕ} 0 1 = cc in absurd (omega arith)
 
+  -- Where class c holds k * 2 ^ c, the class is the length in bits of (n - 1) / k: w bits less its leading zeros.
+  pub class-bits : (w k : ℕ) → 0 < k → ((c : ℕ) → rule .size c ≡ k * 2 ^ c) → rule .most ≤ rule .size maxSlabClass → (n : ℕ)
+      → 0 < n → rule .least ≤ n → n ≤ rule .most → (n - 1) / k < 2 ^ w → classFor rule n ≡ some (w - leadingZeros w ((n - 1) / k))
+  class-bits w k pos is room n one l h fits =
+      let a : ℕ = (n - 1) / k in
+      let (m, total, below, reached) = leading-length w a fits in
+      let same : w - leadingZeros w a ≡ m = omega arith in
+      let less : (d : ℕ) → d < m → rule .size d < n = λ d q.
+      let half : 2 ^ d ≤ a = let twice : 2 ^ suc d ≤ 2 ^ m = pow-mono q in omega (arith, pow-suc 2 d) in
+      let held : 2 ^ d * k ≤ n - 1 = le-div-iff-mul-le pos .0 half in
+      rw (is d, mul-comm k (2 ^ d)) (omega arith) in
+      let holds : n ≤ rule .size m =
+      let past : n - 1 < 2 ^ m * k = div-lt-iff-lt-mul pos .0 below in rw (is m, mul-comm k (2 ^ m)) (omega arith) in
+      let slab : m ≤ maxSlabClass = le-of-not-lt (λ q. let small : rule .size maxSlabClass < n = less maxSlabClass q in omega arith) in
+      rw same (is-class (record { low = l; high = h; slab = slab; holds = holds; smallest = less }))
+
 -- By bytes, none is answered exactly for 0 and above 2,048.
 pub bytes-none : (n : ℕ) → (classByBytes n ≡ none) ↔ ((n < 1) ⊎ (maxSlabBytes < n))
 bytes-none = class-none byBytes maxSlabClass (lit≤ tt) (lit≤ tt)
@@ -159,20 +175,6 @@ count-none = class-none byCount maxSlabClass (lit≤ tt) (lit≤ tt)
 -- By count, the largest class that is answered is 6.
 pub count-most : (n : ℕ) {c : ℕ} → classByCount n ≡ some c → c ≤ 6
 count-most n = class-most byCount n 6 (lit≤ tt)
-
--- By bytes, the class is the length in bits of (n - 1) / 16: 64 less its leading zeros.
-pub bytes-bits : (n : ℕ) → 1 ≤ n → n ≤ maxSlabBytes → classByBytes n ≡ some (64 - leadingZeros 64 ((n - 1) / 16))
-bytes-bits n l h =
-    let a : ℕ = (n - 1) / 16 in
-    let (m, total, below, from) = leading-length 64 a (omega arith) in
-    let same : 64 - leadingZeros 64 a ≡ m = omega arith in
-    rw same (is-class byBytes (record {
-      low = l;
-      high = h;
-      slab = le-of-not-lt (λ (q : 7 < m). let big : 2 ^ 8 ≤ 2 ^ m = pow-mono q in omega arith);
-      holds = omega arith;
-      smallest = λ d q. let twice : 2 ^ suc d ≤ 2 ^ m = pow-mono q in omega (arith, pow-suc 2 d);
-    }))
 
 -- With slack, the choice for n + 1 decides whether that for n is looked at.
 pub slack-of : (n : ℕ) (o : Option ℕ) → classByCount (n + 1) ≡ o → classWithSlack n ≡ orElse o (classByCount n)

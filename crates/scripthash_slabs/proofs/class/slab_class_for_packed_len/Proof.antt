@@ -1,11 +1,12 @@
 -- `slab_class_for_packed_len` answers the class by bytes: outside the range none, within it by the law on lengths in bits.
-use mathlib.Core.Path.{sym}
+use mathlib.Core.Path.{refl, sym}
 use Prim.Native.Nat.{_-_, _/_}
 use native.Mathlib.Omega.{arith}
+use lib.Dec.{lit≤}
 use lib.Count.{leading-le}
 use borrow.Author.Needs.{needs}
 use Rattle.scripthash_slabs.specs.Class.{byBytes}
-use Rattle.scripthash_slabs.proofs.LawsClass.{bytes-bits, class-above, class-below}
+use Rattle.scripthash_slabs.proofs.LawsClass.{class-above, class-below, class-bits}
 use Rattle.scripthash_slabs.proofs.class.slab_class_for_packed_len.Statement.{statement}
 use Rattle.scripthash_slabs.proofs.class.slab_class_for_packed_len.Tie as tie
 
@@ -25,7 +26,10 @@ cast-t7 : tie.Need-cast-t7
 cast-t7 c = search needs
 
 returns-3 : tie.Need-returns-3
-returns-3 c = sym (bytes-bits (c .before .before .args .len) (omega arith) (omega arith))
+returns-3 c =
+    sym
+    (class-bits byBytes 64 16 (lit≤ tt) (λ d. refl) (lit≤ tt) (c .before .before .args .len) (omega arith) (omega arith) (omega arith)
+    (omega arith))
 
 pub slab-class-for-packed-len-spec : {M : Type 1} → statement M
 slab-class-for-packed-len-spec = tie.close (tie.spec returns returns-2 sub-zeros sub-t6 cast-t7 returns-3)
