@@ -247,3 +247,11 @@ slack-none n = (go (classByCount (n + 1)) refl, λ h. slack-next n (other h) ∙
     next : (n < 1) ⊎ (maxSlabCount < n) → (n + 1 < 2) ⊎ (maxSlabCount < n + 1)
     next (inl h) = inl (omega arith)
     next (inr h) = inr (omega arith)
+
+-- With slack, a class is answered from 1 to 256.
+pub slack-given : (n : ℕ) → 1 ≤ n → n ≤ maxSlabCount → (c : ℕ) × (classWithSlack n ≡ some c)
+slack-given n l h = go (classWithSlack n) refl
+  where
+    go : (o : Option ℕ) → classWithSlack n ≡ o → (c : ℕ) × (o ≡ some c)
+    go (some c) q = (c, refl)
+    go none q = ⊎-elim (λ a. absurd (omega arith)) (λ a. absurd (omega arith)) (slack-none n .0 q)

@@ -1,18 +1,20 @@
 // The table of classes by count.
-// The table's entry for a count that no slab takes.
+
+// The entry for a count that no slab takes.
 pub const NO_CLASS: u8 = 255;
 
 // The class by count, for counts from 0 to 256.
 pub const CLASS_BY_COUNT: [u8; 257] = [
+    255, // 0 and 1: none
     255,
-    255,
+    0, // 2 to 4: class 0
     0,
     0,
-    0,
+    1, // 5 to 8: class 1
     1,
     1,
     1,
-    1,
+    2, // 9 to 16: class 2
     2,
     2,
     2,
@@ -20,7 +22,7 @@ pub const CLASS_BY_COUNT: [u8; 257] = [
     2,
     2,
     2,
-    2,
+    3, // 17 to 32: class 3
     3,
     3,
     3,
@@ -36,7 +38,7 @@ pub const CLASS_BY_COUNT: [u8; 257] = [
     3,
     3,
     3,
-    3,
+    4, // 33 to 64: class 4
     4,
     4,
     4,
@@ -68,7 +70,7 @@ pub const CLASS_BY_COUNT: [u8; 257] = [
     4,
     4,
     4,
-    4,
+    5, // 65 to 128: class 5
     5,
     5,
     5,
@@ -132,8 +134,7 @@ pub const CLASS_BY_COUNT: [u8; 257] = [
     5,
     5,
     5,
-    5,
-    6,
+    6, // 129 to 256: class 6
     6,
     6,
     6,

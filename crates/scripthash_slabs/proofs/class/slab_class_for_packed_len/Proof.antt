@@ -1,6 +1,5 @@
 -- `slab_class_for_packed_len` answers the class by bytes: outside the range none, within it by the law on lengths in bits.
 use mathlib.Core.Path.{refl, sym}
-use Prim.Native.Nat.{_-_, _/_}
 use native.Mathlib.Omega.{arith}
 use lib.Dec.{lit≤}
 use lib.Count.{leading-le}
@@ -20,7 +19,7 @@ sub-zeros : tie.Need-sub-zeros
 sub-zeros c = search needs
 
 sub-t6 : tie.Need-sub-t6
-sub-t6 c = leading-le 64 ((c .before .before .args .len - 1) / 16)
+sub-t6 c = leading-le 64 _
 
 cast-t7 : tie.Need-cast-t7
 cast-t7 c = search needs
