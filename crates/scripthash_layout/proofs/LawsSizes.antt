@@ -1,11 +1,11 @@
 -- Sizes that are a power of two at class 0: when they are below another power of two, how they grow, and what a shift makes of them.
 -- At j = 4 they are the bytes of a block, at j = 2 the slots of a slab.
-use mathlib.Core.Path.{_≡_, sym, _∙_}
+use mathlib.Core.Path.{_≡_, refl, sym, _∙_}
 use Prim.Native.Nat.{ℕ, _+_, _*_, _%_, _^_, _≤_, _<_}
 use native.Mathlib.Nat.{mod-eq-of-lt, mul-le-mul-left, mul-lt-mul-of-pos-left}
 use lib.Pow.{pow-add, pow-lt, pow-mono, pow-pos}
 use borrow.Author.Tests.{lt-ltb, le-ltb}
-use Rattle.scripthash_layout.specs.Sizes.{whereBelow}
+use Rattle.scripthash_layout.specs.Sizes.{slabBytes, maxSlabBytes, maxSlabClass, pageClass, pageSize, whereBelow}
 
 -- A number below 2 ^ k is answered as it is.
 pub where-below : (k n : ℕ) → n < 2 ^ k → whereBelow k n ≡ n
@@ -36,3 +36,11 @@ size-less j h = mul-lt-mul-of-pos-left (pow-lt h) (pow-pos j)
 -- A shift in k bits gives the size of class c where nothing is shifted out.
 pub shift-size : (j c k : ℕ) → j + c < k → (2 ^ j * 2 ^ c) % 2 ^ k ≡ whereBelow k (2 ^ j * 2 ^ c)
 shift-size j c k h = mod-eq-of-lt (size-below j c k h) ∙ sym (where-below k _ (size-below j c k h))
+
+-- The largest slab has the bytes that its class gives.
+pub max-slab-bytes : slabBytes maxSlabClass ≡ maxSlabBytes
+max-slab-bytes = refl
+
+-- A page has the bytes that its class gives.
+pub page-bytes : slabBytes pageClass ≡ pageSize
+page-bytes = refl

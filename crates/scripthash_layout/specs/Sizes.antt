@@ -7,7 +7,7 @@ use lib.Dec.{ltb}
 abbrev pub slabBytes : ℕ → ℕ
 slabBytes c = 16 * 2 ^ c
 
--- The slots of a slab of class c: how many numbers it may hold.
+-- The slots of a slab of class c: how many numbers it has room for by count.
 abbrev pub slabSlots : ℕ → ℕ
 slabSlots c = 4 * 2 ^ c
 
@@ -19,7 +19,7 @@ maxSlabClass = 7
 abbrev pub maxSlabBytes : ℕ
 maxSlabBytes = 2048
 
--- The most numbers that a slab may hold.
+-- The most numbers that any slab is given: longer lists have pages.
 abbrev pub maxSlabCount : ℕ
 maxSlabCount = 256
 

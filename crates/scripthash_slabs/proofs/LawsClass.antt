@@ -1,5 +1,5 @@
 -- What the choice of a class promises: it is the smallest that holds what it is chosen for, there is one exactly in the range, and it
--- grows with what is asked for. Each law is stated over the size of a class and the range; bytes and counts are its instances.
+-- grows with what is asked for. Each law is stated once for every rule of choosing; by bytes and by count are its instances.
 use mathlib.Core.Path.{_≡_, refl, sym, _∙_}
 use mathlib.Core.Bool.{Bool, true, false, cond, _&&_, false≢true}
 use mathlib.Core.Logic.{_⊎_, inl, inr, ⊎-elim, _↔_}
@@ -13,7 +13,7 @@ use lib.Pow.{pow-mono}
 use lib.Count.{leadingZeros, leading-length}
 use borrow.Author.Tests.{le-leb, lt-leb, leb-true, leb-false}
 use Rattle.scripthash_layout.specs.Sizes.{slabSlots, maxSlabBytes, maxSlabClass, maxSlabCount}
-use Rattle.scripthash_slabs.specs.Class.{Rule, firstClass, classFor, byBytes, byCount, classByBytes, classByCount, classWithSlack, orElse}
+use Rattle.scripthash_slabs.specs.Class.{Rule, firstClass, smallestClass, classFor, byBytes, byCount, classByBytes, classByCount, classWithSlack, orElse}
 
 -- What is not below a number is at least that number.
 le-of-not-lt : {a b : ℕ} → (a < b → ⊥) → b ≤ a
@@ -70,7 +70,7 @@ pub record Chosen (rule : Rule) (n c : ℕ) : Type 0 where
 
 module _ (rule : Rule) where
   -- Within the range the choice is the first class that holds n.
-  class-within : (n : ℕ) → rule .least ≤ n → n ≤ rule .most → classFor rule n ≡ firstClass (λ c. leb n (rule .size c)) 0 8
+  class-within : (n : ℕ) → rule .least ≤ n → n ≤ rule .most → classFor rule n ≡ smallestClass (λ c. leb n (rule .size c))
   unfolding classFor
   class-within n l h = simp (le-leb _ _ l, le-leb _ _ h)
 
@@ -84,7 +84,7 @@ module _ (rule : Rule) where
   unfolding classFor
   class-above n h = go (leb (rule .least) n)
     where
-      go : (b : Bool) → cond (b && leb n (rule .most)) (firstClass (λ c. leb n (rule .size c)) 0 8) none ≡ none
+      go : (b : Bool) → cond (b && leb n (rule .most)) (smallestClass (λ c. leb n (rule .size c))) none ≡ none
       go true = simp (lt-leb _ _ h)
       go false = refl
 
@@ -98,7 +98,7 @@ module _ (rule : Rule) where
   pub class-is : {n c : ℕ} → classFor rule n ≡ some c → Chosen rule n c
   class-is {n} {c} e =
       let (l, h) = in-range e in
-      let first = first-is (λ d. leb n (rule .size d)) 0 8 (sym (class-within n l h) ∙ e) in
+      let first = first-is (λ d. leb n (rule .size d)) 0 (maxSlabClass + 1) (sym (class-within n l h) ∙ e) in
       record {
         low = l;
         high = h;
@@ -115,7 +115,7 @@ module _ (rule : Rule) where
   -- Where a slab class holds n and n is in the range, a class is answered.
   pub class-given : (n d : ℕ) → rule .least ≤ n → n ≤ rule .most → d ≤ maxSlabClass → n ≤ rule .size d → (c : ℕ) × (classFor rule n ≡ some c)
   class-given n d l h s w =
-      let (c, e) = first-found (λ x. leb n (rule .size x)) 0 8 d (omega arith) (omega arith) (le-leb n (rule .size d) w) in
+      let (c, e) = first-found (λ x. leb n (rule .size x)) 0 (maxSlabClass + 1) d (omega arith) (omega arith) (le-leb n (rule .size d) w) in
       (c, class-within n l h ∙ e)
 
   -- The choice is answered.

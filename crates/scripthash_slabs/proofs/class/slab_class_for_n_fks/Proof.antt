@@ -1,7 +1,7 @@
 -- `slab_class_for_n_fks` answers the class by count: the table's entries are those that the definition gives, by a test that is computed
 -- over the whole table, and the entry for none is no class.
 use mathlib.Core.Path.{_≡_, refl, sym, _∙_}
-use mathlib.Core.List.{List, [], _++_}
+use mathlib.Core.List.{List, _++_}
 use mathlib.Core.Option.{Option, none, some}
 use Prim.Native.Nat.{ℕ, _≤_}
 use native.Mathlib.Omega.{arith}
@@ -13,7 +13,7 @@ use Rattle.scripthash_slabs.proofs.LawsTable.{entry-is}
 use Rattle.scripthash_slabs.proofs.class.slab_class_for_n_fks.Statement.{statement}
 use Rattle.scripthash_slabs.proofs.class.slab_class_for_n_fks.Tie as tie
 
--- The table: 255 for none, and the counts of each class.
+-- The table, by its runs: 255 for none, then each class as often as there are counts for it.
 table : List ℕ
 table =
     replicate 2 255 ++ (replicate 3 0 ++ (replicate 4 1 ++ (replicate 8 2 ++ (replicate 16 3 ++ (replicate 32 4 ++ (replicate 64 5
