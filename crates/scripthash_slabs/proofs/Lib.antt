@@ -1,0 +1,2 @@
+pub mod LawsClass
+pub mod LawsTable
