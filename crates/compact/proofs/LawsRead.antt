@@ -15,7 +15,7 @@ use Rattle.error.proofs.LawsAnswer.{passed, accepted-inj, neither}
 use Rattle.buffer.proofs.LawsOrder.{lt-or-ge}
 use Rattle.compact.specs.Uleb128.{Reading, piece, isForm, value, formAt, overflows, readForm, readUleb, ulebLen, shortest}
 use Rattle.compact.proofs.LawsLength.{len-at-most, length-shortest}
-use Rattle.compact.proofs.LawsForm.{value-below, piece-of-value, formAt-take, formAt-append, form-pos, value-shortest, form-shortest}
+use Rattle.compact.proofs.LawsForm.{value-below, piece-of-value, formAt-take, formAt-append, form-pos, value-shortest, form-shortest, len-least}
 
 -- ---- overflow
 
@@ -92,3 +92,7 @@ pub read-same : (bs rest : List ℕ) (r : Reading) → readUleb bs ≡ accepted 
 read-same bs rest r e =
     let a = read-accepted bs r e in
     rw (a .value-is, a .len-is, a .starts) at (read-form (formAt bs) rest (a .form) (a .kept))
+
+-- no form that reads as a number is shorter than its shortest
+pub read-least : (bs : List ℕ) (r : Reading) → readUleb bs ≡ accepted r → ulebLen (r .value) ≤ r .len
+read-least bs r e = let a = read-accepted bs r e in rw (a .value-is, a .len-is) at (len-least (formAt bs) (a .form))

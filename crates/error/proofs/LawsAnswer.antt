@@ -1,9 +1,9 @@
--- What an accepted answer tells of the tests that it passed. Assumes nothing.
+-- What an answer tells of the tests that it passed, and how answers go on. Assumes nothing.
 use Prim.Native.Nat.{ℕ}
 use native.Mathlib.Omega.{arith}
-use mathlib.Core.Bool.{Bool, true, false, _||_, false≢true, true≢false}
+use mathlib.Core.Bool.{Bool, true, false, _||_, true≢false}
 use mathlib.Core.Path.{_≡_, refl}
-use Rattle.error.specs.Refusal.{Answer, accepted, refused, refuseIf, andThen}
+use Rattle.error.specs.Refusal.{Answer, accepted, refused, refuseIf, andThen, answered}
 
 module _ {A : Type 0} where
   -- a refusal is no acceptance
@@ -20,11 +20,50 @@ module _ {A : Type 0} where
   passed true number after e = absurd (refused≢accepted e)
   passed false number after e = (refl, e)
 
+  -- a test that holds, and one that doesn't
+  pub refuse-yes : (test : Bool) (number : ℕ) (after : Answer A) → test ≡ true → refuseIf test number after ≡ refused number
+  unfolding refuseIf
+  refuse-yes test number after e = rw e
+
+  pub refuse-no : (test : Bool) (number : ℕ) (after : Answer A) → test ≡ false → refuseIf test number after ≡ after
+  unfolding refuseIf
+  refuse-no test number after e = rw e
+
+module _ {A B : Type 0} where
   -- a part that a call passed was accepted, and the call goes on as after it
-  pub went-on : {B : Type 0} (part : Answer B) (after : B → Answer A) {x : A} → andThen part after ≡ accepted x → (y : B) × (part ≡ accepted y) × (after y ≡ accepted x)
+  pub went-on : (part : Answer A) (after : A → Answer B) {x : B} → andThen part after ≡ accepted x → (y : A) × (part ≡ accepted y) × (after y ≡ accepted x)
   unfolding andThen
   went-on (accepted y) after e = (y, refl, e)
   went-on (refused number) after e = absurd (refused≢accepted e)
+
+  -- a part that is accepted, and one that is refused
+  pub then-yes : (part : Answer A) (after : A → Answer B) {x : A} → part ≡ accepted x → andThen part after ≡ after x
+  unfolding andThen
+  then-yes part after e = rw e
+
+  pub then-no : (part : Answer A) (after : A → Answer B) {number : ℕ} → part ≡ refused number → andThen part after ≡ refused number
+  unfolding andThen
+  then-no part after e = rw e
+
+  pub answered-yes : (f : A → B) (a : Answer A) {x : A} → a ≡ accepted x → answered f a ≡ accepted (f x)
+  unfolding answered
+  answered-yes f a e = rw e
+
+  pub answered-no : (f : A → B) (a : Answer A) {number : ℕ} → a ≡ refused number → answered f a ≡ refused number
+  unfolding answered
+  answered-no f a e = rw e
+
+-- other words for other words
+pub answered-answered : {A B C : Type 0} (g : B → C) (f : A → B) (a : Answer A) → answered g (answered f a) ≡ answered (λ x. g (f x)) a
+unfolding answered
+answered-answered g f (accepted x) = refl
+answered-answered g f (refused number) = refl
+
+-- the same words
+pub answered-same : {A : Type 0} (a : Answer A) → answered (λ x. x) a ≡ a
+unfolding answered
+answered-same (accepted x) = refl
+answered-same (refused number) = refl
 
 -- neither of two tests holds where their disjunction doesn't
 pub neither : (a b : Bool) → a || b ≡ false → (a ≡ false) × (b ≡ false)

@@ -1,2 +1,3 @@
 pub mod LawsClass
 pub mod LawsTable
+pub mod LawsScan

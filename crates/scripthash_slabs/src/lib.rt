@@ -1,8 +1,12 @@
-// Slabs of posting lists, the parts of the source's scripthash_slabs.rs that are ported.
+// Streams of rising numbers, slabs and their classes: the source's scripthash_slabs.rs.
 mod class;
+mod stream;
 
 pub use class::SH_MEGAKEY_MIN_FKS;
 pub use class::SlabClass;
 pub use class::slab_class_for_n_fks;
 pub use class::slab_class_for_n_fks_with_slack;
 pub use class::slab_class_for_packed_len;
+pub use stream::NextFk;
+pub use stream::ScanStream;
+pub use stream::StreamBytes;
