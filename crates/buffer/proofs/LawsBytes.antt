@@ -1,12 +1,12 @@
 -- Writes into a buffer, element by element. Assumes nothing.
-use Prim.Native.Nat.{ℕ, suc, _+_, _≤_, _<_}
+use Prim.Native.Nat.{ℕ, suc, _+_, _-_, _≤_, _<_}
 use mathlib.Core.List.{List, [], _∷_, _++_, append-assoc}
 use mathlib.Core.Path.{_≡_, ap, _∙_}
-use native.Mathlib.Nat.{add-zero}
+use native.Mathlib.Nat.{add-zero, le-of-eq}
 use native.Mathlib.Numerals.{add-one}
 use native.Mathlib.Omega.{arith}
 use lib.ListN.{length, take, drop, set, length-append, length-take, length-drop, take-append-drop}
-use lib.Seq.{take-suc-set, drop-set-lt}
+use lib.Seq.{take-suc-set, drop-set-lt, take-all}
 use Rattle.buffer.specs.Bytes.{overwrite}
 
 -- writing nothing changes nothing
@@ -31,3 +31,7 @@ overwrite-one b o x h = overwrite-step b o x [] h ∙ overwrite-nil (set b o x) 
 pub length-overwrite : (b : List ℕ) (o : ℕ) (ys : List ℕ) → o + length ys ≤ length b → length (overwrite b o ys) ≡ length b
 unfolding overwrite
 length-overwrite b o ys h = simp (length-append, length-take, length-drop) (omega arith)
+
+-- the part of a buffer from an offset to its end
+pub part-to-end : (b : List ℕ) (o : ℕ) → take (length b - o) (drop o b) ≡ drop o b
+part-to-end b o = take-all (length b - o) (drop o b) (le-of-eq (length-drop o b))

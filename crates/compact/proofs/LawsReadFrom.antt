@@ -1,5 +1,5 @@
 -- Reading resumed in the middle of a form, one law for each way on. Assumes nothing.
-use Prim.Native.Nat.{ℕ, zero, suc, _+_, _-_, _*_, _/_, _%_, _^_, _≤_, _<_}
+use Prim.Native.Nat.{ℕ, zero, suc, _+_, _-_, _*_, _/_, _%_, _^_, _≤_, _<_, zero-le, suc-le-suc}
 use mathlib.Core.Bool.{Bool, true, false, cond, not, _&&_, _||_, false≢true}
 use mathlib.Core.List.{List, [], _∷_}
 use mathlib.Core.Logic.{_⊎_, inl, inr, ⊎-elim}
@@ -134,6 +134,12 @@ module _ (buf : List ℕ) (i acc : ℕ) (h : i < length buf) where
 -- a first byte below 128 is a form by itself
 pub read-byte : (buf : List ℕ) → 0 < length buf → getD buf 0 0 < 128 → readUleb buf ≡ accepted (record { value = piece (getD buf 0 0); len = 1 })
 read-byte buf h k = sym (from-start buf) ∙ (simp (zero-add, mul-one) at (at-last buf 0 0 h refl k))
+
+-- the same at an offset
+pub read-byte-at : (buf : List ℕ) (off : ℕ) → off < length buf → getD buf off 0 < 128 → readUleb (drop off buf) ≡ accepted (record { value = getD buf off 0; len = 1 })
+read-byte-at buf off h k =
+    let small : getD buf off 0 % 128 ≡ getD buf off 0 = omega arith in
+    rw (drop-cons buf off 0 h) (rw small at (read-byte (getD buf off 0 ∷ drop (suc off) buf) (suc-le-suc zero-le) k))
 
 -- What a piece leaves room for: shifted to its place it keeps all its bits, and so does its sum with the pieces before it.
 pub record Room (i acc b : ℕ) : Type 0 where

@@ -2,7 +2,7 @@
 use Prim.Native.Nat.{ℕ}
 use native.Mathlib.Omega.{arith}
 use mathlib.Core.Bool.{Bool, true, false, _||_, true≢false}
-use mathlib.Core.Path.{_≡_, refl}
+use mathlib.Core.Path.{_≡_, refl, sym}
 use Rattle.error.specs.Refusal.{Answer, accepted, refused, refuseIf, andThen, answered}
 
 module _ {A : Type 0} where
@@ -53,11 +53,29 @@ module _ {A B : Type 0} where
   unfolding answered
   answered-no f a e = rw e
 
+module _ {A B : Type 0} where
+  -- an answer in other words was the answer
+  pub was-accepted : (f : A → B) (a : Answer A) {y : B} → answered f a ≡ accepted y → (x : A) × (a ≡ accepted x) × (f x ≡ y)
+  unfolding answered
+  was-accepted f (accepted x) e = (x, refl, accepted-inj e)
+  was-accepted f (refused number) e = absurd (refused≢accepted e)
+
+  pub was-refused : (f : A → B) (a : Answer A) {number : ℕ} → answered f a ≡ refused number → a ≡ refused number
+  unfolding answered
+  was-refused f (accepted x) e = absurd (refused≢accepted (sym e))
+  was-refused f (refused number) e = cc
+
 -- other words for other words
 pub answered-answered : {A B C : Type 0} (g : B → C) (f : A → B) (a : Answer A) → answered g (answered f a) ≡ answered (λ x. g (f x)) a
 unfolding answered
 answered-answered g f (accepted x) = refl
 answered-answered g f (refused number) = refl
+
+-- other words for what comes after a part
+pub answered-then : {A B C : Type 0} (f : B → C) (g : A → B) (a : Answer A) → answered f (andThen a (λ x. accepted (g x))) ≡ answered (λ x. f (g x)) a
+unfolding answered andThen
+answered-then f g (accepted x) = refl
+answered-then f g (refused number) = refl
 
 -- the same words
 pub answered-same : {A : Type 0} (a : Answer A) → answered (λ x. x) a ≡ a

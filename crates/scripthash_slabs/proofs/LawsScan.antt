@@ -69,6 +69,11 @@ pub next-is : (prev : ℕ) (bs : List ℕ) (d : Reading) → readUleb bs ≡ acc
 unfolding nextNumber
 next-is prev bs d e = then-yes (readUleb bs) (storedNumber prev) e
 
+-- one that doesn't read is refused
+pub next-refused : (prev : ℕ) (bs : List ℕ) {number : ℕ} → readUleb bs ≡ refused number → nextNumber prev bs ≡ refused number
+unfolding nextNumber
+next-refused prev bs e = then-no (readUleb bs) (storedNumber prev) e
+
 -- bytes after a number's form don't matter
 pub next-same : (prev : ℕ) (bs rest : List ℕ) (r : Reading) → nextNumber prev bs ≡ accepted r → nextNumber prev (take (r .len) bs ++ rest) ≡ accepted r
 next-same prev bs rest r e =

@@ -1,3 +1,6 @@
 pub mod LawsClass
 pub mod LawsTable
 pub mod LawsScan
+pub mod LawsStream
+pub mod LawsScanEnd
+pub mod LawsDecode

@@ -10,3 +10,5 @@ pub use class::slab_class_for_packed_len;
 pub use stream::NextFk;
 pub use stream::ScanStream;
 pub use stream::StreamBytes;
+pub use stream::decode_fk_delta_stream_into;
+pub use stream::scan_fk_delta_stream;

@@ -1,8 +1,17 @@
 // Streams of rising numbers: the first number, then the differences, each as a ULEB128 form.
 ghost use mathlib.Core.Path.{_≡_};
-ghost use Rattle.error.specs.Refusal.{refusalOf};
+ghost use Prim.Native.Nat.{_^_, _≤_, _<_};
+ghost use lib.ListN.{length, drop};
+ghost use Rattle.error.specs.Refusal.{Answer, accepted, answered, refusalOf};
+ghost use Rattle.compact.specs.Uleb128.{Reading};
+ghost use Rattle.buffer.specs.Bytes.{overwrite};
+ghost use Rattle.scripthash_slabs.specs.Stream.{Scan, End, storedNumber, nextNumber, endFrom, scan, decodeStream, afterDecode};
 ghost use Rattle.scripthash_slabs.specs.Answers.{nextAnswer, scanAnswer, bytesAnswer};
+use compact::ReadUleb128;
 use error::Refusal;
+
+// Bit 63, which no number of a stream has.
+const BIT_63: u64 = 0x8000_0000_0000_0000;
 
 // The next number of a stream and the length of its form, or a refusal.
 pub enum NextFk {
@@ -56,4 +65,107 @@ impl StreamBytes {
             StreamBytes::Refused(number) => number,
         }
     }
+}
+
+// A byte as a difference.
+fn wide(b: u8) -> u64
+    ensures { λ r. ⌜ r ≡ b ⌝ }
+{
+    b as u64
+}
+
+// The number that the stored difference d, whose form has a length, gives behind prev.
+fn stored_number(prev: u64, d: u64, len: usize) -> NextFk
+    requires { ⌜ prev < 2 ^ 63 ⌝ }
+    ensures { λ r. ⌜ nextAnswer r ≡ storedNumber prev (record { value = d; len = len }) ⌝ }
+{
+    if d == 0 {
+        if prev == 0 {
+            return NextFk::Refused(error::STORED_FIRST_ZERO);
+        }
+        return NextFk::Refused(error::STORED_DIFFERENCE_ZERO);
+    }
+    if 0xffff_ffff_ffff_ffff - prev < d {
+        return NextFk::Refused(error::STORED_SUM_OVERFLOW);
+    }
+    if BIT_63 <= prev + d {
+        return NextFk::Refused(error::STORED_BIT_63);
+    }
+    NextFk::Number { fk: prev + d, len }
+}
+
+// The number at an offset of a stream, behind prev. A form of one byte takes a short path.
+fn next_fk(buf: &[u8], off: usize, prev: u64) -> NextFk
+    requires { ⌜ (off ≤ length (now buf)) × (prev < 2 ^ 63) ⌝ }
+    ensures { λ r. ⌜ nextAnswer r ≡ nextNumber prev (drop off (now (buf .entry))) ⌝ }
+{
+    if off < buf.len() {
+        let d = wide(buf[off]);
+        if d < 128 {
+            return stored_number(prev, d, 1);
+        }
+    }
+    let got = compact::read_uleb128(&buf[off..]);
+    let ReadUleb128::Value { value, len } = got else {
+        return NextFk::Refused(got.refusal());
+    };
+    stored_number(prev, value, len)
+}
+
+// Scans a stream of n numbers at the start of buf: checks each, and tells where the stream ends.
+pub fn scan_fk_delta_stream(buf: &[u8], n: usize) -> ScanStream
+    ensures { λ r. ⌜ scanAnswer r ≡ answered (endFrom 0) (scan n (now (buf .entry))) ⌝ }
+{
+    let mut prev: u64 = 0;
+    let mut off: usize = 0;
+    let mut k: usize = 0;
+    while k < n {
+        let got = next_fk(buf, off, prev);
+        let NextFk::Number { fk, len } = got else {
+            return ScanStream::Refused(got.refusal());
+        };
+        prev = fk;
+        off += len;
+        k += 1;
+    }
+    ScanStream::Scanned {
+        taken: off,
+        last: prev,
+    }
+}
+
+// Writes the n numbers of a stream to the start of out; where the stream doesn't scan, it stops at the first number that it can't read.
+fn fill_fks(buf: &[u8], n: usize, out: &mut [u64])
+    requires { ⌜ n ≤ length (now out) ⌝ }
+    ensures { λ _. ⌜ ((s : Scan) → scan n (now (buf .entry)) ≡ accepted s → now (out .exit) ≡ overwrite (now (out .entry)) 0 (s .numbers)) ⌝ }
+{
+    let mut prev: u64 = 0;
+    let mut off: usize = 0;
+    let mut k: usize = 0;
+    while k < n {
+        let got = next_fk(buf, off, prev);
+        let NextFk::Number { fk, len } = got else {
+            return;
+        };
+        out[k] = fk;
+        prev = fk;
+        off += len;
+        k += 1;
+    }
+}
+
+// Reads a stream of n numbers at the start of buf into the start of out: one pass that checks, and one that writes.
+pub fn decode_fk_delta_stream_into(buf: &[u8], n: usize, out: &mut [u64]) -> StreamBytes
+    ensures answer { λ r. ⌜ bytesAnswer r ≡ answered (λ s. s .taken) (decodeStream (length (now (out .entry))) n (now (buf .entry))) ⌝ }
+    ensures list { λ r. ⌜ now (out .exit) ≡ afterDecode (now (out .entry)) (decodeStream (length (now (out .entry))) n (now (buf .entry))) ⌝ }
+{
+    let got = scan_fk_delta_stream(buf, n);
+    let ScanStream::Scanned { taken, last: _ } = got else {
+        return StreamBytes::Refused(got.refusal());
+    };
+    if out.len() < n {
+        return StreamBytes::Refused(error::LIST_TOO_SHORT);
+    }
+    fill_fks(buf, n, out);
+    StreamBytes::Bytes(taken)
 }
