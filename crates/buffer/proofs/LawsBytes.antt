@@ -1,12 +1,12 @@
 -- Writes into a buffer, element by element. Assumes nothing.
 use Prim.Native.Nat.{ℕ, suc, _+_, _-_, _≤_, _<_}
 use mathlib.Core.List.{List, [], _∷_, _++_, append-assoc}
-use mathlib.Core.Path.{_≡_, ap, _∙_}
+use mathlib.Core.Path.{_≡_, sym, ap, _∙_}
 use native.Mathlib.Nat.{add-zero, le-of-eq}
 use native.Mathlib.Numerals.{add-one}
 use native.Mathlib.Omega.{arith}
 use lib.ListN.{length, take, drop, set, length-append, length-take, length-drop, take-append-drop}
-use lib.Seq.{take-suc-set, drop-set-lt, take-all}
+use lib.Seq.{take-suc-set, drop-set-lt, take-all, take-take, take-add, drop-append-le, drop-drop}
 use Rattle.buffer.specs.Bytes.{overwrite}
 
 -- writing nothing changes nothing
@@ -35,3 +35,17 @@ length-overwrite b o ys h = simp (length-append, length-take, length-drop) (omeg
 -- the part of a buffer from an offset to its end
 pub part-to-end : (b : List ℕ) (o : ℕ) → take (length b - o) (drop o b) ≡ drop o b
 part-to-end b o = take-all (length b - o) (drop o b) (le-of-eq (length-drop o b))
+
+-- a write into a lent part of k elements from offset o on is a write into the whole
+pub overwrite-part : (b : List ℕ) (o k i : ℕ) (ys : List ℕ) → o + k ≤ length b → i + length ys ≤ k
+    → take o b ++ (overwrite (take k (drop o b)) i ys ++ drop k (drop o b)) ≡ overwrite b (o + i) ys
+unfolding overwrite
+overwrite-part b o k i ys h l =
+    let d = drop o b in
+    let long : k ≤ length d = simp length-drop (omega arith) in
+    let front : take i (take k d) ≡ take i d = take-take i k d (omega arith) in
+    let inside : i + length ys ≤ length (take k d) = simp length-take (omega arith) in
+    let back : drop (i + length ys) (take k d) ++ drop k d ≡ drop (i + length ys) d =
+        sym (drop-append-le (i + length ys) (take k d) (drop k d) inside) ∙ ap (drop (i + length ys)) (take-append-drop k d) in
+    let place : o + (i + length ys) ≡ o + i + length ys = omega arith in
+    rw (front, append-assoc, append-assoc, back, take-add o i b, append-assoc, ← place, ← (drop-drop (i + length ys) o b))

@@ -4,3 +4,4 @@ pub mod LawsScan
 pub mod LawsStream
 pub mod LawsScanEnd
 pub mod LawsDecode
+pub mod LawsEncode

@@ -12,3 +12,4 @@ pub use stream::ScanStream;
 pub use stream::StreamBytes;
 pub use stream::decode_fk_delta_stream_into;
 pub use stream::scan_fk_delta_stream;
+pub use stream::encode_fk_delta_stream_into;
