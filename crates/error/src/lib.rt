@@ -8,5 +8,19 @@ pub type Refusal = u32;
 pub const ULEB_CUT_SHORT: Refusal = 17;
 // A ULEB128 form overflows 64 bits.
 pub const ULEB_OVERFLOW: Refusal = 18;
+// An inline head has used other than 1.
+pub const INLINE_USED_NOT_ONE: Refusal = 24;
+// An inline head exceeds 2^62 - 1.
+pub const INLINE_TOO_LARGE: Refusal = 25;
+// A slab head has offset above 2^40 - 1 or class above 63.
+pub const SLAB_FIELD_TOO_LARGE: Refusal = 26;
+// An extent head is 0 or above 2^62 - 1.
+pub const EXTENT_OUT_OF_RANGE: Refusal = 27;
+// A stored slab head has used 0 or 1.
+pub const SLAB_USED_TOO_SMALL: Refusal = 28;
+// The mode is 2.
+pub const MODE_TWO: Refusal = 29;
+// Mode 3 has payload 0.
+pub const EXTENT_PAYLOAD_ZERO: Refusal = 30;
 // What is to be written doesn't fit its destination.
 pub const DOES_NOT_FIT: Refusal = 33;

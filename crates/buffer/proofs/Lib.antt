@@ -1,0 +1,2 @@
+pub mod LawsLittleEndian
+pub mod LawsOverwrite
