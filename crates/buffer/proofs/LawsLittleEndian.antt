@@ -18,20 +18,17 @@ bytes-tail b bs h i p = h (suc i) (omega arith)
 
 -- A number's k lowest bytes are k.
 pub length-bytesOf : (k n : ℕ) → length (bytesOf k n) ≡ k
-unfolding bytesOf
 length-bytesOf zero n = refl
 length-bytesOf (suc k) n = ap suc (length-bytesOf k (n / 256))
 
 -- They are bytes.
 pub bytesOf-bytes : (k n : ℕ) → AreBytes (bytesOf k n)
-unfolding bytesOf
 bytesOf-bytes zero n i p = omega arith
 bytesOf-bytes (suc k) n zero p = omega arith
 bytesOf-bytes (suc k) n (suc i) p = bytesOf-bytes k (n / 256) i (omega arith)
 
 -- A number's k lowest bytes hold its remainder by 256 to the power k.
 pub littleEndian-bytesOf-mod : (k n : ℕ) → littleEndian (bytesOf k n) ≡ n % 256 ^ k
-unfolding littleEndian bytesOf
 littleEndian-bytesOf-mod zero n = omega arith
 littleEndian-bytesOf-mod (suc k) n =
     let pos : 0 < 256 ^ k = one-le-pow k 256 (omega arith) in
@@ -43,7 +40,6 @@ littleEndian-bytesOf k n h = littleEndian-bytesOf-mod k n ∙ mod-eq-of-lt h
 
 -- Bytes hold a number below 256 to the power of their count.
 pub littleEndian-below : (bs : List ℕ) → AreBytes bs → littleEndian bs < 256 ^ length bs
-unfolding littleEndian
 littleEndian-below [] h = omega arith
 littleEndian-below (b ∷ bs) h =
     let p : b < 256 = bytes-head b bs h in
@@ -52,7 +48,6 @@ littleEndian-below (b ∷ bs) h =
 
 -- Of a number, as many of its bytes hold it back as there are in them: the bytes of what bytes hold are those bytes.
 pub bytesOf-littleEndian : (bs : List ℕ) → AreBytes bs → bytesOf (length bs) (littleEndian bs) ≡ bs
-unfolding littleEndian bytesOf
 bytesOf-littleEndian [] h = refl
 bytesOf-littleEndian (b ∷ bs) h =
     let p : b < 256 = bytes-head b bs h in

@@ -92,11 +92,11 @@ overwrite-adjoin b o ys zs h =
     let count : o + length ys + length zs ≡ o + length (ys ++ zs) = omega (arith, length-append ys zs) in
     let joined : take o b ++ (ys ++ rest) ≡ take o b ++ ys ++ rest = sym (append-assoc (take o b) ys rest) in
     let before : take (o + length ys) (take o b ++ (ys ++ rest)) ≡ take o b ++ ys =
-      ap (λ (l : List ℕ). take (o + length ys) l) joined ∙ take-at (take o b ++ ys) rest (o + length ys) front in
+    ap (λ (l : List ℕ). take (o + length ys) l) joined ∙ take-at (take o b ++ ys) rest (o + length ys) front in
     let after : drop (o + length ys + length zs) (take o b ++ (ys ++ rest)) ≡ drop (o + length (ys ++ zs)) b =
-      ap (λ (l : List ℕ). drop (o + length ys + length zs) l) joined
-      ∙ ap (λ (k : ℕ). drop (k + length zs) (take o b ++ ys ++ rest)) (sym front)
-      ∙ drop-append-add (take o b ++ ys) rest (length zs)
-      ∙ drop-drop (length zs) (o + length ys) b
-      ∙ ap (λ (k : ℕ). drop k b) count in
+    ap (λ (l : List ℕ). drop (o + length ys + length zs) l) joined
+    ∙ ap (λ (k : ℕ). drop (k + length zs) (take o b ++ ys ++ rest)) (sym front)
+    ∙ drop-append-add (take o b ++ ys) rest (length zs)
+    ∙ drop-drop (length zs) (o + length ys) b
+    ∙ ap (λ (k : ℕ). drop k b) count in
     rw (before, after) (simp append-assoc)

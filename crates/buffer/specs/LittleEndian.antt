@@ -4,12 +4,12 @@ use mathlib.Core.List.{List, [], _∷_}
 use lib.ListN.{length, getD}
 
 -- The number that bytes hold: each byte counts 256 times as much as the one before it.
-unfoldable pub littleEndian : List ℕ → ℕ
+abbrev pub littleEndian : List ℕ → ℕ
 littleEndian [] = 0
 littleEndian (b ∷ bs) = b + 256 * littleEndian bs
 
 -- The k lowest bytes of a number.
-unfoldable pub bytesOf : ℕ → ℕ → List ℕ
+abbrev pub bytesOf : ℕ → ℕ → List ℕ
 bytesOf zero n = []
 bytesOf (suc k) n = n % 256 ∷ bytesOf k (n / 256)
 
