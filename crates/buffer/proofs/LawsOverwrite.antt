@@ -20,10 +20,32 @@ pub part-whole : (b : List ℕ) → part b 0 (length b) ≡ b
 unfolding part
 part-whole b = take-length b
 
+-- A part of no elements is empty.
+pub part-none : (b : List ℕ) (o : ℕ) → part b o 0 ≡ []
+unfolding part
+part-none b o = refl
+
 -- A part is its first element and the part after it.
 pub part-step : (b : List ℕ) (o n : ℕ) → o < length b → part b o (n + 1) ≡ getD b o 0 ∷ part b (o + 1) n
 unfolding part
 part-step b o n h = rw (add-one n, drop-cons b o 0 h, add-one o)
+
+-- The k elements of a buffer from offset o on, read one by one.
+abbrev pub listed : ℕ → List ℕ → ℕ → List ℕ
+listed zero b o = []
+listed (suc k) b o = getD b o 0 ∷ listed k b (o + 1)
+
+-- A part that lies in the buffer is its elements, read one by one.
+pub part-listed : (k : ℕ) (b : List ℕ) (o : ℕ) → o + k ≤ length b → part b o k ≡ listed k b o
+part-listed zero b o h = part-none b o
+part-listed (suc k) b o h =
+    ap (λ (n : ℕ). part b o n) (sym (add-one k)) ∙ part-step b o k (omega arith)
+    ∙ ap (λ (l : List ℕ). getD b o 0 ∷ l) (part-listed k b (o + 1) (omega arith))
+
+-- A buffer of length k is its elements, read one by one.
+pub whole-listed : (k : ℕ) (b : List ℕ) → length b ≡ k → b ≡ listed k b 0
+whole-listed k b e =
+    sym (part-whole b) ∙ ap (λ (n : ℕ). part b 0 n) e ∙ part-listed k b 0 (omega arith)
 
 -- A part of what follows offset o.
 part-drop : (b : List ℕ) (o i n : ℕ) → part (drop o b) i n ≡ part b (o + i) n
