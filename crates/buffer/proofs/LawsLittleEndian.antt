@@ -1,18 +1,21 @@
 -- Laws of little-endian numbers, each over the width: what is written in k bytes is read back.
--- All but one go by induction on the bytes or on their count.
-use mathlib.Core.Path.{_≡_, refl, ap, sym, _∙_}
-use mathlib.Core.List.{List, [], _∷_, _++_}
-use Prim.Native.Nat.{ℕ, zero, suc, _+_, _*_, _/_, _%_, _^_, _<_, _≤_}
+-- Most go by induction on the bytes or on their count.
+use mathlib.Core.Path.{_≡_, refl, ap, _∙_}
+use mathlib.Core.List.{List, [], _∷_}
+use Prim.Native.Nat.{ℕ, zero, suc, _+_, _-_, _*_, _/_, _%_, _^_, _<_, min}
 use native.Mathlib.Nat.{pow-suc, one-le-pow, mod-eq-of-lt}
-use lib.Arith.{mod-mul}
 use native.Mathlib.Omega.{arith}
-use lib.ListN.{length, getD}
+use lib.Arith.{mod-mul}
+use lib.ListN.{length, getD, drop, length-take, length-drop}
+use lib.Seq.{getD-take, getD-drop}
+use Rattle.buffer.specs.Bytes.{part}
 use Rattle.buffer.specs.LittleEndian.{littleEndian, bytesOf, AreBytes}
 
--- The first of several bytes is a byte, and the rest are bytes.
+-- The first of several bytes is a byte.
 pub bytes-head : (b : ℕ) (bs : List ℕ) → AreBytes (b ∷ bs) → b < 256
 bytes-head b bs h = h 0 (omega arith)
 
+-- The rest are bytes.
 pub bytes-tail : (b : ℕ) (bs : List ℕ) → AreBytes (b ∷ bs) → AreBytes bs
 bytes-tail b bs h i p = h (suc i) (omega arith)
 
@@ -46,7 +49,7 @@ littleEndian-below (b ∷ bs) h =
     let q : littleEndian bs < 256 ^ length bs = littleEndian-below bs (bytes-tail b bs h) in
     omega (arith, pow-suc 256 (length bs))
 
--- Of a number, as many of its bytes hold it back as there are in them: the bytes of what bytes hold are those bytes.
+-- The bytes of the number that bytes hold are those bytes.
 pub bytesOf-littleEndian : (bs : List ℕ) → AreBytes bs → bytesOf (length bs) (littleEndian bs) ≡ bs
 bytesOf-littleEndian [] h = refl
 bytesOf-littleEndian (b ∷ bs) h =
@@ -54,3 +57,10 @@ bytesOf-littleEndian (b ∷ bs) h =
     let low : (b + 256 * littleEndian bs) % 256 ≡ b = omega arith in
     let high : (b + 256 * littleEndian bs) / 256 ≡ littleEndian bs = omega arith in
     rw (low, high) (ap (λ (l : List ℕ). b ∷ l) (bytesOf-littleEndian bs (bytes-tail b bs h)))
+
+-- A part of bytes is bytes.
+pub part-bytes : (b : List ℕ) (o n : ℕ) → AreBytes b → AreBytes (part b o n)
+unfolding part
+part-bytes b o n h i p =
+    let q : i < min n (length b - o) = simp (length-take, length-drop) at p in
+    rw (getD-take n (drop o b) i 0 (omega arith), getD-drop o b i 0) (h (o + i) (omega arith))

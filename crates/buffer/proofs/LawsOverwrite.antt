@@ -7,7 +7,7 @@ use native.Mathlib.Nat.{add-zero, add-assoc}
 use native.Mathlib.Numerals.{add-one}
 use native.Mathlib.Omega.{arith}
 use lib.ListN.{length, getD, take, drop, length-append, length-take, length-drop, take-append-drop}
-use lib.Seq.{length-take-le, take-length, take-append-le, drop-append-le, take-append-add, drop-append-add, drop-at, take-at, drop-cons, drop-drop, take-take}
+use lib.Seq.{length-take-le, take-length, take-append-le, drop-append-le, drop-append-add, take-at, drop-cons, drop-drop}
 use Rattle.buffer.specs.Bytes.{part, overwrite}
 
 -- A part that lies in the buffer is as long as asked.

@@ -1,27 +1,142 @@
 -- Laws of the head word: what was packed is unpacked again, and what was unpacked packs to the same word. Each goes by
 -- the value's case or by the word's mode, and the fields come apart by division.
-use mathlib.Core.Path.{_≡_, refl, ap, sym, _∙_}
+use mathlib.Core.Path.{_≡_, refl, ap}
 use mathlib.Core.Bool.{Bool, true, false, cond, _||_}
-use mathlib.Core.Logic.{⊎-elim}
-use Prim.Native.Nat.{ℕ, _+_, _*_, _/_, _%_, _^_, _<_, _≤_}
+use Prim.Native.Nat.{ℕ, zero, suc, _^_, _<_}
 use native.Mathlib.Omega.{arith}
 use lib.Dec.{leb, eqb}
-use borrow.Author.Tests.{leb-true, leb-false, eqb-true, eqb-false, lt-leb, le-leb, eq-eqb, ne-eqb}
-use Rattle.error.specs.Refusal.{Answer, accepted, refused, slabUsedTooSmall, modeTwo}
+use borrow.Author.Tests.{leb-false, eqb-true, eqb-false, lt-leb, ne-eqb}
+use Rattle.error.proofs.LawsAnswer.{accepted-same, refused-never, accepted-unless, accepted-if, neither}
+use Rattle.error.specs.Refusal.{Answer, accepted, refused, inlineUsedNotOne, inlineTooLarge, slabFieldTooLarge, extentOutOfRange, slabUsedTooSmall, extentPayloadZero}
 use Rattle.scripthash_layout.specs.declared.head.ShHeadValue.{ShHeadValue}
 use Rattle.scripthash_layout.specs.declared.head.ShHeadValue.the-variants.{Empty, Inline, Slab, Extent}
-use Rattle.scripthash_layout.specs.Head.{modeOf, payloadOf, offsetOf, usedOf, classOf, slabWord, extentWord, packHead, unpackHead}
+use Rattle.scripthash_layout.specs.Head.{modeOf, payloadOf, offsetOf, usedOf, classOf, slabWord, extentWord, packHead, unpackHead, readBack, InType}
 
--- S8: class 2, used 5, offset 4,096.
-s8 : packHead (Slab 2 5 4096) ≡ accepted 4755806878489284608
+-- What a packed inline number, slab or extent says of its fields and of its word.
+packed-inline : (entry used w : ℕ) → packHead (Inline entry used) ≡ accepted w
+    → (used ≡ 1) × ((entry < 2 ^ 62) × (entry ≡ w))
 unfolding packHead
-s8 = refl
+packed-inline entry used w e =
+    let inner : Answer ℕ = cond (leb (2 ^ 62) entry) (refused inlineTooLarge) (accepted entry) in
+    let one : (eqb used 1 ≡ true) × (inner ≡ accepted w) = accepted-if (eqb used 1) inlineUsedNotOne inner e in
+    let small : (leb (2 ^ 62) entry ≡ false) × (accepted entry ≡ accepted w) =
+    accepted-unless (leb (2 ^ 62) entry) inlineTooLarge (accepted entry) (one .1) in
+    (eqb-true _ _ (one .0), (leb-false _ _ (small .0), accepted-same (small .1)))
 
-s8-back : unpackHead 4755806878489284608 ≡ accepted (Slab 2 5 4096)
-unfolding unpackHead
-s8-back = refl
+packed-slab : (class used off w : ℕ) → packHead (Slab class used off) ≡ accepted w
+    → (off < 2 ^ 40) × ((class < 2 ^ 6) × (slabWord class used off ≡ w))
+unfolding packHead
+packed-slab class used off w e =
+    let small : ((leb (2 ^ 40) off || leb (2 ^ 6) class) ≡ false) × (accepted (slabWord class used off) ≡ accepted w) =
+    accepted-unless (leb (2 ^ 40) off || leb (2 ^ 6) class) slabFieldTooLarge (accepted (slabWord class used off)) e in
+    let both : (leb (2 ^ 40) off ≡ false) × (leb (2 ^ 6) class ≡ false) = neither _ _ (small .0) in
+    (leb-false _ _ (both .0), (leb-false _ _ (both .1), accepted-same (small .1)))
 
--- S9.
-s9 : unpackHead 9223372036854775808 ≡ refused 29
+packed-extent : (last w : ℕ) → packHead (Extent last) ≡ accepted w
+    → (last ≡ 0 → ⊥) × ((last < 2 ^ 62) × (extentWord last ≡ w))
+unfolding packHead
+packed-extent last w e =
+    let good : ((eqb last 0 || leb (2 ^ 62) last) ≡ false) × (accepted (extentWord last) ≡ accepted w) =
+    accepted-unless (eqb last 0 || leb (2 ^ 62) last) extentOutOfRange (accepted (extentWord last)) e in
+    let both : (eqb last 0 ≡ false) × (leb (2 ^ 62) last ≡ false) = neither _ _ (good .0) in
+    (eqb-false _ _ (both .0), (leb-false _ _ (both .1), accepted-same (good .1)))
+
+-- A packed word has 64 bits.
+pub packed-below : (v : ShHeadValue) (w : ℕ) → InType v → packHead v ≡ accepted w → w < 2 ^ 64
+unfolding packHead
+packed-below Empty w t e = omega (arith, accepted-same e)
+packed-below (Inline entry used) w t e = omega (arith, packed-inline entry used w e)
+packed-below (Slab class used off) w t e = omega (arith, packed-slab class used off w e)
+packed-below (Extent last) w t e = omega (arith, packed-extent last w e)
+
+-- The word of a slab is not 0.
+pub slab-not-zero : (class used off w : ℕ) → packHead (Slab class used off) ≡ accepted w → 0 < w
+slab-not-zero class used off w e = omega (arith, packed-slab class used off w e)
+
+-- The word of pages is not 0.
+pub extent-not-zero : (last w : ℕ) → packHead (Extent last) ≡ accepted w → 0 < w
+extent-not-zero last w e = omega (arith, packed-extent last w e)
+
+-- An inline number is read back from its word, 0 as nothing.
+unpack-inline : (entry : ℕ) → entry < 2 ^ 62 → unpackHead entry ≡ accepted (cond (eqb entry 0) Empty (Inline entry 1))
 unfolding unpackHead
-s9 = refl
+unpack-inline entry h =
+    let mode : modeOf entry ≡ 0 = omega arith in
+    rw mode
+
+-- A slab's fields are read back from its word.
+unpack-slab : (class used off : ℕ) → off < 2 ^ 40 → used < 2 ^ 16 → class < 2 ^ 6
+    → unpackHead (slabWord class used off) ≡ readBack (Slab class used off)
+unfolding unpackHead
+unpack-slab class used off ho hu hc =
+    let mode : modeOf (slabWord class used off) ≡ 1 = omega arith in
+    let used-back : usedOf (slabWord class used off) ≡ used = omega arith in
+    let class-back : classOf (slabWord class used off) ≡ class = omega arith in
+    let off-back : offsetOf (slabWord class used off) ≡ off = omega arith in
+    rw (mode, used-back, class-back, off-back)
+
+-- A last page's offset is read back from its word.
+unpack-extent : (last : ℕ) → (last ≡ 0 → ⊥) → last < 2 ^ 62 → unpackHead (extentWord last) ≡ accepted (Extent last)
+unfolding unpackHead
+unpack-extent last nz h =
+    let mode : modeOf (extentWord last) ≡ 3 = omega arith in
+    let back : payloadOf (extentWord last) ≡ last = omega arith in
+    rw (mode, back, ne-eqb last 0 nz)
+
+-- What was packed is unpacked as `readBack` says.
+pub unpack-packed : (v : ShHeadValue) (w : ℕ) → InType v → packHead v ≡ accepted w → unpackHead w ≡ readBack v
+unfolding packHead
+unpack-packed Empty w t e = rw (← accepted-same e) (unpack-inline 0 (omega arith))
+unpack-packed (Inline entry used) w t e =
+    let p : (used ≡ 1) × ((entry < 2 ^ 62) × (entry ≡ w)) = packed-inline entry used w e in
+    rw (p .0, ← p .1 .1) (unpack-inline entry (p .1 .0))
+unpack-packed (Slab class used off) w t e =
+    let p : (off < 2 ^ 40) × ((class < 2 ^ 6) × (slabWord class used off ≡ w)) = packed-slab class used off w e in
+    rw (← p .1 .1) (unpack-slab class used off (p .0) (t .1 .0) (p .1 .0))
+unpack-packed (Extent last) w t e =
+    let p : (last ≡ 0 → ⊥) × ((last < 2 ^ 62) × (extentWord last ≡ w)) = packed-extent last w e in
+    rw (← p .1 .1) (unpack-extent last (p .0) (p .1 .0))
+
+-- A word of mode 0 packs again from what it was unpacked as.
+pack-mode0 : (w : ℕ) (v : ShHeadValue) (empty : Bool) → eqb w 0 ≡ empty → w < 2 ^ 62
+    → accepted (cond empty Empty (Inline w 1)) ≡ accepted v → packHead v ≡ accepted w
+unfolding packHead
+pack-mode0 w v true z h e = rw (← accepted-same e, eqb-true w 0 z)
+pack-mode0 w v false z h e = rw (← accepted-same e, lt-leb (2 ^ 62) w h)
+
+-- A word of mode 1 packs again from what it was unpacked as.
+pack-mode1 : (w : ℕ) (v : ShHeadValue) → modeOf w ≡ 1
+    → cond (leb (usedOf w) 1) (refused slabUsedTooSmall) (accepted (Slab (classOf w) (usedOf w) (offsetOf w))) ≡ accepted v
+    → packHead v ≡ accepted w
+unfolding packHead
+pack-mode1 w v m e =
+    let p = accepted-unless (leb (usedOf w) 1) slabUsedTooSmall (accepted (Slab (classOf w) (usedOf w) (offsetOf w))) e in
+    let off : offsetOf w < 2 ^ 40 = omega arith in
+    let class : classOf w < 2 ^ 6 = omega arith in
+    let word : slabWord (classOf w) (usedOf w) (offsetOf w) ≡ w = omega arith in
+    rw (← accepted-same (p .1), lt-leb _ _ off, lt-leb _ _ class) (ap accepted word)
+
+-- A word of mode 3 packs again from what it was unpacked as.
+pack-mode3 : (w : ℕ) (v : ShHeadValue) → modeOf w ≡ 3
+    → cond (eqb (payloadOf w) 0) (refused extentPayloadZero) (accepted (Extent (payloadOf w))) ≡ accepted v
+    → packHead v ≡ accepted w
+unfolding packHead
+pack-mode3 w v m e =
+    let p = accepted-unless (eqb (payloadOf w) 0) extentPayloadZero (accepted (Extent (payloadOf w))) e in
+    let small : payloadOf w < 2 ^ 62 = omega arith in
+    let word : extentWord (payloadOf w) ≡ w = omega arith in
+    rw (← accepted-same (p .1), p .0, lt-leb _ _ small) (ap accepted word)
+
+-- The same of a word of any mode.
+pack-by-mode : (mode w : ℕ) (v : ShHeadValue) → modeOf w ≡ mode → w < 2 ^ 64 → unpackHead w ≡ accepted v
+    → packHead v ≡ accepted w
+unfolding unpackHead
+pack-by-mode zero w v m h e = pack-mode0 w v (eqb w 0) refl (omega arith) (rw m at e)
+pack-by-mode (suc zero) w v m h e = pack-mode1 w v m (rw m at e)
+pack-by-mode (suc (suc zero)) w v m h e = absurd (refused-never (rw m at e))
+pack-by-mode (suc (suc (suc zero))) w v m h e = pack-mode3 w v m (rw m at e)
+pack-by-mode (suc (suc (suc (suc k)))) w v m h e = absurd (omega arith)
+
+-- What a word was unpacked as packs to the same word.
+pub pack-unpacked : (w : ℕ) (v : ShHeadValue) → w < 2 ^ 64 → unpackHead w ≡ accepted v → packHead v ≡ accepted w
+pack-unpacked w v h e = pack-by-mode (modeOf w) w v refl h e

@@ -1,5 +1,5 @@
 -- The head word of a key (document 01, "Head word"): 64 bits, of which the top two, the mode, choose what the others are.
-use Prim.Native.Nat.{ℕ, _+_, _*_, _/_, _%_, _^_}
+use Prim.Native.Nat.{ℕ, _+_, _*_, _/_, _%_, _^_, _<_}
 use mathlib.Core.Bool.{cond, _||_}
 use mathlib.Core.List.{List}
 use lib.Dec.{leb, eqb}
@@ -54,6 +54,20 @@ unpackHead w =
     (cond (leb (usedOf w) 1) (refused slabUsedTooSmall) (accepted (Slab (classOf w) (usedOf w) (offsetOf w))))
     (cond (eqb (modeOf w) 2) (refused modeTwo)
     (cond (eqb (payloadOf w) 0) (refused extentPayloadZero) (accepted (Extent (payloadOf w))))))
+
+-- Each field of a head value is within its type.
+abbrev pub InType : ShHeadValue → Type 0
+InType Empty = Unit
+InType (Inline entry used) = (entry < 2 ^ 64) × (used < 2 ^ 8)
+InType (Slab class used off) = (class < 2 ^ 8) × ((used < 2 ^ 16) × (off < 2 ^ 64))
+InType (Extent last) = last < 2 ^ 64
+
+-- What a packed value is read back as: itself, but nothing for the inline number 0, and a refusal for a slab of none or one.
+abbrev pub readBack : ShHeadValue → Answer ShHeadValue
+readBack Empty = accepted Empty
+readBack (Inline entry used) = accepted (cond (eqb entry 0) Empty (Inline entry used))
+readBack (Slab class used off) = cond (leb used 1) (refused slabUsedTooSmall) (accepted (Slab class used off))
+readBack (Extent last) = accepted (Extent last)
 
 -- The eight bytes of a word that was packed, and a buffer left as it was where packing is refused.
 unfoldable pub headBytes : Answer ℕ → List ℕ → List ℕ

@@ -1,7 +1,6 @@
 // The head word of a key: where its list stands, in 64 bits. The top two bits are the mode: 0 a number in the word itself
 // (the word 0: none), 1 a slab, 2 nothing any more, 3 pages, by the offset of the last.
 use error::Refusal;
-
 ghost use mathlib.Core.Path.{_≡_};
 ghost use Prim.Native.Nat.{_<_, _^_};
 ghost use Rattle.buffer.specs.LittleEndian.{littleEndian};
@@ -110,7 +109,11 @@ pub fn unpack8(w: u64) -> Unpacked
             if used <= SH_INLINE_CAP {
                 return Unpacked::Refused(error::SLAB_USED_TOO_SMALL);
             }
-            Unpacked::Head(ShHeadValue::Slab { class: class as u8, used: used as u16, off })
+            Unpacked::Head(ShHeadValue::Slab {
+                class: class as u8,
+                used: used as u16,
+                off,
+            })
         }
         2 => Unpacked::Refused(error::MODE_TWO),
         _ => {

@@ -27,7 +27,7 @@ returns-2 : tie.Need-returns-2
 unfolding headBytes
 returns-2 c =
     let e : packHead (c .before .before .before .before .before .args .v) ≡ accepted (c .before .before .packed .given .0 .0) =
-      sym (c .before .before .before .before .pack8 .ensures) ∙ ap packAnswer (c .before .before .packed .given .1) in
+    sym (c .before .before .before .before .pack8 .ensures) ∙ ap packAnswer (c .before .before .packed .given .1) in
     (sym e, rw e (c .u64-bytes .ensures))
 
 pub pack8-bytes-spec : {M : Type 1} → statement M
