@@ -116,6 +116,7 @@ pub fn unpack8(w: u64) -> Unpacked
             })
         }
         2 => Unpacked::Refused(error::MODE_TWO),
+        // 3: a word has 64 bits, so its mode is at most that.
         _ => {
             let last_page = w % SH8_MODE_UNIT;
             if last_page == 0 {
