@@ -1,5 +1,5 @@
-// Numbers to and from their bytes, the lowest byte first. Where the bytes lie side by side in memory, each of these is
-// one load or one store.
+// Numbers to and from their bytes, the lowest byte first. Where the bytes lie side by side in memory, two, four and eight
+// of them are one load or one store.
 ghost use mathlib.Core.Path.{_≡_};
 ghost use mathlib.Core.List.{[], _∷_};
 ghost use Rattle.buffer.specs.LittleEndian.{littleEndian, bytesOf};

@@ -12,7 +12,7 @@ use Rattle.scripthash_layout.specs.declared.head.ShHeadValue.{ShHeadValu
 use Rattle.scripthash_layout.specs.declared.head.ShHeadValue.the-variants.{Empty, Inline, Slab, Extent}
 use Rattle.scripthash_layout.specs.Head.{modeOf, payloadOf, offsetOf, usedOf, classOf, slabWord, extentWord, packHead, unpackHead, readBack, InType}
 
--- What a packed inline number, slab or extent says of its fields and of its word.
+-- An inline head that packs: its used and its number, which is the word.
 packed-inline : (entry used w : ℕ) → packHead (Inline entry used) ≡ accepted w
     → (used ≡ 1) × ((entry < 2 ^ 62) × (entry ≡ w))
 unfolding packHead
@@ -23,6 +23,7 @@ packed-inline entry used w e =
     accepted-unless (leb (2 ^ 62) entry) inlineTooLarge (accepted entry) (one .1) in
     (eqb-true _ _ (one .0), (leb-false _ _ (small .0), accepted-same (small .1)))
 
+-- A slab head that packs: its offset, its class and its word.
 packed-slab : (class used off w : ℕ) → packHead (Slab class used off) ≡ accepted w
     → (off < 2 ^ 40) × ((class < 2 ^ 6) × (slabWord class used off ≡ w))
 unfolding packHead
@@ -32,6 +33,7 @@ packed-slab class used off w e =
     let both : (leb (2 ^ 40) off ≡ false) × (leb (2 ^ 6) class ≡ false) = neither _ _ (small .0) in
     (leb-false _ _ (both .0), (leb-false _ _ (both .1), accepted-same (small .1)))
 
+-- An extent head that packs: its last page's offset and its word.
 packed-extent : (last w : ℕ) → packHead (Extent last) ≡ accepted w
     → (last ≡ 0 → ⊥) × ((last < 2 ^ 62) × (extentWord last ≡ w))
 unfolding packHead

@@ -1,6 +1,6 @@
 -- `pack8_bytes` answers as `pack8`; the buffer gets the word's bytes, or stays where the answer is a refusal.
-use borrow.Author.Needs.{needs}
 use mathlib.Core.Path.{_≡_, sym, _∙_, ap}
+use borrow.Author.Needs.{needs}
 use Rattle.error.specs.Refusal.{accepted}
 use Rattle.scripthash_layout.specs.AnswersHead.{packAnswer}
 use Rattle.scripthash_layout.specs.Head.{packHead, headBytes}
