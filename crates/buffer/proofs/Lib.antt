@@ -1,2 +1,4 @@
 pub mod LawsOrder
 pub mod LawsBytes
+pub mod LawsLittleEndian
+pub mod LawsOverwrite

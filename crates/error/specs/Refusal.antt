@@ -58,6 +58,34 @@ storedSumOverflow = 22
 abbrev pub storedBit63 : ℕ
 storedBit63 = 23
 
+-- An inline head has used other than 1.
+abbrev pub inlineUsedNotOne : ℕ
+inlineUsedNotOne = 24
+
+-- An inline head exceeds 2^62 - 1.
+abbrev pub inlineTooLarge : ℕ
+inlineTooLarge = 25
+
+-- A slab head has offset above 2^40 - 1 or class above 63.
+abbrev pub slabFieldTooLarge : ℕ
+slabFieldTooLarge = 26
+
+-- An extent head is 0 or above 2^62 - 1.
+abbrev pub extentOutOfRange : ℕ
+extentOutOfRange = 27
+
+-- A stored slab head has used 0 or 1.
+abbrev pub slabUsedTooSmall : ℕ
+slabUsedTooSmall = 28
+
+-- The mode is 2.
+abbrev pub modeTwo : ℕ
+modeTwo = 29
+
+-- Mode 3 has payload 0.
+abbrev pub extentPayloadZero : ℕ
+extentPayloadZero = 30
+
 -- A number offered isn't above the one before.
 abbrev pub offeredNotRising : ℕ
 offeredNotRising = 32

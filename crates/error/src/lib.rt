@@ -20,6 +20,20 @@ pub const STORED_DIFFERENCE_ZERO: Refusal = 21;
 pub const STORED_SUM_OVERFLOW: Refusal = 22;
 // A stored number has bit 63 set.
 pub const STORED_BIT_63: Refusal = 23;
+// An inline head has used other than 1.
+pub const INLINE_USED_NOT_ONE: Refusal = 24;
+// An inline head exceeds 2^62 - 1.
+pub const INLINE_TOO_LARGE: Refusal = 25;
+// A slab head has offset above 2^40 - 1 or class above 63.
+pub const SLAB_FIELD_TOO_LARGE: Refusal = 26;
+// An extent head is 0 or above 2^62 - 1.
+pub const EXTENT_OUT_OF_RANGE: Refusal = 27;
+// A stored slab head has used 0 or 1.
+pub const SLAB_USED_TOO_SMALL: Refusal = 28;
+// The mode is 2.
+pub const MODE_TWO: Refusal = 29;
+// Mode 3 has payload 0.
+pub const EXTENT_PAYLOAD_ZERO: Refusal = 30;
 // A number offered isn't above the one before.
 pub const OFFERED_NOT_RISING: Refusal = 32;
 // What is to be written doesn't fit its destination.

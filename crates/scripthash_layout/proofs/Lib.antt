@@ -1,1 +1,2 @@
 pub mod LawsSizes
+pub mod LawsHead
