@@ -46,6 +46,6 @@ overwrite-part b o k i ys h l =
     let front : take i (take k d) ≡ take i d = take-take i k d (omega arith) in
     let inside : i + length ys ≤ length (take k d) = simp length-take (omega arith) in
     let back : drop (i + length ys) (take k d) ++ drop k d ≡ drop (i + length ys) d =
-        sym (drop-append-le (i + length ys) (take k d) (drop k d) inside) ∙ ap (drop (i + length ys)) (take-append-drop k d) in
+    sym (drop-append-le (i + length ys) (take k d) (drop k d) inside) ∙ ap (drop (i + length ys)) (take-append-drop k d) in
     let place : o + (i + length ys) ≡ o + i + length ys = omega arith in
     rw (front, append-assoc, append-assoc, back, take-add o i b, append-assoc, ← place, ← (drop-drop (i + length ys) o b))

@@ -87,6 +87,11 @@ measured-refused len prev n ns e = judged-refused prev (n ∷ []) (ulebLen (n - 
 
 -- ---- writing a stream
 
+-- a list that is judged badly is refused
+pub encode-refused : (room : ℕ) (ns : List ℕ) {number : ℕ} → judged 0 ns (accepted (streamLen ns)) ≡ refused number → encodeStream room ns ≡ refused number
+unfolding encodeStream
+encode-refused room ns e = judged-refused 0 ns (streamLen ns) _ e
+
 -- a rising list whose stream fits is written
 pub encode-fits : (room : ℕ) (ns : List ℕ) → Rising (2 ^ 63) 0 ns → streamLen ns ≤ room → encodeStream room ns ≡ accepted (streamLen ns)
 unfolding encodeStream

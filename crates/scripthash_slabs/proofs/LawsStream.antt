@@ -4,11 +4,12 @@ use mathlib.Core.Bool.{Bool, true, false, _&&_}
 use mathlib.Core.List.{List, [], _∷_, _++_, append-assoc, append-nil}
 use mathlib.Core.Path.{_≡_, refl, sym, ap, _∙_}
 use native.Mathlib.Nat.{add-assoc, add-zero, zero-add}
+use native.Mathlib.Numerals.{add-one}
 use native.Mathlib.Omega.{arith}
 use borrow.Author.Tests.{lt-leb, leb-false, eqb-false, ne-eqb}
 use lib.Dec.{leb, eqb}
-use lib.ListN.{length, drop, length-append}
-use lib.Seq.{drop-at}
+use lib.ListN.{length, drop, getD, length-append}
+use lib.Seq.{drop-at, drop-cons}
 use Rattle.error.specs.Refusal.{Answer, accepted, refuseIf, offeredFirstZero, offeredBit63, offeredNotRising}
 use Rattle.error.proofs.LawsAnswer.{passed}
 use Rattle.compact.specs.Uleb128.{Reading, readUleb, ulebLen, shortest}
@@ -18,6 +19,10 @@ use Rattle.scripthash_slabs.specs.Stream.{Rising, lastFrom, streamFrom, 
 use Rattle.scripthash_slabs.proofs.LawsScan.{stored-sum, next-is, scan-cons}
 
 -- ---- lists
+
+-- the first of the numbers from a place on
+pub front : (ns : List ℕ) (k : ℕ) → k < length ns → drop k ns ≡ getD ns k 0 ∷ drop (k + 1) ns
+front ns k h = drop-cons ns k 0 h ∙ ap (λ (j : ℕ). getD ns k 0 ∷ drop j ns) (sym (add-one k))
 
 -- rising numbers are those before and those behind
 pub rising-append : (top prev : ℕ) (ms ns : List ℕ) → Rising top prev ms → Rising top (lastFrom prev ms) ns → Rising top prev (ms ++ ns)

@@ -11,5 +11,5 @@ pub use stream::NextFk;
 pub use stream::ScanStream;
 pub use stream::StreamBytes;
 pub use stream::decode_fk_delta_stream_into;
-pub use stream::scan_fk_delta_stream;
 pub use stream::encode_fk_delta_stream_into;
+pub use stream::scan_fk_delta_stream;

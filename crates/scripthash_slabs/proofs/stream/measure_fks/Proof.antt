@@ -3,17 +3,16 @@
 use Prim.Native.Nat.{ℕ, suc, _+_, _-_, _*_, _^_, _≤_, _<_}
 use mathlib.Core.List.{List, [], _∷_}
 use mathlib.Core.Path.{_≡_, sym, ap, _∙_}
-use native.Mathlib.Numerals.{add-one}
 use native.Mathlib.Omega.{arith}
 use borrow.Author.Needs.{needs}
 use lib.ListN.{length, drop, getD, drop-of-length-le}
-use lib.Seq.{drop-cons}
 use Rattle.error.specs.Refusal.{accepted}
 use Rattle.error.proofs.LawsAnswer.{accepted-inj}
 use Rattle.compact.specs.Uleb128.{ulebLen}
 use Rattle.compact.proofs.LawsLength.{len-at-most}
 use Rattle.scripthash_slabs.specs.Stream.{Rising, streamLen, judged}
 use Rattle.scripthash_slabs.specs.Answers.{bytesAnswer}
+use Rattle.scripthash_slabs.proofs.LawsStream.{front}
 use Rattle.scripthash_slabs.proofs.LawsEncode.{measuredFrom, measured-start, measured-end, measured-more, measured-refused, judged-accepted}
 use Rattle.scripthash_slabs.proofs.stream.measure_fks.Statement.{statement}
 use Rattle.scripthash_slabs.proofs.stream.measure_fks.Tie as tie
@@ -24,10 +23,6 @@ Inv-loop fks prev₀ len₀ k₀ prev len k =
 
 abbrev μ-loop : tie.MeasureT-loop
 μ-loop fks prev₀ len₀ k₀ prev len k = length fks - k
-
--- a number that is offered: it is the first of those left
-front : (fks : List ℕ) (k : ℕ) → k < length fks → drop k fks ≡ getD fks k 0 ∷ drop (k + 1) fks
-front fks k h = drop-cons fks k 0 h ∙ ap (λ (j : ℕ). getD fks k 0 ∷ drop j fks) (sym (add-one k))
 
 -- a number that was accepted, and what is known of it
 module _ (c : tie.After-known-told Inv-loop μ-loop) where
@@ -95,8 +90,7 @@ loop-less c = search needs
 loop-again : tie.Need-loop-again Inv-loop μ-loop
 loop-again c =
     let l = loc c .loop in
-    let front-here = front (numbers c) (l .k) (omega arith) in
-    (
+    let front-here = front (numbers c) (l .k) (omega arith) in (
       search needs,
       rises c .1,
       omega (arith, short c),

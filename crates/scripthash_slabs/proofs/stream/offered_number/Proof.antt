@@ -16,19 +16,19 @@ use Rattle.scripthash_slabs.proofs.stream.offered_number.Tie as tie
 
 returns : tie.Need-returns
 unfolding judged refuseIf
-returns c = 
+returns c =
     let a = c .before .before .args in
     rw (eq-eqb (a .prev) 0 (omega arith), eq-eqb (a .fk) 0 (omega arith))
 
 returns-2 : tie.Need-returns-2
 unfolding judged refuseIf
-returns-2 c = 
+returns-2 c =
     let a = c .before .before .args in
     rw (ne-eqb (a .prev) 0 (λ (e : a .prev ≡ 0). omega arith), lt-leb (2 ^ 63) (a .fk) (omega arith), le-leb (a .fk) (a .prev) (omega arith))
 
 returns-3 : tie.Need-returns-3
 unfolding judged refuseIf
-returns-3 c = 
+returns-3 c =
     let a = c .before .before .args in
     rw (and-no (eqb (a .prev) 0) (eqb (a .fk) 0) (ne-eqb (a .fk) 0 (λ (e : a .fk ≡ 0). omega arith)), le-leb (2 ^ 63) (a .fk) (omega arith))
 
@@ -40,7 +40,7 @@ uleb128-len-requires c κs = search needs
 
 returns-4 : tie.Need-returns-4
 unfolding Rising
-returns-4 c = 
+returns-4 c =
     let a = c .before .before .before .args in
     ap accepted (c .uleb128-len .ensures) ∙ sym (judged-rising (a .prev) (a .fk ∷ []) (accepted (ulebLen (a .fk - a .prev))) (omega arith, omega arith, tt))
 
