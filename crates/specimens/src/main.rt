@@ -1,25 +1,22 @@
 // Runs the specimens: numbers written, read back and measured, and byte strings read, each result a line on standard output.
-mod line;
+mod text;
 
 use compact::ReadUleb128;
 use compact::WriteUleb128;
 
 // Writes n to the start of dst, shows what was written, and answers its length; 0 where it was refused.
 fn show_write(dst: &mut [u8], n: u64) -> usize {
-    let mut space = [0u8; 80];
-    let text: &mut [u8] = &mut space;
-    let at = line::put(text, 0, b"write ");
-    let at = line::put_number(text, at, n);
-    let at = line::put(text, at, b":");
+    text::words(b"write ");
+    text::number(n);
+    text::words(b":");
     match compact::write_uleb128_into(dst, n) {
         WriteUleb128::Written(len) => {
-            let at = line::put_bytes(text, at, line::first(dst, len));
-            line::end(text, at);
+            text::bytes(text::first(dst, len));
+            text::words(b"\n");
             len
         }
         WriteUleb128::Refused(number) => {
-            let at = line::put_refusal(text, at, number);
-            line::end(text, at);
+            text::refusal(number);
             0
         }
     }
@@ -27,41 +24,34 @@ fn show_write(dst: &mut [u8], n: u64) -> usize {
 
 // Reads buf and shows the number with the length of its form, or the refusal.
 fn show_read(buf: &[u8]) {
-    let mut space = [0u8; 80];
-    let text: &mut [u8] = &mut space;
-    let at = line::put(text, 0, b"read");
-    let at = line::put_bytes(text, at, buf);
-    let at = line::put(text, at, b":");
+    text::words(b"read");
+    text::bytes(buf);
+    text::words(b":");
     match compact::read_uleb128(buf) {
         ReadUleb128::Value { value, len } => {
-            let at = line::put(text, at, b" ");
-            let at = line::put_number(text, at, value);
-            let at = line::put(text, at, b", length ");
-            let at = line::put_number(text, at, len as u64);
-            line::end(text, at);
+            text::words(b" ");
+            text::number(value);
+            text::words(b", length ");
+            text::number(len as u64);
+            text::words(b"\n");
         }
-        ReadUleb128::Refused(number) => {
-            let at = line::put_refusal(text, at, number);
-            line::end(text, at);
-        }
+        ReadUleb128::Refused(number) => text::refusal(number),
     }
 }
 
 // Shows the length of n's shortest form.
 fn show_len(n: u64) {
-    let mut space = [0u8; 80];
-    let text: &mut [u8] = &mut space;
-    let at = line::put(text, 0, b"length ");
-    let at = line::put_number(text, at, n);
-    let at = line::put(text, at, b": ");
-    let at = line::put_number(text, at, compact::uleb128_len(n) as u64);
-    line::end(text, at);
+    text::words(b"length ");
+    text::number(n);
+    text::words(b": ");
+    text::number(compact::uleb128_len(n) as u64);
+    text::words(b"\n");
 }
 
 // Shows n written, read back and measured.
 fn show_number(form: &mut [u8], n: u64) {
     let len = show_write(form, n);
-    show_read(line::first(form, len));
+    show_read(text::first(form, len));
     show_len(n);
 }
 
@@ -78,31 +68,31 @@ fn show_numbers(numbers: &[u64]) {
 
 // The examples of the DWARF standard, version 5, section 7.6.
 fn dwarf_examples() {
-    line::title(b"DWARF's examples\n");
+    text::words(b"DWARF's examples\n");
     let numbers: [u64; 6] = [2, 127, 128, 129, 130, 12857];
     show_numbers(&numbers);
 }
 
 // S1 to S5, which are ULEB128 forms, in their order.
 fn uleb128_specimens() {
-    line::title(b"S1\n");
+    text::words(b"S1\n");
     let first: [u64; 2] = [0, 128];
     show_numbers(&first);
-    line::title(b"S2\n");
+    text::words(b"S2\n");
     let second: [u64; 1] = [12857];
     show_numbers(&second);
-    line::title(b"S3\n");
+    text::words(b"S3\n");
     show_read(b"\x80\x00");
-    line::title(b"S4\n");
+    text::words(b"S4\n");
     show_read(b"\xff\xff\xff\xff\xff\xff\xff\xff\xff\x02");
-    line::title(b"S5\n");
+    text::words(b"S5\n");
     show_read(b"\x80\x80\x80\x80\x80\x80\x80\x80\x80\x80");
     show_read(b"\x80\x80\x80\x80\x80\x80\x80\x80\x80\x80\x80");
 }
 
 // The last number of each length and the first of the next, and the largest of 64 bits.
 fn boundaries() {
-    line::title(b"Boundaries\n");
+    text::words(b"Boundaries\n");
     let numbers: [u64; 19] = [
         127,
         128,
@@ -129,7 +119,7 @@ fn boundaries() {
 
 // A number of two bytes where there is room for one.
 fn one_byte_of_room() {
-    line::title(b"One byte of room\n");
+    text::words(b"One byte of room\n");
     let mut one = [0u8; 1];
     show_write(&mut one, 128);
 }
