@@ -2,3 +2,4 @@ pub mod LawsOrder
 pub mod LawsBytes
 pub mod LawsLittleEndian
 pub mod LawsOverwrite
+pub mod LawsFields
