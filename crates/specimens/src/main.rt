@@ -1,6 +1,4 @@
 // Runs the specimens: numbers written, read back and measured, and byte strings read, each result a line on standard output.
-mod text;
-
 use compact::ReadUleb128;
 use compact::WriteUleb128;
 

@@ -1,4 +1,4 @@
-// What the program writes to standard output: words, numbers in decimal and bytes in hexadecimal.
+// What the programs write to standard output: words, numbers in decimal, bytes and head words in hexadecimal.
 use libc::STDOUT_FILENO;
 
 // The first len bytes of a buffer; all of them where it has fewer.
@@ -17,6 +17,11 @@ pub fn words(some: &[u8]) {
 // Writes a number in decimal.
 pub fn number(n: u64) {
     io::print_decimal(STDOUT_FILENO, n);
+}
+
+// Writes a word of 64 bits in hexadecimal, 16 digits.
+pub fn word(w: u64) {
+    io::print_hex(STDOUT_FILENO, w, 16);
 }
 
 // The hexadecimal digit of d, of which the four low bits count.
@@ -44,9 +49,24 @@ pub fn bytes(some: &[u8]) {
     }
 }
 
-// Writes the number of a refusal, and ends the line.
-pub fn refusal(refused: error::Refusal) {
+// Writes each of some numbers in decimal, with a space before it.
+pub fn numbers(some: &[u64]) {
+    let mut i: usize = 0;
+    while i < some.len() {
+        words(b" ");
+        number(some[i]);
+        i += 1;
+    }
+}
+
+// Writes the number of a refusal.
+pub fn refused(refusal: error::Refusal) {
     words(b" refused ");
-    number(refused as u64);
+    number(refusal as u64);
+}
+
+// Writes the number of a refusal, and ends the line.
+pub fn refusal(refusal: error::Refusal) {
+    refused(refusal);
     words(b"\n");
 }
