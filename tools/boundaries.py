@@ -141,7 +141,7 @@ def heads():
     print("payload start 4096")
 
 
-# ---- streams
+# ---- streams and slabs
 
 def form(n):
     out = []
@@ -194,34 +194,64 @@ def scan(bs, count):
     return ns, at
 
 
-def show_encode(room, ns):
+def encode_slab(ns, room):
+    if len(ns) > 65535:
+        raise Refused(10)
+    if room < 2:
+        raise Refused(11)
+    stream = encode(ns, room - 2)
+    return list(len(ns).to_bytes(2, "little")) + stream
+
+
+def show_encode(what, how, room, ns):
     dst = [0xEE] * room
     try:
-        out = encode(ns, room)
+        out = how(ns, room)
         dst[: len(out)] = out
         said = f" {len(out)}"
     except Refused as number:
         said = f" refused {number}"
-    print(f"write{numbers(ns)} to {room}:{said};{hexes(dst)}")
+    print(f"{what}{numbers(ns)} to {room}:{said};{hexes(dst)}")
 
 
-def show_decode(room, count, bs):
+def read(bs, count, room):
+    """The numbers, and how many bytes they take."""
+    ns, taken = scan(bs, count)
+    if room < count:
+        raise Refused(34)
+    return ns, taken
+
+
+def show_stream(room, count, bs):
     lent = [9] * room
     try:
         ns, taken = scan(bs, count)
         scanned = f" {taken} last {ns[-1] if ns else 0}"
-        if room < count:
-            said = " refused 34"
-        else:
-            said = f" {taken}"
-            lent[:count] = ns
     except Refused as number:
-        scanned = said = f" refused {number}"
+        scanned = f" refused {number}"
+    try:
+        lent[:count], taken = read(bs, count, room)
+        said = f" {taken}"
+    except Refused as number:
+        said = f" refused {number}"
     print(f"read {count} from{hexes(bs)}:{scanned}; into {room}:{said};{numbers(lent)}")
 
 
-def streams():
-    print("Streams")
+def show_slab(room, bs):
+    lent = [9] * room
+    try:
+        if len(bs) < 2:
+            raise Refused(11)
+        used = bs[0] + 256 * bs[1]
+        lent[:used], taken = read(bs[2:], used, room)
+        said = f" {taken + 2} used {used}"
+    except Refused as number:
+        said = f" refused {number}"
+    print(f"read slab{hexes(bs)} into {room}:{said};{numbers(lent)}")
+
+
+def offered():
+    print("Offered lists")
     for room, ns in [
         (0, []), (2, []), (0, [1]), (1, [1]), (3, [1]), (1, [127]), (1, [128]), (2, [128]),
         (8, [TOP - 1]), (9, [TOP - 1]),
@@ -230,7 +260,17 @@ def streams():
         (4, [0]), (4, [0, 5]), (4, [0, TOP]), (16, [TOP]), (16, [LAST]), (16, [5, TOP]), (16, [TOP, 0]), (0, [TOP]),
         (4, [5, 5]), (4, [5, 4]), (4, [5, 0]), (0, [5, 0]), (4, [5, 300, 300]), (16, [5, 4, TOP]),
     ]:
-        show_encode(room, ns)
+        show_encode("write slab", encode_slab, room + 2, ns)
+        show_encode("write", encode, room, ns)
+    for room in [0, 1]:
+        for ns in [[], [0]]:
+            show_encode("write slab", encode_slab, room, ns)
+    for count in [65535, 65536]:
+        print(f"write slab of {count} ones to 0:" + shown(lambda: encode_slab([1] * count, 0)))
+
+
+def stored():
+    print("Stored streams and slabs")
     largest = [0xFF] * 8 + [0x7F]
     zeros = [0x80] * 9
     for room, count, bs in [
@@ -246,9 +286,17 @@ def streams():
         (2, 1, [0x85, 0]), (2, 2, [0x85, 0, 0x81, 0x80, 0, 0x63]), (1, 1, [0x85] + [0x80] * 8 + [0]),
         (2, 2, [5, 0x81, 0x80, 0]),
     ]:
-        show_decode(room, count, bs)
+        show_stream(room, count, bs)
+    s6 = [3, 0, 5, 0xA7, 2, 1]
+    for room, bs in [
+        (2, []), (2, [3]), (0, [0, 0]), (2, [0, 0, 5]), (2, [1, 0]), (1, [1, 0, 5]), (0, [1, 0, 5]), (2, [0, 1, 5]),
+        (2, [255, 255, 5]),
+        (3, s6), (2, s6), (4, s6 + [0]), (2, [2, 0, 5, 0]), (2, [1, 0, 0]), (1, [1, 0] + form(TOP)), (1, [1, 0, 0x85, 0]),
+    ]:
+        show_slab(room, bs)
 
 
 classes()
 heads()
-streams()
+offered()
+stored()

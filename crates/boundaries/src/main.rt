@@ -1,10 +1,12 @@
-// Runs sizes, classes, head words and streams at their boundaries, each result a line on standard output.
+// Runs sizes, classes, head words, streams and slabs at their boundaries, each result a line on standard output.
 mod classes;
 mod heads;
-mod streams;
+mod offered;
+mod stored;
 
 fn main() {
     classes::run();
     heads::run();
-    streams::run();
+    offered::run();
+    stored::run();
 }
