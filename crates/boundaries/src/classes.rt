@@ -1,8 +1,9 @@
 // Classes by count and by bytes, and the sizes of classes.
 use scripthash_slabs::SlabClass;
 
-// Writes the class that was chosen, or that there is none.
-fn class(some: SlabClass) {
+// Writes some words and the class that was chosen, or that there is none.
+fn class(what: &[u8], some: SlabClass) {
+    text::words(what);
     match some {
         SlabClass::Class(c) => text::number(c as u64),
         SlabClass::Nothing => text::words(b"none"),
@@ -11,13 +12,13 @@ fn class(some: SlabClass) {
 
 // Shows the class for n numbers, and the one with slack.
 fn show_count(n: u32) {
-    text::words(b"count ");
-    text::number(n as u64);
-    text::words(b": class ");
-    class(scripthash_slabs::slab_class_for_n_fks(n));
-    text::words(b", with slack ");
-    class(scripthash_slabs::slab_class_for_n_fks_with_slack(n));
-    text::words(b"\n");
+    text::named(b"count ", n as u64);
+    class(b": class ", scripthash_slabs::slab_class_for_n_fks(n));
+    class(
+        b", with slack ",
+        scripthash_slabs::slab_class_for_n_fks_with_slack(n),
+    );
+    text::end();
 }
 
 // Shows the classes of each count from 0 to 258, and of the largest.
@@ -32,11 +33,12 @@ fn counts() {
 
 // Shows the class for a payload of some bytes.
 fn show_len(len: usize) {
-    text::words(b"bytes ");
-    text::number(len as u64);
-    text::words(b": class ");
-    class(scripthash_slabs::slab_class_for_packed_len(len));
-    text::words(b"\n");
+    text::named(b"bytes ", len as u64);
+    class(
+        b": class ",
+        scripthash_slabs::slab_class_for_packed_len(len),
+    );
+    text::end();
 }
 
 // Shows the classes of lengths: the last of each class and the first of the next, and those around the ends.
@@ -72,13 +74,10 @@ fn lens() {
 
 // Shows the slots and the bytes of a class.
 fn show_size(c: u8) {
-    text::words(b"class ");
-    text::number(c as u64);
-    text::words(b": slots ");
-    text::number(scripthash_layout::slab_cap(c) as u64);
-    text::words(b", bytes ");
-    text::number(scripthash_layout::slab_bytes(c));
-    text::words(b"\n");
+    text::named(b"class ", c as u64);
+    text::named(b": slots ", scripthash_layout::slab_cap(c) as u64);
+    text::named(b", bytes ", scripthash_layout::slab_bytes(c));
+    text::end();
 }
 
 // Shows the sizes of the classes of slabs and pages, of the last ones with slots and bytes, and of those after them.

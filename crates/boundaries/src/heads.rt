@@ -5,20 +5,15 @@ use scripthash_layout::Unpacked;
 
 // Writes a slab's fields.
 fn slab(class: u8, used: u16, off: u64) {
-    text::words(b" slab class ");
-    text::number(class as u64);
-    text::words(b" used ");
-    text::number(used as u64);
-    text::words(b" offset ");
-    text::number(off);
+    text::named(b" slab class ", class as u64);
+    text::named(b" used ", used as u64);
+    text::named(b" offset ", off);
 }
 
 // Writes an inline head's fields.
 fn inline(entry: u64, used: u8) {
-    text::words(b" inline ");
-    text::number(entry);
-    text::words(b" used ");
-    text::number(used as u64);
+    text::named(b" inline ", entry);
+    text::named(b" used ", used as u64);
 }
 
 // Writes a head value.
@@ -27,20 +22,14 @@ fn head(v: ShHeadValue) {
         ShHeadValue::Empty => text::words(b" empty"),
         ShHeadValue::Inline { entry, used } => inline(entry, used),
         ShHeadValue::Slab { class, used, off } => slab(class, used, off),
-        ShHeadValue::Extent { last_page } => {
-            text::words(b" extent ");
-            text::number(last_page);
-        }
+        ShHeadValue::Extent { last_page } => text::named(b" extent ", last_page),
     }
 }
 
 // Writes what packing answered.
 fn packed(got: Packed) {
     match got {
-        Packed::Word(w) => {
-            text::words(b" ");
-            text::word(w);
-        }
+        Packed::Word(w) => text::word(w),
         Packed::Refused(number) => text::refused(number),
     }
 }
@@ -55,11 +44,11 @@ fn unpacked(got: Unpacked) {
 
 // Shows what a word says.
 fn show_word(w: u64) {
-    text::words(b"unpack ");
+    text::words(b"unpack");
     text::word(w);
     text::words(b":");
     unpacked(scripthash_layout::unpack8(w));
-    text::words(b"\n");
+    text::end();
 }
 
 // Writes the eight bytes of a head.
@@ -85,7 +74,7 @@ fn show_head(v: ShHeadValue) {
     packed(scripthash_layout::pack8(v));
     text::words(b";");
     show_bytes(v);
-    text::words(b"\n");
+    text::end();
 }
 
 // Shows words of each mode, with their fields at both ends, and S8 and S9.
@@ -177,7 +166,6 @@ pub fn run() {
     inlines();
     slabs();
     extents();
-    text::words(b"payload start ");
-    text::number(scripthash_layout::payload_start(24));
-    text::words(b"\n");
+    text::named(b"payload start ", scripthash_layout::payload_start(24));
+    text::end();
 }

@@ -4,10 +4,7 @@ use scripthash_slabs::StreamBytes;
 // Writes how many bytes were answered.
 pub fn answer(got: StreamBytes) {
     match got {
-        StreamBytes::Bytes(len) => {
-            text::words(b" ");
-            text::number(len as u64);
-        }
+        StreamBytes::Bytes(len) => text::named(b" ", len as u64),
         StreamBytes::Refused(number) => text::refused(number),
     }
 }
@@ -15,8 +12,7 @@ pub fn answer(got: StreamBytes) {
 // Shows an offered list and how much room there is for it.
 fn show_list(fks: &[u64], out: &[u8]) {
     text::numbers(fks);
-    text::words(b" to ");
-    text::number(out.len() as u64);
+    text::named(b" to ", out.len() as u64);
     text::words(b":");
 }
 
@@ -24,7 +20,7 @@ fn show_list(fks: &[u64], out: &[u8]) {
 fn show_out(out: &[u8]) {
     text::words(b";");
     text::bytes(out);
-    text::words(b"\n");
+    text::end();
 }
 
 // Shows the stream of an offered list written, and its destination afterwards.
@@ -99,11 +95,10 @@ fn no_room_for_the_count(room: usize) {
 // Shows the answer for a long list of ones, offered to a slab of no bytes.
 fn show_ones(ones: &[u64]) {
     let mut space: [u8; 0] = [];
-    text::words(b"write slab of ");
-    text::number(ones.len() as u64);
+    text::named(b"write slab of ", ones.len() as u64);
     text::words(b" ones to 0:");
     answer(scripthash_slabs::encode_slab_payload_into(&mut space, ones));
-    text::words(b"\n");
+    text::end();
 }
 
 // As many numbers as a slab is offered at most, and one more.

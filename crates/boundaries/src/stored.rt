@@ -6,10 +6,8 @@ use scripthash_slabs::SlabPayload;
 fn scanned(got: ScanStream) {
     match got {
         ScanStream::Scanned { taken, last } => {
-            text::words(b" ");
-            text::number(taken as u64);
-            text::words(b" last ");
-            text::number(last);
+            text::named(b" ", taken as u64);
+            text::named(b" last ", last);
         }
         ScanStream::Refused(number) => text::refused(number),
     }
@@ -19,10 +17,8 @@ fn scanned(got: ScanStream) {
 fn payload(got: SlabPayload) {
     match got {
         SlabPayload::Numbers { used, len } => {
-            text::words(b" ");
-            text::number(len as u64);
-            text::words(b" used ");
-            text::number(used as u64);
+            text::named(b" ", len as u64);
+            text::named(b" used ", used as u64);
         }
         SlabPayload::Refused(number) => text::refused(number),
     }
@@ -30,8 +26,7 @@ fn payload(got: SlabPayload) {
 
 // Writes a lent list's length, before reading.
 fn show_room(list: &[u64]) {
-    text::words(b" into ");
-    text::number(list.len() as u64);
+    text::named(b" into ", list.len() as u64);
     text::words(b":");
 }
 
@@ -39,13 +34,12 @@ fn show_room(list: &[u64]) {
 fn show_list(list: &[u64]) {
     text::words(b";");
     text::numbers(list);
-    text::words(b"\n");
+    text::end();
 }
 
 // Shows a stream scanned, with its last number.
 fn show_scan(buf: &[u8], n: usize) {
-    text::words(b"read ");
-    text::number(n as u64);
+    text::named(b"read ", n as u64);
     text::words(b" from");
     text::bytes(buf);
     text::words(b":");

@@ -19,8 +19,20 @@ pub fn number(n: u64) {
     io::print_decimal(STDOUT_FILENO, n);
 }
 
-// Writes a word of 64 bits in hexadecimal, 16 digits.
+// Writes some words and a number in decimal.
+pub fn named(some: &[u8], n: u64) {
+    words(some);
+    number(n);
+}
+
+// Ends the line.
+pub fn end() {
+    words(b"\n");
+}
+
+// Writes a word of 64 bits in hexadecimal, 16 digits, with a space before it.
 pub fn word(w: u64) {
+    words(b" ");
     io::print_hex(STDOUT_FILENO, w, 16);
 }
 
@@ -61,12 +73,11 @@ pub fn numbers(some: &[u64]) {
 
 // Writes the number of a refusal.
 pub fn refused(refusal: error::Refusal) {
-    words(b" refused ");
-    number(refusal as u64);
+    named(b" refused ", refusal as u64);
 }
 
 // Writes the number of a refusal, and ends the line.
 pub fn refusal(refusal: error::Refusal) {
     refused(refusal);
-    words(b"\n");
+    end();
 }
