@@ -6,15 +6,17 @@ use mathlib.Core.List.{List, [], _∷_, _++_, append-nil}
 use mathlib.Core.Logic.{_⊎_, inl, inr, ⊎-elim}
 use mathlib.Core.Path.{_≡_, refl, sym, ap, _∙_}
 use native.Mathlib.Nat.{le-refl, le-trans, sub-zero, suc-mul, mul-le-mul-right}
+use native.Mathlib.Numerals.{add-one}
 use native.Mathlib.Omega.{arith}
 use borrow.Author.Tests.{le-leb, lt-leb, eq-eqb, ne-eqb}
 use lib.Dec.{leb, eqb}
-use lib.ListN.{length, getD, take, drop, length-drop, length-append, take-append-drop}
-use lib.Seq.{take-length, drop-length, drop-nil, length-take-le, getD-drop, drop-drop, drop-append-le, drop-append-add, take-at}
+use lib.ListN.{length, getD, take, drop, length-drop, length-append, take-append-drop, drop-of-length-le}
+use lib.Seq.{take-length, drop-length, drop-nil, length-take-le, getD-drop, drop-drop, drop-append-le, drop-append-add, drop-cons, take-at}
 use Rattle.buffer.proofs.LawsOrder.{lt-or-ge}
 use Rattle.compact.specs.Uleb128.{ulebLen}
 use Rattle.compact.proofs.LawsLength.{len-pos, len-sum, len-at-most}
 use Rattle.scripthash_slabs.specs.Stream.{Rising, streamLenFrom, streamLen}
+use Rattle.scripthash_pages.specs.CuttingSteps.{nextPart, fittingAt, Reached}
 use Rattle.scripthash_pages.specs.Cutting.{pageRoom, lastPageRoom, fitting, firstPart, greedyParts, greedy, recutLast, cuttingFor, cutting, joined, Fit, Allowed}
 
 -- ---- the numbers that fit
@@ -200,10 +202,6 @@ module _ (room : ℕ) where
 
 -- ---- the cutting, part by part
 
--- How many numbers the next part takes: as many as the large room holds, or the small one where those are all.
-unfoldable pub nextPart : ℕ → ℕ → List ℕ → ℕ
-nextPart small large ns = cond (eqb (firstPart large ns) (length ns)) (firstPart small ns) (firstPart large ns)
-
 module _ (small large : ℕ) (ten : 10 ≤ small) (less : small ≤ large) (near : large + 9 ≤ small + small) where
   -- numbers that fit the large room together are cut for the small one
   cut-whole : (ns : List ℕ) → Words ns → streamLen ns ≤ large → cuttingFor small large ns ≡ greedy small ns
@@ -229,7 +227,7 @@ module _ (small large : ℕ) (ten : 10 ≤ small) (less : small ≤ large) (near
     pub cut : cuttingFor small large ns ≡ take k ns ∷ cuttingFor small large (drop k ns)
     pub which : ((k ≡ firstPart large ns) × (k < length ns)) ⊎ ((streamLen ns ≤ large) × (streamLen (take k ns) ≤ small))
 
-  pub next-known : (n : ℕ) (ns : List ℕ) → Words (n ∷ ns) → Next (n ∷ ns) (nextPart small large (n ∷ ns))
+  next-known : (n : ℕ) (ns : List ℕ) → Words (n ∷ ns) → Next (n ∷ ns) (nextPart small large (n ∷ ns))
   unfolding nextPart
   next-known n ns w = ⊎-elim before whole (lt-or-ge (firstPart large (n ∷ ns)) (length (n ∷ ns)))
     where
@@ -260,6 +258,10 @@ module _ (small large : ℕ) (ten : 10 ≤ small) (less : small ≤ large) (near
                 ∙ ap (λ (ps : List (List ℕ)). take k (n ∷ ns) ∷ ps) (sym (cut-whole (drop k (n ∷ ns)) (words-drop k (n ∷ ns) w) (le-trans left less)));
             which = inr (short, s .fits);
           })
+
+  pub next-of : (ns : List ℕ) → 0 < length ns → Words ns → Next ns (nextPart small large ns)
+  next-of [] h w = absurd (omega arith)
+  next-of (n ∷ ns) h w = next-known n ns w
 
   -- what holds of no numbers, and of some where it holds of those behind their next part, holds of every list
   within-parts : (P : List ℕ → Type 0) → P []
@@ -411,3 +413,58 @@ module _ (small large : ℕ) (ten : 10 ≤ small) (less : small ≤ large) (near
 -- a list that is cut has no more parts than this: a lent list of that length is long enough
 pub pages-at-most : (ns : List ℕ) → Words ns → length (cutting ns) ≤ length ns / 408 + 2
 pages-at-most ns w = omega (arith, parts-at-most lastPageRoom pageRoom (omega arith) (omega arith) (omega arith) 408 (omega arith) ns w)
+
+-- ---- the numbers of a list from an index on
+
+-- where there are none, none fits
+pub at-end : (fks : List ℕ) (i room : ℕ) → length fks ≤ i → fittingAt fks i room ≡ 0
+unfolding fittingAt fitting
+at-end fks i room h = rw (drop-of-length-le fks h)
+
+-- a number that doesn't fit behind some bytes
+pub at-no : (fks : List ℕ) (i bytes room : ℕ) → i < length fks → room < bytes + ulebLen (getD fks i 0 - getD fks (i - 1) 0)
+    → fittingAt fks i (room - bytes) ≡ 0
+unfolding fittingAt
+at-no fks i bytes room h e =
+    rw (drop-cons fks i 0 h) (fit-no (room - bytes) (getD fks (i - 1) 0) (getD fks i 0) (drop (suc i) fks) (omega (arith, len-pos (getD fks i 0 - getD fks (i - 1) 0))))
+
+-- a number that does, and those behind it
+pub at-yes : (fks : List ℕ) (i bytes room : ℕ) → i < length fks → bytes + ulebLen (getD fks i 0 - getD fks (i - 1) 0) ≤ room
+    → i + 1 + fittingAt fks (i + 1) (room - (bytes + ulebLen (getD fks i 0 - getD fks (i - 1) 0))) ≡ i + fittingAt fks i (room - bytes)
+unfolding fittingAt
+at-yes fks i bytes room h e =
+    let d = ulebLen (getD fks i 0 - getD fks (i - 1) 0) in
+    let same : room - (bytes + d) ≡ room - bytes - d = omega arith in
+    let back : i + 1 - 1 ≡ i = omega arith in
+    rw (drop-cons fks i 0 h, fit-yes (room - bytes) (getD fks (i - 1) 0) (getD fks i 0) (drop (suc i) fks) (omega arith), back, add-one i, same)
+    (omega arith)
+
+-- the first part of the numbers from an index on
+pub part-at : (fks : List ℕ) (start room : ℕ) → start < length fks
+    → start + firstPart room (drop start fks) ≡ start + 1 + fittingAt fks (start + 1) (room - ulebLen (getD fks start 0))
+unfolding fittingAt firstPart
+part-at fks start room h =
+    let back : start + 1 - 1 ≡ start = omega arith in
+    rw (drop-cons fks start 0 h, back, add-one start) (omega arith)
+
+-- A part goes on within the small room, and from there within the large one: the two ends give the next part.
+module _ (fks : List ℕ) (start small large : ℕ) (h : start < length fks) (less : small ≤ large) (e b e′ b′ : ℕ)
+    (near : Reached fks (start + 1) (ulebLen (getD fks start 0)) small e b) (far : Reached fks e b large e′ b′) where
+  small-end : e ≡ start + firstPart small (drop start fks)
+  small-end = omega (arith, near .full, near .same small (le-refl small), part-at fks start small h)
+
+  large-end : e′ ≡ start + firstPart large (drop start fks)
+  large-end = omega (arith, far .full, far .same large (le-refl large), near .same large less, part-at fks start large h)
+
+  -- the large room reaches the end of the list, or not
+  pub next-last : e′ ≡ length fks → e ≡ start + nextPart small large (drop start fks)
+  unfolding nextPart
+  next-last all =
+      let whole : firstPart large (drop start fks) ≡ length (drop start fks) = omega (arith, large-end, length-drop start fks) in
+      rw (eq-eqb (firstPart large (drop start fks)) (length (drop start fks)) whole) small-end
+
+  pub next-other : (e′ ≡ length fks → ⊥) → e′ ≡ start + nextPart small large (drop start fks)
+  unfolding nextPart
+  next-other some =
+      let part : firstPart large (drop start fks) ≡ length (drop start fks) → ⊥ = λ q. some (omega (arith, large-end, length-drop start fks)) in
+      rw (ne-eqb (firstPart large (drop start fks)) (length (drop start fks)) part) large-end

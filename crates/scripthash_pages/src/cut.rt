@@ -1,10 +1,12 @@
 // Cutting a list into the parts that pages hold. A part's stream is its first number, then the differences; a difference to a larger number
 // counts as 0. Each part takes as many numbers as its page has room for, and the last page has less room than the others.
-ghost use Prim.Native.Nat.{ℕ, _+_, _-_, _≤_, _<_};
+ghost use Prim.Native.Nat.{_+_, _-_, _≤_, _<_};
 ghost use mathlib.Core.Path.{_≡_};
-ghost use lib.ListN.{length, getD, drop};
+ghost use lib.ListN.{length, drop};
 ghost use Rattle.error.specs.Refusal.{refusalOf};
-ghost use Rattle.scripthash_pages.specs.Cutting.{chunkRanges, afterChunkRanges};
+ghost use Rattle.buffer.specs.Bytes.{overwrite};
+ghost use Rattle.scripthash_pages.specs.Cutting.{pageRoom, lastPageRoom, cutting, endsFrom, chunkRanges, afterChunkRanges};
+ghost use Rattle.scripthash_pages.specs.CuttingSteps.{Reached, nextPart};
 ghost use Rattle.scripthash_pages.specs.CuttingAnswers.{chunkAnswer};
 use compact::uleb128_len;
 use error::Refusal;
@@ -48,6 +50,8 @@ fn saturating_sub(a: u64, b: u64) -> u64
 
 // Goes on with a part of `used` bytes from index `from` while the numbers fit into `room` bytes.
 fn extend_part(fks: &[u64], from: usize, used: usize, room: usize) -> Reach
+    requires { ⌜ (0 < from) × (from ≤ length (now fks)) × (used ≤ room) × (room ≤ 4088) ⌝ }
+    ensures { λ r. ⌜ Reached (now (fks .entry)) from used room (r .end) (r .used) ⌝ }
 {
     let mut i = from;
     let mut bytes = used;
@@ -64,6 +68,8 @@ fn extend_part(fks: &[u64], from: usize, used: usize, room: usize) -> Reach
 
 // The end of the part that starts at `start`: as far as a page has room, or as a last page has where that reaches the list's end.
 fn part_end(fks: &[u64], start: usize) -> usize
+    requires { ⌜ start < length (now fks) ⌝ }
+    ensures { λ r. ⌜ r ≡ start + nextPart lastPageRoom pageRoom (drop start (now (fks .entry))) ⌝ }
 {
     let first = uleb128_len(fks[start]);
     let last = extend_part(fks, start + 1, first, SH_PAGE_EXTENT_STREAM_MAX);
@@ -77,6 +83,7 @@ fn part_end(fks: &[u64], start: usize) -> usize
 
 // Counts the parts.
 fn count_parts(fks: &[u64]) -> usize
+    ensures { λ r. ⌜ r ≡ length (cutting (now (fks .entry))) ⌝ }
 {
     let mut start: usize = 0;
     let mut count: usize = 0;
@@ -89,6 +96,9 @@ fn count_parts(fks: &[u64]) -> usize
 
 // Writes the ends of the parts to the start of `out`, which has room for them, and counts them.
 fn write_ends(fks: &[u64], out: &mut [usize]) -> usize
+    requires { ⌜ length (cutting (now fks)) ≤ length (now out) ⌝ }
+    ensures count { λ r. ⌜ r ≡ length (cutting (now (fks .entry))) ⌝ }
+    ensures ends { λ r. ⌜ now (out .exit) ≡ overwrite (now (out .entry)) 0 (endsFrom 0 (cutting (now (fks .entry)))) ⌝ }
 {
     let mut start: usize = 0;
     let mut count: usize = 0;
