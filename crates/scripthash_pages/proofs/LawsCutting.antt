@@ -17,7 +17,7 @@ use Rattle.compact.specs.Uleb128.{ulebLen}
 use Rattle.compact.proofs.LawsLength.{len-pos, len-sum, len-at-most}
 use Rattle.scripthash_slabs.specs.Stream.{Rising, streamLenFrom, streamLen}
 use Rattle.scripthash_pages.specs.CuttingSteps.{nextPart, fittingAt, Reached}
-use Rattle.scripthash_pages.specs.Cutting.{pageRoom, lastPageRoom, fitting, firstPart, greedyParts, greedy, recutLast, cuttingFor, cutting, joined, Fit, Allowed}
+use Rattle.scripthash_pages.specs.Cutting.{pageRoom, lastPageRoom, fitting, firstPart, greedyParts, greedy, recutLast, cuttingFor, cutting, endsFrom, joined, Fit, Allowed}
 
 -- ---- the numbers that fit
 
@@ -404,15 +404,9 @@ module _ (small large : ℕ) (ten : 10 ≤ small) (less : small ≤ large) (near
           let p = part-known large n ns (le-trans ten less) w in
           ⊎-elim
           (λ l. let short : firstPart large (n ∷ ns) < length (n ∷ ns) = omega (arith, l .0, l .1) in
-          rw (x .cut, suc-mul) (omega (arith, l .0, p .many short, length-drop k (n ∷ ns))))
+          rw (x .cut, suc-mul (length (cuttingFor small large (drop k (n ∷ ns)))) least) (omega (arith, l .0, p .many short, length-drop k (n ∷ ns))))
           (λ r. le-trans (mul-le-mul-right least (cut-two (n ∷ ns) w (r .0))) (omega arith))
           (x .which)
-
--- ---- pages
-
--- a list that is cut has no more parts than this: a lent list of that length is long enough
-pub pages-at-most : (ns : List ℕ) → Words ns → length (cutting ns) ≤ length ns / 408 + 2
-pages-at-most ns w = omega (arith, parts-at-most lastPageRoom pageRoom (omega arith) (omega arith) (omega arith) 408 (omega arith) ns w)
 
 -- ---- the numbers of a list from an index on
 
@@ -468,3 +462,36 @@ module _ (fks : List ℕ) (start small large : ℕ) (h : start < length fks) (le
   next-other some =
       let part : firstPart large (drop start fks) ≡ length (drop start fks) → ⊥ = λ q. some (omega (arith, large-end, length-drop start fks)) in
       rw (ne-eqb (firstPart large (drop start fks)) (length (drop start fks)) part) large-end
+
+-- ---- pages
+
+-- a list that is cut has no more parts than this: a lent list of that length is long enough
+pub pages-at-most : (ns : List ℕ) → Words ns → length (cutting ns) ≤ length ns / 408 + 2
+pages-at-most ns w = omega (arith, parts-at-most lastPageRoom pageRoom (omega arith) (omega arith) (omega arith) 408 (omega arith) ns w)
+
+-- What is known of the part that starts at an index of a list and ends at e.
+pub record PartFrom (fks : List ℕ) (start e : ℕ) : Type 0 where
+  pub later : start < e
+  pub within : e ≤ length fks
+  pub count : length (cutting (drop start fks)) ≡ length (cutting (drop e fks)) + 1
+  pub ends : endsFrom start (cutting (drop start fks)) ≡ e ∷ endsFrom e (cutting (drop e fks))
+
+pub part-from : (fks : List ℕ) (start e : ℕ) → start < length fks → Words fks → e ≡ start + nextPart lastPageRoom pageRoom (drop start fks) → PartFrom fks start e
+unfolding endsFrom
+part-from fks start e h w e-is =
+    let k = nextPart lastPageRoom pageRoom (drop start fks) in
+    let x =
+    next-of lastPageRoom pageRoom (omega arith) (omega arith) (omega arith) (drop start fks) (simp length-drop (omega arith)) (words-drop start fks w) in
+    let size : length (take k (drop start fks)) ≡ k = length-take-le k (drop start fks) (x .within) in
+    let cut : cutting (drop start fks) ≡ take k (drop start fks) ∷ cutting (drop (start + k) fks) = rw (← drop-drop k start fks) (x .cut) in
+    rw e-is record {
+      later = omega (arith, x .some);
+      within = omega (arith, x .within, length-drop start fks);
+      count = rw cut (sym (add-one (length (cutting (drop (start + k) fks)))));
+      ends = rw (cut, size);
+    }
+
+-- behind the end of a list there are no parts
+pub parts-behind : (fks : List ℕ) (start : ℕ) → length fks ≤ start → cutting (drop start fks) ≡ []
+unfolding recutLast greedyParts
+parts-behind fks start h = rw (drop-of-length-le fks h)
