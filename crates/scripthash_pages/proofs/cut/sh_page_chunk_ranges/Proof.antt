@@ -1,0 +1,63 @@
+use Prim.Native.Nat.{ℕ, _≤_, _<_}
+use mathlib.Core.List.{List}
+use mathlib.Core.Logic.{⊎-elim}
+use mathlib.Core.Path.{_≡_, refl, ap}
+use native.Mathlib.Nat.{le-trans}
+use native.Mathlib.Omega.{arith}
+use borrow.Author.Tests.{lt-ltb, le-ltb}
+use lib.ListN.{length}
+use Rattle.error.specs.Refusal.{accepted, refuseIf}
+use Rattle.scripthash_pages.specs.Cutting.{cutting, chunkRanges, afterChunkRanges}
+use Rattle.scripthash_pages.proofs.LawsCutting.{pages-at-most}
+use borrow.Author.Needs.{needs}
+use Rattle.scripthash_pages.proofs.cut.sh_page_chunk_ranges.Statement.{statement}
+use Rattle.scripthash_pages.proofs.cut.sh_page_chunk_ranges.Tie as tie
+use Rattle.scripthash_pages.proofs.cut.sh_page_chunk_ranges.Reads as reads
+use Rattle.scripthash_pages.proofs.cut.sh_page_chunk_ranges.Lts as lts
+use Rattle.scripthash_pages.proofs.cut.count_parts.Reads as count-parts-reads
+use Rattle.scripthash_pages.proofs.cut.write_ends.Reads as write-ends-reads
+
+-- src/cut.rt:119:20
+add-if1 : tie.Need-add-if1
+add-if1 c = search needs
+
+-- src/cut.rt:120:24
+count-parts-requires : tie.Need-count-parts-requires
+count-parts-requires c κs = search needs
+
+-- src/cut.rt:121:13
+returns : tie.Need-returns
+unfolding chunkRanges afterChunkRanges refuseIf
+returns c =
+    let args = c .before .before .before .before .before .args in
+    let short : length (args .out .now) < length (cutting (args .fks .now)) = omega (arith, c .before .count-parts .ensures, c .if2 .taken) in
+    rw (lt-ltb (length (args .out .now)) (length (cutting (args .fks .now))) short) (refl, refl)
+
+-- the lent list is long enough: it is so for any numbers, or the parts were counted
+room : (c : tie.Joined1) → length (cutting (c .before .before .before .args .fks .now)) ≤ length (c .before .before .before .args .out .now)
+room c =
+    ⊎-elim (λ w. omega (arith, w .1 .ensures, w .2 .left))
+    (λ w. le-trans (pages-at-most (c .before .before .before .args .fks .now) (λ i. omega (arith, c .before .before .shared-slice-known .given i))) (w .left))
+    (c .if1 .came)
+
+-- src/cut.rt:124:24
+write-ends-requires : tie.Need-write-ends-requires
+write-ends-requires c κs = room (c .before)
+
+-- src/cut.rt:115:1
+same-length : tie.Need-same-length
+same-length c = search needs
+
+-- src/cut.rt:115:1
+returns-2 : tie.Need-returns-2
+unfolding chunkRanges afterChunkRanges refuseIf
+returns-2 c =
+    let j = c .before .before .before .before in
+    let args = j .before .before .before .args in
+    rw (le-ltb (length (args .out .now)) (length (cutting (args .fks .now))) (room j))
+    (ap accepted (c .before .before .write-ends .ensures .0), c .before .before .write-ends .ensures .1)
+
+pub sh-page-chunk-ranges-spec : {M : Type 1} → statement M
+sh-page-chunk-ranges-spec =
+    tie.close
+    (tie.spec add-if1 count-parts-requires returns write-ends-requires same-length returns-2)
