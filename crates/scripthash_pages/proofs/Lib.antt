@@ -1,1 +1,2 @@
 pub mod LawsCutting
+pub mod LawsSpecimens

@@ -9,15 +9,16 @@ use lib.ListN.{length, take, drop}
 use Rattle.error.specs.Refusal.{Answer, accepted, refuseIf, listTooShort}
 use Rattle.buffer.specs.Bytes.{overwrite}
 use Rattle.compact.specs.Uleb128.{ulebLen}
+use Rattle.scripthash_layout.specs.Sizes.{pageSize}
 use Rattle.scripthash_slabs.specs.Stream.{streamLen}
 
--- A page without an extent has 4,096 bytes, and its stream starts at byte 8.
+-- The bytes that a page has for a stream: all from byte 8 on.
 abbrev pub pageRoom : ℕ
-pageRoom = 4096 - 8
+pageRoom = pageSize - 8
 
--- The last page of a list has an extent, and its stream starts at byte 24.
+-- The bytes that the last page of a list has for a stream, since it also names an extent: all from byte 24 on.
 abbrev pub lastPageRoom : ℕ
-lastPageRoom = 4096 - 24
+lastPageRoom = pageSize - 24
 
 -- How many of some numbers behind `prev` go into a room: each takes the length of its difference, up to the first that doesn't fit.
 unfoldable pub fitting : ℕ → ℕ → List ℕ → ℕ
@@ -85,3 +86,7 @@ Fit small large (p ∷ q ∷ ps) = (0 < length p) × (streamLen p ≤ large) × 
 pub record Allowed (small large : ℕ) (ns : List ℕ) (parts : List (List ℕ)) : Type 0 where
   pub consecutive : joined parts ≡ ns
   pub fit : Fit small large parts
+
+-- An allowed cutting of a list into pages.
+abbrev pub AllowedCutting : List ℕ → List (List ℕ) → Type 0
+AllowedCutting ns parts = Allowed lastPageRoom pageRoom ns parts

@@ -10,10 +10,11 @@ ghost use Rattle.scripthash_pages.specs.CuttingSteps.{Reached, nextPart}
 ghost use Rattle.scripthash_pages.specs.CuttingAnswers.{chunkAnswer};
 use compact::uleb128_len;
 use error::Refusal;
+use scripthash_layout::SH_PAGE_SIZE;
 
 // The bytes that a stream has on a page, and on a page with an extent, the last one of a list.
-const SH_PAGE_STREAM_MAX: usize = 4088;
-const SH_PAGE_EXTENT_STREAM_MAX: usize = 4072;
+const SH_PAGE_STREAM_MAX: usize = SH_PAGE_SIZE - 8;
+const SH_PAGE_EXTENT_STREAM_MAX: usize = SH_PAGE_SIZE - 24;
 // Numbers that every part holds which isn't one of the last two: each takes at most 10 bytes.
 const SH_PAGE_MIN_FKS: usize = 408;
 
@@ -50,7 +51,7 @@ fn saturating_sub(a: u64, b: u64) -> u64
 
 // Goes on with a part of `used` bytes from index `from` while the numbers fit into `room` bytes.
 fn extend_part(fks: &[u64], from: usize, used: usize, room: usize) -> Reach
-    requires { ⌜ (0 < from) × (from ≤ length (now fks)) × (used ≤ room) × (room ≤ 4088) ⌝ }
+    requires { ⌜ (0 < from) × (from ≤ length (now fks)) × (used ≤ room) × (room ≤ pageRoom) ⌝ }
     ensures { λ r. ⌜ Reached (now (fks .entry)) from used room (r .end) (r .used) ⌝ }
 {
     let mut i = from;
