@@ -1,158 +1,24 @@
--- Cutting: the longest part that fits, the cutting part by part, that it is allowed, and that no allowed cutting of a rising list has fewer
--- parts. Assumes nothing.
-use Prim.Native.Nat.{ℕ, zero, suc, _+_, _-_, _*_, _/_, _^_, _≤_, _<_, zero-le, suc-le-suc}
-use mathlib.Core.Bool.{Bool, true, false, cond}
+-- The cutting for a last page with a small room and other pages with a large one: it is allowed, and no allowed cutting of a rising list has
+-- fewer parts. What a part leaves over of numbers that fit the large room has to fit the small one, so the rooms are near to each other: with
+-- 10 and 100 bytes, 1 to 100 would be cut into ten parts, where 1 to 90 and 91 to 100 are allowed. Assumes nothing.
+use Prim.Native.Nat.{ℕ, zero, suc, _+_, _-_, _*_, _^_, _≤_, _<_, zero-le, suc-le-suc}
+use mathlib.Core.Bool.{cond}
 use mathlib.Core.List.{List, [], _∷_, _++_, append-nil}
 use mathlib.Core.Logic.{_⊎_, inl, inr, ⊎-elim}
 use mathlib.Core.Path.{_≡_, refl, sym, ap, _∙_}
-use native.Mathlib.Nat.{le-refl, le-trans, sub-zero, suc-mul, mul-le-mul-right}
-use native.Mathlib.Numerals.{add-one}
+use native.Mathlib.Nat.{le-refl, le-trans, suc-mul, mul-le-mul-right}
 use native.Mathlib.Omega.{arith}
-use borrow.Author.Tests.{le-leb, lt-leb, eq-eqb, ne-eqb}
-use lib.Dec.{leb, eqb}
-use lib.ListN.{length, getD, take, drop, length-drop, length-append, take-append-drop, drop-of-length-le}
-use lib.Seq.{take-length, drop-length, drop-nil, length-take-le, getD-drop, drop-drop, drop-append-le, drop-append-add, drop-cons, take-at}
+use borrow.Author.Tests.{eq-eqb, ne-eqb}
+use lib.Dec.{eqb}
+use lib.ListN.{length, take, drop, length-drop, length-append, take-append-drop}
+use lib.Seq.{take-length, drop-length, drop-nil, length-take-le, drop-drop, drop-append-le, drop-append-add, take-at}
 use Rattle.buffer.proofs.LawsOrder.{lt-or-ge}
 use Rattle.compact.specs.Uleb128.{ulebLen}
-use Rattle.compact.proofs.LawsLength.{len-pos, len-sum, len-at-most}
 use Rattle.scripthash_slabs.specs.Stream.{Rising, streamLenFrom, streamLen}
-use Rattle.scripthash_pages.specs.CuttingSteps.{nextPart, fittingAt, Reached}
-use Rattle.scripthash_pages.specs.Cutting.{pageRoom, lastPageRoom, fitting, firstPart, greedyParts, greedy, recutLast, cuttingFor, cutting, endsFrom, joined, Fit, Allowed, AllowedCutting}
-
--- ---- the numbers that fit
-
-pub fit-yes : (room prev n : ℕ) (ns : List ℕ) → ulebLen (n - prev) ≤ room → fitting room prev (n ∷ ns) ≡ suc (fitting (room - ulebLen (n - prev)) n ns)
-unfolding fitting
-fit-yes room prev n ns h = rw (le-leb (ulebLen (n - prev)) room h)
-
-pub fit-no : (room prev n : ℕ) (ns : List ℕ) → room < ulebLen (n - prev) → fitting room prev (n ∷ ns) ≡ 0
-unfolding fitting
-fit-no room prev n ns h = rw (lt-leb (ulebLen (n - prev)) room h)
-
--- All numbers of a list are below 2 ^ 64.
-abbrev pub Words : List ℕ → Type 0
-Words ns = (i : ℕ) → getD ns i 0 < 2 ^ 64
-
--- What is known of the count f of numbers behind prev that fit a room.
-pub record Fitting (room prev : ℕ) (ns : List ℕ) (f : ℕ) : Type 0 where
-  pub within : f ≤ length ns
-  pub fits : streamLenFrom prev (take f ns) ≤ room
-  pub longest : (i : ℕ) → i ≤ length ns → streamLenFrom prev (take i ns) ≤ room → i ≤ f
-  -- where numbers are left over, the room is nearly full: there were at least so many, and those left over are a short stream
-  pub many : Words ns → f < length ns → room < 10 * suc f
-  pub rest : Words ns → f < length ns → streamLen (drop f ns) + room ≤ streamLenFrom prev ns + 9
-
-pub words-drop : (k : ℕ) (ns : List ℕ) → Words ns → Words (drop k ns)
-words-drop k ns w i = rw getD-drop (w (k + i))
-
--- behind a number that fits, and at one that doesn't
-fit-more : (room prev n : ℕ) (ns : List ℕ) {f : ℕ} → ulebLen (n - prev) ≤ room → Fitting (room - ulebLen (n - prev)) n ns f → Fitting room prev (n ∷ ns) (suc f)
-unfolding streamLenFrom
-fit-more room prev n ns {f} p k = record {
-  within = suc-le-suc (k .within);
-  fits = omega (arith, k .fits);
-  longest = longer;
-  many = λ w h. omega (arith, k .many (λ i. w (suc i)) (omega arith), len-at-most (n - prev) (omega (arith, w 0)));
-  rest = λ w h. omega (arith, k .rest (λ i. w (suc i)) (omega arith));
-}
-  where
-    longer : (i : ℕ) → i ≤ suc (length ns) → streamLenFrom prev (take i (n ∷ ns)) ≤ room → i ≤ suc f
-    longer zero h e = zero-le
-    longer (suc i) h e = suc-le-suc (k .longest i (omega arith) (omega arith))
-
-fit-none : (room prev n : ℕ) (ns : List ℕ) → room < ulebLen (n - prev) → Fitting room prev (n ∷ ns) 0
-unfolding streamLenFrom
-fit-none room prev n ns q = record {
-  within = zero-le;
-  fits = zero-le;
-  longest = longer;
-  many = λ w h. omega (arith, len-at-most (n - prev) (omega (arith, w 0)));
-  rest = λ w h. rw sub-zero (omega (arith, len-at-most n (w 0)));
-}
-  where
-    longer : (i : ℕ) → i ≤ suc (length ns) → streamLenFrom prev (take i (n ∷ ns)) ≤ room → i ≤ 0
-    longer zero h e = zero-le
-    longer (suc i) h e = absurd (omega arith)
-
-pub fit-known : (room prev : ℕ) (ns : List ℕ) → Fitting room prev ns (fitting room prev ns)
-unfolding streamLenFrom fitting
-fit-known room prev [] =
-    record { within = zero-le; fits = zero-le; longest = λ i h k. h; many = λ w h. absurd (omega arith); rest = λ w h. absurd (omega arith) }
-fit-known room prev (n ∷ ns) =
-    ⊎-elim (λ (q : room < ulebLen (n - prev)). rw (fit-no room prev n ns q) (fit-none room prev n ns q))
-    (λ (p : ulebLen (n - prev) ≤ room). rw (fit-yes room prev n ns p) (fit-more room prev n ns p (fit-known (room - ulebLen (n - prev)) n ns)))
-    (lt-or-ge room (ulebLen (n - prev)))
-
--- ---- rising numbers
-
-rising-words : (p : ℕ) (ns : List ℕ) → Rising (2 ^ 63) p ns → Words ns
-unfolding Rising
-rising-words p [] r i = omega arith
-rising-words p (n ∷ ns) r zero = omega (arith, r .1)
-rising-words p (n ∷ ns) r (suc i) = rising-words n ns (r .2) i
-
-rising-lower : (top p : ℕ) (ns : List ℕ) → Rising top p ns → Rising top 0 ns
-unfolding Rising
-rising-lower top p [] r = tt
-rising-lower top p (n ∷ ns) r = (omega (arith, r .0), r .1, r .2)
-
-rising-left : (top p : ℕ) (xs ys : List ℕ) → Rising top p (xs ++ ys) → Rising top p xs
-unfolding Rising
-rising-left top p [] ys r = tt
-rising-left top p (x ∷ xs) ys r = (r .0, r .1, rising-left top x xs ys (r .2))
-
-rising-right : (top p : ℕ) (xs ys : List ℕ) → Rising top p (xs ++ ys) → Rising top 0 ys
-unfolding Rising
-rising-right top p [] ys r = rising-lower top p ys r
-rising-right top p (x ∷ xs) ys r = rising-right top x xs ys (r .2)
-
--- a stream that starts one number later is no longer: the length of a sum is at most the sum of the lengths
-stream-tail : (top p n : ℕ) (ns : List ℕ) → Rising top p (n ∷ ns) → streamLen ns ≤ streamLen (n ∷ ns)
-unfolding Rising streamLenFrom
-stream-tail top p n [] r = zero-le
-stream-tail top p n (m ∷ ms) r =
-    let e : n + (m - n) ≡ m = omega (arith, r .2 .0) in
-    let sum : ulebLen m ≤ ulebLen n + ulebLen (m - n) = rw e at (len-sum n (m - n)) in
-    rw (sub-zero m, sub-zero n) (omega arith)
-
--- so a part that starts later is never longer
-pub stream-drop : (top p j : ℕ) (ns : List ℕ) → Rising top p ns → streamLen (drop j ns) ≤ streamLen ns
-unfolding Rising
-stream-drop top p zero ns r = le-refl (streamLen ns)
-stream-drop top p (suc j) [] r = le-refl (streamLen [])
-stream-drop top p (suc j) (n ∷ ns) r = le-trans (stream-drop top n j ns (r .2)) (stream-tail top p n ns r)
-
--- ---- the first part
-
--- What is known of the count k of numbers that the first part takes.
-pub record Part (room : ℕ) (ns : List ℕ) (k : ℕ) : Type 0 where
-  pub some : 0 < k
-  pub within : k ≤ length ns
-  pub fits : streamLen (take k ns) ≤ room
-  pub longest : (i : ℕ) → i ≤ length ns → streamLen (take i ns) ≤ room → i ≤ k
-  pub many : k < length ns → room ≤ 10 * k + 9
-  pub rest : k < length ns → streamLen (drop k ns) + room ≤ streamLen ns + 9
-
-pub part-known : (room n : ℕ) (ns : List ℕ) → 10 ≤ room → Words (n ∷ ns) → Part room (n ∷ ns) (firstPart room (n ∷ ns))
-unfolding firstPart streamLenFrom
-part-known room n ns h w = record {
-  some = suc-le-suc zero-le;
-  within = suc-le-suc (known .within);
-  fits = rw sub-zero (omega (arith, known .fits, ten));
-  longest = longer;
-  many = λ l. omega (arith, known .many (λ i. w (suc i)) (omega arith), ten);
-  rest = λ l. rw (sub-zero n) (omega (arith, known .rest (λ i. w (suc i)) (omega arith), ten));
-}
-  where
-    ten : ulebLen n ≤ 10
-    ten = len-at-most n (w 0)
-    known : Fitting (room - ulebLen n) n ns (fitting (room - ulebLen n) n ns)
-    known = fit-known (room - ulebLen n) n ns
-    longer : (i : ℕ) → i ≤ suc (length ns) → streamLen (take i (n ∷ ns)) ≤ room → i ≤ suc (fitting (room - ulebLen n) n ns)
-    longer zero l e = zero-le
-    longer (suc i) l e =
-        let e′ : ulebLen n + streamLenFrom n (take i ns) ≤ room = rw sub-zero at e in
-        suc-le-suc (known .longest i (omega arith) (omega arith))
+use Rattle.scripthash_pages.specs.Cutting.{fitting, firstPart, greedyParts, greedy, recutLast, cuttingFor, joined, Fit, Allowed}
+use Rattle.scripthash_pages.specs.CuttingSteps.{nextPart}
+use Rattle.scripthash_pages.proofs.LawsFitting.{Words, words-drop, Fitting, part-some, part-known}
+use Rattle.scripthash_pages.proofs.LawsRising.{rising-words, rising-left, rising-right, stream-drop}
 
 -- ---- the greedy cutting
 
@@ -214,7 +80,7 @@ module _ (small large : ℕ) (ten : 10 ≤ small) (less : small ≤ large) (near
   unfolding streamLenFrom
   leaves n ns w e =
       let p = part-known small n ns ten w in
-      ⊎-elim (λ (l : firstPart small (n ∷ ns) < length (n ∷ ns)). omega (arith, p .rest l))
+      ⊎-elim (λ (l : firstPart small (n ∷ ns) < length (n ∷ ns)). omega (arith, p .rest w l))
       (λ (g : length (n ∷ ns) ≤ firstPart small (n ∷ ns)).
       let all : firstPart small (n ∷ ns) ≡ length (n ∷ ns) = omega (arith, p .within) in rw (all, drop-length (n ∷ ns)) zero-le)
       (lt-or-ge (firstPart small (n ∷ ns)) (length (n ∷ ns)))
@@ -231,13 +97,13 @@ module _ (small large : ℕ) (ten : 10 ≤ small) (less : small ≤ large) (near
   unfolding nextPart
   next-known n ns w = ⊎-elim before whole (lt-or-ge (firstPart large (n ∷ ns)) (length (n ∷ ns)))
     where
-      p : Part large (n ∷ ns) (firstPart large (n ∷ ns))
+      p : Fitting large 0 (n ∷ ns) (firstPart large (n ∷ ns))
       p = part-known large n ns (le-trans ten less) w
-      s : Part small (n ∷ ns) (firstPart small (n ∷ ns))
+      s : Fitting small 0 (n ∷ ns) (firstPart small (n ∷ ns))
       s = part-known small n ns ten w
       before : firstPart large (n ∷ ns) < length (n ∷ ns) → Next (n ∷ ns) (nextPart small large (n ∷ ns))
       before l = rw (ne-eqb (firstPart large (n ∷ ns)) (length (n ∷ ns)) (λ (e : firstPart large (n ∷ ns) ≡ length (n ∷ ns)). omega arith)) (record {
-        some = p .some;
+        some = part-some large n ns;
         within = p .within;
         fits = p .fits;
         cut = ap (recutLast small) (greedy-step large n ns)
@@ -251,7 +117,7 @@ module _ (small large : ℕ) (ten : 10 ≤ small) (less : small ≤ large) (near
           let k = firstPart small (n ∷ ns) in
           let left = leaves n ns w short in
           rw (eq-eqb (firstPart large (n ∷ ns)) (length (n ∷ ns)) all) (record {
-            some = s .some;
+            some = part-some small n ns;
             within = s .within;
             fits = le-trans (s .fits) less;
             cut = cut-whole (n ∷ ns) w short ∙ greedy-step small n ns
@@ -404,105 +270,6 @@ module _ (small large : ℕ) (ten : 10 ≤ small) (less : small ≤ large) (near
           let p = part-known large n ns (le-trans ten less) w in
           ⊎-elim
           (λ l. let short : firstPart large (n ∷ ns) < length (n ∷ ns) = omega (arith, l .0, l .1) in
-          rw (x .cut, suc-mul (length (cuttingFor small large (drop k (n ∷ ns)))) least) (omega (arith, l .0, p .many short, length-drop k (n ∷ ns))))
+          rw (x .cut, suc-mul (length (cuttingFor small large (drop k (n ∷ ns)))) least) (omega (arith, l .0, p .many w short, length-drop k (n ∷ ns))))
           (λ r. le-trans (mul-le-mul-right least (cut-two (n ∷ ns) w (r .0))) (omega arith))
           (x .which)
-
--- ---- the numbers of a list from an index on
-
--- where there are none, none fits
-pub at-end : (fks : List ℕ) (i room : ℕ) → length fks ≤ i → fittingAt fks i room ≡ 0
-unfolding fittingAt fitting
-at-end fks i room h = rw (drop-of-length-le fks h)
-
--- a number that doesn't fit behind some bytes
-pub at-no : (fks : List ℕ) (i bytes room : ℕ) → i < length fks → room < bytes + ulebLen (getD fks i 0 - getD fks (i - 1) 0)
-    → fittingAt fks i (room - bytes) ≡ 0
-unfolding fittingAt
-at-no fks i bytes room h e =
-    rw (drop-cons fks i 0 h) (fit-no (room - bytes) (getD fks (i - 1) 0) (getD fks i 0) (drop (suc i) fks) (omega (arith, len-pos (getD fks i 0 - getD fks (i - 1) 0))))
-
--- a number that does, and those behind it
-pub at-yes : (fks : List ℕ) (i bytes room : ℕ) → i < length fks → bytes + ulebLen (getD fks i 0 - getD fks (i - 1) 0) ≤ room
-    → i + 1 + fittingAt fks (i + 1) (room - (bytes + ulebLen (getD fks i 0 - getD fks (i - 1) 0))) ≡ i + fittingAt fks i (room - bytes)
-unfolding fittingAt
-at-yes fks i bytes room h e =
-    let d = ulebLen (getD fks i 0 - getD fks (i - 1) 0) in
-    let same : room - (bytes + d) ≡ room - bytes - d = omega arith in
-    let back : i + 1 - 1 ≡ i = omega arith in
-    rw (drop-cons fks i 0 h, fit-yes (room - bytes) (getD fks (i - 1) 0) (getD fks i 0) (drop (suc i) fks) (omega arith), back, add-one i, same)
-    (omega arith)
-
--- the first part of the numbers from an index on
-pub part-at : (fks : List ℕ) (start room : ℕ) → start < length fks
-    → start + firstPart room (drop start fks) ≡ start + 1 + fittingAt fks (start + 1) (room - ulebLen (getD fks start 0))
-unfolding fittingAt firstPart
-part-at fks start room h =
-    let back : start + 1 - 1 ≡ start = omega arith in
-    rw (drop-cons fks start 0 h, back, add-one start) (omega arith)
-
--- A part goes on within the small room, and from there within the large one: the two ends give the next part.
-module _ (fks : List ℕ) (start small large : ℕ) (h : start < length fks) (less : small ≤ large) (e b e′ b′ : ℕ)
-    (near : Reached fks (start + 1) (ulebLen (getD fks start 0)) small e b) (far : Reached fks e b large e′ b′) where
-  small-end : e ≡ start + firstPart small (drop start fks)
-  small-end = omega (arith, near .full, near .same small (le-refl small), part-at fks start small h)
-
-  large-end : e′ ≡ start + firstPart large (drop start fks)
-  large-end = omega (arith, far .full, far .same large (le-refl large), near .same large less, part-at fks start large h)
-
-  -- the large room reaches the end of the list, or not
-  pub next-last : e′ ≡ length fks → e ≡ start + nextPart small large (drop start fks)
-  unfolding nextPart
-  next-last all =
-      let whole : firstPart large (drop start fks) ≡ length (drop start fks) = omega (arith, large-end, length-drop start fks) in
-      rw (eq-eqb (firstPart large (drop start fks)) (length (drop start fks)) whole) small-end
-
-  pub next-other : (e′ ≡ length fks → ⊥) → e′ ≡ start + nextPart small large (drop start fks)
-  unfolding nextPart
-  next-other some =
-      let part : firstPart large (drop start fks) ≡ length (drop start fks) → ⊥ = λ q. some (omega (arith, large-end, length-drop start fks)) in
-      rw (ne-eqb (firstPart large (drop start fks)) (length (drop start fks)) part) large-end
-
--- ---- pages
-
--- the cutting of any numbers of 64 bits is allowed
-pub pages-allowed : (ns : List ℕ) → Words ns → AllowedCutting ns (cutting ns)
-pages-allowed ns w = cutting-allowed lastPageRoom pageRoom (omega arith) (omega arith) (omega arith) ns w
-
--- and every allowed cutting of a rising list has at least as many parts
-pub pages-optimal : (ns : List ℕ) → Rising (2 ^ 63) 0 ns → (parts : List (List ℕ)) → AllowedCutting ns parts → length (cutting ns) ≤ length parts
-pages-optimal ns r parts a = cutting-optimal lastPageRoom pageRoom (omega arith) (omega arith) (omega arith) ns r parts a
-
--- a list that is cut has no more parts than this: a lent list of that length is long enough
-pub pages-at-most : (ns : List ℕ) → Words ns → length (cutting ns) ≤ length ns / 408 + 2
-pages-at-most ns w = omega (arith, parts-at-most lastPageRoom pageRoom (omega arith) (omega arith) (omega arith) 408 (omega arith) ns w)
-
--- What is known of the part that starts at an index of a list and ends at e.
-pub record PartFrom (fks : List ℕ) (start e : ℕ) : Type 0 where
-  pub later : start < e
-  pub within : e ≤ length fks
-  pub count : length (cutting (drop start fks)) ≡ length (cutting (drop e fks)) + 1
-  pub ends : endsFrom start (cutting (drop start fks)) ≡ e ∷ endsFrom e (cutting (drop e fks))
-  pub cut : cutting (drop start fks) ≡ take (e - start) (drop start fks) ∷ cutting (drop e fks)
-
-pub part-from : (fks : List ℕ) (start e : ℕ) → start < length fks → Words fks → e ≡ start + nextPart lastPageRoom pageRoom (drop start fks) → PartFrom fks start e
-unfolding endsFrom
-part-from fks start e h w e-is =
-    let k = nextPart lastPageRoom pageRoom (drop start fks) in
-    let x =
-    next-of lastPageRoom pageRoom (omega arith) (omega arith) (omega arith) (drop start fks) (simp length-drop (omega arith)) (words-drop start fks w) in
-    let size : length (take k (drop start fks)) ≡ k = length-take-le k (drop start fks) (x .within) in
-    let cut : cutting (drop start fks) ≡ take k (drop start fks) ∷ cutting (drop (start + k) fks) = rw (← drop-drop k start fks) (x .cut) in
-    let k-is : start + k - start ≡ k = omega arith in
-    rw e-is record {
-      later = omega (arith, x .some);
-      within = omega (arith, x .within, length-drop start fks);
-      count = rw cut (sym (add-one (length (cutting (drop (start + k) fks)))));
-      ends = rw (cut, size);
-      cut = rw k-is cut;
-    }
-
--- behind the end of a list there are no parts
-pub parts-behind : (fks : List ℕ) (start : ℕ) → length fks ≤ start → cutting (drop start fks) ≡ []
-unfolding recutLast greedyParts
-parts-behind fks start h = rw (drop-of-length-le fks h)

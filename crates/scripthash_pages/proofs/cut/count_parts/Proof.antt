@@ -6,7 +6,7 @@ use native.Mathlib.Omega.{arith}
 use borrow.Author.Needs.{needs}
 use lib.ListN.{length, drop}
 use Rattle.scripthash_pages.specs.Cutting.{cutting}
-use Rattle.scripthash_pages.proofs.LawsCutting.{PartFrom, part-from, parts-behind}
+use Rattle.scripthash_pages.proofs.LawsPages.{PartFrom, part-from, parts-behind}
 use Rattle.scripthash_pages.proofs.cut.count_parts.Statement.{statement}
 use Rattle.scripthash_pages.proofs.cut.count_parts.Tie as tie
 use Rattle.scripthash_pages.proofs.cut.count_parts.Reads as reads

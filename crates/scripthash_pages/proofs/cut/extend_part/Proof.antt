@@ -8,7 +8,7 @@ use lib.ListN.{length, getD}
 use Rattle.compact.specs.Uleb128.{ulebLen}
 use Rattle.compact.proofs.LawsLength.{len-at-most}
 use Rattle.scripthash_pages.specs.CuttingSteps.{fittingAt, Reached}
-use Rattle.scripthash_pages.proofs.LawsCutting.{at-end, at-no, at-yes}
+use Rattle.scripthash_pages.proofs.LawsReach.{at-end, at-no, at-yes}
 use Rattle.scripthash_pages.proofs.cut.extend_part.Statement.{statement}
 use Rattle.scripthash_pages.proofs.cut.extend_part.Tie as tie
 use Rattle.scripthash_pages.proofs.cut.extend_part.Reads as reads

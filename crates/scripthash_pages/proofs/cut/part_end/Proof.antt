@@ -7,7 +7,7 @@ use Rattle.compact.specs.Uleb128.{ulebLen}
 use Rattle.compact.proofs.LawsLength.{len-at-most}
 use Rattle.scripthash_pages.specs.Cutting.{pageRoom, lastPageRoom}
 use Rattle.scripthash_pages.specs.CuttingSteps.{Reached}
-use Rattle.scripthash_pages.proofs.LawsCutting.{next-last, next-other}
+use Rattle.scripthash_pages.proofs.LawsReach.{next-last, next-other}
 use borrow.Author.Needs.{needs}
 use Rattle.scripthash_pages.proofs.cut.part_end.Statement.{statement}
 use Rattle.scripthash_pages.proofs.cut.part_end.Tie as tie

@@ -8,7 +8,7 @@ use borrow.Author.Tests.{lt-ltb, le-ltb}
 use lib.ListN.{length}
 use Rattle.error.specs.Refusal.{accepted, refuseIf}
 use Rattle.scripthash_pages.specs.Cutting.{cutting, chunkRanges, afterChunkRanges}
-use Rattle.scripthash_pages.proofs.LawsCutting.{pages-at-most}
+use Rattle.scripthash_pages.proofs.LawsPages.{pages-at-most}
 use borrow.Author.Needs.{needs}
 use Rattle.scripthash_pages.proofs.cut.sh_page_chunk_ranges.Statement.{statement}
 use Rattle.scripthash_pages.proofs.cut.sh_page_chunk_ranges.Tie as tie

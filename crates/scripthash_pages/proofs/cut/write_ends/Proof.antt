@@ -8,7 +8,7 @@ use lib.ListN.{length, drop, length-set}
 use Rattle.buffer.specs.Bytes.{overwrite}
 use Rattle.buffer.proofs.LawsBytes.{overwrite-nil, overwrite-step}
 use Rattle.scripthash_pages.specs.Cutting.{cutting, endsFrom}
-use Rattle.scripthash_pages.proofs.LawsCutting.{PartFrom, part-from, parts-behind}
+use Rattle.scripthash_pages.proofs.LawsPages.{PartFrom, part-from, parts-behind}
 use Rattle.scripthash_pages.proofs.cut.write_ends.Statement.{statement}
 use Rattle.scripthash_pages.proofs.cut.write_ends.Tie as tie
 use Rattle.scripthash_pages.proofs.cut.write_ends.Reads as reads
