@@ -2,14 +2,12 @@
 -- fewer parts. What a part leaves over of numbers that fit the large room has to fit the small one, so the rooms are near to each other: with
 -- 10 and 100 bytes, 1 to 100 would be cut into ten parts, where 1 to 90 and 91 to 100 are allowed. Assumes nothing.
 use Prim.Native.Nat.{ℕ, zero, suc, _+_, _-_, _*_, _^_, _≤_, _<_, zero-le, suc-le-suc}
-use mathlib.Core.Bool.{cond}
 use mathlib.Core.List.{List, [], _∷_, _++_, append-nil}
 use mathlib.Core.Logic.{_⊎_, inl, inr, ⊎-elim}
 use mathlib.Core.Path.{_≡_, refl, sym, ap, _∙_}
 use native.Mathlib.Nat.{le-refl, le-trans, suc-mul, mul-le-mul-right}
 use native.Mathlib.Omega.{arith}
 use borrow.Author.Tests.{eq-eqb, ne-eqb}
-use lib.Dec.{eqb}
 use lib.ListN.{length, take, drop, length-drop, length-append, take-append-drop}
 use lib.Seq.{take-length, drop-length, drop-nil, length-take-le, drop-drop, drop-append-le, drop-append-add, take-at}
 use Rattle.buffer.proofs.LawsOrder.{lt-or-ge}
@@ -99,8 +97,10 @@ module _ (small large : ℕ) (ten : 10 ≤ small) (less : small ≤ large) (near
     where
       p : Fitting large 0 (n ∷ ns) (firstPart large (n ∷ ns))
       p = part-known large n ns (le-trans ten less) w
+
       s : Fitting small 0 (n ∷ ns) (firstPart small (n ∷ ns))
       s = part-known small n ns ten w
+
       before : firstPart large (n ∷ ns) < length (n ∷ ns) → Next (n ∷ ns) (nextPart small large (n ∷ ns))
       before l = rw (ne-eqb (firstPart large (n ∷ ns)) (length (n ∷ ns)) (λ (e : firstPart large (n ∷ ns) ≡ length (n ∷ ns)). omega arith)) (record {
         some = part-some large n ns;
@@ -110,6 +110,7 @@ module _ (small large : ℕ) (ten : 10 ≤ small) (less : small ≤ large) (near
             ∙ recut-behind small _ (greedy large (drop (firstPart large (n ∷ ns)) (n ∷ ns))) (greedy-some large (drop (firstPart large (n ∷ ns)) (n ∷ ns)) (simp length-drop (omega arith)));
         which = inl (refl, l);
       })
+
       whole : length (n ∷ ns) ≤ firstPart large (n ∷ ns) → Next (n ∷ ns) (nextPart small large (n ∷ ns))
       whole g =
           let all : firstPart large (n ∷ ns) ≡ length (n ∷ ns) = omega (arith, p .within) in
@@ -226,8 +227,10 @@ module _ (small large : ℕ) (ten : 10 ≤ small) (less : small ≤ large) (near
           let m-is : m ≡ length p + (m - length p) = omega arith in
           let there : drop m (p ++ rest) ≡ drop (m - length p) rest = ap (λ (k : ℕ). drop k (p ++ rest)) m-is ∙ drop-append-add p rest (m - length p) in
           rw there (behind (m - length p))
+
       after : length p ≤ j → length (cuttingFor small large (drop j (p ++ rest))) ≤ suc bound
       after h = le-trans (past j h) (omega arith)
+
       inside : j < length p → length (cuttingFor small large (drop j (p ++ rest))) ≤ suc bound
       inside h =
           let i = length p - j in

@@ -14,6 +14,7 @@ use scripthash_layout::SH_PAGE_SIZE;
 
 // The bytes that a stream has on a page, and on a page with an extent, the last one of a list.
 const SH_PAGE_STREAM_MAX: usize = SH_PAGE_SIZE - 8;
+
 const SH_PAGE_EXTENT_STREAM_MAX: usize = SH_PAGE_SIZE - 24;
 // Numbers that every part holds which isn't one of the last two: each takes at most 10 bytes.
 const SH_PAGE_MIN_FKS: usize = 408;
@@ -59,12 +60,18 @@ fn extend_part(fks: &[u64], from: usize, used: usize, room: usize) -> Reach
     while i < fks.len() {
         let more = bytes + uleb128_len(saturating_sub(fks[i], fks[i - 1]));
         if room < more {
-            return Reach { end: i, used: bytes };
+            return Reach {
+                end: i,
+                used: bytes,
+            };
         }
         bytes = more;
         i += 1;
     }
-    Reach { end: i, used: bytes }
+    Reach {
+        end: i,
+        used: bytes,
+    }
 }
 
 // The end of the part that starts at `start`: as far as a page has room, or as a last page has where that reaches the list's end.

@@ -1,3 +1,4 @@
+-- `count_parts` meets its contract. The invariant: the parts passed and those of what is left make up the count. Assumes nothing.
 use Prim.Native.Nat.{ℕ, _+_, _-_, _≤_}
 use mathlib.Core.List.{List}
 use mathlib.Core.Path.{_≡_}
@@ -9,9 +10,6 @@ use Rattle.scripthash_pages.specs.Cutting.{cutting}
 use Rattle.scripthash_pages.proofs.LawsPages.{PartFrom, part-from, parts-behind}
 use Rattle.scripthash_pages.proofs.cut.count_parts.Statement.{statement}
 use Rattle.scripthash_pages.proofs.cut.count_parts.Tie as tie
-use Rattle.scripthash_pages.proofs.cut.count_parts.Reads as reads
-use Rattle.scripthash_pages.proofs.cut.count_parts.Lts as lts
-use Rattle.scripthash_pages.proofs.cut.part_end.Reads as part-end-reads
 
 abbrev Inv-loop : tie.InvT-loop
 Inv-loop fks start₀ count₀ start count =
@@ -20,11 +18,9 @@ Inv-loop fks start₀ count₀ start count =
 abbrev μ-loop : tie.MeasureT-loop
 μ-loop fks start₀ count₀ start count = length fks - start
 
--- src/cut.rt:90:5
 loop-holds : tie.Need-loop-holds Inv-loop μ-loop
 loop-holds c = (search needs, search needs, zero-add _)
 
--- src/cut.rt:91:9
 part-end-requires : tie.Need-part-end-requires Inv-loop μ-loop
 part-end-requires c κs = search needs
 
@@ -40,19 +36,15 @@ module _ (c : tie.After-part-end Inv-loop μ-loop) where
   found =
       part-from fks start (c .part-end .result) (search needs) (λ i. omega (arith, c .before .before .before .shared-slice-known .given i)) (c .part-end .ensures)
 
--- src/cut.rt:92:9
 add-count : tie.Need-add-count Inv-loop μ-loop
 add-count c = search needs
 
--- src/cut.rt:90:5
 loop-less : tie.Need-loop-less Inv-loop μ-loop
 loop-less c = omega (arith, found c .later, found c .within)
 
--- src/cut.rt:90:5
 loop-again : tie.Need-loop-again Inv-loop μ-loop
 loop-again c = (omega (arith, found c .later), found c .within, omega (arith, found c .count))
 
--- src/cut.rt:85:1
 returns : tie.Need-returns Inv-loop μ-loop
 returns c =
     let inv : c .before .loop .count + 0 ≡ length (cutting (c .before .before .before .args .fks .now)) =

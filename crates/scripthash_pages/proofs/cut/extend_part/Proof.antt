@@ -1,4 +1,6 @@
-use Prim.Native.Nat.{ℕ, _+_, _-_, _≤_, _<_}
+-- `extend_part` meets its contract. The invariant: in the room, and in any larger one, the part goes on from here as it did from its start.
+-- Assumes nothing.
+use Prim.Native.Nat.{ℕ, _+_, _-_, _≤_}
 use mathlib.Core.List.{List}
 use mathlib.Core.Path.{_≡_, ap, _∙_}
 use native.Mathlib.Nat.{le-trans}
@@ -7,14 +9,10 @@ use borrow.Author.Needs.{needs}
 use lib.ListN.{length, getD}
 use Rattle.compact.specs.Uleb128.{ulebLen}
 use Rattle.compact.proofs.LawsLength.{len-at-most}
-use Rattle.scripthash_pages.specs.CuttingSteps.{fittingAt, Reached}
+use Rattle.scripthash_pages.specs.CuttingSteps.{fittingAt}
 use Rattle.scripthash_pages.proofs.LawsReach.{at-end, at-no, at-yes}
 use Rattle.scripthash_pages.proofs.cut.extend_part.Statement.{statement}
 use Rattle.scripthash_pages.proofs.cut.extend_part.Tie as tie
-use Rattle.scripthash_pages.proofs.cut.extend_part.Reads as reads
-use Rattle.scripthash_pages.proofs.cut.extend_part.Lts as lts
-use Rattle.compact.proofs.uleb128_len.Reads as uleb128-len-reads
-use Rattle.scripthash_pages.proofs.cut.saturating_sub.Reads as saturating-sub-reads
 
 abbrev Inv-loop : tie.InvT-loop
 Inv-loop fks from used room i₀ bytes₀ i bytes =
@@ -23,35 +21,27 @@ Inv-loop fks from used room i₀ bytes₀ i bytes =
 abbrev μ-loop : tie.MeasureT-loop
 μ-loop fks from used room i₀ bytes₀ i bytes = length fks - i
 
--- src/cut.rt:58:5
 loop-holds : tie.Need-loop-holds Inv-loop μ-loop
 loop-holds c = search needs
 
--- src/cut.rt:59:55
 mul-saturating-sub : tie.Need-mul-saturating-sub Inv-loop μ-loop
 mul-saturating-sub c = search needs
 
--- src/cut.rt:59:55
 shared-slice-read-saturating-sub : tie.Need-shared-slice-read-saturating-sub Inv-loop μ-loop
 shared-slice-read-saturating-sub c = search needs
 
--- src/cut.rt:59:67
 sub-saturating-sub : tie.Need-sub-saturating-sub Inv-loop μ-loop
 sub-saturating-sub c = search needs
 
--- src/cut.rt:59:63
 mul-saturating-sub-2 : tie.Need-mul-saturating-sub-2 Inv-loop μ-loop
 mul-saturating-sub-2 c = search needs
 
--- src/cut.rt:59:63
 shared-slice-read-saturating-sub-2 : tie.Need-shared-slice-read-saturating-sub-2 Inv-loop μ-loop
 shared-slice-read-saturating-sub-2 c = search needs
 
--- src/cut.rt:59:40
 saturating-sub-requires : tie.Need-saturating-sub-requires Inv-loop μ-loop
 saturating-sub-requires c κs = search needs
 
--- src/cut.rt:59:28
 uleb128-len-requires : tie.Need-uleb128-len-requires Inv-loop μ-loop
 uleb128-len-requires c κs = search needs
 
@@ -72,11 +62,9 @@ module _ (c : tie.After-uleb128-len Inv-loop μ-loop) where
   form-short : form ≤ 10
   form-short = len-at-most (getD fks at 0 - getD fks (at - 1) 0) (omega (arith, c .before .before .shared-slice-known3 .given at))
 
--- src/cut.rt:59:20
 add-more : tie.Need-add-more Inv-loop μ-loop
 add-more c = omega (arith, form-is c, form-short c)
 
--- src/cut.rt:61:13
 returns : tie.Need-returns Inv-loop μ-loop
 returns c =
     let e = c .before in
@@ -89,15 +77,12 @@ returns c =
       same = inv .3;
     }
 
--- src/cut.rt:64:9
 add-i : tie.Need-add-i Inv-loop μ-loop
 add-i c = search needs
 
--- src/cut.rt:58:5
 loop-less : tie.Need-loop-less Inv-loop μ-loop
 loop-less c = search needs
 
--- src/cut.rt:58:5
 loop-again : tie.Need-loop-again Inv-loop μ-loop
 loop-again c =
     let e = c .before in
@@ -106,7 +91,6 @@ loop-again c =
     let fits : bytes + form e ≤ e .before .before .before .before .before .before .before .args .room = omega (arith, form-is e) in
     rw (form-is e) (search needs, search needs, fits, λ more h. at-yes (fks e) (at e) bytes more (search needs) (le-trans fits h) ∙ inv .3 more h)
 
--- src/cut.rt:52:1
 returns-2 : tie.Need-returns-2 Inv-loop μ-loop
 returns-2 c =
     let inv = c .before .loop .inv in

@@ -1,6 +1,6 @@
+-- `part_end` meets its contract: the part goes on within the small room, and from there within the large one. Assumes nothing.
 use Prim.Native.Nat.{ℕ, _+_, _≤_}
 use mathlib.Core.List.{List}
-use mathlib.Core.Path.{_≡_}
 use native.Mathlib.Omega.{arith}
 use lib.ListN.{getD}
 use Rattle.compact.specs.Uleb128.{ulebLen}
@@ -11,28 +11,19 @@ use Rattle.scripthash_pages.proofs.LawsReach.{next-last, next-other}
 use borrow.Author.Needs.{needs}
 use Rattle.scripthash_pages.proofs.cut.part_end.Statement.{statement}
 use Rattle.scripthash_pages.proofs.cut.part_end.Tie as tie
-use Rattle.scripthash_pages.proofs.cut.part_end.Reads as reads
-use Rattle.scripthash_pages.proofs.cut.part_end.Lts as lts
-use Rattle.compact.proofs.uleb128_len.Reads as uleb128-len-reads
-use Rattle.scripthash_pages.proofs.cut.extend_part.Reads as extend-part-reads
 
--- src/cut.rt:74:29
 mul-uleb128-len : tie.Need-mul-uleb128-len
 mul-uleb128-len c = search needs
 
--- src/cut.rt:74:29
 shared-slice-read-uleb128-len : tie.Need-shared-slice-read-uleb128-len
 shared-slice-read-uleb128-len c = search needs
 
--- src/cut.rt:74:9
 uleb128-len-requires : tie.Need-uleb128-len-requires
 uleb128-len-requires c κs = search needs
 
--- src/cut.rt:75:33
 add-extend-part : tie.Need-add-extend-part
 add-extend-part c = search needs
 
--- src/cut.rt:75:9
 extend-part-requires : tie.Need-extend-part-requires
 extend-part-requires c κs =
     let fks = c .before .before .before .args .fks .now in
@@ -40,7 +31,6 @@ extend-part-requires c κs =
     let short : ulebLen (getD fks start 0) ≤ 10 = len-at-most (getD fks start 0) (omega (arith, c .before .shared-slice-known2 .given start)) in
     (omega arith, omega arith, omega (arith, c .uleb128-len .ensures), omega arith)
 
--- src/cut.rt:77:9
 extend-part-requires-2 : tie.Need-extend-part-requires-2
 extend-part-requires-2 c κs = search needs
 
@@ -55,11 +45,9 @@ module _ (c : tie.After-struct-known) where
   near : Reached fks (start + 1) (ulebLen (getD fks start 0)) lastPageRoom (c .before .before .extend-part .result .end) (c .before .before .extend-part .result .used)
   near = rw (c .before .before .before .uleb128-len .ensures) at (c .before .before .extend-part .ensures)
 
--- src/cut.rt:79:9
 returns : tie.Need-returns
 returns c = next-last (fks (c .before)) (start (c .before)) lastPageRoom pageRoom (search needs) (omega arith) _ _ _ _ (near (c .before)) (c .before .before .extend-part2 .ensures) (c .if1 .taken)
 
--- src/cut.rt:70:1
 returns-2 : tie.Need-returns-2
 returns-2 c = next-other (fks (c .before)) (start (c .before)) lastPageRoom pageRoom (search needs) (omega arith) _ _ _ _ (near (c .before)) (c .before .before .extend-part2 .ensures) (c .if1 .left)
 

@@ -1,7 +1,7 @@
-use Prim.Native.Nat.{ℕ, _≤_, _<_}
-use mathlib.Core.List.{List}
+-- `sh_page_chunk_ranges` meets its contract: by cases on whether the lent list is long enough. Assumes nothing.
+use Prim.Native.Nat.{_≤_, _<_}
 use mathlib.Core.Logic.{⊎-elim}
-use mathlib.Core.Path.{_≡_, refl, ap}
+use mathlib.Core.Path.{refl, ap}
 use native.Mathlib.Nat.{le-trans}
 use native.Mathlib.Omega.{arith}
 use borrow.Author.Tests.{lt-ltb, le-ltb}
@@ -12,20 +12,13 @@ use Rattle.scripthash_pages.proofs.LawsPages.{pages-at-most}
 use borrow.Author.Needs.{needs}
 use Rattle.scripthash_pages.proofs.cut.sh_page_chunk_ranges.Statement.{statement}
 use Rattle.scripthash_pages.proofs.cut.sh_page_chunk_ranges.Tie as tie
-use Rattle.scripthash_pages.proofs.cut.sh_page_chunk_ranges.Reads as reads
-use Rattle.scripthash_pages.proofs.cut.sh_page_chunk_ranges.Lts as lts
-use Rattle.scripthash_pages.proofs.cut.count_parts.Reads as count-parts-reads
-use Rattle.scripthash_pages.proofs.cut.write_ends.Reads as write-ends-reads
 
--- src/cut.rt:119:20
 add-if1 : tie.Need-add-if1
 add-if1 c = search needs
 
--- src/cut.rt:120:24
 count-parts-requires : tie.Need-count-parts-requires
 count-parts-requires c κs = search needs
 
--- src/cut.rt:121:13
 returns : tie.Need-returns
 unfolding chunkRanges afterChunkRanges refuseIf
 returns c =
@@ -40,15 +33,12 @@ room c =
     (λ w. le-trans (pages-at-most (c .before .before .before .args .fks .now) (λ i. omega (arith, c .before .before .shared-slice-known .given i))) (w .left))
     (c .if1 .came)
 
--- src/cut.rt:124:24
 write-ends-requires : tie.Need-write-ends-requires
 write-ends-requires c κs = room (c .before)
 
--- src/cut.rt:115:1
 same-length : tie.Need-same-length
 same-length c = search needs
 
--- src/cut.rt:115:1
 returns-2 : tie.Need-returns-2
 unfolding chunkRanges afterChunkRanges refuseIf
 returns-2 c =

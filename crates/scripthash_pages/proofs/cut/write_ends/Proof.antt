@@ -1,3 +1,4 @@
+-- `write_ends` meets its contract. The invariants: what is left to count and to write gives the whole. Assumes nothing.
 use Prim.Native.Nat.{ℕ, _+_, _-_, _≤_, _<_}
 use mathlib.Core.List.{List, []}
 use mathlib.Core.Path.{_≡_, refl, sym, _∙_}
@@ -11,9 +12,6 @@ use Rattle.scripthash_pages.specs.Cutting.{cutting, endsFrom}
 use Rattle.scripthash_pages.proofs.LawsPages.{PartFrom, part-from, parts-behind}
 use Rattle.scripthash_pages.proofs.cut.write_ends.Statement.{statement}
 use Rattle.scripthash_pages.proofs.cut.write_ends.Tie as tie
-use Rattle.scripthash_pages.proofs.cut.write_ends.Reads as reads
-use Rattle.scripthash_pages.proofs.cut.write_ends.Lts as lts
-use Rattle.scripthash_pages.proofs.cut.part_end.Reads as part-end-reads
 
 abbrev Inv-loop : tie.InvT-loop
 Inv-loop fks out₀ start₀ count₀ out start count =
@@ -23,11 +21,9 @@ Inv-loop fks out₀ start₀ count₀ out start count =
 abbrev μ-loop : tie.MeasureT-loop
 μ-loop fks out₀ start₀ count₀ out start count = length fks - start
 
--- src/cut.rt:105:5
 loop-holds : tie.Need-loop-holds Inv-loop μ-loop
 loop-holds c = (search needs, zero-add _, refl, refl)
 
--- src/cut.rt:106:9
 part-end-requires : tie.Need-part-end-requires Inv-loop μ-loop
 part-end-requires c κs = search needs
 
@@ -46,36 +42,32 @@ module _ (c : tie.After-part-end Inv-loop μ-loop) where
   room : c .before .before .loop .count < length (c .before .before .loop .out)
   room = let inv = c .before .before .loop .inv in omega (arith, found .count, inv .1, inv .2, c .before .before .before .before .before .pre)
 
--- src/cut.rt:107:9
 mul-out : tie.Need-mul-out Inv-loop μ-loop
 mul-out c = omega (arith, room c)
 
--- src/cut.rt:107:9
 slice-write-out : tie.Need-slice-write-out Inv-loop μ-loop
 slice-write-out c = room c
 
--- src/cut.rt:108:9
 add-count : tie.Need-add-count Inv-loop μ-loop
 add-count c = omega (arith, room c)
 
--- src/cut.rt:105:5
 loop-less : tie.Need-loop-less Inv-loop μ-loop
 loop-less c = omega (arith, found c .later, found c .within)
 
--- src/cut.rt:105:5
 loop-again : tie.Need-loop-again Inv-loop μ-loop
 loop-again c =
     let inv = c .before .before .loop .inv in
     let out = c .before .before .loop .out in
-    let e = c .part-end .result in
-    (found c .within, omega (arith, found c .count, inv .1), simp length-set (inv .2),
-    sym (overwrite-step out (c .before .before .loop .count) e (endsFrom e (cutting (drop e (fks c)))) (room c)) ∙ (rw (found c .ends) at (inv .3)))
+    let e = c .part-end .result in (
+      found c .within,
+      omega (arith, found c .count, inv .1),
+      simp length-set (inv .2),
+      sym (overwrite-step out (c .before .before .loop .count) e (endsFrom e (cutting (drop e (fks c)))) (room c)) ∙ (rw (found c .ends) at (inv .3)),
+    )
 
--- src/cut.rt:98:1
 same-length : tie.Need-same-length Inv-loop μ-loop
 same-length c = c .before .loop .inv .2
 
--- src/cut.rt:98:1
 returns : tie.Need-returns Inv-loop μ-loop
 unfolding endsFrom
 returns c =
