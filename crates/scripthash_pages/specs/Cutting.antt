@@ -24,7 +24,7 @@ lastPageRoom = pageSize - 24
 unfoldable pub fitting : ℕ → ℕ → List ℕ → ℕ
 fitting room prev [] = 0
 fitting room prev (n ∷ ns) =
-    let rest = suc (fitting (room - ulebLen (n - prev)) n ns) in cond (leb (ulebLen (n - prev)) room) rest 0
+    cond (leb (ulebLen (n - prev)) room) (suc (fitting (room - ulebLen (n - prev)) n ns)) 0
 
 -- How many numbers the first part takes: one, and those behind it that fit with it.
 unfoldable pub firstPart : ℕ → List ℕ → ℕ
