@@ -1,12 +1,13 @@
 -- The cutting of a list into pages: allowed, with as few parts as any, how many those can be, and part by part from an index on. Assumes nothing.
 use Prim.Native.Nat.{ℕ, _+_, _-_, _/_, _^_, _≤_, _<_}
 use mathlib.Core.List.{List, [], _∷_}
+use mathlib.Core.Logic.{⊎-elim}
 use mathlib.Core.Path.{_≡_, sym}
 use native.Mathlib.Numerals.{add-one}
 use native.Mathlib.Omega.{arith}
 use lib.ListN.{length, take, drop, length-drop, drop-of-length-le}
 use lib.Seq.{length-take-le, drop-drop}
-use Rattle.scripthash_slabs.specs.Stream.{Rising}
+use Rattle.scripthash_slabs.specs.Stream.{Rising, streamLen}
 use Rattle.scripthash_pages.specs.Cutting.{pageRoom, lastPageRoom, greedyParts, recutLast, cutting, endsFrom, AllowedCutting}
 use Rattle.scripthash_pages.specs.CuttingSteps.{nextPart}
 use Rattle.scripthash_pages.proofs.LawsFitting.{Words, words-drop}
@@ -31,6 +32,8 @@ pub record PartFrom (fks : List ℕ) (start e : ℕ) : Type 0 where
   pub count : length (cutting (drop start fks)) ≡ length (cutting (drop e fks)) + 1
   pub ends : endsFrom start (cutting (drop start fks)) ≡ e ∷ endsFrom e (cutting (drop e fks))
   pub cut : cutting (drop start fks) ≡ take (e - start) (drop start fks) ∷ cutting (drop e fks)
+  pub fits : streamLen (take (e - start) (drop start fks)) ≤ pageRoom
+  pub fits-last : e ≡ length fks → streamLen (take (e - start) (drop start fks)) ≤ lastPageRoom
 
 pub part-from : (fks : List ℕ) (start e : ℕ) → start < length fks → Words fks → e ≡ start + nextPart lastPageRoom pageRoom (drop start fks) → PartFrom fks start e
 unfolding endsFrom
@@ -47,6 +50,8 @@ part-from fks start e h w e-is =
       count = rw cut (sym (add-one (length (cutting (drop (start + k) fks)))));
       ends = rw (cut, size);
       cut = rw k-is cut;
+      fits = rw k-is (x .fits);
+      fits-last = λ all. rw k-is (⊎-elim (λ l. absurd (omega (arith, all, l .1, length-drop start fks))) (λ r. r .1) (x .which));
     }
 
 -- behind the end of a list there are no parts
