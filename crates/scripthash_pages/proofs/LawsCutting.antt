@@ -43,6 +43,7 @@ module _ (room : ℕ) where
       ap (λ (ps : List (List ℕ)). take (suc f) (n ∷ ns) ∷ ps)
       (enough (length ns) (length (drop f ns)) (drop f ns) (omega (arith, length-drop f ns)) (le-refl (length (drop f ns))))
 
+  -- no numbers have no parts, and some have one
   pub greedy-nil : greedy room [] ≡ []
   unfolding greedyParts
   greedy-nil = refl
@@ -126,6 +127,7 @@ module _ (small large : ℕ) (ten : 10 ≤ small) (less : small ≤ large) (near
             which = inr (short, s .fits);
           })
 
+  -- all of that holds of the next part
   pub next-of : (ns : List ℕ) → 0 < length ns → Words ns → Next ns (nextPart small large ns)
   next-of [] h w = absurd (omega arith)
   next-of (n ∷ ns) h w = next-known n ns w
@@ -155,6 +157,7 @@ module _ (small large : ℕ) (ten : 10 ≤ small) (less : small ≤ large) (near
   fit-cons p [] h l e f = (h, e refl)
   fit-cons p (q ∷ ps) h l e f = (h, l, f)
 
+  -- some numbers have a part, and no numbers have none
   cut-some : (ns : List ℕ) → Words ns → 0 < length ns → 0 < length (cuttingFor small large ns)
   cut-some [] w h = absurd (omega arith)
   cut-some (n ∷ ns) w h = rw (next-known n ns w .cut) (suc-le-suc zero-le)

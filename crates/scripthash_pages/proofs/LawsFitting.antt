@@ -18,6 +18,7 @@ use Rattle.scripthash_pages.specs.Cutting.{fitting, firstPart}
 abbrev pub Words : List ℕ → Type 0
 Words ns = (i : ℕ) → getD ns i 0 < 2 ^ 64
 
+-- so are those from an index on
 pub words-drop : (k : ℕ) (ns : List ℕ) → Words ns → Words (drop k ns)
 words-drop k ns w i = rw getD-drop (w (k + i))
 
@@ -68,6 +69,7 @@ fit-none room prev n ns q = record {
     longer zero h e = zero-le
     longer (suc i) h e = absurd (omega arith)
 
+-- all of that holds of the count
 pub fit-known : (room prev : ℕ) (ns : List ℕ) → Fitting room prev ns (fitting room prev ns)
 unfolding streamLenFrom fitting
 fit-known room prev [] =

@@ -12,11 +12,11 @@ use compact::uleb128_len;
 use error::Refusal;
 use scripthash_layout::SH_PAGE_SIZE;
 
-// The bytes that a stream has on a page, and on a page with an extent, the last one of a list.
+// The bytes that a page has for a stream.
 const SH_PAGE_STREAM_MAX: usize = SH_PAGE_SIZE - 8;
-
+// The bytes that a page with an extent has for a stream, as the last page of a list is.
 const SH_PAGE_EXTENT_STREAM_MAX: usize = SH_PAGE_SIZE - 24;
-// Numbers that every part holds which isn't one of the last two: each takes at most 10 bytes.
+// Every part but the last two holds at least so many numbers, since none takes more than 10 bytes.
 const SH_PAGE_MIN_FKS: usize = 408;
 
 // What cutting answers: into how many parts, or a refusal.
