@@ -3,4 +3,3 @@ pub mod LawsRising
 pub mod LawsCutting
 pub mod LawsReach
 pub mod LawsPages
-pub mod LawsSpecimens

@@ -2,14 +2,15 @@
 use mathlib.Core.Path.{refl}
 use Rattle.error.specs.Refusal.{refuseIf, andThen}
 use Rattle.buffer.specs.Bytes.{part}
-use Rattle.compact.specs.Uleb128.{isForm, value, formAt, overflows, readForm, readUleb, divided, shortest}
+use Rattle.compact.specs.Uleb128.{isForm, value, formAt, overflows, readForm, readUleb, divided, shortest, ulebLen}
 use Rattle.scripthash_layout.specs.Head.{packHead, unpackHead}
 use Rattle.scripthash_slabs.specs.Stream.{streamFrom, storedNumber, nextNumber, scanFrom, decodeStream}
 use Rattle.scripthash_slabs.specs.Slab.{slabPayload, decodeSlab}
-use Rattle.table.specs.Table.{Specimens, Is, IsSlab, IsHead}
+use Rattle.scripthash_pages.specs.Cutting.{fitting, firstPart, greedyParts, recutLast, endsFrom}
+use Rattle.table.specs.Table.{Specimens, Is, IsSlab, IsHead, inARow}
 
 pub specimens : Specimens
-unfolding refuseIf andThen part isForm value formAt overflows readForm readUleb divided shortest packHead unpackHead streamFrom storedNumber nextNumber scanFrom decodeStream slabPayload decodeSlab
+unfolding refuseIf andThen part isForm value formAt overflows readForm readUleb divided shortest packHead unpackHead streamFrom storedNumber nextNumber scanFrom decodeStream slabPayload decodeSlab ulebLen fitting firstPart greedyParts recutLast endsFrom inARow
 specimens =
     record {
       S1 = (record { written = refl; read = refl }, record { written = refl; read = refl });
@@ -21,4 +22,5 @@ specimens =
       S7 = refl;
       S8 = record { packed = refl; unpacked = refl };
       S9 = refl;
+      S10 = (refl, refl);
     }

@@ -1,5 +1,5 @@
 -- The specimens of document 01, as equations about the definitions. Bytes are in decimal: 128 is 80, 167 is A7, 185 is B9, 255 is FF.
-use Prim.Native.Nat.{ℕ, _-_}
+use Prim.Native.Nat.{ℕ, zero, suc, _+_, _-_}
 use mathlib.Core.List.{List, [], _∷_, _++_}
 use mathlib.Core.Path.{_≡_}
 use lib.ListN.{length, replicate}
@@ -10,6 +10,7 @@ use Rattle.scripthash_layout.specs.declared.head.ShHeadValue.{ShHeadValue}
 use Rattle.scripthash_layout.specs.declared.head.ShHeadValue.the-variants.{Slab}
 use Rattle.scripthash_slabs.specs.Stream.{Scan, scan}
 use Rattle.scripthash_slabs.specs.Slab.{slabPayload, decodeSlab}
+use Rattle.scripthash_pages.specs.Cutting.{cutting, endsFrom}
 
 -- A number is some bytes: they are its shortest form, and they read as the number with their length.
 pub record Is (n : ℕ) (bytes : List ℕ) : Type 0 where
@@ -26,6 +27,11 @@ pub record IsSlab (ns : List ℕ) (bytes : List ℕ) : Type 0 where
 pub record IsHead (v : ShHeadValue) (w : ℕ) : Type 0 where
   pub packed : packHead v ≡ accepted w
   pub unpacked : unpackHead w ≡ accepted v
+
+-- k numbers in a row, from n on.
+unfoldable pub inARow : ℕ → ℕ → List ℕ
+inARow n zero = []
+inARow n (suc k) = n ∷ inARow (n + 1) k
 
 -- The specimens, one field each.
 pub record Specimens : Type 0 where
@@ -47,3 +53,5 @@ pub record Specimens : Type 0 where
   pub S8 : IsHead (Slab 2 5 4096) 4755806704061386752
   -- 8000000000000000 gives 29.
   pub S9 : unpackHead 9223372036854775808 ≡ refused 29
+  -- 1 to 4,088 cuts after 4,072; 1 to 4,072 is one part.
+  pub S10 : (endsFrom 0 (cutting (inARow 1 4088)) ≡ 4072 ∷ 4088 ∷ []) × (cutting (inARow 1 4072) ≡ inARow 1 4072 ∷ [])
