@@ -61,12 +61,12 @@ pub fn bytes(some: &[u8]) {
     }
 }
 
-// Writes each of some numbers in decimal, with a space before it.
-pub fn numbers(some: &[u64]) {
+// Writes each number of a list in decimal, with a space before it.
+pub fn numbers(list: &[u64]) {
     let mut i: usize = 0;
-    while i < some.len() {
+    while i < list.len() {
         words(b" ");
-        number(some[i]);
+        number(list[i]);
         i += 1;
     }
 }

@@ -6,10 +6,10 @@ use Rattle.text.proofs.numbers.Statement.{statement}
 use Rattle.text.proofs.numbers.Tie as tie
 
 abbrev Inv-loop : tie.InvT-loop
-Inv-loop some i₀ t3 i = Unit
+Inv-loop list i₀ t3 i = Unit
 
 abbrev μ-loop : tie.MeasureT-loop
-μ-loop some i₀ t3 i = length some - i
+μ-loop list i₀ t3 i = length list - i
 
 loop-holds : tie.Need-loop-holds Inv-loop μ-loop
 loop-holds c = search needs
