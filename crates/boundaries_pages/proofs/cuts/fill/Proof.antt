@@ -1,49 +1,44 @@
+-- `fill` is safe, and its loop ends. Assumes nothing.
+use Prim.Native.Nat.{_-_}
+use mathlib.Core.Path.{_≡_, refl}
+use native.Mathlib.Omega.{arith}
+use lib.ListN.{length, length-set}
+use borrow.Author.Needs.{needs}
 use Rattle.boundaries_pages.proofs.cuts.fill.Statement.{statement}
 use Rattle.boundaries_pages.proofs.cuts.fill.Tie as tie
-use Rattle.boundaries_pages.proofs.cuts.fill.Reads as reads
-use Rattle.boundaries_pages.proofs.cuts.fill.Lts as lts
 
 abbrev Inv-loop : tie.InvT-loop
-Inv-loop list₀ step last₀ i₀ list last i = ?
+Inv-loop list₀ step last₀ i₀ list last i = length list ≡ length list₀
 
 abbrev μ-loop : tie.MeasureT-loop
-μ-loop list₀ step last₀ i₀ list last i = ?
+μ-loop list₀ step last₀ i₀ list last i = length list₀ - i
 
--- src/cuts.rt:49:5
 loop-holds : tie.Need-loop-holds Inv-loop μ-loop
-loop-holds c = ?
+loop-holds c = refl
 
--- src/cuts.rt:51:13
 add-last : tie.Need-add-last Inv-loop μ-loop
-add-last c = ?
+add-last c = search needs
 
--- src/cuts.rt:53:9
 mul-list : tie.Need-mul-list Inv-loop μ-loop
-mul-list c = ?
+mul-list c = search needs
 
--- src/cuts.rt:53:9
 slice-write-list : tie.Need-slice-write-list Inv-loop μ-loop
-slice-write-list c = ?
+slice-write-list c = search needs
 
--- src/cuts.rt:54:9
 add-i : tie.Need-add-i Inv-loop μ-loop
-add-i c = ?
+add-i c = omega arith
 
--- src/cuts.rt:49:5
 loop-less : tie.Need-loop-less Inv-loop μ-loop
-loop-less c = ?
+loop-less c = omega arith
 
--- src/cuts.rt:49:5
 loop-again : tie.Need-loop-again Inv-loop μ-loop
-loop-again c = ?
+loop-again c = simp length-set (omega arith)
 
--- src/cuts.rt:44:1
 same-length : tie.Need-same-length Inv-loop μ-loop
-same-length c = ?
+same-length c = c .before .loop .inv
 
--- src/cuts.rt:44:1
 returns : tie.Need-returns Inv-loop μ-loop
-returns c = ?
+returns c = search needs
 
 pub fill-spec : {M : Type 1} → statement M
 fill-spec =

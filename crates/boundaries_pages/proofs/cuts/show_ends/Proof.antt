@@ -1,50 +1,42 @@
+-- `show_ends` is safe, and its loop ends. Assumes nothing.
+use Prim.Native.Nat.{_-_}
+use lib.ListN.{length}
+use borrow.Author.Needs.{needs}
 use Rattle.boundaries_pages.proofs.cuts.show_ends.Statement.{statement}
 use Rattle.boundaries_pages.proofs.cuts.show_ends.Tie as tie
-use Rattle.boundaries_pages.proofs.cuts.show_ends.Reads as reads
-use Rattle.boundaries_pages.proofs.cuts.show_ends.Lts as lts
-use Rattle.text.proofs.named.Reads as named-reads
 
 abbrev Inv-loop : tie.InvT-loop
-Inv-loop ends parts k₀ t4 k = ?
+Inv-loop ends parts k₀ t4 k = Unit
 
 abbrev μ-loop : tie.MeasureT-loop
-μ-loop ends parts k₀ t4 k = ?
+μ-loop ends parts k₀ t4 k = length ends - k
 
--- src/cuts.rt:8:5
 loop-holds : tie.Need-loop-holds Inv-loop μ-loop
-loop-holds c = ?
+loop-holds c = search needs
 
--- src/cuts.rt:10:25
 slice-aggregate-named : tie.Need-slice-aggregate-named Inv-loop μ-loop
-slice-aggregate-named c = ?
+slice-aggregate-named c = search needs
 
--- src/cuts.rt:10:31
 mul-named : tie.Need-mul-named Inv-loop μ-loop
-mul-named c = ?
+mul-named c = search needs
 
--- src/cuts.rt:10:31
 shared-slice-read-named : tie.Need-shared-slice-read-named Inv-loop μ-loop
-shared-slice-read-named c = ?
+shared-slice-read-named c = search needs
 
--- src/cuts.rt:10:13
 named-requires : tie.Need-named-requires Inv-loop μ-loop
-named-requires c κs = ?
+named-requires c κs = search needs
 
--- src/cuts.rt:12:9
 add-k : tie.Need-add-k Inv-loop μ-loop
-add-k c = ?
+add-k c = search needs
 
--- src/cuts.rt:8:5
 loop-less : tie.Need-loop-less Inv-loop μ-loop
-loop-less c = ?
+loop-less c = search needs
 
--- src/cuts.rt:8:5
 loop-again : tie.Need-loop-again Inv-loop μ-loop
-loop-again c = ?
+loop-again c = search needs
 
--- src/cuts.rt:6:1
 returns : tie.Need-returns Inv-loop μ-loop
-returns c = ?
+returns c = search needs
 
 pub show-ends-spec : {M : Type 1} → statement M
 show-ends-spec =

@@ -1,38 +1,32 @@
+-- `show_blocks` is safe, and its loop ends. Assumes nothing.
+use Prim.Native.Nat.{_-_}
+use borrow.Author.Needs.{needs}
 use Rattle.boundaries_pages.proofs.gaps.show_blocks.Statement.{statement}
 use Rattle.boundaries_pages.proofs.gaps.show_blocks.Tie as tie
-use Rattle.boundaries_pages.proofs.gaps.show_blocks.Reads as reads
-use Rattle.boundaries_pages.proofs.gaps.show_blocks.Lts as lts
-use Rattle.boundaries_pages.proofs.gaps.show_block.Reads as show-block-reads
 
 abbrev Inv-loop : tie.InvT-loop
-Inv-loop body free class₀ class = ?
+Inv-loop body free class₀ class = Unit
 
 abbrev μ-loop : tie.MeasureT-loop
-μ-loop body free class₀ class = ?
+μ-loop body free class₀ class = class
 
--- src/gaps.rt:27:5
 loop-holds : tie.Need-loop-holds Inv-loop μ-loop
-loop-holds c = ?
+loop-holds c = search needs
 
--- src/gaps.rt:28:9
 sub-class : tie.Need-sub-class Inv-loop μ-loop
-sub-class c = ?
+sub-class c = search needs
 
--- src/gaps.rt:29:9
 show-block-requires : tie.Need-show-block-requires Inv-loop μ-loop
-show-block-requires c κs = ?
+show-block-requires c κs = search needs
 
--- src/gaps.rt:27:5
 loop-less : tie.Need-loop-less Inv-loop μ-loop
-loop-less c = ?
+loop-less c = search needs
 
--- src/gaps.rt:27:5
 loop-again : tie.Need-loop-again Inv-loop μ-loop
-loop-again c = ?
+loop-again c = search needs
 
--- src/gaps.rt:25:1
 returns : tie.Need-returns Inv-loop μ-loop
-returns c = ?
+returns c = search needs
 
 pub show-blocks-spec : {M : Type 1} → statement M
 show-blocks-spec =
