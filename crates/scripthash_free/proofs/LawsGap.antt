@@ -1,13 +1,19 @@
 -- Laws of the blocks that a gap is carved into: one by one as they are found. By cases on the class found, and by induction on the
 -- bound of their number.
-use mathlib.Core.Path.{_≡_, refl, ap, sym, _∙_}
+use mathlib.Core.Path.{_≡_, refl, ap, sym, _∙_, subst}
+use mathlib.Core.Bool.{Bool, true, false, cond}
 use mathlib.Core.List.{List, [], _∷_}
+use mathlib.Core.Logic.{inl, inr}
 use mathlib.Core.Option.{Option, none, some}
 use Prim.Native.Nat.{ℕ, zero, suc, _+_, _-_, _*_, _/_, _%_, _^_, _≤_, _<_}
 use native.Mathlib.Omega.{arith}
+use lib.Dec.{eqb}
+use lib.ListN.{length}
+use borrow.Author.Tests.{eqb-true, eqb-false, ne-eqb}
 use Rattle.scripthash_layout.specs.Sizes.{slabBytes}
-use Rattle.scripthash_free.specs.FreeList.{Lists, Block, relocClass, blockThen, carve, gapBlocks, pushed, pushAll}
-use Rattle.scripthash_free.proofs.LawsBlock.{bytes-from-16, largest-some, largest-nothing}
+use Rattle.scripthash_free.specs.FreeList.{Lists, Block, relocClass, blockThen, carve, gapBlocks, pushed, pushAll, isBlock, headOf, Names, Clear, Each, Within, IsSlab, Adjoin, stackAfter}
+use Rattle.scripthash_free.proofs.LawsBlock.{bytes-from-16, stands-block, Gap, largest-some, largest-nothing}
+use Rattle.scripthash_free.proofs.LawsNames.{clear-within, length-pushed, length-pushed-heads, names-push, names-other}
 
 -- A block is found, and the others are carved behind it.
 pub carve-found : (k off n : ℕ) {class : ℕ} → relocClass n ≡ some class
@@ -30,3 +36,138 @@ push-first class off bs l = refl
 pub push-nothing : (l : Lists) → pushAll [] l ≡ l
 unfolding pushAll
 push-nothing l = refl
+
+-- Blocks found in n bytes from an offset on, by the class found first.
+module _ (k off n : ℕ) where
+  -- They are side by side, and leave less than 16 bytes.
+  adjoin-found : (o : Option ℕ) → relocClass n ≡ o → n / 16 ≤ suc k
+      → ((class : ℕ) → (n - slabBytes class) / 16 ≤ k → Adjoin (off + slabBytes class) (carve k (off + slabBytes class) (n - slabBytes class)) (off + slabBytes class + (n - slabBytes class) / 16 * 16))
+      → Adjoin off (carve (suc k) off n) (off + n / 16 * 16)
+  unfolding Adjoin
+  adjoin-found none e h more =
+      let small : n < 16 = largest-nothing 7 n e in
+      let end : off ≡ off + n / 16 * 16 = omega arith in
+      rw (carve-nothing (suc k) off n e) end
+  adjoin-found (some class) e h more =
+      let f = largest-some 7 n class e in
+      let end : off + slabBytes class + (n - slabBytes class) / 16 * 16 ≡ off + n / 16 * 16 = omega arith in
+      rw (carve-found k off n e) (
+        refl,
+        subst (λ (x : ℕ). Adjoin (off + slabBytes class) (carve k (off + slabBytes class) (n - slabBytes class)) x) end
+            (more class (omega (arith, bytes-from-16 class))),
+      )
+
+-- The blocks that bytes are carved into are side by side, and leave less than 16 bytes.
+pub carve-adjoin : (k off n : ℕ) → n / 16 ≤ k → Adjoin off (carve k off n) (off + n / 16 * 16)
+unfolding Adjoin carve
+carve-adjoin zero off n h = omega arith
+carve-adjoin (suc k) off n h =
+    adjoin-found k off n (relocClass n) refl h (λ class room. carve-adjoin k (off + slabBytes class) (n - slabBytes class) room)
+
+-- A gap of a multiple of 16 bytes is filled by its blocks.
+pub gap-filled : (from to : ℕ) → from ≤ to → (to - from) % 16 ≡ 0 → Adjoin from (gapBlocks from to) to
+gap-filled from to h m =
+    let end : from + (to - from) / 16 * 16 ≡ to = omega arith in
+    subst (λ (x : ℕ). Adjoin from (gapBlocks from to) x) end (carve-adjoin ((to - from) / 16) from (to - from) (omega arith))
+
+-- Blocks side by side end at or after where they begin.
+pub adjoin-rises : (off : ℕ) (bs : List Block) (end : ℕ) → Adjoin off bs end → off ≤ end
+unfolding Adjoin
+adjoin-rises off [] end a = omega arith
+adjoin-rises off (b ∷ bs) end a = omega (arith, adjoin-rises (off + slabBytes (b .class)) bs end (a .1))
+
+-- What holds of each block holds of it by what follows.
+pub each-map : (P Q : Block → Type 0) → ((b : Block) → P b → Q b) → (bs : List Block) → Each P bs → Each Q bs
+unfolding Each
+each-map P Q f [] e = e
+each-map P Q f (b ∷ bs) e = (f b (e .0), each-map P Q f bs (e .1))
+
+-- Blocks side by side lie between where the first begins and the last ends.
+pub adjoin-within : (off : ℕ) (bs : List Block) (end : ℕ) → Adjoin off bs end → Each (Within off end) bs
+unfolding Adjoin Each
+adjoin-within off [] end a = tt
+adjoin-within off (b ∷ bs) end a =
+    let rises = adjoin-rises (off + slabBytes (b .class)) bs end (a .1) in (
+      (omega (arith, a .0), omega (arith, a .0)),
+      each-map (Within (off + slabBytes (b .class)) end) (Within off end) (λ x w. (omega (arith, w .0), w .1)) bs
+          (adjoin-within (off + slabBytes (b .class)) bs end (a .1)),
+    )
+
+-- Blocks side by side don't overlap: each of the others begins at or behind the first one's end.
+pub adjoin-apart : (off : ℕ) (b : Block) (bs : List Block) (end : ℕ) → Adjoin off (b ∷ bs) end → Each (Within (b .off + slabBytes (b .class)) end) bs
+unfolding Adjoin
+adjoin-apart off b bs end a =
+    subst (λ (x : ℕ). Each (Within (x + slabBytes (b .class)) end) bs) (sym (a .0)) (adjoin-within (off + slabBytes (b .class)) bs end (a .1))
+
+-- A slab found at a multiple of 16 from 4,096 on, that ends at or below an end, can stand there.
+slab-found : (class off end : ℕ) → class ≤ 7 → off % 16 ≡ 0 → 4096 ≤ off → off + slabBytes class ≤ end → isBlock class off end ≡ true
+slab-found class off end small aligned begins ends =
+    let slab : eqb class 8 ≡ false = ne-eqb class 8 (λ z. omega arith) in
+    stands-block class off end (record { class-to-8 = omega arith; aligned = rw slab aligned; begins = begins; ends = ends })
+
+-- The blocks carved are slabs that can stand where they do.
+module _ (end k off n : ℕ) (aligned : off % 16 ≡ 0) (begins : 4096 ≤ off) (ends : off + n ≤ end) where
+  slabs-found : (o : Option ℕ) → relocClass n ≡ o
+      → ((class : ℕ) → slabBytes class ≤ n → Each (IsSlab end) (carve k (off + slabBytes class) (n - slabBytes class)))
+      → Each (IsSlab end) (carve (suc k) off n)
+  unfolding Each
+  slabs-found none e more = rw (carve-nothing (suc k) off n e) tt
+  slabs-found (some class) e more =
+      let f = largest-some 7 n class e in
+      rw (carve-found k off n e) ((f .0, slab-found class off end (f .0) aligned begins (omega arith)), more class (f .1))
+
+pub carve-slabs : (end k off n : ℕ) → off % 16 ≡ 0 → 4096 ≤ off → off + n ≤ end → Each (IsSlab end) (carve k off n)
+unfolding Each carve
+carve-slabs end zero off n aligned begins ends = tt
+carve-slabs end (suc k) off n aligned begins ends =
+    slabs-found end k off n aligned begins ends (relocClass n) refl
+    (λ class h. carve-slabs end k (off + slabBytes class) (n - slabBytes class) (omega arith) (omega arith) (omega arith))
+
+-- The blocks of a gap that can be carved are slabs that can stand where they do.
+pub gap-slabs : (from to end : ℕ) → from ≤ to → Gap from to end → Each (IsSlab end) (gapBlocks from to)
+gap-slabs from to end h g = carve-slabs end ((to - from) / 16) from (to - from) (g .aligned) (g .begins) (let e = g .ends in omega arith)
+
+-- The list of a class after one block, of the class or of another.
+module _ (d class off : ℕ) (os : List ℕ) (l : Lists) (above : 0 < off) (fits : off + slabBytes class ≤ length (l .body))
+    (has : class < length (l .heads)) (small : length (l .body) < 256 ^ 8) where
+  write-fits : off + 8 ≤ length (l .body)
+  write-fits = omega (arith, bytes-from-16 class)
+
+  names-one : (same : Bool) → eqb class d ≡ same → Clear (slabBytes d) off 8 os → Names (l .body) (headOf d l) os
+      → Names (pushed class off l .body) (headOf d (pushed class off l)) (cond same (off ∷ os) os)
+  names-one true e c n =
+      let z : class ≡ d = eqb-true class d e in
+      subst (λ (x : ℕ). Names (pushed class off l .body) (headOf x (pushed class off l)) (off ∷ os)) z
+      (names-push class off l above write-fits has os small
+      (subst (λ (x : ℕ). Clear (slabBytes x) off 8 os) (sym z) c) (subst (λ (x : ℕ). Names (l .body) (headOf x l) os) (sym z) n))
+  names-one false e c n = names-other class off l above write-fits has d os (λ z. eqb-false class d e (sym z)) c n
+
+  clear-one : (same : Bool) (m : ℕ) → eqb class d ≡ same → slabBytes class ≤ m → Clear (slabBytes d) off m os
+      → Clear (slabBytes d) (off + slabBytes class) (m - slabBytes class) (cond same (off ∷ os) os)
+  unfolding Clear
+  clear-one true m e h c =
+      let z : slabBytes class ≡ slabBytes d = ap slabBytes (eqb-true class d e) in
+      (inl (omega arith), clear-within (slabBytes d) off m (off + slabBytes class) (m - slabBytes class) os (omega arith) (omega arith) c)
+  clear-one false m e h c = clear-within (slabBytes d) off m (off + slabBytes class) (m - slabBytes class) os (omega arith) (omega arith) c
+
+-- What each free list names after blocks side by side were pushed: those of its class, the last on top, and then what it named before.
+pub names-carved : (d off end : ℕ) (bs : List Block) (os : List ℕ) (l : Lists) → 0 < off → end ≤ length (l .body) → length (l .body) < 256 ^ 8
+    → Adjoin off bs end → Each (λ b. b .class < length (l .heads)) bs → Clear (slabBytes d) off (end - off) os → Names (l .body) (headOf d l) os
+    → Names (pushAll bs l .body) (headOf d (pushAll bs l)) (stackAfter d bs os)
+unfolding Adjoin Each pushAll stackAfter
+names-carved d off end [] os l above fits small a has c n = n
+names-carved d off end (b ∷ bs) os l above fits small a has c n =
+    let size = bytes-from-16 (b .class) in
+    let rises = adjoin-rises (off + slabBytes (b .class)) bs end (a .1) in
+    let room : off + slabBytes (b .class) ≤ length (l .body) = omega arith in
+    let at : b .off ≡ off = a .0 in
+    let long : length (pushed (b .class) off l .body) ≡ length (l .body) = length-pushed (b .class) off l (omega arith) in
+    let heads : length (pushed (b .class) off l .heads) ≡ length (l .heads) = length-pushed-heads (b .class) off l in
+    let less : end - off - slabBytes (b .class) ≡ end - (off + slabBytes (b .class)) = omega arith in
+    let near : Clear (slabBytes d) off 8 os = clear-within (slabBytes d) off (end - off) off 8 os (omega arith) (omega arith) c in
+    rw at
+    (names-carved d (off + slabBytes (b .class)) end bs (cond (eqb (b .class) d) (off ∷ os) os) (pushed (b .class) off l)
+    (omega arith) (omega arith) (omega arith) (a .1)
+    (each-map (λ x. x .class < length (l .heads)) (λ x. x .class < length (pushed (b .class) off l .heads)) (λ x h. rw heads h) bs (has .1))
+    (rw less at (clear-one d (b .class) off os l above room (has .0) small (eqb (b .class) d) (end - off) refl (omega arith) c))
+    (names-one d (b .class) off os l above room (has .0) small (eqb (b .class) d) refl near n))

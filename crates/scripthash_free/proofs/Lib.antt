@@ -1,3 +1,4 @@
 pub mod LawsBlock
 pub mod LawsFree
 pub mod LawsGap
+pub mod LawsNames

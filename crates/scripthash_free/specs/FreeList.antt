@@ -2,7 +2,9 @@
 use Prim.Native.Nat.{ℕ, zero, suc, _+_, _-_, _/_, _%_, _≤_, _<_, min}
 use mathlib.Core.Bool.{Bool, true, cond, not, _&&_, _||_}
 use mathlib.Core.List.{List, [], _∷_}
+use mathlib.Core.Logic.{_⊎_}
 use mathlib.Core.Option.{Option, none, some}
+use mathlib.Core.Path.{_≡_}
 use lib.Dec.{leb, ltb, eqb}
 use lib.ListN.{length, getD, set}
 use Rattle.error.specs.Refusal.{Answer, accepted, refused, refuseIf, freeHeadBad}
@@ -109,3 +111,37 @@ after (refused number) before = before
 unfoldable pub headsAfter : Answer Pop → List ℕ → List ℕ
 headsAfter (accepted p) before = p .heads
 headsAfter (refused number) before = before
+
+-- The free list that begins at a head names these offsets, from the top: each is a block's whose first 8 bytes lie in the body and
+-- name the next, and 0 ends the list.
+unfoldable pub Names : List ℕ → ℕ → List ℕ → Type 0
+Names body head [] = head ≡ 0
+Names body head (o ∷ os) = (head ≡ o) × (0 < o) × (o + 8 ≤ length body) × Names body (nextOf body o) os
+
+-- Blocks of a size at these offsets keep clear of n bytes from an offset on.
+unfoldable pub Clear : ℕ → ℕ → ℕ → List ℕ → Type 0
+Clear size off n [] = Unit
+Clear size off n (o ∷ os) = ((o + size ≤ off) ⊎ (off + n ≤ o)) × Clear size off n os
+
+-- Something holds of each block.
+unfoldable pub Each : (Block → Type 0) → List Block → Type 0
+Each P [] = Unit
+Each P (b ∷ bs) = P b × Each P bs
+
+-- A block lies between two offsets.
+abbrev pub Within : ℕ → ℕ → Block → Type 0
+Within lo hi b = (lo ≤ b .off) × (b .off + slabBytes (b .class) ≤ hi)
+
+-- A slab, of class 0 to 7, that can stand where it does.
+abbrev pub IsSlab : ℕ → Block → Type 0
+IsSlab end b = (b .class ≤ maxSlabClass) × (isBlock (b .class) (b .off) end ≡ true)
+
+-- Blocks side by side: the first begins at an offset, each of the others where the one before it ends, and the last ends at an end.
+unfoldable pub Adjoin : ℕ → List Block → ℕ → Type 0
+Adjoin off [] end = off ≡ end
+Adjoin off (b ∷ bs) end = (b .off ≡ off) × Adjoin (off + slabBytes (b .class)) bs end
+
+-- A stack of a class after blocks were pushed, each onto the stack of its class.
+unfoldable pub stackAfter : ℕ → List Block → List ℕ → List ℕ
+stackAfter class [] os = os
+stackAfter class (b ∷ bs) os = stackAfter class bs (cond (eqb (b .class) class) (b .off ∷ os) os)
