@@ -1,0 +1,236 @@
+//! Every function that is compared: ours and theirs over one form of input and answer, and where its inputs come from.
+use crate::case::{Input, Output, BEFORE};
+use crate::errors::{of_pack, of_store, Side};
+use crate::inputs;
+use crate::rng::Rng;
+use oracle::scripthash_layout::{self as layout, ShHeadValue};
+use oracle::{compact, scripthash_slabs as slabs, Fk};
+use ouriscado::sys;
+
+/// Takes each input that a source of inputs gives.
+pub type Each<'a> = &'a mut dyn FnMut(&Input);
+
+/// A function with its two sides. Of its inputs round 0 gives the short ones and the boundaries, each other round some random ones.
+pub struct Function {
+    pub name: &'static str,
+    pub ours: fn(&Input, &mut Output),
+    pub theirs: fn(&Input, &mut Output),
+    pub inputs: fn(&mut Rng, u64, Each),
+}
+
+/// Every function.
+pub const FUNCTIONS: &[Function] = &[
+    Function {
+        name: "uleb128_len",
+        ours: |i, o| o.ours(0, &[sys::uleb128_len(i.numbers[0]) as u64]),
+        theirs: |i, o| o.theirs(Ok(&[compact::uleb128_len(i.numbers[0]) as u64])),
+        inputs: inputs::one_number,
+    },
+    Function {
+        name: "read_uleb128",
+        ours: |i, o| {
+            let (mut value, mut len) = (BEFORE, BEFORE as usize);
+            let number = sys::read_uleb128(&i.bytes, &mut value, &mut len);
+            o.ours(number, &[value, len as u64]);
+        },
+        theirs: |i, o| match compact::read_uleb128(&i.bytes) {
+            Ok((value, len)) => o.theirs(Ok(&[value, len as u64])),
+            Err(e) => o.theirs(Err(of_pack(e))),
+        },
+        inputs: inputs::forms,
+    },
+    Function {
+        name: "write_uleb128_into",
+        ours: |i, o| {
+            let mut len = BEFORE as usize;
+            let number = sys::write_uleb128_into(&mut o.bytes, i.numbers[0], &mut len);
+            o.ours(number, &[len as u64]);
+        },
+        theirs: |i, o| match compact::write_uleb128_into(&mut o.bytes, i.numbers[0]) {
+            Ok(len) => o.theirs(Ok(&[len as u64])),
+            Err(e) => o.theirs(Err(of_pack(e))),
+        },
+        inputs: inputs::number_and_room,
+    },
+    Function {
+        name: "pack8",
+        ours: |i, o| {
+            let mut word = BEFORE;
+            let number = pack_ours(&i.numbers, &mut word);
+            o.ours(number, &[word]);
+        },
+        theirs: |i, o| match layout::pack8(&head_theirs(&i.numbers)) {
+            Ok(word) => o.theirs(Ok(&[word])),
+            Err(e) => o.theirs(Err(of_store(e, Side::Offered))),
+        },
+        inputs: inputs::head_values,
+    },
+    Function {
+        name: "pack8_bytes",
+        ours: |i, o| {
+            let out: &mut [u8; 8] = (&mut o.bytes[..]).try_into().unwrap();
+            let n = &i.numbers;
+            o.refusal = match n[0] {
+                0 => sys::pack8_bytes_empty(out),
+                1 => sys::pack8_bytes_inline(n[3], n[2] as u8, out),
+                2 => sys::pack8_bytes_slab(n[1] as u8, n[2] as u16, n[3], out),
+                _ => sys::pack8_bytes_extent(n[3], out),
+            };
+        },
+        theirs: |i, o| match layout::pack8_bytes(&head_theirs(&i.numbers)) {
+            Ok(bytes) => o.bytes.copy_from_slice(&bytes),
+            Err(e) => o.refusal = of_store(e, Side::Offered),
+        },
+        inputs: inputs::head_values,
+    },
+    Function {
+        name: "unpack8",
+        ours: |i, o| {
+            let (mut kind, mut class, mut used, mut place) = (BEFORE as u8, BEFORE as u8, BEFORE as u16, BEFORE);
+            let number = sys::unpack8(i.numbers[0], &mut kind, &mut class, &mut used, &mut place);
+            o.ours(number, &[kind as u64, class as u64, used as u64, place]);
+        },
+        theirs: |i, o| match layout::unpack8(i.numbers[0]) {
+            Ok(v) => o.theirs(Ok(&numbers_theirs(&v))),
+            Err(e) => o.theirs(Err(of_store(e, Side::Stored))),
+        },
+        inputs: inputs::words,
+    },
+    Function {
+        name: "unpack8_bytes",
+        ours: |i, o| {
+            let buf: &[u8; 8] = i.bytes[..].try_into().unwrap();
+            let (mut kind, mut class, mut used, mut place) = (BEFORE as u8, BEFORE as u8, BEFORE as u16, BEFORE);
+            let number = sys::unpack8_bytes(buf, &mut kind, &mut class, &mut used, &mut place);
+            o.ours(number, &[kind as u64, class as u64, used as u64, place]);
+        },
+        theirs: |i, o| match layout::unpack8_bytes(i.bytes[..].try_into().unwrap()) {
+            Ok(v) => o.theirs(Ok(&numbers_theirs(&v))),
+            Err(e) => o.theirs(Err(of_store(e, Side::Stored))),
+        },
+        inputs: inputs::words,
+    },
+    Function {
+        name: "payload_start",
+        ours: |i, o| o.ours(0, &[sys::payload_start(i.numbers[0] as usize)]),
+        theirs: |i, o| o.theirs(Ok(&[layout::payload_start(i.numbers[0] as usize)])),
+        inputs: inputs::one_number,
+    },
+    Function {
+        name: "slab_cap",
+        ours: |i, o| o.ours(0, &[sys::slab_cap(i.numbers[0] as u8) as u64]),
+        theirs: |i, o| o.theirs(Ok(&[layout::slab_cap(i.numbers[0] as u8) as u64])),
+        inputs: inputs::classes,
+    },
+    Function {
+        name: "slab_bytes",
+        ours: |i, o| o.ours(0, &[sys::slab_bytes(i.numbers[0] as u8)]),
+        theirs: |i, o| o.theirs(Ok(&[layout::slab_bytes(i.numbers[0] as u8)])),
+        inputs: inputs::classes,
+    },
+    Function {
+        name: "slab_class_for_packed_len",
+        ours: |i, o| class_ours(o, |class| sys::slab_class_for_packed_len(i.numbers[0] as usize, class)),
+        theirs: |i, o| class_theirs(o, slabs::slab_class_for_packed_len(i.numbers[0] as usize)),
+        inputs: inputs::counts,
+    },
+    Function {
+        name: "slab_class_for_n_fks",
+        ours: |i, o| class_ours(o, |class| sys::slab_class_for_n_fks(i.numbers[0] as u32, class)),
+        theirs: |i, o| class_theirs(o, slabs::slab_class_for_n_fks(i.numbers[0] as u32)),
+        inputs: inputs::counts,
+    },
+    Function {
+        name: "slab_class_for_n_fks_with_slack",
+        ours: |i, o| class_ours(o, |class| sys::slab_class_for_n_fks_with_slack(i.numbers[0] as u32, class)),
+        theirs: |i, o| class_theirs(o, slabs::slab_class_for_n_fks_with_slack(i.numbers[0] as u32)),
+        inputs: inputs::counts,
+    },
+    Function {
+        name: "encode_fk_delta_stream_into",
+        ours: |i, o| {
+            let mut len = BEFORE as usize;
+            let number = sys::encode_fk_delta_stream_into(&mut o.bytes, &i.list, &mut len);
+            o.ours(number, &[len as u64]);
+        },
+        theirs: |i, o| match slabs::encode_fk_delta_stream_into(&mut o.bytes, &i.list) {
+            Ok(len) => o.theirs(Ok(&[len as u64])),
+            Err(e) => o.theirs(Err(of_store(e, Side::Offered))),
+        },
+        inputs: inputs::lists_and_room,
+    },
+    Function {
+        name: "decode_fk_delta_stream_into",
+        ours: |i, o| {
+            let mut taken = BEFORE as usize;
+            let number = sys::decode_fk_delta_stream_into(&i.bytes, i.numbers[0] as usize, &mut o.list, &mut taken);
+            o.ours(number, &[taken as u64]);
+        },
+        theirs: |i, o| {
+            let mut read = Vec::new();
+            let answer = slabs::decode_fk_delta_stream_into(&i.bytes, i.numbers[0] as usize, &mut read);
+            o.refusal = lent(answer.map_err(|e| of_store(e, Side::Stored)), &read, &mut o.list);
+            o.numbers.push(taken_theirs(&i.bytes, read.len()) as u64);
+        },
+        inputs: inputs::streams,
+    },
+];
+
+/// Our head word of the four numbers of a head value.
+fn pack_ours(n: &[u64], word: &mut u64) -> u32 {
+    match n[0] {
+        0 => sys::pack8_empty(word),
+        1 => sys::pack8_inline(n[3], n[2] as u8, word),
+        2 => sys::pack8_slab(n[1] as u8, n[2] as u16, n[3], word),
+        _ => sys::pack8_extent(n[3], word),
+    }
+}
+
+/// Their head value of four numbers.
+fn head_theirs(n: &[u64]) -> ShHeadValue {
+    match n[0] {
+        0 => ShHeadValue::Empty,
+        1 => ShHeadValue::Inline { entries: [Fk(n[3])], used: n[2] as u8 },
+        2 => ShHeadValue::Slab { class: n[1] as u8, used: n[2] as u16, off: n[3] },
+        _ => ShHeadValue::Extent { last_page: n[3] },
+    }
+}
+
+/// The four numbers of their head value.
+fn numbers_theirs(v: &ShHeadValue) -> [u64; 4] {
+    match v {
+        ShHeadValue::Empty => [0, 0, 0, 0],
+        ShHeadValue::Inline { entries, used } => [1, 0, *used as u64, entries[0].0],
+        ShHeadValue::Slab { class, used, off } => [2, *class as u64, *used as u64, *off],
+        ShHeadValue::Extent { last_page } => [3, 0, 0, *last_page],
+    }
+}
+
+/// Our choice of a class: whether there is one, and which.
+fn class_ours(o: &mut Output, choose: impl Fn(&mut u8) -> bool) {
+    let mut class = BEFORE as u8;
+    let some = choose(&mut class);
+    o.ours(0, &[some as u64, class as u64]);
+}
+
+/// Their choice of a class.
+fn class_theirs(o: &mut Output, class: Option<u8>) {
+    o.theirs(Ok(&[class.is_some() as u64, class.map_or(BEFORE, u64::from)]));
+}
+
+/// Puts the numbers that they read into a lent list, and gives the refusal's number or 0: 34 where the list is too short.
+fn lent(answer: Result<(), u32>, read: &[Fk], list: &mut [u64]) -> u32 {
+    if let Err(number) = answer {
+        return number;
+    }
+    if list.len() < read.len() {
+        return 34;
+    }
+    list.iter_mut().zip(read).for_each(|(place, fk)| *place = fk.0);
+    0
+}
+
+/// How many bytes a count of numbers takes, by their reader.
+fn taken_theirs(bytes: &[u8], count: usize) -> usize {
+    (0..count).fold(0, |at, _| at + compact::read_uleb128(&bytes[at..]).map_or(0, |r| r.1))
+}
