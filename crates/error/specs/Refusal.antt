@@ -26,6 +26,14 @@ abbrev pub refusalOf : {A : Type 0} → Answer A → ℕ
 refusalOf (accepted x) = 0
 refusalOf (refused number) = number
 
+-- More than 65,535 numbers are offered to a page, slab or load.
+abbrev pub tooManyOffered : ℕ
+tooManyOffered = 10
+
+-- A slab buffer is under 2 bytes.
+abbrev pub slabTooShort : ℕ
+slabTooShort = 11
+
 -- The first or only number offered is 0.
 abbrev pub offeredFirstZero : ℕ
 offeredFirstZero = 12

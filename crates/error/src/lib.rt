@@ -4,6 +4,10 @@
 // A refusal is its number.
 pub type Refusal = u32;
 
+// More than 65,535 numbers are offered to a page, slab or load.
+pub const TOO_MANY_OFFERED: Refusal = 10;
+// A slab buffer is under 2 bytes.
+pub const SLAB_TOO_SHORT: Refusal = 11;
 // The first or only number offered is 0.
 pub const OFFERED_FIRST_ZERO: Refusal = 12;
 // A number offered has bit 63 set.

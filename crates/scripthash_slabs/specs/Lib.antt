@@ -1,3 +1,4 @@
 pub mod Class
 pub mod Stream
+pub mod Slab
 pub mod Answers
