@@ -13,6 +13,10 @@ extern "C" {
 
 /* Why a call is turned back. */
 enum ouriscado_refusal {
+    /* More than 65,535 numbers are offered to a page, slab or load. */
+    OURISCADO_TOO_MANY_OFFERED = 10,
+    /* A slab buffer is under 2 bytes. */
+    OURISCADO_SLAB_TOO_SHORT = 11,
     /* The first or only number offered is 0. */
     OURISCADO_OFFERED_FIRST_ZERO = 12,
     /* A number offered has bit 63 set. */
@@ -59,6 +63,9 @@ bool ouriscado_slab_class_for_n_fks(uint32_t n, uint8_t *class_);
 
 /* The class for one number more than n, or where there is none the class for n. */
 bool ouriscado_slab_class_for_n_fks_with_slack(uint32_t n, uint8_t *class_);
+
+/* Cuts fks into parts, tells how many, and puts the index behind each part's last number to the start of out. Refuses 34. */
+uint32_t ouriscado_sh_page_chunk_ranges(const uint64_t *fks, size_t fks_len, size_t *out, size_t out_len, size_t *parts);
 
 /* The word of no number. */
 uint32_t ouriscado_pack8_empty(uint64_t *word);

@@ -11,7 +11,7 @@ const MOST: usize = 300;
 const MOST_BYTES: usize = 4096;
 const MOST_NUMBERS: usize = 512;
 /// The most text of a function's answers.
-const MOST_TEXT: usize = 60_000;
+const MOST_TEXT: usize = 30_000;
 
 /// A field of numbers: 16 digits and a space each.
 fn numbers(out: &mut String, list: &[u64]) {

@@ -1,10 +1,10 @@
 //! Our speed against theirs: both sides of a case do the same work on the same inputs, in turns.
 use crate::inputs;
 use crate::rng::Rng;
-use oracle::{boundary, scripthash_slabs as slabs, Fk};
+use oracle::{boundary, scripthash_pages as pages, scripthash_slabs as slabs, Fk};
 use ouriscado::sys;
 use std::hint::black_box;
-use std::time::{Duration, Instant};
+use std::time::Duration;
 
 /// Rounds of a case.
 const ROUNDS: usize = 101;
@@ -29,11 +29,24 @@ fn seen<T>(answer: T) {
     black_box(answer);
 }
 
+extern "C" {
+    /// The C library's clock, with seconds and nanoseconds.
+    fn clock_gettime(clock: i32, time: &mut [i64; 2]) -> i32;
+}
+
+/// The processor time of this thread: unlike the clock's, it leaves out the turns of other programs.
+fn now() -> Duration {
+    const THREAD: i32 = 3;
+    let mut time = [0; 2];
+    assert_eq!(unsafe { clock_gettime(THREAD, &mut time) }, 0);
+    Duration::new(time[0] as u64, time[1] as u32)
+}
+
 /// How long some turns of work take.
 fn time(work: &mut dyn FnMut(), turns: u32) -> Duration {
-    let start = Instant::now();
+    let start = now();
     (0..turns).for_each(|_| work());
-    start.elapsed()
+    now() - start
 }
 
 /// The turns that a round needs.
@@ -228,12 +241,28 @@ fn classes(cases: &mut Vec<Case>) {
     }
 }
 
+/// Lists of 65,535 numbers cut into the parts of pages.
+fn cutting(cases: &mut Vec<Case>) {
+    for (name, bits) in [("one-byte", 7), ("two-byte", 14), ("mixed", 30)] {
+        let mut rng = Rng(bits as u64);
+        let list = inputs::rising(&mut rng, 65_535, &mut |r| r.bits(bits));
+        let theirs: Vec<Fk> = list.iter().map(|n| Fk(*n)).collect();
+        let mut ends = vec![0usize; 65_535 / 408 + 2];
+        cases.push(case(
+            format!("cut 65,535, {name} differences"),
+            move || seen(sys::sh_page_chunk_ranges(&list, &mut ends, &mut 0)),
+            move || seen(pages::sh_page_chunk_ranges(&theirs)),
+        ));
+    }
+}
+
 /// Measures every case, or those whose name has a phrase.
 pub fn bench(only: Option<&str>) {
     let mut cases = Vec::new();
     numbers(&mut cases);
     streams(&mut cases);
     small(&mut cases);
+    cutting(&mut cases);
     println!("Our time over theirs: the median of {ROUNDS} rounds in turns (a tenth and nine tenths of them), and the time of a batch.");
     println!("Destinations are reused and not cleared between calls; their lists keep their capacity.");
     let mut worst = (0.0, String::new());

@@ -305,3 +305,35 @@ pub fn streams(rng: &mut Rng, round: u64, each: Each) {
         }
     }
 }
+
+/// Lists to cut, rising or not, whose streams are around one, two and three pages, and how many ends are lent.
+pub fn lists_to_cut(rng: &mut Rng, round: u64, each: Each) {
+    let mut give = |list: &[u64], room: u64| each(&Input::new(&[room], &[], list));
+    if round == 0 {
+        (0..3).for_each(|room| give(&[], room));
+        let bounds = boundaries();
+        for &a in &bounds {
+            bounds.iter().for_each(|&b| give(&[a, b], 2));
+            (0..3).for_each(|room| give(&[a], room));
+        }
+        for len in (4060..4100).chain(8150..8180).chain(12_230..12_270).chain([65_534, 65_535, 65_536]) {
+            let list: Vec<u64> = (1..=len).collect();
+            [0, 1, 2, 3, 4, 20].iter().for_each(|&room| give(&list, room));
+        }
+    }
+    for _ in 0..ROUND / 16 {
+        let bits = rng.pick(&[7, 14, 21, 35, 52]);
+        let bytes = (bits as u64).div_ceil(7);
+        let pages = 1 + rng.below(3);
+        let len = pages * 4080 / bytes + rng.below(40) - 20;
+        let mut list = rising(rng, len as usize, &mut |r| (r.next() >> (64 - bits)) | 1 << (bits - 1));
+        match rng.below(4) {
+            0 => list.iter_mut().for_each(|n| *n = rng.bits(64)),
+            1 => list.sort_by_key(|n| n.rotate_left(7)),
+            _ => {}
+        }
+        for room in [pages - 1, pages, pages + 1, pages + 3, len / 408 + 2] {
+            give(&list, room);
+        }
+    }
+}

@@ -4,7 +4,7 @@ use crate::errors::{of_pack, of_store, Side};
 use crate::inputs;
 use crate::rng::Rng;
 use oracle::scripthash_layout::{self as layout, ShHeadValue};
-use oracle::{compact, scripthash_slabs as slabs, Fk};
+use oracle::{compact, scripthash_pages as pages, scripthash_slabs as slabs, Fk};
 use ouriscado::sys;
 
 /// Takes each input that a source of inputs gives.
@@ -174,7 +174,36 @@ pub const FUNCTIONS: &[Function] = &[
         },
         inputs: inputs::streams,
     },
+    Function {
+        name: "sh_page_chunk_ranges",
+        ours: |i, o| {
+            let mut ends = vec![BEFORE as usize; i.numbers[0] as usize];
+            let mut parts = BEFORE as usize;
+            let number = sys::sh_page_chunk_ranges(&i.list, &mut ends, &mut parts);
+            o.ours(number, &[parts as u64]);
+            let told = if number == 0 { parts } else { 0 };
+            assert!(ends[told..].iter().all(|e| *e == BEFORE as usize), "ends past the parts were written");
+            put_ends(ends[..told].iter().copied(), &mut o.list);
+        },
+        theirs: |i, o| {
+            let fks: Vec<Fk> = i.list.iter().map(|n| Fk(*n)).collect();
+            let ranges = pages::sh_page_chunk_ranges(&fks).unwrap();
+            if i.numbers[0] < ranges.len() as u64 {
+                o.refusal = 34;
+                return;
+            }
+            o.numbers.push(ranges.len() as u64);
+            assert!(ranges.windows(2).all(|w| w[0].1 == w[1].0) && ranges.first().is_none_or(|r| r.0 == 0));
+            put_ends(ranges.iter().map(|r| r.1), &mut o.list);
+        },
+        inputs: inputs::lists_to_cut,
+    },
 ];
+
+/// Puts the ends of parts over the first numbers of the list that was cut.
+fn put_ends(ends: impl Iterator<Item = usize>, list: &mut [u64]) {
+    list.iter_mut().zip(ends).for_each(|(place, end)| *place = end as u64);
+}
 
 /// Our head word of the four numbers of a head value.
 fn pack_ours(n: &[u64], word: &mut u64) -> u32 {

@@ -170,3 +170,10 @@ pub fn decode_fk_delta_stream_into(buf: &[u8], n: usize, out: &mut [u64]) -> Res
     let number = sys::decode_fk_delta_stream_into(buf, n, out, &mut taken);
     answer(number, taken)
 }
+
+/// Cuts a list into the parts that pages hold: tells how many, and puts the index behind each part's last number to the start of `out`.
+pub fn sh_page_chunk_ranges(fks: &[u64], out: &mut [usize]) -> Result<usize, Refusal> {
+    let mut parts = 0;
+    let number = sys::sh_page_chunk_ranges(fks, out, &mut parts);
+    answer(number, parts)
+}

@@ -4,6 +4,10 @@
 #[derive(Clone, Copy, Debug, PartialEq, Eq, Hash)]
 #[repr(u32)]
 pub enum Refusal {
+    /// More than 65,535 numbers are offered to a page, slab or load.
+    TooManyOffered = 10,
+    /// A slab buffer is under 2 bytes.
+    SlabTooShort = 11,
     /// The first or only number offered is 0.
     OfferedFirstZero = 12,
     /// A number offered has bit 63 set.
@@ -45,6 +49,8 @@ pub enum Refusal {
 impl Refusal {
     /// Every refusal, in the order of the numbers.
     pub const ALL: &'static [Refusal] = &[
+        Refusal::TooManyOffered,
+        Refusal::SlabTooShort,
         Refusal::OfferedFirstZero,
         Refusal::OfferedBit63,
         Refusal::UlebCutShort,
@@ -68,6 +74,8 @@ impl Refusal {
     /// What the refusal says.
     pub fn text(self) -> &'static str {
         match self {
+            Refusal::TooManyOffered => "More than 65,535 numbers are offered to a page, slab or load.",
+            Refusal::SlabTooShort => "A slab buffer is under 2 bytes.",
             Refusal::OfferedFirstZero => "The first or only number offered is 0.",
             Refusal::OfferedBit63 => "A number offered has bit 63 set.",
             Refusal::UlebCutShort => "The bytes end before a ULEB128 form does.",

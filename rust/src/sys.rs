@@ -9,6 +9,8 @@ pub mod raw {
         pub fn ouriscado_slab_class_for_n_fks(n: u32, class: &mut u8) -> bool;
         /// The class for one number more than n, or where there is none the class for n.
         pub fn ouriscado_slab_class_for_n_fks_with_slack(n: u32, class: &mut u8) -> bool;
+        /// Cuts fks into parts, tells how many, and puts the index behind each part's last number to the start of out. Refuses 34.
+        pub fn ouriscado_sh_page_chunk_ranges(fks: *const u64, fks_len: usize, out: *mut usize, out_len: usize, parts: &mut usize) -> u32;
         /// The word of no number.
         pub fn ouriscado_pack8_empty(word: &mut u64) -> u32;
         /// The word of an inline number. Refuses 24, 25.
@@ -64,6 +66,12 @@ pub fn slab_class_for_n_fks(n: u32, class: &mut u8) -> bool {
 #[inline]
 pub fn slab_class_for_n_fks_with_slack(n: u32, class: &mut u8) -> bool {
     unsafe { raw::ouriscado_slab_class_for_n_fks_with_slack(n, class) }
+}
+
+/// Cuts fks into parts, tells how many, and puts the index behind each part's last number to the start of out. Refuses 34.
+#[inline]
+pub fn sh_page_chunk_ranges(fks: &[u64], out: &mut [usize], parts: &mut usize) -> u32 {
+    unsafe { raw::ouriscado_sh_page_chunk_ranges(fks.as_ptr(), fks.len(), out.as_mut_ptr(), out.len(), parts) }
 }
 
 /// The word of no number.

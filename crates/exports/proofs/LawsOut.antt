@@ -30,7 +30,7 @@ unfolding answered
 number-answered f (accepted x) = refl
 number-answered f (refused number) = refl
 
-pub told-answered : {A : Type 0} (f : A → ℕ) (before : ℕ) (a : Answer A) → told (λ x. x) (answered f a) before ≡ told f a before
+pub told-answered : {A B : Type 0} (g : B → ℕ) (f : A → B) (before : ℕ) (a : Answer A) → told g (answered f a) before ≡ told (λ x. g (f x)) a before
 unfolding answered
-told-answered f before (accepted x) = refl
-told-answered f before (refused number) = refl
+told-answered g f before (accepted x) = refl
+told-answered g f before (refused number) = refl

@@ -1,6 +1,7 @@
 // The C boundary: each function calls the one of its name without the prefix. A result of type u32 is document 01's number of a refusal, or
 // 0; on a refusal every out-parameter and buffer holds what it held.
 mod class;
+mod cut;
 mod head;
 mod sizes;
 mod stream;
@@ -9,6 +10,7 @@ mod uleb128;
 pub use class::ouriscado_slab_class_for_n_fks;
 pub use class::ouriscado_slab_class_for_n_fks_with_slack;
 pub use class::ouriscado_slab_class_for_packed_len;
+pub use cut::ouriscado_sh_page_chunk_ranges;
 pub use head::ouriscado_pack8_bytes_empty;
 pub use head::ouriscado_pack8_bytes_extent;
 pub use head::ouriscado_pack8_bytes_inline;

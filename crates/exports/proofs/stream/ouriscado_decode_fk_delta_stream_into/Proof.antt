@@ -26,7 +26,7 @@ returns : tie.Need-returns
 returns c =
     let e = c .before .before .before .before .before .decode-fk-delta-stream-into .ensures in
     let no = sym (e .0) ∙ ap bytesAnswer (c .before .enum-told .given .1) in
-    (c .refusal .ensures ∙ ap refusalOf (e .0) ∙ number-answered (λ s. s .taken) _, (e .1, told-refused (λ x. x) _ no ∙ told-answered (λ s. s .taken) _ _))
+    (c .refusal .ensures ∙ ap refusalOf (e .0) ∙ number-answered (λ s. s .taken) _, (e .1, told-refused (λ x. x) _ no ∙ told-answered (λ x. x) (λ s. s .taken) _ _))
 
 same-length-2 : tie.Need-same-length-2
 same-length-2 c = search needs
@@ -35,7 +35,7 @@ returns-2 : tie.Need-returns-2
 returns-2 c =
     let e = c .before .before .before .before .before .decode-fk-delta-stream-into .ensures in
     let yes = sym (e .0) ∙ ap bytesAnswer (c .before .got .given .1) in
-    (number-accepted yes ∙ number-answered (λ s. s .taken) _, (e .1, told-accepted (λ x. x) _ yes ∙ told-answered (λ s. s .taken) _ _))
+    (number-accepted yes ∙ number-answered (λ s. s .taken) _, (e .1, told-accepted (λ x. x) _ yes ∙ told-answered (λ x. x) (λ s. s .taken) _ _))
 
 pub ouriscado-decode-fk-delta-stream-into-spec : {M : Type 1} → statement M
 ouriscado-decode-fk-delta-stream-into-spec = tie.close (tie.spec decode-fk-delta-stream-into-requires enum-known-got enum-told refusal-requires same-length returns same-length-2 returns-2)
