@@ -3,6 +3,9 @@ use Prim.Native.Nat.{ℕ}
 use Rattle.error.specs.Refusal.{Answer, accepted, refused}
 use Rattle.compact.specs.Uleb128.{Reading}
 use Rattle.scripthash_slabs.specs.Stream.{End}
+use Rattle.scripthash_slabs.specs.Slab.{SlabList}
+use Rattle.scripthash_slabs.specs.declared.payload.SlabPayload.{SlabPayload}
+use Rattle.scripthash_slabs.specs.declared.payload.SlabPayload.the-variants.{Numbers, Refused as NoNumbers}
 use Rattle.scripthash_slabs.specs.declared.stream.NextFk.{NextFk}
 use Rattle.scripthash_slabs.specs.declared.stream.NextFk.the-variants.{Number, Refused as NoNumber}
 use Rattle.scripthash_slabs.specs.declared.stream.ScanStream.{ScanStream}
@@ -27,6 +30,11 @@ scanAnswer (NotScanned number) = refused number
 abbrev pub bytesAnswer : StreamBytes → Answer ℕ
 bytesAnswer (Bytes len) = accepted len
 bytesAnswer (NoBytes number) = refused number
+
+-- The answer of `decode_slab_payload_into`.
+abbrev pub slabAnswer : SlabPayload → Answer SlabList
+slabAnswer (Numbers used len) = accepted (record { used = used; len = len })
+slabAnswer (NoNumbers number) = refused number
 
 -- The class that a choice answers, if it answers one.
 abbrev pub chosen : SlabClass → Option ℕ

@@ -1,5 +1,6 @@
 // Streams of rising numbers, slabs and their classes: the source's scripthash_slabs.rs.
 mod class;
+mod payload;
 mod stream;
 
 pub use class::SH_MEGAKEY_MIN_FKS;
@@ -7,6 +8,10 @@ pub use class::SlabClass;
 pub use class::slab_class_for_n_fks;
 pub use class::slab_class_for_n_fks_with_slack;
 pub use class::slab_class_for_packed_len;
+pub use payload::MAX_OFFERED;
+pub use payload::SlabPayload;
+pub use payload::decode_slab_payload_into;
+pub use payload::encode_slab_payload_into;
 pub use stream::NextFk;
 pub use stream::ScanStream;
 pub use stream::StreamBytes;
