@@ -106,6 +106,12 @@ uint64_t ouriscado_slab_bytes(uint8_t class_);
 /* The offset from which on lists stand in a file, whatever the length of the file's own header. */
 uint64_t ouriscado_payload_start(size_t file_header_len);
 
+/* Writes the payload of a rising list to the start of out, and tells its length. Refuses 10 to 13, 32, 33. */
+uint32_t ouriscado_encode_slab_payload_into(uint8_t *out, size_t out_len, const uint64_t *fks, size_t fks_len, size_t *len);
+
+/* Reads the payload at the start of buf into the start of out, and tells how many numbers it has and how many bytes it takes. Refuses 11, 17, 18, 20 to 23, 34. */
+uint32_t ouriscado_decode_slab_payload_into(const uint8_t *buf, size_t buf_len, uint64_t *out, size_t out_len, size_t *used, size_t *len);
+
 /* Writes the stream of a rising list to the start of out, and tells its length. Refuses 12, 13, 32, 33. */
 uint32_t ouriscado_encode_fk_delta_stream_into(uint8_t *out, size_t out_len, const uint64_t *fks, size_t fks_len, size_t *len);
 

@@ -167,6 +167,31 @@ fn streams(cases: &mut Vec<Case>) {
     }
 }
 
+/// Slab payloads encoded and decoded.
+fn slab_payloads(cases: &mut Vec<Case>) {
+    for (name, list) in lists().into_iter().take(3) {
+        let mut bytes = vec![0u8; 2048];
+        let mut len = 0;
+        let n = list.len();
+        assert_eq!(sys::encode_slab_payload_into(&mut bytes, &list, &mut len), 0);
+        let (theirs, mut ours_to, mut theirs_to) = (list.clone(), bytes.clone(), bytes.clone());
+        cases.push(case(
+            format!("encode a slab of {name}"),
+            move || seen(sys::encode_slab_payload_into(&mut ours_to, &list, &mut 0)),
+            move || seen(slabs::encode_slab_payload_into(&mut theirs_to, &theirs)),
+        ));
+        let (theirs, mut ours_to, mut theirs_to) = (bytes.clone(), vec![0u64; n], Vec::<Fk>::with_capacity(n));
+        cases.push(case(
+            format!("decode a slab of {name}"),
+            move || seen(sys::decode_slab_payload_into(&bytes, &mut ours_to, &mut 0, &mut 0)),
+            move || {
+                theirs_to.clear();
+                seen(slabs::decode_slab_payload_into(&theirs, &mut theirs_to));
+            },
+        ));
+    }
+}
+
 /// Head words packed and unpacked, and classes chosen.
 fn small(cases: &mut Vec<Case>) {
     let mut rng = Rng(1);
@@ -261,6 +286,7 @@ pub fn bench(only: Option<&str>) {
     let mut cases = Vec::new();
     numbers(&mut cases);
     streams(&mut cases);
+    slab_payloads(&mut cases);
     small(&mut cases);
     cutting(&mut cases);
     println!("Our time over theirs: the median of {ROUNDS} rounds in turns (a tenth and nine tenths of them), and the time of a batch.");

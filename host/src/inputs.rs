@@ -144,9 +144,9 @@ pub fn number_and_room(rng: &mut Rng, round: u64, each: Each) {
     }
 }
 
-/// Head values as four numbers (kind, class, used, place), with a buffer of eight bytes: every kind with its fields at each bound.
+/// Head values as four numbers (kind, class, used, place): every kind with its fields at each bound.
 pub fn head_values(rng: &mut Rng, round: u64, each: Each) {
-    let mut give = |n: [u64; 4]| each(&Input::new(&n, &[FILL; 8], &[]));
+    let mut give = |n: [u64; 4]| each(&Input::new(&n, &[], &[]));
     if round == 0 {
         give([0, 0, 0, 0]);
         for place in boundaries() {
@@ -167,9 +167,9 @@ pub fn head_values(rng: &mut Rng, round: u64, each: Each) {
     }
 }
 
-/// Stored words, as a number and as eight bytes: each mode with fields at each bound.
+/// Stored words: each mode with fields at each bound.
 pub fn words(rng: &mut Rng, round: u64, each: Each) {
-    let mut give = |w: u64| each(&Input::new(&[w], &w.to_le_bytes(), &[]));
+    let mut give = |w: u64| each(&Input::new(&[w], &[], &[]));
     if round == 0 {
         for mode in 0..4u64 {
             boundaries().iter().for_each(|n| give(mode << 62 | n >> 2));
@@ -304,6 +304,31 @@ pub fn streams(rng: &mut Rng, round: u64, each: Each) {
             give(&bytes, n, room);
         }
     }
+}
+
+/// Offered lists, and a slab's buffer of each length around that of the payload.
+pub fn lists_and_slab_room(rng: &mut Rng, round: u64, each: Each) {
+    lists_and_room(rng, round, &mut |input| {
+        for more in 0..3 {
+            let mut with = input.clone();
+            with.bytes.extend(&[FILL; 2][..more]);
+            each(&with);
+        }
+    });
+}
+
+/// Slab payloads, whole and damaged, with other bytes after them, and a lent list of a length around the count.
+pub fn slabs(rng: &mut Rng, round: u64, each: Each) {
+    if round == 0 {
+        [&[][..], &[0], &[1], &[0, 0], &[1, 0]].iter().for_each(|bytes| each(&Input::new(&[], bytes, &[])));
+        let long: Vec<u8> = [&[0xff, 0xff][..], &[1; 65_535]].concat();
+        [65_534, 65_535, 65_536].iter().for_each(|&room| each(&Input::new(&[], &long, &vec![FILL_NUMBER; room])));
+    }
+    streams(rng, round, &mut |input| {
+        let count = input.numbers[0] as u16;
+        let bytes = [&count.to_le_bytes()[..], &input.bytes].concat();
+        each(&Input::new(&[], &bytes, &input.list));
+    });
 }
 
 /// Lists to cut, rising or not, whose streams are around one, two and three pages, and how many ends are lent.

@@ -68,18 +68,19 @@ pub const FUNCTIONS: &[Function] = &[
     Function {
         name: "pack8_bytes",
         ours: |i, o| {
-            let out: &mut [u8; 8] = (&mut o.bytes[..]).try_into().unwrap();
+            let mut out = BEFORE.to_le_bytes();
             let n = &i.numbers;
-            o.refusal = match n[0] {
-                0 => sys::pack8_bytes_empty(out),
-                1 => sys::pack8_bytes_inline(n[3], n[2] as u8, out),
-                2 => sys::pack8_bytes_slab(n[1] as u8, n[2] as u16, n[3], out),
-                _ => sys::pack8_bytes_extent(n[3], out),
+            let number = match n[0] {
+                0 => sys::pack8_bytes_empty(&mut out),
+                1 => sys::pack8_bytes_inline(n[3], n[2] as u8, &mut out),
+                2 => sys::pack8_bytes_slab(n[1] as u8, n[2] as u16, n[3], &mut out),
+                _ => sys::pack8_bytes_extent(n[3], &mut out),
             };
+            o.ours(number, &[u64::from_le_bytes(out)]);
         },
         theirs: |i, o| match layout::pack8_bytes(&head_theirs(&i.numbers)) {
-            Ok(bytes) => o.bytes.copy_from_slice(&bytes),
-            Err(e) => o.refusal = of_store(e, Side::Offered),
+            Ok(bytes) => o.theirs(Ok(&[u64::from_le_bytes(bytes)])),
+            Err(e) => o.theirs(Err(of_store(e, Side::Offered))),
         },
         inputs: inputs::head_values,
     },
@@ -99,12 +100,12 @@ pub const FUNCTIONS: &[Function] = &[
     Function {
         name: "unpack8_bytes",
         ours: |i, o| {
-            let buf: &[u8; 8] = i.bytes[..].try_into().unwrap();
+            let buf = i.numbers[0].to_le_bytes();
             let (mut kind, mut class, mut used, mut place) = (BEFORE as u8, BEFORE as u8, BEFORE as u16, BEFORE);
-            let number = sys::unpack8_bytes(buf, &mut kind, &mut class, &mut used, &mut place);
+            let number = sys::unpack8_bytes(&buf, &mut kind, &mut class, &mut used, &mut place);
             o.ours(number, &[kind as u64, class as u64, used as u64, place]);
         },
-        theirs: |i, o| match layout::unpack8_bytes(i.bytes[..].try_into().unwrap()) {
+        theirs: |i, o| match layout::unpack8_bytes(&i.numbers[0].to_le_bytes()) {
             Ok(v) => o.theirs(Ok(&numbers_theirs(&v))),
             Err(e) => o.theirs(Err(of_store(e, Side::Stored))),
         },
@@ -173,6 +174,36 @@ pub const FUNCTIONS: &[Function] = &[
             o.numbers.push(taken_theirs(&i.bytes, read.len()) as u64);
         },
         inputs: inputs::streams,
+    },
+    Function {
+        name: "encode_slab_payload_into",
+        ours: |i, o| {
+            let mut len = BEFORE as usize;
+            let number = sys::encode_slab_payload_into(&mut o.bytes, &i.list, &mut len);
+            o.ours(number, &[len as u64]);
+        },
+        theirs: |i, o| match slabs::encode_slab_payload_into(&mut o.bytes, &i.list) {
+            Ok(len) => o.theirs(Ok(&[len as u64])),
+            Err(e) => o.theirs(Err(of_store(e, Side::Offered))),
+        },
+        inputs: inputs::lists_and_slab_room,
+    },
+    Function {
+        name: "decode_slab_payload_into",
+        ours: |i, o| {
+            let (mut used, mut len) = (BEFORE as usize, BEFORE as usize);
+            let number = sys::decode_slab_payload_into(&i.bytes, &mut o.list, &mut used, &mut len);
+            o.ours(number, &[used as u64, len as u64]);
+        },
+        theirs: |i, o| {
+            let mut read = Vec::new();
+            let answer = slabs::decode_slab_payload_into(&i.bytes, &mut read);
+            o.refusal = lent(answer.map_err(|e| of_store(e, Side::Stored)), &read, &mut o.list);
+            if o.refusal == 0 {
+                o.numbers.extend([read.len() as u64, 2 + taken_theirs(&i.bytes[2..], read.len()) as u64]);
+            }
+        },
+        inputs: inputs::slabs,
     },
     Function {
         name: "sh_page_chunk_ranges",

@@ -171,6 +171,27 @@ pub fn decode_fk_delta_stream_into(buf: &[u8], n: usize, out: &mut [u64]) -> Res
     answer(number, taken)
 }
 
+/// Writes the slab payload of a rising list to the start of `out`, and tells its length.
+pub fn encode_slab_payload_into(out: &mut [u8], fks: &[u64]) -> Result<usize, Refusal> {
+    let mut len = 0;
+    let number = sys::encode_slab_payload_into(out, fks, &mut len);
+    answer(number, len)
+}
+
+/// A slab payload that was read: how many numbers it has, and how many bytes it takes.
+#[derive(Clone, Copy, Debug, PartialEq, Eq)]
+pub struct SlabPayload {
+    pub used: usize,
+    pub len: usize,
+}
+
+/// Reads a slab payload into the start of `out`; bytes after the payload are ignored.
+pub fn decode_slab_payload_into(buf: &[u8], out: &mut [u64]) -> Result<SlabPayload, Refusal> {
+    let (mut used, mut len) = (0, 0);
+    let number = sys::decode_slab_payload_into(buf, out, &mut used, &mut len);
+    answer(number, SlabPayload { used, len })
+}
+
 /// Cuts a list into the parts that pages hold: tells how many, and puts the index behind each part's last number to the start of `out`.
 pub fn sh_page_chunk_ranges(fks: &[u64], out: &mut [usize]) -> Result<usize, Refusal> {
     let mut parts = 0;

@@ -37,6 +37,10 @@ pub mod raw {
         pub fn ouriscado_slab_bytes(class: u8) -> u64;
         /// The offset from which on lists stand in a file, whatever the length of the file's own header.
         pub fn ouriscado_payload_start(file_header_len: usize) -> u64;
+        /// Writes the payload of a rising list to the start of out, and tells its length. Refuses 10 to 13, 32, 33.
+        pub fn ouriscado_encode_slab_payload_into(out: *mut u8, out_len: usize, fks: *const u64, fks_len: usize, len: &mut usize) -> u32;
+        /// Reads the payload at the start of buf into the start of out, and tells how many numbers it has and how many bytes it takes. Refuses 11, 17, 18, 20 to 23, 34.
+        pub fn ouriscado_decode_slab_payload_into(buf: *const u8, buf_len: usize, out: *mut u64, out_len: usize, used: &mut usize, len: &mut usize) -> u32;
         /// Writes the stream of a rising list to the start of out, and tells its length. Refuses 12, 13, 32, 33.
         pub fn ouriscado_encode_fk_delta_stream_into(out: *mut u8, out_len: usize, fks: *const u64, fks_len: usize, len: &mut usize) -> u32;
         /// Reads a stream of n numbers at the start of buf into the start of out, and tells how many bytes it takes. Refuses 17, 18, 20 to 23, 34.
@@ -150,6 +154,18 @@ pub fn slab_bytes(class: u8) -> u64 {
 #[inline]
 pub fn payload_start(file_header_len: usize) -> u64 {
     unsafe { raw::ouriscado_payload_start(file_header_len) }
+}
+
+/// Writes the payload of a rising list to the start of out, and tells its length. Refuses 10 to 13, 32, 33.
+#[inline]
+pub fn encode_slab_payload_into(out: &mut [u8], fks: &[u64], len: &mut usize) -> u32 {
+    unsafe { raw::ouriscado_encode_slab_payload_into(out.as_mut_ptr(), out.len(), fks.as_ptr(), fks.len(), len) }
+}
+
+/// Reads the payload at the start of buf into the start of out, and tells how many numbers it has and how many bytes it takes. Refuses 11, 17, 18, 20 to 23, 34.
+#[inline]
+pub fn decode_slab_payload_into(buf: &[u8], out: &mut [u64], used: &mut usize, len: &mut usize) -> u32 {
+    unsafe { raw::ouriscado_decode_slab_payload_into(buf.as_ptr(), buf.len(), out.as_mut_ptr(), out.len(), used, len) }
 }
 
 /// Writes the stream of a rising list to the start of out, and tells its length. Refuses 12, 13, 32, 33.

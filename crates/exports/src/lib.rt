@@ -4,6 +4,7 @@ mod class;
 mod cut;
 mod head;
 mod sizes;
+mod slab;
 mod stream;
 mod uleb128;
 
@@ -24,6 +25,8 @@ pub use head::ouriscado_unpack8_bytes;
 pub use sizes::ouriscado_payload_start;
 pub use sizes::ouriscado_slab_bytes;
 pub use sizes::ouriscado_slab_cap;
+pub use slab::ouriscado_decode_slab_payload_into;
+pub use slab::ouriscado_encode_slab_payload_into;
 pub use stream::ouriscado_decode_fk_delta_stream_into;
 pub use stream::ouriscado_encode_fk_delta_stream_into;
 pub use uleb128::ouriscado_read_uleb128;

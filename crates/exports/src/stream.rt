@@ -18,10 +18,10 @@ pub extern "C" fn ouriscado_encode_fk_delta_stream_into(
     ensures len { λ r. ⌜ now (len .exit) ≡ told (λ x. x) (encodeStream (length (now (out .entry))) (now (fks .entry))) (now (len .entry)) ⌝ }
 {
     let got = scripthash_slabs::encode_fk_delta_stream_into(out, fks);
-    let StreamBytes::Bytes(l) = got else {
+    let StreamBytes::Bytes(w) = got else {
         return got.refusal();
     };
-    *len = l;
+    *len = w;
     0
 }
 

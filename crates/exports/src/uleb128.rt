@@ -39,9 +39,9 @@ pub extern "C" fn ouriscado_write_uleb128_into(dst: &mut [u8], n: u64, len: &mut
     ensures len { λ r. ⌜ now (len .exit) ≡ told (λ x. x) (writeUleb (length (now (dst .entry))) n) (now (len .entry)) ⌝ }
 {
     let got = compact::write_uleb128_into(dst, n);
-    let WriteUleb128::Written(l) = got else {
+    let WriteUleb128::Written(w) = got else {
         return got.refusal();
     };
-    *len = l;
+    *len = w;
     0
 }
