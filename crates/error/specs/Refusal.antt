@@ -26,6 +26,30 @@ abbrev pub refusalOf : {A : Type 0} → Answer A → ℕ
 refusalOf (accepted x) = 0
 refusalOf (refused number) = number
 
+-- A page buffer isn't 4,096 bytes.
+abbrev pub pageLength : ℕ
+pageLength = 4
+
+-- A link offset isn't a multiple of 4,096.
+abbrev pub linkUnaligned : ℕ
+linkUnaligned = 5
+
+-- A link index is 2^39 or more.
+abbrev pub linkTooLarge : ℕ
+linkTooLarge = 6
+
+-- The first offset is asked of a page without LAST.
+abbrev pub notLast : ℕ
+notLast = 7
+
+-- An extent count is 0.
+abbrev pub extentCountZero : ℕ
+extentCountZero = 8
+
+-- An extent base is 0 or unaligned.
+abbrev pub extentBaseBad : ℕ
+extentBaseBad = 9
+
 -- More than 65,535 numbers are offered to a page, slab or load.
 abbrev pub tooManyOffered : ℕ
 tooManyOffered = 10
@@ -42,6 +66,14 @@ offeredFirstZero = 12
 abbrev pub offeredBit63 : ℕ
 offeredBit63 = 13
 
+-- A page's count exceeds its capacity.
+abbrev pub countAboveCapacity : ℕ
+countAboveCapacity = 15
+
+-- The version is another, or 0 with a count.
+abbrev pub versionBad : ℕ
+versionBad = 16
+
 -- The bytes end before a ULEB128 form does.
 abbrev pub ulebCutShort : ℕ
 ulebCutShort = 17
@@ -49,6 +81,10 @@ ulebCutShort = 17
 -- A ULEB128 form overflows 64 bits.
 abbrev pub ulebOverflow : ℕ
 ulebOverflow = 18
+
+-- A page stream passes its capacity.
+abbrev pub streamPastCapacity : ℕ
+streamPastCapacity = 19
 
 -- A stored first number is 0.
 abbrev pub storedFirstZero : ℕ

@@ -4,6 +4,18 @@
 // A refusal is its number.
 pub type Refusal = u32;
 
+// A page buffer isn't 4,096 bytes.
+pub const PAGE_LENGTH: Refusal = 4;
+// A link offset isn't a multiple of 4,096.
+pub const LINK_UNALIGNED: Refusal = 5;
+// A link index is 2^39 or more.
+pub const LINK_TOO_LARGE: Refusal = 6;
+// The first offset is asked of a page without LAST.
+pub const NOT_LAST: Refusal = 7;
+// An extent count is 0.
+pub const EXTENT_COUNT_ZERO: Refusal = 8;
+// An extent base is 0 or unaligned.
+pub const EXTENT_BASE_BAD: Refusal = 9;
 // More than 65,535 numbers are offered to a page, slab or load.
 pub const TOO_MANY_OFFERED: Refusal = 10;
 // A slab buffer is under 2 bytes.
@@ -12,10 +24,16 @@ pub const SLAB_TOO_SHORT: Refusal = 11;
 pub const OFFERED_FIRST_ZERO: Refusal = 12;
 // A number offered has bit 63 set.
 pub const OFFERED_BIT_63: Refusal = 13;
+// A page's count exceeds its capacity.
+pub const COUNT_ABOVE_CAPACITY: Refusal = 15;
+// The version is another, or 0 with a count.
+pub const VERSION_BAD: Refusal = 16;
 // The bytes end before a ULEB128 form does.
 pub const ULEB_CUT_SHORT: Refusal = 17;
 // A ULEB128 form overflows 64 bits.
 pub const ULEB_OVERFLOW: Refusal = 18;
+// A page stream passes its capacity.
+pub const STREAM_PAST_CAPACITY: Refusal = 19;
 // A stored first number is 0.
 pub const STORED_FIRST_ZERO: Refusal = 20;
 // A stored difference is 0.

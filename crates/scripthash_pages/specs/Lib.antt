@@ -1,3 +1,4 @@
 pub mod Cutting
 pub mod CuttingSteps
 pub mod CuttingAnswers
+pub mod Page
