@@ -13,6 +13,18 @@ extern "C" {
 
 /* Why a call is turned back. */
 enum ouriscado_refusal {
+    /* A page buffer isn't 4,096 bytes. */
+    OURISCADO_PAGE_LENGTH = 4,
+    /* A link offset isn't a multiple of 4,096. */
+    OURISCADO_LINK_UNALIGNED = 5,
+    /* A link index is 2^39 or more. */
+    OURISCADO_LINK_TOO_LARGE = 6,
+    /* The first offset is asked of a page without LAST. */
+    OURISCADO_NOT_LAST = 7,
+    /* An extent count is 0. */
+    OURISCADO_EXTENT_COUNT_ZERO = 8,
+    /* An extent base is 0 or unaligned. */
+    OURISCADO_EXTENT_BASE_BAD = 9,
     /* More than 65,535 numbers are offered to a page, slab or load. */
     OURISCADO_TOO_MANY_OFFERED = 10,
     /* A slab buffer is under 2 bytes. */
@@ -21,10 +33,16 @@ enum ouriscado_refusal {
     OURISCADO_OFFERED_FIRST_ZERO = 12,
     /* A number offered has bit 63 set. */
     OURISCADO_OFFERED_BIT_63 = 13,
+    /* A page's count exceeds its capacity. */
+    OURISCADO_COUNT_ABOVE_CAPACITY = 15,
+    /* The version is another, or 0 with a count. */
+    OURISCADO_VERSION_BAD = 16,
     /* The bytes end before a ULEB128 form does. */
     OURISCADO_ULEB_CUT_SHORT = 17,
     /* A ULEB128 form overflows 64 bits. */
     OURISCADO_ULEB_OVERFLOW = 18,
+    /* A page stream passes its capacity. */
+    OURISCADO_STREAM_PAST_CAPACITY = 19,
     /* A stored first number is 0. */
     OURISCADO_STORED_FIRST_ZERO = 20,
     /* A stored difference is 0. */

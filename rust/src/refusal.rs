@@ -4,6 +4,18 @@
 #[derive(Clone, Copy, Debug, PartialEq, Eq, Hash)]
 #[repr(u32)]
 pub enum Refusal {
+    /// A page buffer isn't 4,096 bytes.
+    PageLength = 4,
+    /// A link offset isn't a multiple of 4,096.
+    LinkUnaligned = 5,
+    /// A link index is 2^39 or more.
+    LinkTooLarge = 6,
+    /// The first offset is asked of a page without LAST.
+    NotLast = 7,
+    /// An extent count is 0.
+    ExtentCountZero = 8,
+    /// An extent base is 0 or unaligned.
+    ExtentBaseBad = 9,
     /// More than 65,535 numbers are offered to a page, slab or load.
     TooManyOffered = 10,
     /// A slab buffer is under 2 bytes.
@@ -12,10 +24,16 @@ pub enum Refusal {
     OfferedFirstZero = 12,
     /// A number offered has bit 63 set.
     OfferedBit63 = 13,
+    /// A page's count exceeds its capacity.
+    CountAboveCapacity = 15,
+    /// The version is another, or 0 with a count.
+    VersionBad = 16,
     /// The bytes end before a ULEB128 form does.
     UlebCutShort = 17,
     /// A ULEB128 form overflows 64 bits.
     UlebOverflow = 18,
+    /// A page stream passes its capacity.
+    StreamPastCapacity = 19,
     /// A stored first number is 0.
     StoredFirstZero = 20,
     /// A stored difference is 0.
@@ -49,12 +67,21 @@ pub enum Refusal {
 impl Refusal {
     /// Every refusal, in the order of the numbers.
     pub const ALL: &'static [Refusal] = &[
+        Refusal::PageLength,
+        Refusal::LinkUnaligned,
+        Refusal::LinkTooLarge,
+        Refusal::NotLast,
+        Refusal::ExtentCountZero,
+        Refusal::ExtentBaseBad,
         Refusal::TooManyOffered,
         Refusal::SlabTooShort,
         Refusal::OfferedFirstZero,
         Refusal::OfferedBit63,
+        Refusal::CountAboveCapacity,
+        Refusal::VersionBad,
         Refusal::UlebCutShort,
         Refusal::UlebOverflow,
+        Refusal::StreamPastCapacity,
         Refusal::StoredFirstZero,
         Refusal::StoredDifferenceZero,
         Refusal::StoredSumOverflow,
@@ -74,12 +101,21 @@ impl Refusal {
     /// What the refusal says.
     pub fn text(self) -> &'static str {
         match self {
+            Refusal::PageLength => "A page buffer isn't 4,096 bytes.",
+            Refusal::LinkUnaligned => "A link offset isn't a multiple of 4,096.",
+            Refusal::LinkTooLarge => "A link index is 2^39 or more.",
+            Refusal::NotLast => "The first offset is asked of a page without LAST.",
+            Refusal::ExtentCountZero => "An extent count is 0.",
+            Refusal::ExtentBaseBad => "An extent base is 0 or unaligned.",
             Refusal::TooManyOffered => "More than 65,535 numbers are offered to a page, slab or load.",
             Refusal::SlabTooShort => "A slab buffer is under 2 bytes.",
             Refusal::OfferedFirstZero => "The first or only number offered is 0.",
             Refusal::OfferedBit63 => "A number offered has bit 63 set.",
+            Refusal::CountAboveCapacity => "A page's count exceeds its capacity.",
+            Refusal::VersionBad => "The version is another, or 0 with a count.",
             Refusal::UlebCutShort => "The bytes end before a ULEB128 form does.",
             Refusal::UlebOverflow => "A ULEB128 form overflows 64 bits.",
+            Refusal::StreamPastCapacity => "A page stream passes its capacity.",
             Refusal::StoredFirstZero => "A stored first number is 0.",
             Refusal::StoredDifferenceZero => "A stored difference is 0.",
             Refusal::StoredSumOverflow => "A stored sum passes 2^64 - 1.",
