@@ -141,3 +141,7 @@ doesNotFit = 33
 -- The lent list is too short.
 abbrev pub listTooShort : ℕ
 listTooShort = 34
+
+-- A free head to be popped isn't a multiple of 16 (page: 4,096), or its block leaves 4,096 to the mark.
+abbrev pub freeHeadBad : ℕ
+freeHeadBad = 35

@@ -62,3 +62,5 @@ pub const OFFERED_NOT_RISING: Refusal = 32;
 pub const DOES_NOT_FIT: Refusal = 33;
 // The lent list is too short.
 pub const LIST_TOO_SHORT: Refusal = 34;
+// A free head to be popped isn't a multiple of 16 (page: 4,096), or its block leaves 4,096 to the mark.
+pub const FREE_HEAD_BAD: Refusal = 35;

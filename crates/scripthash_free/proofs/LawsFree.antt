@@ -1,0 +1,73 @@
+-- Laws of free lists, each over the class: what the calls answer, what a list names after a push, a pop and a write apart from
+-- its blocks, and the blocks that a gap is carved into. By cases on the tests, and by induction on the list.
+use mathlib.Core.Path.{_≡_, refl, ap, sym, _∙_}
+use mathlib.Core.Bool.{Bool, true, false, cond, not}
+use mathlib.Core.List.{List, [], _∷_}
+use mathlib.Core.Option.{Option, none, some}
+use Prim.Native.Nat.{ℕ, zero, suc, _+_, _-_, _*_, _/_, _%_, _^_, _≤_, _<_, min}
+use native.Mathlib.Omega.{arith}
+use lib.Dec.{eqb}
+use lib.ListN.{length, set}
+use borrow.Author.Tests.{lt-ltb, le-ltb, eq-eqb, ne-eqb}
+use Rattle.error.specs.Refusal.{Answer, accepted, refused, refuseIf, freeHeadBad}
+use Rattle.error.proofs.LawsAnswer.{refuse-yes, refuse-no}
+use Rattle.scripthash_free.specs.FreeList.{Lists, Pop, headOf, nextOf, isBlock, pushed, pushFree, popFree, gapBlocks, pushAll, isGap, carveGap, after, headsAfter}
+
+-- What is accepted stands afterwards.
+pub after-accepted : (a : Answer Lists) (before : Lists) {l : Lists} → a ≡ accepted l → after a before ≡ l
+unfolding after
+after-accepted a before e = rw e
+
+-- What was there stays where a call is refused.
+pub after-refused : (a : Answer Lists) (before : Lists) {number : ℕ} → a ≡ refused number → after a before ≡ before
+unfolding after
+after-refused a before e = rw e
+
+-- The heads that an accepted pop gives stand afterwards.
+pub heads-accepted : (a : Answer Pop) (before : List ℕ) {p : Pop} → a ≡ accepted p → headsAfter a before ≡ p .heads
+unfolding headsAfter
+heads-accepted a before e = rw e
+
+-- The heads stay where a pop is refused.
+pub heads-refused : (a : Answer Pop) (before : List ℕ) {number : ℕ} → a ≡ refused number → headsAfter a before ≡ before
+unfolding headsAfter
+heads-refused a before e = rw e
+
+-- A block is pushed, and what is none is refused.
+pub push-yes : (class off : ℕ) (l : Lists) → isBlock class off (length (l .body)) ≡ true → pushFree class off l ≡ accepted (pushed class off l)
+unfolding pushFree
+push-yes class off l e = refuse-no _ _ _ (ap not e)
+
+pub push-no : (class off : ℕ) (l : Lists) → isBlock class off (length (l .body)) ≡ false → pushFree class off l ≡ refused freeHeadBad
+unfolding pushFree
+push-no class off l e = refuse-yes _ _ _ (ap not e)
+
+-- Where the class is above 8 there is no block to pop.
+pub pop-beyond : (class mark : ℕ) (l : Lists) → 8 < class → popFree class mark l ≡ accepted (record { block = none; heads = l .heads })
+unfolding popFree
+pop-beyond class mark l h = rw (lt-ltb 8 class h)
+
+-- A class whose head is 0 has no block to pop.
+pub pop-none : (class mark : ℕ) (l : Lists) → class ≤ 8 → headOf class l ≡ 0 → popFree class mark l ≡ accepted (record { block = none; heads = l .heads })
+unfolding popFree
+pop-none class mark l h e = rw (le-ltb 8 class h, eq-eqb (headOf class l) 0 e)
+
+-- A head that is a block is popped, and one that is none is refused.
+pub pop-yes : (class mark : ℕ) (l : Lists) → class ≤ 8 → (headOf class l ≡ 0 → ⊥) → isBlock class (headOf class l) (min mark (length (l .body))) ≡ true
+    → popFree class mark l ≡ accepted (record { block = some (headOf class l); heads = set (l .heads) class (nextOf (l .body) (headOf class l)) })
+unfolding popFree
+pop-yes class mark l h nz e = rw (le-ltb 8 class h, ne-eqb (headOf class l) 0 nz) (refuse-no _ _ _ (ap not e))
+
+pub pop-no : (class mark : ℕ) (l : Lists) → class ≤ 8 → (headOf class l ≡ 0 → ⊥) → isBlock class (headOf class l) (min mark (length (l .body))) ≡ false
+    → popFree class mark l ≡ refused freeHeadBad
+unfolding popFree
+pop-no class mark l h nz e = rw (le-ltb 8 class h, ne-eqb (headOf class l) 0 nz) (refuse-yes _ _ _ (ap not e))
+
+-- A gap that can be carved is, and another is refused.
+pub carve-yes : (from to : ℕ) (l : Lists) → isGap from to (length (l .body)) ≡ true → carveGap from to l ≡ accepted (pushAll (gapBlocks from to) l)
+unfolding carveGap
+carve-yes from to l e = refuse-no _ _ _ (ap not e)
+
+pub carve-no : (from to : ℕ) (l : Lists) → isGap from to (length (l .body)) ≡ false → carveGap from to l ≡ refused freeHeadBad
+unfolding carveGap
+carve-no from to l e = refuse-yes _ _ _ (ap not e)

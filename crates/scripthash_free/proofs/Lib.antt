@@ -1,0 +1,3 @@
+pub mod LawsBlock
+pub mod LawsFree
+pub mod LawsGap

@@ -1,0 +1,31 @@
+-- What the answers of the code mean: 01's number and values for each of their cases.
+use Prim.Native.Nat.{ℕ}
+use mathlib.Core.Option.{Option, none, some}
+use Rattle.error.specs.Refusal.{Answer, accepted, refused}
+use Rattle.scripthash_free.specs.FreeList.{Lists}
+use Rattle.scripthash_free.specs.declared.RelocClass.{RelocClass}
+use Rattle.scripthash_free.specs.declared.RelocClass.the-variants.{Class, Nothing}
+use Rattle.scripthash_free.specs.declared.PushFree.{PushFree}
+use Rattle.scripthash_free.specs.declared.PushFree.the-variants.{Pushed, Refused}
+use Rattle.scripthash_free.specs.declared.PopFree.{PopFree}
+use Rattle.scripthash_free.specs.declared.PopFree.the-variants.{Block, Nothing as NoBlock, Refused as NotPopped}
+
+-- The answer of `largest_reloc_class_le`.
+abbrev pub classAnswer : RelocClass → Option ℕ
+classAnswer (Class class) = some class
+classAnswer Nothing = none
+
+-- The answer of `push_free_head` and of `carve_gap_into_freelist`: done, or a refusal.
+abbrev pub pushAnswer : PushFree → Answer (Unit {0})
+pushAnswer Pushed = accepted tt
+pushAnswer (Refused number) = refused number
+
+-- The answer of `pop_free_head`: a block's offset, none, or a refusal.
+abbrev pub popAnswer : PopFree → Answer (Option ℕ)
+popAnswer (Block off) = accepted (some off)
+popAnswer NoBlock = accepted none
+popAnswer (NotPopped number) = refused number
+
+-- That a call was done.
+abbrev pub done : Lists → Unit {0}
+done l = tt

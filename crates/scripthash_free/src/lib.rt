@@ -1,0 +1,253 @@
+// Free lists, the part of the source's scripthash.rs that is ported: freed blocks by class, each of which names the next in its
+// first 8 bytes. A lent body stands in for the file.
+ghost use mathlib.Core.Path.{_≡_};
+ghost use mathlib.Core.Bool.{Bool};
+ghost use Prim.Native.Nat.{_+_, _%_, _≤_, _<_, min};
+ghost use lib.Dec.{eqb};
+ghost use lib.ListN.{length};
+ghost use Rattle.error.specs.Refusal.{answered, refusalOf};
+ghost use Rattle.scripthash_free.specs.FreeList.{Pop, lists, unitOf, isBlock, pushed, pushFree, popFree, relocClass, gapBlocks, pushAll, isGap, carveGap, after, headsAfter};
+ghost use Rattle.scripthash_free.specs.Answers.{classAnswer, pushAnswer, popAnswer, done};
+use error::Refusal;
+use scripthash_layout::SH_MAX_SLAB_CLASS;
+use scripthash_layout::SH_PAGE_SLAB_CLASS;
+
+// Blocks stand in a body from this offset on.
+const PAYLOAD_START: u64 = 4096;
+
+// The offset of the first freed block of each class, 0 to 8, and 0 where a class has none.
+pub struct FreeHeads {
+    pub heads: [u64; 9],
+}
+
+// The class of the blocks that so many bytes have room for, if there is one.
+pub enum RelocClass {
+    Class(u8),
+    Nothing,
+}
+
+// What pushing a block, or the blocks of a gap, answers.
+pub enum PushFree {
+    Pushed,
+    Refused(Refusal),
+}
+
+// What popping a block answers: its offset, none, or a refusal.
+pub enum PopFree {
+    Block(u64),
+    Nothing,
+    Refused(Refusal),
+}
+
+// The answer of a push, and the free heads after it.
+pub struct AfterPush {
+    pub answer: PushFree,
+    pub free: FreeHeads,
+}
+
+// The answer of a pop, and the free heads after it.
+pub struct AfterPop {
+    pub answer: PopFree,
+    pub free: FreeHeads,
+}
+
+impl PushFree {
+    // The refusal's number, and 0 of another answer.
+    pub fn refusal(self) -> Refusal
+        ensures { λ r. ⌜ r ≡ refusalOf (pushAnswer self) ⌝ }
+    {
+        match self {
+            PushFree::Pushed => 0,
+            PushFree::Refused(number) => number,
+        }
+    }
+}
+
+impl PopFree {
+    // The refusal's number, and 0 of another answer.
+    pub fn refusal(self) -> Refusal
+        ensures { λ r. ⌜ r ≡ refusalOf (popAnswer self) ⌝ }
+    {
+        match self {
+            PopFree::Block(_) => 0,
+            PopFree::Nothing => 0,
+            PopFree::Refused(number) => number,
+        }
+    }
+}
+
+// The largest class of a slab whose blocks have at most so many bytes.
+pub fn largest_reloc_class_le(bytes: u64) -> RelocClass
+    ensures { λ r. ⌜ classAnswer r ≡ relocClass bytes ⌝ }
+{
+    let mut c = SH_MAX_SLAB_CLASS;
+    loop {
+        if scripthash_layout::slab_bytes(c) <= bytes {
+            return RelocClass::Class(c);
+        }
+        if c == 0 {
+            return RelocClass::Nothing;
+        }
+        c -= 1;
+    }
+}
+
+// Tells whether an offset is a multiple of 16, or of 4,096 for a page.
+fn is_aligned(class: u8, off: u64) -> bool
+    ensures { λ r. ⌜ r ≡ eqb (off % unitOf class) 0 ⌝ }
+{
+    if class == SH_PAGE_SLAB_CLASS {
+        return off % 4096 == 0;
+    }
+    off % 16 == 0
+}
+
+// Tells whether a block of a class can stand at an offset and end at or below an end.
+fn is_block(class: u8, off: u64, end: u64) -> bool
+    ensures { λ r. ⌜ r ≡ isBlock class off end ⌝ }
+{
+    if class > SH_PAGE_SLAB_CLASS {
+        return false;
+    }
+    if !is_aligned(class, off) {
+        return false;
+    }
+    if off < PAYLOAD_START {
+        return false;
+    }
+    if end < off {
+        return false;
+    }
+    if end - off < scripthash_layout::slab_bytes(class) {
+        return false;
+    }
+    true
+}
+
+// The lower of two offsets.
+fn lower(a: u64, b: u64) -> u64
+    ensures { λ r. ⌜ r ≡ min a b ⌝ }
+{
+    if a < b { a } else { b }
+}
+
+// Makes a block the head of its class's free list: writes the head so far to its first 8 bytes.
+fn put_free_head(body: &mut [u8], free: FreeHeads, class: u8, off: u64) -> FreeHeads
+    requires { ⌜ (class ≤ 8) × (off + 8 ≤ length (now body)) ⌝ }
+    ensures { λ r. ⌜ lists (now (body .exit)) (r .heads) ≡ pushed class off (lists (now (body .entry)) (free .heads)) ⌝ }
+{
+    let idx = class as usize;
+    let mut now = free;
+    buffer::put_u64(body, off as usize, now.heads[idx]);
+    now.heads[idx] = off;
+    now
+}
+
+// Pushes a block onto its class's free list: its first 8 bytes name the head so far, and it becomes the head. A block that a pop would turn
+// back isn't pushed.
+pub fn push_free_head(body: &mut [u8], free: FreeHeads, class: u8, off: u64) -> AfterPush
+    ensures answer { λ r. ⌜ pushAnswer (r .answer) ≡ answered done (pushFree class off (lists (now (body .entry)) (free .heads))) ⌝ }
+    ensures lists { λ r. ⌜ lists (now (body .exit)) (r .free .heads) ≡ after (pushFree class off (lists (now (body .entry)) (free .heads))) (lists (now (body .entry)) (free .heads)) ⌝ }
+{
+    if is_block(class, off, body.len() as u64) {
+        let now = put_free_head(body, free, class, off);
+        AfterPush {
+            answer: PushFree::Pushed,
+            free: now,
+        }
+    } else {
+        AfterPush {
+            answer: PushFree::Refused(error::FREE_HEAD_BAD),
+            free,
+        }
+    }
+}
+
+// Pops a block of a class: gives the head, and makes the offset in its first 8 bytes the head. None where the head is 0 or the class
+// has no head. The block must lie below the mark, and within the body.
+pub fn pop_free_head(body: &[u8], free: FreeHeads, class: u8, mark: u64) -> AfterPop
+    ensures answer { λ r. ⌜ popAnswer (r .answer) ≡ answered (λ (p : Pop). p .block) (popFree class mark (lists (now (body .entry)) (free .heads))) ⌝ }
+    ensures heads { λ r. ⌜ r .free .heads ≡ headsAfter (popFree class mark (lists (now (body .entry)) (free .heads))) (free .heads) ⌝ }
+{
+    if class > SH_PAGE_SLAB_CLASS {
+        return AfterPop {
+            answer: PopFree::Nothing,
+            free,
+        };
+    }
+    let idx = class as usize;
+    let mut now = free;
+    let off = now.heads[idx];
+    if off == 0 {
+        return AfterPop {
+            answer: PopFree::Nothing,
+            free: now,
+        };
+    }
+    if is_block(class, off, lower(mark, body.len() as u64)) {
+        now.heads[idx] = buffer::get_u64(body, off as usize);
+        AfterPop {
+            answer: PopFree::Block(off),
+            free: now,
+        }
+    } else {
+        AfterPop {
+            answer: PopFree::Refused(error::FREE_HEAD_BAD),
+            free: now,
+        }
+    }
+}
+
+// Tells whether a gap can be carved: it is empty, or begins at a multiple of 16 and lies between 4,096 and an end.
+fn is_gap(from: u64, to: u64, end: u64) -> bool
+    ensures { λ r. ⌜ r ≡ isGap from to end ⌝ }
+{
+    if to <= from {
+        return true;
+    }
+    if from % 16 != 0 {
+        return false;
+    }
+    if from < PAYLOAD_START {
+        return false;
+    }
+    to <= end
+}
+
+// Pushes the blocks that a gap is carved into, from its low end, the largest class first.
+fn push_gap(body: &mut [u8], free: FreeHeads, from: u64, to: u64) -> FreeHeads
+    requires { ⌜ (from < to → to ≤ length (now body)) ⌝ }
+    ensures { λ r. ⌜ lists (now (body .exit)) (r .heads) ≡ pushAll (gapBlocks from to) (lists (now (body .entry)) (free .heads)) ⌝ }
+{
+    let mut now = free;
+    let mut off = from;
+    while off < to {
+        let found = largest_reloc_class_le(to - off);
+        let RelocClass::Class(class) = found else {
+            return now;
+        };
+        now = put_free_head(body, now, class, off);
+        off += scripthash_layout::slab_bytes(class);
+    }
+    now
+}
+
+// Carves the gap between two offsets into blocks, from its low end, the largest class up to 7 first, and pushes each. A rest below 16 bytes is
+// left. A gap that has bytes must begin at a multiple of 16 and lie between 4,096 and the body's end.
+pub fn carve_gap_into_freelist(body: &mut [u8], free: FreeHeads, from: u64, to: u64) -> AfterPush
+    ensures answer { λ r. ⌜ pushAnswer (r .answer) ≡ answered done (carveGap from to (lists (now (body .entry)) (free .heads))) ⌝ }
+    ensures lists { λ r. ⌜ lists (now (body .exit)) (r .free .heads) ≡ after (carveGap from to (lists (now (body .entry)) (free .heads))) (lists (now (body .entry)) (free .heads)) ⌝ }
+{
+    if is_gap(from, to, body.len() as u64) {
+        let now = push_gap(body, free, from, to);
+        AfterPush {
+            answer: PushFree::Pushed,
+            free: now,
+        }
+    } else {
+        AfterPush {
+            answer: PushFree::Refused(error::FREE_HEAD_BAD),
+            free,
+        }
+    }
+}
