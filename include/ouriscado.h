@@ -71,6 +71,8 @@ enum ouriscado_refusal {
     OURISCADO_DOES_NOT_FIT = 33,
     /* The lent list is too short. */
     OURISCADO_LIST_TOO_SHORT = 34,
+    /* A free head to be popped isn't a multiple of 16 (page: 4,096), or its block leaves 4,096 to the mark. */
+    OURISCADO_FREE_HEAD_BAD = 35,
 };
 
 /* The smallest class whose bytes hold len bytes: none for 0 or above 2,048. */
@@ -84,6 +86,18 @@ bool ouriscado_slab_class_for_n_fks_with_slack(uint32_t n, uint8_t *class_);
 
 /* Cuts fks into parts, tells how many, and puts the index behind each part's last number to the start of out. Refuses 34. */
 uint32_t ouriscado_sh_page_chunk_ranges(const uint64_t *fks, size_t fks_len, size_t *out, size_t out_len, size_t *parts);
+
+/* The largest class of a slab whose blocks have at most so many bytes; the result says whether there is one. */
+bool ouriscado_largest_reloc_class_le(uint64_t bytes, uint8_t *class_);
+
+/* Pushes a block onto its class's free list: its first 8 bytes name the head so far, and it becomes the head. Refuses 35. */
+uint32_t ouriscado_push_free_head(uint8_t *body, size_t body_len, uint64_t *heads, uint8_t class_, uint64_t off);
+
+/* Pops a block of a class that lies below the mark, and hands out its offset, 0 where there is none. Refuses 35. */
+uint32_t ouriscado_pop_free_head(const uint8_t *body, size_t body_len, uint64_t *heads, uint8_t class_, uint64_t mark, uint64_t *off);
+
+/* Carves the gap between two offsets into blocks, from its low end, the largest class up to 7 first, and pushes them. Refuses 35. */
+uint32_t ouriscado_carve_gap_into_freelist(uint8_t *body, size_t body_len, uint64_t *heads, uint64_t from, uint64_t to);
 
 /* The word of no number. */
 uint32_t ouriscado_pack8_empty(uint64_t *word);

@@ -18,10 +18,18 @@ fn numbers(out: &mut String, list: &[u64]) {
     list.iter().for_each(|n| write!(out, "{n:016x} ").unwrap());
 }
 
-/// A field of bytes: two digits each, without the zeros at the end.
+/// A field of bytes: how many zeros stand before a byte, and the byte, two digits each; without the zeros at the end.
 fn bytes(out: &mut String, bytes: &[u8]) {
     let len = bytes.iter().rposition(|b| *b != 0).map_or(0, |k| k + 1);
-    bytes[..len].iter().for_each(|b| write!(out, "{b:02x}").unwrap());
+    let mut zeros = 0;
+    for b in &bytes[..len] {
+        if *b == 0 && zeros < 255 {
+            zeros += 1;
+        } else {
+            write!(out, "{zeros:02x}{b:02x}").unwrap();
+            zeros = 0;
+        }
+    }
 }
 
 /// The line of an answer. A refused call leaves what it was given, and hands out nothing.

@@ -1,8 +1,10 @@
 //! Our speed against theirs: both sides of a case do the same work on the same inputs, in turns.
 use crate::inputs;
 use crate::rng::Rng;
-use oracle::{boundary, scripthash_pages as pages, scripthash_slabs as slabs, Fk};
+use oracle::file::TableFile;
+use oracle::{boundary, free_lists, scripthash_pages as pages, scripthash_slabs as slabs, Fk};
 use ouriscado::sys;
+use std::cell::Cell;
 use std::hint::black_box;
 use std::time::Duration;
 
@@ -281,6 +283,41 @@ fn cutting(cases: &mut Vec<Case>) {
     }
 }
 
+/// Gaps of up to a page carved, and blocks pushed and popped.
+fn free(cases: &mut Vec<Case>) {
+    let mut rng = Rng(9);
+    let gaps: Vec<(u64, u64)> = (0..64).map(|k| (8192 * k + 4096 + 16 * rng.below(256), 8192 * k + 8192)).collect();
+    let (theirs, mut ours_body) = (gaps.clone(), vec![0u8; 8192 * 66]);
+    let mut theirs_body = ours_body.clone();
+    cases.push(case(
+        "carve 64 gaps".into(),
+        move || {
+            let mut heads = [0; 9];
+            gaps.iter().for_each(|&(from, to)| seen(sys::carve_gap_into_freelist(&mut ours_body, &mut heads, from, to)));
+        },
+        move || {
+            let body = TableFile(Cell::from_mut(&mut theirs_body[..]).as_slice_of_cells());
+            let mut heads = [0; 25];
+            theirs.iter().for_each(|&(from, to)| seen(free_lists::carve_gap_into_freelist(&body, &mut heads, from, to)));
+        },
+    ));
+    let (mut ours_body, mut theirs_body) = (vec![0u8; 8192 * 66], vec![0u8; 8192 * 66]);
+    cases.push(case(
+        "push and pop 256 blocks".into(),
+        move || {
+            let mut heads = [0; 9];
+            (0..256).for_each(|k| seen(sys::push_free_head(&mut ours_body, &mut heads, 3, 4096 + 128 * k)));
+            (0..256).for_each(|_| seen(sys::pop_free_head(&ours_body, &mut heads, 3, 8192 * 66, &mut 0)));
+        },
+        move || {
+            let body = TableFile(Cell::from_mut(&mut theirs_body[..]).as_slice_of_cells());
+            let mut heads = [0; 25];
+            (0..256).for_each(|k| seen(free_lists::push_free_head(&body, &mut heads, 3, 4096 + 128 * k)));
+            (0..256).for_each(|_| seen(free_lists::pop_free_head(&body, &mut heads, 3)));
+        },
+    ));
+}
+
 /// Measures every case, or those whose name has a phrase.
 pub fn bench(only: Option<&str>) {
     let mut cases = Vec::new();
@@ -289,6 +326,7 @@ pub fn bench(only: Option<&str>) {
     slab_payloads(&mut cases);
     small(&mut cases);
     cutting(&mut cases);
+    free(&mut cases);
     println!("Our time over theirs: the median of {ROUNDS} rounds in turns (a tenth and nine tenths of them), and the time of a batch.");
     println!("Destinations are reused and not cleared between calls; their lists keep their capacity.");
     let mut worst = (0.0, String::new());

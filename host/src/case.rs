@@ -72,3 +72,28 @@ pub fn difference(input: &Input, ours: &Output, theirs: &Output) -> Option<Strin
     }
     None
 }
+
+#[cfg(test)]
+mod tests {
+    use super::*;
+
+    /// An answer with a refusal, a value, and what a buffer and a list hold.
+    fn answer(refusal: u32, value: u64, byte: u8, number: u64) -> Output {
+        Output { refusal, numbers: vec![value], bytes: vec![byte], list: vec![number] }
+    }
+
+    #[test]
+    fn differences_are_seen() {
+        let input = Input::new(&[], &[1], &[2]);
+        let accepted = answer(0, 7, 8, 9);
+        assert_eq!(difference(&input, &accepted, &accepted), None);
+        for other in [answer(17, 7, 8, 9), answer(0, 6, 8, 9), answer(0, 7, 1, 9), answer(0, 7, 8, 2)] {
+            assert!(difference(&input, &accepted, &other).is_some());
+        }
+        let theirs = answer(17, 0, 3, 3);
+        assert_eq!(difference(&input, &answer(17, BEFORE, 1, 2), &theirs), None);
+        for ours in [answer(18, BEFORE, 1, 2), answer(17, 0, 1, 2), answer(17, BEFORE, 3, 2), answer(17, BEFORE, 1, 3)] {
+            assert!(difference(&input, &ours, &theirs).is_some());
+        }
+    }
+}

@@ -1,7 +1,7 @@
 //! Our answers against theirs.
 use crate::case::{difference, Input, Output};
 use crate::rng::Rng;
-use crate::table::{Function, FUNCTIONS};
+use crate::table::{Function, FRONT, FUNCTIONS};
 use std::io::{IsTerminal, Write};
 use std::time::{Duration, Instant};
 
@@ -9,7 +9,27 @@ use std::time::{Duration, Instant};
 const KNOWN: &[(&str, &str, fn(&Input) -> bool)] = &[
     ("slab_cap", "slab_cap-shift", |i| i.numbers[0] >= 32),
     ("slab_bytes", "slab_bytes-shift", |i| i.numbers[0] >= 64),
+    ("push_free_head", "free-checked", |i| !is_block(i.numbers[0], i.numbers[1], body_end(i))),
+    ("pop_free_head", "free-checked", |i| {
+        let head = i.list.get(i.numbers[0] as usize).copied().unwrap_or(0);
+        head != 0 && !is_block(i.numbers[0], head, i.numbers[1].min(body_end(i)))
+    }),
+    ("carve_gap_into_freelist", "free-checked", |i| {
+        let (from, to) = (i.numbers[0], i.numbers[1]);
+        from < to && (from % 16 != 0 || from < 4096 || to > body_end(i))
+    }),
 ];
+
+/// The end of the body of a call on free lists.
+fn body_end(input: &Input) -> u64 {
+    (FRONT + input.bytes.len()) as u64
+}
+
+/// Whether a block of a class from 0 to 8 can stand at an offset, below an end.
+fn is_block(class: u64, off: u64, end: u64) -> bool {
+    let unit = if class == 8 { 4096 } else { 16 };
+    class <= 8 && off % unit == 0 && off >= 4096 && off.checked_add(16 << class).is_some_and(|e| e <= end)
+}
 
 /// What comparing a function found.
 #[derive(Default)]

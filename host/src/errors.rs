@@ -42,6 +42,8 @@ const TEXTS: &[(&str, u32, u32)] = &[
     ("uleb128 dest short", 33, 33),
     // Also said of more than 65,535 numbers, which is 10: the page writers ask for the count first.
     ("scripthash page pack: entries exceed page capacity", 33, 33),
+    // Classes that have no free head: here those above 8, there those above 24.
+    ("scripthash free class overflow", 35, 35),
     (oracle::file::PAST_THE_END, 35, 35),
 ];
 

@@ -61,4 +61,15 @@ mod tests {
         let status = std::process::Command::new("python3").args([script, "--check"]).status().unwrap();
         assert!(status.success(), "run python3 host/bindings.py");
     }
+
+    /// The header is C and C++.
+    #[test]
+    fn header_compiles() {
+        let header = concat!(env!("CARGO_MANIFEST_DIR"), "/../include/ouriscado.h");
+        for (language, standard) in [("c", "-std=c99"), ("c++", "-std=c++11")] {
+            let words = [standard, "-Wall", "-Wextra", "-Werror", "-pedantic", "-fsyntax-only", "-x", language, header];
+            let status = std::process::Command::new("cc").args(words).status().unwrap();
+            assert!(status.success(), "{language}");
+        }
+    }
 }

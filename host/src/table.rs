@@ -4,8 +4,11 @@ use crate::errors::{of_pack, of_store, Side};
 use crate::inputs;
 use crate::rng::Rng;
 use oracle::scripthash_layout::{self as layout, ShHeadValue};
-use oracle::{compact, scripthash_pages as pages, scripthash_slabs as slabs, Fk};
+use oracle::error::StoreError;
+use oracle::file::TableFile;
+use oracle::{compact, free_lists, scripthash_pages as pages, scripthash_slabs as slabs, Fk};
 use ouriscado::sys;
+use std::cell::Cell;
 
 /// Takes each input that a source of inputs gives.
 pub type Each<'a> = &'a mut dyn FnMut(&Input);
@@ -229,7 +232,72 @@ pub const FUNCTIONS: &[Function] = &[
         },
         inputs: inputs::lists_to_cut,
     },
+    Function {
+        name: "largest_reloc_class_le",
+        ours: |i, o| class_ours(o, |class| sys::largest_reloc_class_le(i.numbers[0], class)),
+        theirs: |i, o| class_theirs(o, free_lists::largest_reloc_class_le(i.numbers[0])),
+        inputs: inputs::counts,
+    },
+    Function {
+        name: "push_free_head",
+        ours: |i, o| free_ours(o, |body, heads| sys::push_free_head(body, heads, i.numbers[0] as u8, i.numbers[1])),
+        theirs: |i, o| free_theirs(o, |body, heads| free_lists::push_free_head(body, heads, i.numbers[0] as u8, i.numbers[1])),
+        inputs: inputs::pushes,
+    },
+    Function {
+        name: "pop_free_head",
+        ours: |i, o| {
+            let mut off = BEFORE;
+            free_ours(o, |body, heads| sys::pop_free_head(body, heads, i.numbers[0] as u8, i.numbers[1], &mut off));
+            o.numbers.push(off);
+        },
+        theirs: |i, o| {
+            let mut off = 0;
+            free_theirs(o, |body, heads| {
+                off = free_lists::pop_free_head(body, heads, i.numbers[0] as u8)?.unwrap_or(0);
+                Ok(())
+            });
+            o.numbers.push(off);
+        },
+        inputs: inputs::pops,
+    },
+    Function {
+        name: "carve_gap_into_freelist",
+        ours: |i, o| free_ours(o, |body, heads| sys::carve_gap_into_freelist(body, heads, i.numbers[0], i.numbers[1])),
+        theirs: |i, o| free_theirs(o, |body, heads| free_lists::carve_gap_into_freelist(body, heads, i.numbers[0], i.numbers[1])),
+        inputs: inputs::gaps,
+    },
 ];
+
+/// Bytes of a body before its first block. The bytes of an input are those after them.
+pub const FRONT: usize = 4096;
+
+/// The whole body of the bytes after its front, which holds 0.
+fn body_of(bytes: &[u8]) -> Vec<u8> {
+    [&[0; FRONT][..], bytes].concat()
+}
+
+/// A call of ours on a body and nine free heads.
+fn free_ours(o: &mut Output, call: impl FnOnce(&mut [u8], &mut [u64; 9]) -> u32) {
+    let mut body = body_of(&o.bytes);
+    let heads: &mut [u64; 9] = (&mut o.list[..]).try_into().unwrap();
+    o.refusal = call(&mut body, heads);
+    assert!(body[..FRONT].iter().all(|b| *b == 0), "the front of a body was written");
+    o.bytes.copy_from_slice(&body[FRONT..]);
+}
+
+/// A call of theirs on a body and their free heads, of which the first nine count.
+fn free_theirs(o: &mut Output, call: impl FnOnce(&TableFile, &mut [u64; 25]) -> Result<(), StoreError>) {
+    let mut body = body_of(&o.bytes);
+    let mut heads = [0; 25];
+    heads[..9].copy_from_slice(&o.list);
+    let cells = Cell::from_mut(&mut body[..]).as_slice_of_cells();
+    if let Err(e) = call(&TableFile(cells), &mut heads) {
+        o.refusal = of_store(e, Side::Stored);
+    }
+    o.list.copy_from_slice(&heads[..9]);
+    o.bytes.copy_from_slice(&body[FRONT..]);
+}
 
 /// Puts the ends of parts over the first numbers of the list that was cut.
 fn put_ends(ends: impl Iterator<Item = usize>, list: &mut [u64]) {

@@ -198,3 +198,32 @@ pub fn sh_page_chunk_ranges(fks: &[u64], out: &mut [usize]) -> Result<usize, Ref
     let number = sys::sh_page_chunk_ranges(fks, out, &mut parts);
     answer(number, parts)
 }
+
+/// The largest class of a slab whose blocks have at most so many bytes.
+#[inline]
+pub fn largest_reloc_class_le(bytes: u64) -> Option<u8> {
+    class(|c| sys::largest_reloc_class_le(bytes, c))
+}
+
+/// The free heads of the classes 0 to 8: the offset of each class's first freed block in a body, or 0.
+#[derive(Clone, Copy, Debug, Default, PartialEq, Eq)]
+pub struct FreeHeads(pub [u64; 9]);
+
+impl FreeHeads {
+    /// Pushes a block onto its class's free list.
+    pub fn push_free_head(&mut self, body: &mut [u8], class: u8, off: u64) -> Result<(), Refusal> {
+        answer(sys::push_free_head(body, &mut self.0, class, off), ())
+    }
+
+    /// Pops a block of a class that lies below the mark, if there is one.
+    pub fn pop_free_head(&mut self, body: &[u8], class: u8, mark: u64) -> Result<Option<u64>, Refusal> {
+        let mut off = 0;
+        let number = sys::pop_free_head(body, &mut self.0, class, mark, &mut off);
+        answer(number, (off != 0).then_some(off))
+    }
+
+    /// Carves the gap between two offsets into blocks, and pushes them.
+    pub fn carve_gap_into_freelist(&mut self, body: &mut [u8], from: u64, to: u64) -> Result<(), Refusal> {
+        answer(sys::carve_gap_into_freelist(body, &mut self.0, from, to), ())
+    }
+}

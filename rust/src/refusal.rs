@@ -62,6 +62,8 @@ pub enum Refusal {
     DoesNotFit = 33,
     /// The lent list is too short.
     ListTooShort = 34,
+    /// A free head to be popped isn't a multiple of 16 (page: 4,096), or its block leaves 4,096 to the mark.
+    FreeHeadBad = 35,
 }
 
 impl Refusal {
@@ -96,6 +98,7 @@ impl Refusal {
         Refusal::OfferedNotRising,
         Refusal::DoesNotFit,
         Refusal::ListTooShort,
+        Refusal::FreeHeadBad,
     ];
 
     /// What the refusal says.
@@ -130,6 +133,7 @@ impl Refusal {
             Refusal::OfferedNotRising => "A number offered isn't above the one before.",
             Refusal::DoesNotFit => "What is to be written doesn't fit its destination.",
             Refusal::ListTooShort => "The lent list is too short.",
+            Refusal::FreeHeadBad => "A free head to be popped isn't a multiple of 16 (page: 4,096), or its block leaves 4,096 to the mark.",
         }
     }
 }

@@ -11,6 +11,14 @@ pub mod raw {
         pub fn ouriscado_slab_class_for_n_fks_with_slack(n: u32, class: &mut u8) -> bool;
         /// Cuts fks into parts, tells how many, and puts the index behind each part's last number to the start of out. Refuses 34.
         pub fn ouriscado_sh_page_chunk_ranges(fks: *const u64, fks_len: usize, out: *mut usize, out_len: usize, parts: &mut usize) -> u32;
+        /// The largest class of a slab whose blocks have at most so many bytes; the result says whether there is one.
+        pub fn ouriscado_largest_reloc_class_le(bytes: u64, class: &mut u8) -> bool;
+        /// Pushes a block onto its class's free list: its first 8 bytes name the head so far, and it becomes the head. Refuses 35.
+        pub fn ouriscado_push_free_head(body: *mut u8, body_len: usize, heads: &mut [u64; 9], class: u8, off: u64) -> u32;
+        /// Pops a block of a class that lies below the mark, and hands out its offset, 0 where there is none. Refuses 35.
+        pub fn ouriscado_pop_free_head(body: *const u8, body_len: usize, heads: &mut [u64; 9], class: u8, mark: u64, off: &mut u64) -> u32;
+        /// Carves the gap between two offsets into blocks, from its low end, the largest class up to 7 first, and pushes them. Refuses 35.
+        pub fn ouriscado_carve_gap_into_freelist(body: *mut u8, body_len: usize, heads: &mut [u64; 9], from: u64, to: u64) -> u32;
         /// The word of no number.
         pub fn ouriscado_pack8_empty(word: &mut u64) -> u32;
         /// The word of an inline number. Refuses 24, 25.
@@ -76,6 +84,30 @@ pub fn slab_class_for_n_fks_with_slack(n: u32, class: &mut u8) -> bool {
 #[inline]
 pub fn sh_page_chunk_ranges(fks: &[u64], out: &mut [usize], parts: &mut usize) -> u32 {
     unsafe { raw::ouriscado_sh_page_chunk_ranges(fks.as_ptr(), fks.len(), out.as_mut_ptr(), out.len(), parts) }
+}
+
+/// The largest class of a slab whose blocks have at most so many bytes; the result says whether there is one.
+#[inline]
+pub fn largest_reloc_class_le(bytes: u64, class: &mut u8) -> bool {
+    unsafe { raw::ouriscado_largest_reloc_class_le(bytes, class) }
+}
+
+/// Pushes a block onto its class's free list: its first 8 bytes name the head so far, and it becomes the head. Refuses 35.
+#[inline]
+pub fn push_free_head(body: &mut [u8], heads: &mut [u64; 9], class: u8, off: u64) -> u32 {
+    unsafe { raw::ouriscado_push_free_head(body.as_mut_ptr(), body.len(), heads, class, off) }
+}
+
+/// Pops a block of a class that lies below the mark, and hands out its offset, 0 where there is none. Refuses 35.
+#[inline]
+pub fn pop_free_head(body: &[u8], heads: &mut [u64; 9], class: u8, mark: u64, off: &mut u64) -> u32 {
+    unsafe { raw::ouriscado_pop_free_head(body.as_ptr(), body.len(), heads, class, mark, off) }
+}
+
+/// Carves the gap between two offsets into blocks, from its low end, the largest class up to 7 first, and pushes them. Refuses 35.
+#[inline]
+pub fn carve_gap_into_freelist(body: &mut [u8], heads: &mut [u64; 9], from: u64, to: u64) -> u32 {
+    unsafe { raw::ouriscado_carve_gap_into_freelist(body.as_mut_ptr(), body.len(), heads, from, to) }
 }
 
 /// The word of no number.

@@ -8,7 +8,11 @@ use scripthash_pages::ChunkRanges;
 
 // Cuts fks into parts, tells how many, and puts the index behind each part's last number to the start of out. Refuses 34.
 #[no_mangle]
-pub extern "C" fn ouriscado_sh_page_chunk_ranges(fks: &[u64], out: &mut [usize], parts: &mut usize) -> u32
+pub extern "C" fn ouriscado_sh_page_chunk_ranges(
+    fks: &[u64],
+    out: &mut [usize],
+    parts: &mut usize,
+) -> u32
     ensures number { λ r. ⌜ r ≡ refusalOf (chunkRanges (length (now (out .entry))) (now (fks .entry))) ⌝ }
     ensures list { λ r. ⌜ now (out .exit) ≡ afterChunkRanges (now (out .entry)) (now (fks .entry)) ⌝ }
     ensures parts { λ r. ⌜ now (parts .exit) ≡ told (λ x. x) (chunkRanges (length (now (out .entry))) (now (fks .entry))) (now (parts .entry)) ⌝ }

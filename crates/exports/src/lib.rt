@@ -2,6 +2,7 @@
 // 0; on a refusal every out-parameter and buffer holds what it held.
 mod class;
 mod cut;
+mod free;
 mod head;
 mod sizes;
 mod slab;
@@ -12,6 +13,10 @@ pub use class::ouriscado_slab_class_for_n_fks;
 pub use class::ouriscado_slab_class_for_n_fks_with_slack;
 pub use class::ouriscado_slab_class_for_packed_len;
 pub use cut::ouriscado_sh_page_chunk_ranges;
+pub use free::ouriscado_carve_gap_into_freelist;
+pub use free::ouriscado_largest_reloc_class_le;
+pub use free::ouriscado_pop_free_head;
+pub use free::ouriscado_push_free_head;
 pub use head::ouriscado_pack8_bytes_empty;
 pub use head::ouriscado_pack8_bytes_extent;
 pub use head::ouriscado_pack8_bytes_inline;
