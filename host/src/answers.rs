@@ -10,7 +10,8 @@ const MOST: usize = 300;
 /// The most bytes and numbers of an answer, which the program has room for.
 const MOST_BYTES: usize = 4096;
 const MOST_NUMBERS: usize = 512;
-/// The most text of a function's answers.
+/// The most text of an answer, and of a function's answers.
+const MOST_LINE: usize = 12_000;
 const MOST_TEXT: usize = 30_000;
 
 /// A field of numbers: 16 digits and a space each.
@@ -71,13 +72,13 @@ fn lines(place: usize, function: &Function) -> Vec<String> {
     kinds.sort();
     kinds.dedup();
     for kind in &kinds {
-        let of: Vec<&String> = all.iter().filter(|a| a.0 == *kind).map(|a| &a.1).collect();
+        let of: Vec<&String> = all.iter().filter(|a| a.0 == *kind && a.1.len() <= MOST_LINE).map(|a| &a.1).collect();
         let most = MOST / kinds.len();
         let mut text = 0;
         for k in 0..of.len().min(most) {
             let one = of[k * of.len() / of.len().min(most)];
-            text += one.len();
-            if text <= MOST_TEXT / kinds.len() {
+            if text + one.len() <= MOST_TEXT / kinds.len() {
+                text += one.len();
                 out.push(one.clone());
             }
         }
