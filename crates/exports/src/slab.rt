@@ -1,0 +1,52 @@
+// Slab payloads.
+ghost use mathlib.Core.Path.{_≡_};
+ghost use Prim.Native.Nat.{_+_};
+ghost use lib.ListN.{length};
+ghost use Rattle.error.specs.Refusal.{refusalOf};
+ghost use Rattle.scripthash_slabs.specs.Stream.{afterDecode};
+ghost use Rattle.scripthash_slabs.specs.Slab.{encodeSlab, afterEncodeSlab, decodeSlab};
+ghost use Rattle.exports.specs.Out.{told};
+use scripthash_slabs::SlabPayload;
+use scripthash_slabs::StreamBytes;
+
+// Writes the payload of a rising list to the start of out, and tells its length. Refuses 10 to 13, 32, 33.
+#[no_mangle]
+pub extern "C" fn ouriscado_encode_slab_payload_into(
+    out: &mut [u8],
+    fks: &[u64],
+    len: &mut usize,
+) -> u32
+    ensures number { λ r. ⌜ r ≡ refusalOf (encodeSlab (length (now (out .entry))) (now (fks .entry))) ⌝ }
+    ensures bytes { λ r. ⌜ now (out .exit) ≡ afterEncodeSlab (now (out .entry)) (now (fks .entry)) (encodeSlab (length (now (out .entry))) (now (fks .entry))) ⌝ }
+    ensures len { λ r. ⌜ now (len .exit) ≡ told (λ x. x) (encodeSlab (length (now (out .entry))) (now (fks .entry))) (now (len .entry)) ⌝ }
+{
+    let got = scripthash_slabs::encode_slab_payload_into(out, fks);
+    let StreamBytes::Bytes(w) = got else {
+        return got.refusal();
+    };
+    *len = w;
+    0
+}
+
+// Reads the payload at the start of buf into the start of out, and tells how many numbers it has and how many bytes it takes. Refuses
+// 11, 17, 18, 20 to 23, 34.
+#[no_mangle]
+pub extern "C" fn ouriscado_decode_slab_payload_into(
+    buf: &[u8],
+    out: &mut [u64],
+    used: &mut usize,
+    len: &mut usize,
+) -> u32
+    ensures number { λ r. ⌜ r ≡ refusalOf (decodeSlab (length (now (out .entry))) (now (buf .entry))) ⌝ }
+    ensures list { λ r. ⌜ now (out .exit) ≡ afterDecode (now (out .entry)) (decodeSlab (length (now (out .entry))) (now (buf .entry))) ⌝ }
+    ensures used { λ r. ⌜ now (used .exit) ≡ told (λ s. length (s .numbers)) (decodeSlab (length (now (out .entry))) (now (buf .entry))) (now (used .entry)) ⌝ }
+    ensures len { λ r. ⌜ now (len .exit) ≡ told (λ s. 2 + s .taken) (decodeSlab (length (now (out .entry))) (now (buf .entry))) (now (len .entry)) ⌝ }
+{
+    let got = scripthash_slabs::decode_slab_payload_into(buf, out);
+    let SlabPayload::Numbers { used: u, len: l } = got else {
+        return got.refusal();
+    };
+    *used = u;
+    *len = l;
+    0
+}

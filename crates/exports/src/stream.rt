@@ -1,0 +1,46 @@
+// Streams of rising numbers.
+ghost use mathlib.Core.Path.{_≡_};
+ghost use lib.ListN.{length};
+ghost use Rattle.error.specs.Refusal.{refusalOf};
+ghost use Rattle.scripthash_slabs.specs.Stream.{encodeStream, afterEncode, decodeStream, afterDecode};
+ghost use Rattle.exports.specs.Out.{told};
+use scripthash_slabs::StreamBytes;
+
+// Writes the stream of a rising list to the start of out, and tells its length. Refuses 12, 13, 32, 33.
+#[no_mangle]
+pub extern "C" fn ouriscado_encode_fk_delta_stream_into(
+    out: &mut [u8],
+    fks: &[u64],
+    len: &mut usize,
+) -> u32
+    ensures number { λ r. ⌜ r ≡ refusalOf (encodeStream (length (now (out .entry))) (now (fks .entry))) ⌝ }
+    ensures bytes { λ r. ⌜ now (out .exit) ≡ afterEncode (now (out .entry)) (now (fks .entry)) (encodeStream (length (now (out .entry))) (now (fks .entry))) ⌝ }
+    ensures len { λ r. ⌜ now (len .exit) ≡ told (λ x. x) (encodeStream (length (now (out .entry))) (now (fks .entry))) (now (len .entry)) ⌝ }
+{
+    let got = scripthash_slabs::encode_fk_delta_stream_into(out, fks);
+    let StreamBytes::Bytes(w) = got else {
+        return got.refusal();
+    };
+    *len = w;
+    0
+}
+
+// Reads a stream of n numbers at the start of buf into the start of out, and tells how many bytes it takes. Refuses 17, 18, 20 to 23, 34.
+#[no_mangle]
+pub extern "C" fn ouriscado_decode_fk_delta_stream_into(
+    buf: &[u8],
+    n: usize,
+    out: &mut [u64],
+    taken: &mut usize,
+) -> u32
+    ensures number { λ r. ⌜ r ≡ refusalOf (decodeStream (length (now (out .entry))) n (now (buf .entry))) ⌝ }
+    ensures list { λ r. ⌜ now (out .exit) ≡ afterDecode (now (out .entry)) (decodeStream (length (now (out .entry))) n (now (buf .entry))) ⌝ }
+    ensures taken { λ r. ⌜ now (taken .exit) ≡ told (λ s. s .taken) (decodeStream (length (now (out .entry))) n (now (buf .entry))) (now (taken .entry)) ⌝ }
+{
+    let got = scripthash_slabs::decode_fk_delta_stream_into(buf, n, out);
+    let StreamBytes::Bytes(l) = got else {
+        return got.refusal();
+    };
+    *taken = l;
+    0
+}

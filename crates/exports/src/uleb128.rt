@@ -1,0 +1,47 @@
+// ULEB128 forms.
+ghost use mathlib.Core.Path.{_≡_};
+ghost use lib.ListN.{length};
+ghost use Rattle.error.specs.Refusal.{refusalOf};
+ghost use Rattle.compact.specs.Uleb128.{readUleb, ulebLen, writeUleb, afterWrite};
+ghost use Rattle.exports.specs.Out.{told};
+use compact::ReadUleb128;
+use compact::WriteUleb128;
+
+// The length of the shortest form of n, in bytes.
+#[no_mangle]
+pub extern "C" fn ouriscado_uleb128_len(n: u64) -> usize
+    ensures { λ r. ⌜ r ≡ ulebLen n ⌝ }
+{
+    compact::uleb128_len(n)
+}
+
+// Reads the number at the start of buf: its value, and the length of its form. Refuses 17, 18.
+#[no_mangle]
+pub extern "C" fn ouriscado_read_uleb128(buf: &[u8], value: &mut u64, len: &mut usize) -> u32
+    ensures number { λ r. ⌜ r ≡ refusalOf (readUleb (now (buf .entry))) ⌝ }
+    ensures value { λ r. ⌜ now (value .exit) ≡ told (λ x. x .value) (readUleb (now (buf .entry))) (now (value .entry)) ⌝ }
+    ensures len { λ r. ⌜ now (len .exit) ≡ told (λ x. x .len) (readUleb (now (buf .entry))) (now (len .entry)) ⌝ }
+{
+    let got = compact::read_uleb128(buf);
+    let ReadUleb128::Value { value: v, len: l } = got else {
+        return got.refusal();
+    };
+    *value = v;
+    *len = l;
+    0
+}
+
+// Writes the shortest form of n to the start of dst, and tells its length. Refuses 33.
+#[no_mangle]
+pub extern "C" fn ouriscado_write_uleb128_into(dst: &mut [u8], n: u64, len: &mut usize) -> u32
+    ensures number { λ r. ⌜ r ≡ refusalOf (writeUleb (length (now (dst .entry))) n) ⌝ }
+    ensures bytes { λ r. ⌜ now (dst .exit) ≡ afterWrite (now (dst .entry)) n ⌝ }
+    ensures len { λ r. ⌜ now (len .exit) ≡ told (λ x. x) (writeUleb (length (now (dst .entry))) n) (now (len .entry)) ⌝ }
+{
+    let got = compact::write_uleb128_into(dst, n);
+    let WriteUleb128::Written(w) = got else {
+        return got.refusal();
+    };
+    *len = w;
+    0
+}

@@ -1,0 +1,231 @@
+//! The exported functions. Made by host/bindings.py from crates/exports/src and crates/error/src: change those, and make it again.
+
+/// The functions as the library defines them.
+pub mod raw {
+    extern "C" {
+        /// The smallest class whose bytes hold len bytes: none for 0 or above 2,048.
+        pub fn ouriscado_slab_class_for_packed_len(len: usize, class: &mut u8) -> bool;
+        /// The smallest class whose slots hold n numbers: none for 0, 1 or from 257 on.
+        pub fn ouriscado_slab_class_for_n_fks(n: u32, class: &mut u8) -> bool;
+        /// The class for one number more than n, or where there is none the class for n.
+        pub fn ouriscado_slab_class_for_n_fks_with_slack(n: u32, class: &mut u8) -> bool;
+        /// Cuts fks into parts, tells how many, and puts the index behind each part's last number to the start of out. Refuses 34.
+        pub fn ouriscado_sh_page_chunk_ranges(fks: *const u64, fks_len: usize, out: *mut usize, out_len: usize, parts: &mut usize) -> u32;
+        /// The largest class of a slab whose blocks have at most so many bytes; the result says whether there is one.
+        pub fn ouriscado_largest_reloc_class_le(bytes: u64, class: &mut u8) -> bool;
+        /// Pushes a block onto its class's free list: its first 8 bytes name the head so far, and it becomes the head. Refuses 35.
+        pub fn ouriscado_push_free_head(body: *mut u8, body_len: usize, heads: &mut [u64; 9], class: u8, off: u64) -> u32;
+        /// Pops a block of a class that lies below the mark, and hands out its offset, 0 where there is none. Refuses 35.
+        pub fn ouriscado_pop_free_head(body: *const u8, body_len: usize, heads: &mut [u64; 9], class: u8, mark: u64, off: &mut u64) -> u32;
+        /// Carves the gap between two offsets into blocks, from its low end, the largest class up to 7 first, and pushes them. Refuses 35.
+        pub fn ouriscado_carve_gap_into_freelist(body: *mut u8, body_len: usize, heads: &mut [u64; 9], from: u64, to: u64) -> u32;
+        /// The word of no number.
+        pub fn ouriscado_pack8_empty(word: &mut u64) -> u32;
+        /// The word of an inline number. Refuses 24, 25.
+        pub fn ouriscado_pack8_inline(entry: u64, used: u8, word: &mut u64) -> u32;
+        /// The word of a slab. Refuses 26.
+        pub fn ouriscado_pack8_slab(class: u8, used: u16, off: u64, word: &mut u64) -> u32;
+        /// The word of pages, by the offset of the last. Refuses 27.
+        pub fn ouriscado_pack8_extent(last: u64, word: &mut u64) -> u32;
+        /// The eight bytes that store the head of no number.
+        pub fn ouriscado_pack8_bytes_empty(out: &mut [u8; 8]) -> u32;
+        /// The eight bytes that store an inline number. Refuses 24, 25.
+        pub fn ouriscado_pack8_bytes_inline(entry: u64, used: u8, out: &mut [u8; 8]) -> u32;
+        /// The eight bytes that store a slab's head. Refuses 26.
+        pub fn ouriscado_pack8_bytes_slab(class: u8, used: u16, off: u64, out: &mut [u8; 8]) -> u32;
+        /// The eight bytes that store the head of pages, by the offset of the last. Refuses 27.
+        pub fn ouriscado_pack8_bytes_extent(last: u64, out: &mut [u8; 8]) -> u32;
+        /// What a stored word says, as four numbers. Refuses 28 to 30.
+        pub fn ouriscado_unpack8(w: u64, kind: &mut u8, class: &mut u8, used: &mut u16, place: &mut u64) -> u32;
+        /// What eight stored bytes say, as four numbers. Refuses 28 to 30.
+        pub fn ouriscado_unpack8_bytes(buf: &[u8; 8], kind: &mut u8, class: &mut u8, used: &mut u16, place: &mut u64) -> u32;
+        /// How many numbers a slab of a class has slots for, or 0 where that passes 32 bits.
+        pub fn ouriscado_slab_cap(class: u8) -> u32;
+        /// How many bytes a block of a class has, or 0 where that passes 64 bits.
+        pub fn ouriscado_slab_bytes(class: u8) -> u64;
+        /// The offset from which on lists stand in a file, whatever the length of the file's own header.
+        pub fn ouriscado_payload_start(file_header_len: usize) -> u64;
+        /// Writes the payload of a rising list to the start of out, and tells its length. Refuses 10 to 13, 32, 33.
+        pub fn ouriscado_encode_slab_payload_into(out: *mut u8, out_len: usize, fks: *const u64, fks_len: usize, len: &mut usize) -> u32;
+        /// Reads the payload at the start of buf into the start of out, and tells how many numbers it has and how many bytes it takes. Refuses 11, 17, 18, 20 to 23, 34.
+        pub fn ouriscado_decode_slab_payload_into(buf: *const u8, buf_len: usize, out: *mut u64, out_len: usize, used: &mut usize, len: &mut usize) -> u32;
+        /// Writes the stream of a rising list to the start of out, and tells its length. Refuses 12, 13, 32, 33.
+        pub fn ouriscado_encode_fk_delta_stream_into(out: *mut u8, out_len: usize, fks: *const u64, fks_len: usize, len: &mut usize) -> u32;
+        /// Reads a stream of n numbers at the start of buf into the start of out, and tells how many bytes it takes. Refuses 17, 18, 20 to 23, 34.
+        pub fn ouriscado_decode_fk_delta_stream_into(buf: *const u8, buf_len: usize, n: usize, out: *mut u64, out_len: usize, taken: &mut usize) -> u32;
+        /// The length of the shortest form of n, in bytes.
+        pub fn ouriscado_uleb128_len(n: u64) -> usize;
+        /// Reads the number at the start of buf: its value, and the length of its form. Refuses 17, 18.
+        pub fn ouriscado_read_uleb128(buf: *const u8, buf_len: usize, value: &mut u64, len: &mut usize) -> u32;
+        /// Writes the shortest form of n to the start of dst, and tells its length. Refuses 33.
+        pub fn ouriscado_write_uleb128_into(dst: *mut u8, dst_len: usize, n: u64, len: &mut usize) -> u32;
+    }
+}
+
+/// The smallest class whose bytes hold len bytes: none for 0 or above 2,048.
+#[inline]
+pub fn slab_class_for_packed_len(len: usize, class: &mut u8) -> bool {
+    unsafe { raw::ouriscado_slab_class_for_packed_len(len, class) }
+}
+
+/// The smallest class whose slots hold n numbers: none for 0, 1 or from 257 on.
+#[inline]
+pub fn slab_class_for_n_fks(n: u32, class: &mut u8) -> bool {
+    unsafe { raw::ouriscado_slab_class_for_n_fks(n, class) }
+}
+
+/// The class for one number more than n, or where there is none the class for n.
+#[inline]
+pub fn slab_class_for_n_fks_with_slack(n: u32, class: &mut u8) -> bool {
+    unsafe { raw::ouriscado_slab_class_for_n_fks_with_slack(n, class) }
+}
+
+/// Cuts fks into parts, tells how many, and puts the index behind each part's last number to the start of out. Refuses 34.
+#[inline]
+pub fn sh_page_chunk_ranges(fks: &[u64], out: &mut [usize], parts: &mut usize) -> u32 {
+    unsafe { raw::ouriscado_sh_page_chunk_ranges(fks.as_ptr(), fks.len(), out.as_mut_ptr(), out.len(), parts) }
+}
+
+/// The largest class of a slab whose blocks have at most so many bytes; the result says whether there is one.
+#[inline]
+pub fn largest_reloc_class_le(bytes: u64, class: &mut u8) -> bool {
+    unsafe { raw::ouriscado_largest_reloc_class_le(bytes, class) }
+}
+
+/// Pushes a block onto its class's free list: its first 8 bytes name the head so far, and it becomes the head. Refuses 35.
+#[inline]
+pub fn push_free_head(body: &mut [u8], heads: &mut [u64; 9], class: u8, off: u64) -> u32 {
+    unsafe { raw::ouriscado_push_free_head(body.as_mut_ptr(), body.len(), heads, class, off) }
+}
+
+/// Pops a block of a class that lies below the mark, and hands out its offset, 0 where there is none. Refuses 35.
+#[inline]
+pub fn pop_free_head(body: &[u8], heads: &mut [u64; 9], class: u8, mark: u64, off: &mut u64) -> u32 {
+    unsafe { raw::ouriscado_pop_free_head(body.as_ptr(), body.len(), heads, class, mark, off) }
+}
+
+/// Carves the gap between two offsets into blocks, from its low end, the largest class up to 7 first, and pushes them. Refuses 35.
+#[inline]
+pub fn carve_gap_into_freelist(body: &mut [u8], heads: &mut [u64; 9], from: u64, to: u64) -> u32 {
+    unsafe { raw::ouriscado_carve_gap_into_freelist(body.as_mut_ptr(), body.len(), heads, from, to) }
+}
+
+/// The word of no number.
+#[inline]
+pub fn pack8_empty(word: &mut u64) -> u32 {
+    unsafe { raw::ouriscado_pack8_empty(word) }
+}
+
+/// The word of an inline number. Refuses 24, 25.
+#[inline]
+pub fn pack8_inline(entry: u64, used: u8, word: &mut u64) -> u32 {
+    unsafe { raw::ouriscado_pack8_inline(entry, used, word) }
+}
+
+/// The word of a slab. Refuses 26.
+#[inline]
+pub fn pack8_slab(class: u8, used: u16, off: u64, word: &mut u64) -> u32 {
+    unsafe { raw::ouriscado_pack8_slab(class, used, off, word) }
+}
+
+/// The word of pages, by the offset of the last. Refuses 27.
+#[inline]
+pub fn pack8_extent(last: u64, word: &mut u64) -> u32 {
+    unsafe { raw::ouriscado_pack8_extent(last, word) }
+}
+
+/// The eight bytes that store the head of no number.
+#[inline]
+pub fn pack8_bytes_empty(out: &mut [u8; 8]) -> u32 {
+    unsafe { raw::ouriscado_pack8_bytes_empty(out) }
+}
+
+/// The eight bytes that store an inline number. Refuses 24, 25.
+#[inline]
+pub fn pack8_bytes_inline(entry: u64, used: u8, out: &mut [u8; 8]) -> u32 {
+    unsafe { raw::ouriscado_pack8_bytes_inline(entry, used, out) }
+}
+
+/// The eight bytes that store a slab's head. Refuses 26.
+#[inline]
+pub fn pack8_bytes_slab(class: u8, used: u16, off: u64, out: &mut [u8; 8]) -> u32 {
+    unsafe { raw::ouriscado_pack8_bytes_slab(class, used, off, out) }
+}
+
+/// The eight bytes that store the head of pages, by the offset of the last. Refuses 27.
+#[inline]
+pub fn pack8_bytes_extent(last: u64, out: &mut [u8; 8]) -> u32 {
+    unsafe { raw::ouriscado_pack8_bytes_extent(last, out) }
+}
+
+/// What a stored word says, as four numbers. Refuses 28 to 30.
+#[inline]
+pub fn unpack8(w: u64, kind: &mut u8, class: &mut u8, used: &mut u16, place: &mut u64) -> u32 {
+    unsafe { raw::ouriscado_unpack8(w, kind, class, used, place) }
+}
+
+/// What eight stored bytes say, as four numbers. Refuses 28 to 30.
+#[inline]
+pub fn unpack8_bytes(buf: &[u8; 8], kind: &mut u8, class: &mut u8, used: &mut u16, place: &mut u64) -> u32 {
+    unsafe { raw::ouriscado_unpack8_bytes(buf, kind, class, used, place) }
+}
+
+/// How many numbers a slab of a class has slots for, or 0 where that passes 32 bits.
+#[inline]
+pub fn slab_cap(class: u8) -> u32 {
+    unsafe { raw::ouriscado_slab_cap(class) }
+}
+
+/// How many bytes a block of a class has, or 0 where that passes 64 bits.
+#[inline]
+pub fn slab_bytes(class: u8) -> u64 {
+    unsafe { raw::ouriscado_slab_bytes(class) }
+}
+
+/// The offset from which on lists stand in a file, whatever the length of the file's own header.
+#[inline]
+pub fn payload_start(file_header_len: usize) -> u64 {
+    unsafe { raw::ouriscado_payload_start(file_header_len) }
+}
+
+/// Writes the payload of a rising list to the start of out, and tells its length. Refuses 10 to 13, 32, 33.
+#[inline]
+pub fn encode_slab_payload_into(out: &mut [u8], fks: &[u64], len: &mut usize) -> u32 {
+    unsafe { raw::ouriscado_encode_slab_payload_into(out.as_mut_ptr(), out.len(), fks.as_ptr(), fks.len(), len) }
+}
+
+/// Reads the payload at the start of buf into the start of out, and tells how many numbers it has and how many bytes it takes. Refuses 11, 17, 18, 20 to 23, 34.
+#[inline]
+pub fn decode_slab_payload_into(buf: &[u8], out: &mut [u64], used: &mut usize, len: &mut usize) -> u32 {
+    unsafe { raw::ouriscado_decode_slab_payload_into(buf.as_ptr(), buf.len(), out.as_mut_ptr(), out.len(), used, len) }
+}
+
+/// Writes the stream of a rising list to the start of out, and tells its length. Refuses 12, 13, 32, 33.
+#[inline]
+pub fn encode_fk_delta_stream_into(out: &mut [u8], fks: &[u64], len: &mut usize) -> u32 {
+    unsafe { raw::ouriscado_encode_fk_delta_stream_into(out.as_mut_ptr(), out.len(), fks.as_ptr(), fks.len(), len) }
+}
+
+/// Reads a stream of n numbers at the start of buf into the start of out, and tells how many bytes it takes. Refuses 17, 18, 20 to 23, 34.
+#[inline]
+pub fn decode_fk_delta_stream_into(buf: &[u8], n: usize, out: &mut [u64], taken: &mut usize) -> u32 {
+    unsafe { raw::ouriscado_decode_fk_delta_stream_into(buf.as_ptr(), buf.len(), n, out.as_mut_ptr(), out.len(), taken) }
+}
+
+/// The length of the shortest form of n, in bytes.
+#[inline]
+pub fn uleb128_len(n: u64) -> usize {
+    unsafe { raw::ouriscado_uleb128_len(n) }
+}
+
+/// Reads the number at the start of buf: its value, and the length of its form. Refuses 17, 18.
+#[inline]
+pub fn read_uleb128(buf: &[u8], value: &mut u64, len: &mut usize) -> u32 {
+    unsafe { raw::ouriscado_read_uleb128(buf.as_ptr(), buf.len(), value, len) }
+}
+
+/// Writes the shortest form of n to the start of dst, and tells its length. Refuses 33.
+#[inline]
+pub fn write_uleb128_into(dst: &mut [u8], n: u64, len: &mut usize) -> u32 {
+    unsafe { raw::ouriscado_write_uleb128_into(dst.as_mut_ptr(), dst.len(), n, len) }
+}
