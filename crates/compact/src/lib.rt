@@ -74,17 +74,16 @@ fn passes_64_bits(i: usize, b: u8) -> bool
 pub fn read_uleb128(buf: &[u8]) -> ReadUleb128
     ensures { λ r. ⌜ readAnswer r ≡ readUleb (now (buf .entry)) ⌝ }
 {
-    if 0 < buf.len() {
-        let first = buf[0];
-        if first < 128 {
-            return ReadUleb128::Value {
-                value: piece_of(first),
-                len: 1,
-            };
-        }
-    }
     let mut value: u64 = 0;
     let mut i: usize = 0;
+    if 0 < buf.len() {
+        let first = buf[0];
+        value = piece_of(first);
+        if first < 128 {
+            return ReadUleb128::Value { value, len: 1 };
+        }
+        i = 1;
+    }
     while i < buf.len() {
         let b = buf[i];
         if passes_64_bits(i, b) {

@@ -1,9 +1,10 @@
 -- `read_uleb128` meets its contract. Invariant: reading resumed at index i, with the value of the pieces before it, gives the answer for the
 -- whole buffer. Each way on from there is one law of `LawsReadFrom`. Assumes nothing.
 use Prim.Native.Nat.{ℕ, _+_, _-_, _*_, _^_, _%_, _≤_, _<_}
+use mathlib.Core.Logic.{⊎-elim}
 use mathlib.Core.Bool.{true, false}
-use mathlib.Core.Path.{_≡_, sym, _∙_, ap}
-use native.Mathlib.Nat.{mod-eq-of-lt}
+use mathlib.Core.Path.{_≡_, refl, sym, _∙_, ap}
+use native.Mathlib.Nat.{zero-add, mul-one}
 use native.Mathlib.Omega.{arith}
 use borrow.Author.Needs.{needs}
 use mathlib.Core.List.{List, []}
@@ -20,6 +21,17 @@ Inv-loop buf value₀ i₀ value i =
 
 abbrev μ-loop : tie.MeasureT-loop
 μ-loop buf value₀ i₀ value i = length buf - i
+
+-- the loop begins behind a first byte that goes on
+begun : (buf : List ℕ) (value i : ℕ) → 0 < length buf → value ≡ piece (getD buf 0 0) → i ≡ 1 → 128 ≤ getD buf 0 0
+    → (i ≤ length buf) × (i ≤ 10) × (value < 2 ^ (7 * i)) × (readFrom i value (drop i buf) ≡ readUleb buf)
+begun buf value i h v e k =
+    rw (v, e) (
+      h,
+      omega arith,
+      omega arith,
+      sym (rw (zero-add (piece (getD buf 0 0) * 1), mul-one) at (at-more buf 0 0 h refl k)) ∙ from-start buf,
+    )
 
 -- the byte that was read, once it is known not to pass 64 bits
 module _ (c : tie.After-piece-of2 Inv-loop μ-loop) where
@@ -52,10 +64,15 @@ piece-of-requires c κs = search needs
 returns : tie.Need-returns Inv-loop μ-loop
 returns c =
     let buf = c .before .before .before .before .before .args .buf .now in
-    ap (λ (v : ℕ). accepted (record { value = v; len = 1 })) (c .piece-of .ensures) ∙ sym (read-byte buf (omega arith) (omega arith))
+    ap (λ (v : ℕ). accepted (record { value = v; len = 1 })) (c .before .piece-of .ensures) ∙ sym (read-byte buf (omega arith) (omega arith))
 
 loop-holds : tie.Need-loop-holds Inv-loop μ-loop
-loop-holds c = (search needs, search needs, search needs, from-start (c .before .before .args .buf .now))
+loop-holds c =
+    let buf = c .before .before .args .buf .now in
+    ⊎-elim
+    (λ w. begun buf (c .if1 .value) (c .if1 .i) (omega arith) (w .4 ∙ w .2 .ensures) (w .5) (omega arith))
+    (λ w. rw (w .1, w .2) (search needs, search needs, search needs, from-start buf))
+    (c .if1 .came)
 
 shared-slice-read-b : tie.Need-shared-slice-read-b Inv-loop μ-loop
 shared-slice-read-b c = search needs
@@ -76,30 +93,30 @@ mul-value : tie.Need-mul-value Inv-loop μ-loop
 mul-value c = search needs
 
 shl-value : tie.Need-shl-value Inv-loop μ-loop
-shl-value c = omega (arith, fits c .index)
+shl-value c = omega (arith, fits (c .before) .index)
 
 add-value : tie.Need-add-value Inv-loop μ-loop
-add-value c = rw (added c) (omega (arith, fits c .added))
+add-value c = rw (added (c .before .before)) (omega (arith, fits (c .before .before) .added))
 
 add-i : tie.Need-add-i Inv-loop μ-loop
 add-i c = search needs
 
 returns-3 : tie.Need-returns-3 Inv-loop μ-loop
 returns-3 c =
-    let d = c .before in
-    rw (added d) (sym (at-last (bytes d) (at d) (sum d) (omega arith) (stays d) (omega arith)) ∙ c .before .before .before .before .before .before .loop .inv .3)
+    let d = c .before .before .before in
+    rw (added d) (sym (at-last (bytes d) (at d) (sum d) (omega arith) (stays d) (omega arith)) ∙ d .before .before .before .before .before .loop .inv .3)
 
 loop-less : tie.Need-loop-less Inv-loop μ-loop
 loop-less c = search needs
 
 loop-again : tie.Need-loop-again Inv-loop μ-loop
 loop-again c =
-    let d = c .before in
+    let d = c .before .before .before in
     rw (added d) (
       search needs,
       omega (arith, fits d .index),
       fits d .next,
-      sym (at-more (bytes d) (at d) (sum d) (omega arith) (stays d) (omega arith)) ∙ c .before .before .before .before .before .before .loop .inv .3,
+      sym (at-more (bytes d) (at d) (sum d) (omega arith) (stays d) (omega arith)) ∙ d .before .before .before .before .before .loop .inv .3,
     )
 
 returns-4 : tie.Need-returns-4 Inv-loop μ-loop
