@@ -1,17 +1,17 @@
 -- Laws of blocks: what a block's test tells, and which class a number of bytes has room for. By cases on the tests.
 use mathlib.Core.Path.{_≡_, refl, ap, sym, _∙_}
-use mathlib.Core.Bool.{Bool, true, false, cond, not, _&&_, true≢false}
-use mathlib.Core.Logic.{_⊎_, inl, inr, ⊎-elim}
+use mathlib.Core.Bool.{Bool, true, false, cond, _&&_, true≢false}
+use mathlib.Core.Logic.{_⊎_, ⊎-elim}
 use mathlib.Core.Option.{Option, none, some, Option·some-injective}
-use Prim.Native.Nat.{ℕ, zero, suc, _+_, _-_, _*_, _%_, _^_, _≤_, _<_, zero-le}
+use Prim.Native.Nat.{ℕ, zero, suc, _+_, _-_, _%_, _≤_, _<_, zero-le}
 use native.Mathlib.Nat.{not-suc-le-zero}
 use native.Mathlib.Omega.{arith}
-use lib.Dec.{leb, ltb, eqb}
-use borrow.Author.Tests.{leb-true, leb-false, eqb-true, le-leb, lt-leb, eq-eqb, ne-eqb}
+use lib.Dec.{leb}
+use borrow.Author.Tests.{leb-true, eqb-true, le-leb, lt-leb, eq-eqb}
 use Rattle.buffer.proofs.LawsOrder.{lt-or-ge}
-use Rattle.scripthash_layout.specs.Sizes.{slabBytes, maxSlabClass, pageClass, pageSize, whereBelow}
+use Rattle.scripthash_layout.specs.Sizes.{slabBytes, whereBelow}
 use Rattle.scripthash_layout.proofs.LawsSizes.{where-below, size-below, size-mono}
-use Rattle.scripthash_free.specs.FreeList.{isBlock, isGap, unitOf, largestUpTo, relocClass}
+use Rattle.scripthash_free.specs.FreeList.{isBlock, isGap, unitOf, largestUpTo}
 
 -- A block has at least 16 bytes.
 pub bytes-from-16 : (class : ℕ) → 16 ≤ slabBytes class

@@ -1,15 +1,13 @@
 -- Laws of free lists, each over the class: what the calls answer, what a list names after a push, a pop and a write apart from
 -- its blocks, and the blocks that a gap is carved into. By cases on the tests, and by induction on the list.
-use mathlib.Core.Path.{_≡_, refl, ap, sym, _∙_}
-use mathlib.Core.Bool.{Bool, true, false, cond, not}
-use mathlib.Core.List.{List, [], _∷_}
-use mathlib.Core.Option.{Option, none, some}
-use Prim.Native.Nat.{ℕ, zero, suc, _+_, _-_, _*_, _/_, _%_, _^_, _≤_, _<_, min}
-use native.Mathlib.Omega.{arith}
-use lib.Dec.{eqb}
+use mathlib.Core.Path.{_≡_, ap}
+use mathlib.Core.Bool.{true, false, not}
+use mathlib.Core.List.{List}
+use mathlib.Core.Option.{none, some}
+use Prim.Native.Nat.{ℕ, _≤_, _<_, min}
 use lib.ListN.{length, set}
 use borrow.Author.Tests.{lt-ltb, le-ltb, eq-eqb, ne-eqb}
-use Rattle.error.specs.Refusal.{Answer, accepted, refused, refuseIf, freeHeadBad}
+use Rattle.error.specs.Refusal.{Answer, accepted, refused, freeHeadBad}
 use Rattle.error.proofs.LawsAnswer.{refuse-yes, refuse-no}
 use Rattle.scripthash_free.specs.FreeList.{Lists, Pop, headOf, nextOf, isBlock, pushed, pushFree, popFree, gapBlocks, pushAll, isGap, carveGap, after, headsAfter}
 

@@ -1,23 +1,23 @@
 -- What a free list names after a write, a push and a pop, each over the class. A write that keeps clear of the list's blocks leaves
 -- their words, a push puts a block on top, and a pop takes the top off. By induction on the offsets named.
-use mathlib.Core.Path.{_≡_, refl, ap, sym, _∙_, subst}
-use mathlib.Core.Bool.{Bool, true, false, cond}
+use mathlib.Core.Path.{_≡_, ap, sym, _∙_, subst}
+use mathlib.Core.Bool.{true}
 use mathlib.Core.List.{List, [], _∷_}
 use mathlib.Core.Logic.{_⊎_, inl, inr, ⊎-elim}
-use mathlib.Core.Option.{Option, none, some}
-use Prim.Native.Nat.{ℕ, zero, suc, _+_, _-_, _*_, _/_, _%_, _^_, _≤_, _<_, min}
+use mathlib.Core.Option.{none, some}
+use Prim.Native.Nat.{ℕ, _+_, _-_, _^_, _≤_, _<_, min}
 use native.Mathlib.Omega.{arith}
-use lib.ListN.{length, getD, set, length-set}
+use lib.ListN.{length, set, length-set}
 use lib.Seq.{getD-set-same, getD-set-other}
 use Rattle.error.specs.Refusal.{accepted}
-use Rattle.buffer.specs.Bytes.{part, overwrite}
+use Rattle.buffer.specs.Bytes.{overwrite}
 use Rattle.buffer.specs.LittleEndian.{littleEndian, bytesOf}
 use Rattle.buffer.proofs.LawsBytes.{length-overwrite}
-use Rattle.buffer.proofs.LawsLittleEndian.{length-bytesOf, littleEndian-bytesOf}
+use Rattle.buffer.proofs.LawsLittleEndian.{littleEndian-bytesOf}
 use Rattle.buffer.proofs.LawsOverwrite.{part-written, part-before, part-after}
 use Rattle.scripthash_layout.specs.Sizes.{slabBytes}
-use Rattle.scripthash_free.specs.FreeList.{Lists, Pop, headOf, nextOf, isBlock, pushed, popFree, Names, Clear}
-use Rattle.scripthash_free.proofs.LawsBlock.{bytes-from-16, Standing, block-stands}
+use Rattle.scripthash_free.specs.FreeList.{Lists, headOf, nextOf, isBlock, pushed, popFree, Names, Clear}
+use Rattle.scripthash_free.proofs.LawsBlock.{bytes-from-16, block-stands}
 use Rattle.scripthash_free.proofs.LawsFree.{pop-none, pop-yes}
 
 -- A write into the body that fits, and blocks of at least 8 bytes.

@@ -1,8 +1,4 @@
 -- `is_aligned` meets its contract: the class decides what the offset is divided by. Assumes nothing.
-use Prim.Native.Nat.{ℕ}
-use mathlib.Core.Path.{_≡_, sym, ap}
-use mathlib.Core.Bool.{cond}
-use lib.Dec.{eqb}
 use borrow.Author.Tests.{eq-eqb, ne-eqb}
 use Rattle.scripthash_free.proofs.is_aligned.Statement.{statement}
 use Rattle.scripthash_free.proofs.is_aligned.Tie as tie

@@ -2,7 +2,7 @@
 use mathlib.Core.Path.{sym, _∙_}
 use native.Mathlib.Omega.{arith}
 use borrow.Author.Tests.{eqb-true, eqb-false, not-true, not-false}
-use Rattle.scripthash_free.proofs.LawsBlock.{bytes-fit, Standing, stands-block, no-block}
+use Rattle.scripthash_free.proofs.LawsBlock.{bytes-fit, stands-block, no-block}
 use borrow.Author.Needs.{needs}
 use Rattle.scripthash_free.proofs.is_block.Statement.{statement}
 use Rattle.scripthash_free.proofs.is_block.Tie as tie

@@ -1,5 +1,5 @@
 -- `largest_reloc_class_le` meets its contract. Invariant: no class above c fits, so that the answer is the largest up to c. Assumes nothing.
-use Prim.Native.Nat.{ℕ, _≤_, _<_}
+use Prim.Native.Nat.{_≤_, _<_}
 use mathlib.Core.Path.{_≡_, refl, sym, ap, _∙_}
 use native.Mathlib.Omega.{arith}
 use Rattle.scripthash_layout.specs.Sizes.{slabBytes}

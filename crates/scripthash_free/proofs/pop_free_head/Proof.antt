@@ -1,13 +1,11 @@
 -- `pop_free_head` meets its contract: the class, the head and the test of its block decide. Assumes nothing.
 use Prim.Native.Nat.{ℕ, min}
-use mathlib.Core.Bool.{Bool}
-use mathlib.Core.List.{List}
-use mathlib.Core.Path.{_≡_, refl, sym, ap, _∙_}
+use mathlib.Core.Path.{_≡_, sym, ap, _∙_}
 use native.Mathlib.Omega.{arith}
 use lib.ListN.{length, set}
 use Rattle.error.proofs.LawsAnswer.{answered-yes, answered-no}
 use Rattle.scripthash_free.specs.FreeList.{Pop, headOf, isBlock, lists}
-use Rattle.scripthash_free.proofs.LawsBlock.{bytes-from-16, Standing, block-stands}
+use Rattle.scripthash_free.proofs.LawsBlock.{bytes-from-16, block-stands}
 use Rattle.scripthash_free.proofs.LawsFree.{heads-accepted, heads-refused, pop-beyond, pop-none, pop-yes, pop-no}
 use borrow.Author.Needs.{needs}
 use Rattle.scripthash_free.proofs.pop_free_head.Statement.{statement}

@@ -1,13 +1,10 @@
 -- `push_gap` meets its contract. Invariant: the blocks of what is left of the gap, pushed, give what all of them give. Assumes nothing.
-use Prim.Native.Nat.{ℕ, suc, _+_, _-_, _*_, _/_, _≤_, _<_}
-use mathlib.Core.List.{List}
+use Prim.Native.Nat.{ℕ, suc, _+_, _-_, _/_, _≤_}
 use mathlib.Core.Option.{none, some}
 use mathlib.Core.Path.{_≡_, refl, sym, ap, _∙_}
 use native.Mathlib.Omega.{arith}
 use borrow.Author.Needs.{needs}
 use lib.ListN.{length}
-use Rattle.buffer.proofs.LawsBytes.{length-overwrite}
-use Rattle.buffer.proofs.LawsLittleEndian.{length-bytesOf}
 use Rattle.scripthash_layout.specs.Sizes.{slabBytes, whereBelow}
 use Rattle.scripthash_free.specs.FreeList.{Lists, lists, relocClass, carve, gapBlocks, pushed, pushAll}
 use Rattle.scripthash_free.specs.Answers.{classAnswer}
