@@ -1,4 +1,4 @@
-//! A fixed list of their answers, as the program `replay` reads it: it needs no Rust to run.
+//! A fixed list of their answers, in the files that the program `replay` reads: it needs no Rust to run.
 use crate::case::{Input, Output, BEFORE};
 use crate::compare::known;
 use crate::rng::Rng;
@@ -87,15 +87,11 @@ fn lines(place: usize, function: &Function) -> Vec<String> {
     out
 }
 
-/// The whole text: the lines of each function, and after them one with its name.
-pub fn answers() -> String {
-    let mut out = String::new();
+/// Writes a file for each function to a folder, with its number as the name: its lines, and after them one with its name.
+pub fn answers(folder: &str) {
     for (place, function) in FUNCTIONS.iter().enumerate() {
-        for line in lines(place, function) {
-            out += &line;
-            out.push('\n');
-        }
-        out += &format!("={}\n", function.name);
+        let text = lines(place, function).join("\n");
+        let path = format!("{folder}/{place:02}");
+        std::fs::write(&path, format!("{text}\n={}\n", function.name)).unwrap_or_else(|e| panic!("{path}: {e}"));
     }
-    out
 }

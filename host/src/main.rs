@@ -1,4 +1,4 @@
-//! Our code against the published source: `compare` the answers, `bench` the speed, or print the fixed list of their `answers`.
+//! Our code against the published source: `compare` the answers, `bench` the speed, or write the fixed list of their `answers`.
 mod answers;
 mod bench;
 mod case;
@@ -10,7 +10,7 @@ mod table;
 
 use std::process::ExitCode;
 
-const USAGE: &str = "usage: host compare [--long] [--seed N] [--only FUNCTION] | host bench [--only PHRASE] | host answers";
+const USAGE: &str = "usage: host compare [--long] [--seed N] [--only FUNCTION] | host bench [--only PHRASE] | host answers FOLDER";
 
 /// The word after a flag.
 fn after<'a>(words: &'a [String], flag: &str) -> Option<&'a str> {
@@ -42,7 +42,7 @@ fn main() -> ExitCode {
             ExitCode::SUCCESS
         }
         Some("answers") => {
-            print!("{}", answers::answers());
+            answers::answers(words.get(1).expect("a folder"));
             ExitCode::SUCCESS
         }
         _ => {

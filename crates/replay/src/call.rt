@@ -1,0 +1,219 @@
+// The exported functions by their numbers in the text, each on numbers, a buffer and a list. Out-parameters hold BEFORE before a call.
+use crate::free;
+
+pub const BEFORE: u64 = 0x5a;
+// What a call answers that the program can't make: no refusal has this number.
+pub const UNKNOWN: u32 = 0xffff_ffff;
+
+// Reads a number.
+fn read_uleb128(bytes: &[u8], told: &mut [u64; 4]) -> u32 {
+    let mut value = BEFORE;
+    let mut len = BEFORE as usize;
+    let number = exports::ouriscado_read_uleb128(bytes, &mut value, &mut len);
+    told[0] = value;
+    told[1] = len as u64;
+    number
+}
+
+// Writes a number.
+fn write_uleb128_into(n: u64, bytes: &mut [u8], told: &mut [u64; 4]) -> u32 {
+    let mut len = BEFORE as usize;
+    let number = exports::ouriscado_write_uleb128_into(bytes, n, &mut len);
+    told[0] = len as u64;
+    number
+}
+
+// Packs the head value of four numbers: kind, class, used, place.
+fn pack8(given: &[u64; 4], told: &mut [u64; 4]) -> u32 {
+    let kind = given[0];
+    let class = (given[1] % 0x100) as u8;
+    let used = (given[2] % 0x1_0000) as u16;
+    let mut word = BEFORE;
+    let number = match kind {
+        0 => exports::ouriscado_pack8_empty(&mut word),
+        1 => exports::ouriscado_pack8_inline(given[3], (used % 0x100) as u8, &mut word),
+        2 => exports::ouriscado_pack8_slab(class, used, given[3], &mut word),
+        _ => exports::ouriscado_pack8_extent(given[3], &mut word),
+    };
+    told[0] = word;
+    number
+}
+
+// The number that eight bytes hold.
+fn word_of(b: [u8; 8]) -> u64 {
+    buffer::u64_of(b[0], b[1], b[2], b[3], b[4], b[5], b[6], b[7])
+}
+
+// Packs the head value of four numbers into eight bytes.
+fn pack8_bytes(given: &[u64; 4], told: &mut [u64; 4]) -> u32 {
+    let kind = given[0];
+    let class = (given[1] % 0x100) as u8;
+    let used = (given[2] % 0x1_0000) as u16;
+    let mut out = buffer::u64_bytes(BEFORE);
+    let number = match kind {
+        0 => exports::ouriscado_pack8_bytes_empty(&mut out),
+        1 => exports::ouriscado_pack8_bytes_inline(given[3], (used % 0x100) as u8, &mut out),
+        2 => exports::ouriscado_pack8_bytes_slab(class, used, given[3], &mut out),
+        _ => exports::ouriscado_pack8_bytes_extent(given[3], &mut out),
+    };
+    told[0] = word_of(out);
+    number
+}
+
+// Unpacks the eight bytes of a word.
+fn unpack8_bytes(w: u64, told: &mut [u64; 4]) -> u32 {
+    let buf = buffer::u64_bytes(w);
+    let mut kind = BEFORE as u8;
+    let mut class = BEFORE as u8;
+    let mut used = BEFORE as u16;
+    let mut place = BEFORE;
+    let number = exports::ouriscado_unpack8_bytes(
+        &buf,
+        &mut kind,
+        &mut class,
+        &mut used,
+        &mut place,
+    );
+    told[0] = kind as u64;
+    told[1] = class as u64;
+    told[2] = used as u64;
+    told[3] = place;
+    number
+}
+
+// Unpacks a word.
+fn unpack8(w: u64, told: &mut [u64; 4]) -> u32 {
+    let mut kind = BEFORE as u8;
+    let mut class = BEFORE as u8;
+    let mut used = BEFORE as u16;
+    let mut place = BEFORE;
+    let number = exports::ouriscado_unpack8(w, &mut kind, &mut class, &mut used, &mut place);
+    told[0] = kind as u64;
+    told[1] = class as u64;
+    told[2] = used as u64;
+    told[3] = place;
+    number
+}
+
+// Chooses a class: by bytes, by count, with slack, or the largest that so many bytes hold.
+fn choose(rule: u64, n: u64, told: &mut [u64; 4]) {
+    let mut class = BEFORE as u8;
+    let count = (n % 0x1_0000_0000) as u32;
+    let some = match rule {
+        0 => exports::ouriscado_slab_class_for_packed_len(n as usize, &mut class),
+        1 => exports::ouriscado_slab_class_for_n_fks(count, &mut class),
+        2 => exports::ouriscado_slab_class_for_n_fks_with_slack(count, &mut class),
+        _ => exports::ouriscado_largest_reloc_class_le(n, &mut class),
+    };
+    told[0] = some as u64;
+    told[1] = class as u64;
+}
+
+// Writes a stream.
+fn encode_fk_delta_stream_into(bytes: &mut [u8], list: &[u64], told: &mut [u64; 4]) -> u32 {
+    let mut len = BEFORE as usize;
+    let number = exports::ouriscado_encode_fk_delta_stream_into(bytes, list, &mut len);
+    told[0] = len as u64;
+    number
+}
+
+// Reads a stream.
+fn decode_fk_delta_stream_into(bytes: &[u8], n: u64, list: &mut [u64], told: &mut [u64; 4]) -> u32 {
+    let mut taken = BEFORE as usize;
+    let number = exports::ouriscado_decode_fk_delta_stream_into(
+        bytes,
+        n as usize,
+        list,
+        &mut taken,
+    );
+    told[0] = taken as u64;
+    number
+}
+
+// Writes a slab's payload.
+fn encode_slab_payload_into(bytes: &mut [u8], list: &[u64], told: &mut [u64; 4]) -> u32 {
+    let mut len = BEFORE as usize;
+    let number = exports::ouriscado_encode_slab_payload_into(bytes, list, &mut len);
+    told[0] = len as u64;
+    number
+}
+
+// Reads a slab's payload.
+fn decode_slab_payload_into(bytes: &[u8], list: &mut [u64], told: &mut [u64; 4]) -> u32 {
+    let mut used = BEFORE as usize;
+    let mut len = BEFORE as usize;
+    let number = exports::ouriscado_decode_slab_payload_into(bytes, list, &mut used, &mut len);
+    told[0] = used as u64;
+    told[1] = len as u64;
+    number
+}
+
+// Cuts a list into parts, with room for so many ends.
+fn cut_into(list: &[u64], ends: &mut [usize], room: usize, parts: &mut usize) -> u32 {
+    if ends.len() < room {
+        return UNKNOWN;
+    }
+    exports::ouriscado_sh_page_chunk_ranges(list, &mut ends[0..room], parts)
+}
+
+// Puts the first ends over the first numbers of a list.
+fn put_ends(ends: &[usize], parts: usize, list: &mut [u64]) {
+    let mut k: usize = 0;
+    while k < list.len() {
+        if k >= parts {
+            return;
+        }
+        if k >= ends.len() {
+            return;
+        }
+        list[k] = ends[k] as u64;
+        k += 1;
+    }
+}
+
+// Cuts a list into parts, and puts their ends over its first numbers.
+fn sh_page_chunk_ranges(room: u64, list: &mut [u64], told: &mut [u64; 4]) -> u32 {
+    let mut ends = [0usize; 8];
+    let mut parts = BEFORE as usize;
+    let number = cut_into(list, &mut ends, room as usize, &mut parts);
+    told[0] = parts as u64;
+    if number == 0 {
+        put_ends(&ends, parts, list);
+    }
+    number
+}
+
+// Calls the function of a number, and answers its refusal's number, or 0.
+pub fn call(
+    function: u64,
+    given: &[u64; 4],
+    bytes: &mut [u8],
+    list: &mut [u64],
+    told: &mut [u64; 4],
+) -> u32 {
+    let n = given[0];
+    match function {
+        0 => told[0] = exports::ouriscado_uleb128_len(n) as u64,
+        1 => return read_uleb128(bytes, told),
+        2 => return write_uleb128_into(n, bytes, told),
+        3 => return pack8(given, told),
+        4 => return pack8_bytes(given, told),
+        5 => return unpack8(n, told),
+        6 => return unpack8_bytes(n, told),
+        7 => told[0] = exports::ouriscado_payload_start(n as usize),
+        8 => told[0] = exports::ouriscado_slab_cap((n % 0x100) as u8) as u64,
+        9 => told[0] = exports::ouriscado_slab_bytes((n % 0x100) as u8),
+        10 => choose(0, n, told),
+        11 => choose(1, n, told),
+        12 => choose(2, n, told),
+        13 => return encode_fk_delta_stream_into(bytes, list, told),
+        14 => return decode_fk_delta_stream_into(bytes, n, list, told),
+        15 => return encode_slab_payload_into(bytes, list, told),
+        16 => return decode_slab_payload_into(bytes, list, told),
+        17 => return sh_page_chunk_ranges(n, list, told),
+        18 => choose(3, n, told),
+        19 | 20 | 21 => return free::call(function, given, bytes, list, told),
+        _ => return UNKNOWN,
+    }
+    0
+}

@@ -1,0 +1,114 @@
+// The functions on free lists. The buffer of an answer is a body from 4,096 on; before that a body holds 0.
+use crate::call::BEFORE;
+use crate::call::UNKNOWN;
+
+// Bytes of a body before its first block.
+const FRONT: usize = 4096;
+
+// Puts bytes into a body behind its front, as far as it reaches.
+fn put_body(bytes: &[u8], body: &mut [u8]) {
+    let mut k: usize = 0;
+    while k < bytes.len() {
+        if body.len() < FRONT {
+            return;
+        }
+        if body.len() - FRONT <= k {
+            return;
+        }
+        body[k + FRONT] = bytes[k];
+        k += 1;
+    }
+}
+
+// Gets the bytes of a body behind its front.
+fn get_body(body: &[u8], bytes: &mut [u8]) {
+    let mut k: usize = 0;
+    while k < bytes.len() {
+        if body.len() < FRONT {
+            return;
+        }
+        if body.len() - FRONT <= k {
+            return;
+        }
+        bytes[k] = body[k + FRONT];
+        k += 1;
+    }
+}
+
+// Copies numbers to the start of a list, as far as it reaches.
+fn put_numbers(from: &[u64], to: &mut [u64]) {
+    let mut k: usize = 0;
+    while k < from.len() {
+        if to.len() <= k {
+            return;
+        }
+        to[k] = from[k];
+        k += 1;
+    }
+}
+
+// Copies nine free heads to the start of a list, as far as it reaches.
+fn put_heads(heads: &[u64; 9], to: &mut [u64]) {
+    put_numbers(heads, to);
+}
+
+// Pops a block.
+fn pop(body: &[u8], heads: &mut [u64; 9], class: u8, mark: u64, told: &mut [u64; 4]) -> u32 {
+    let mut off = BEFORE;
+    let number = exports::ouriscado_pop_free_head(body, heads, class, mark, &mut off);
+    told[0] = off;
+    number
+}
+
+// Calls a function on the body that ends at an offset.
+fn call_on(
+    function: u64,
+    given: &[u64; 4],
+    body: &mut [u8],
+    end: usize,
+    heads: &mut [u64; 9],
+    told: &mut [u64; 4],
+) -> u32 {
+    let class = (given[0] % 0x100) as u8;
+    if body.len() < end {
+        return UNKNOWN;
+    }
+    match function {
+        19 => exports::ouriscado_push_free_head(&mut body[0..end], heads, class, given[1]),
+        20 => pop(&body[0..end], heads, class, given[1], told),
+        _ => exports::ouriscado_carve_gap_into_freelist(
+            &mut body[0..end],
+            heads,
+            given[0],
+            given[1],
+        ),
+    }
+}
+
+// Calls the function of a number: 19 pushes, 20 pops, others carve.
+pub fn call(
+    function: u64,
+    given: &[u64; 4],
+    bytes: &mut [u8],
+    list: &mut [u64],
+    told: &mut [u64; 4],
+) -> u32 {
+    let mut body = [0u8; 8192];
+    let mut heads = [0u64; 9];
+    if bytes.len() > FRONT {
+        return UNKNOWN;
+    }
+    put_body(bytes, &mut body);
+    put_numbers(list, &mut heads);
+    let number = call_on(
+        function,
+        given,
+        &mut body,
+        FRONT + bytes.len(),
+        &mut heads,
+        told,
+    );
+    get_body(&body, bytes);
+    put_heads(&heads, list);
+    number
+}

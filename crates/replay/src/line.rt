@@ -1,0 +1,103 @@
+// The text of an answer: fields, divided by bars, in hexadecimal.
+ghost use Prim.Native.Nat.{_<_, _≤_};
+ghost use lib.ListN.{length};
+
+// The bytes of s from one index to another; none where that leaves s.
+pub fn part(s: &[u8], from: usize, to: usize) -> &[u8] {
+    if to <= s.len() {
+        if from <= to {
+            return &s[from..to];
+        }
+    }
+    &s[0..0]
+}
+
+// The index of the first b in s, or s's length.
+pub fn find(s: &[u8], b: u8) -> usize
+    ensures { λ r. ⌜ r ≤ length (now (s .entry)) ⌝ }
+{
+    let mut i: usize = 0;
+    while i < s.len() {
+        if s[i] == b {
+            return i;
+        }
+        i += 1;
+    }
+    i
+}
+
+// The bytes of s before the first b in it; all where there is none.
+pub fn before(s: &[u8], b: u8) -> &[u8] {
+    part(s, 0, find(s, b))
+}
+
+// The bytes of s after the first b in it; none where there is none.
+pub fn after(s: &[u8], b: u8) -> &[u8] {
+    let at = find(s, b);
+    if at < s.len() {
+        return part(s, at + 1, s.len());
+    }
+    part(s, 0, 0)
+}
+
+// The value of a hexadecimal digit, and 0 of another byte.
+fn digit(b: u8) -> u64
+    ensures { λ r. ⌜ r < 16 ⌝ }
+{
+    if b'0' <= b {
+        if b <= b'9' {
+            return (b - b'0') as u64;
+        }
+    }
+    if b'a' <= b {
+        if b <= b'f' {
+            return (b - b'a' + 10) as u64;
+        }
+    }
+    0
+}
+
+// The number that hexadecimal digits write, of which the last 16 count.
+pub fn hex(s: &[u8]) -> u64 {
+    let mut value: u64 = 0;
+    let mut i: usize = 0;
+    while i < s.len() {
+        value = value % 0x1000_0000_0000_0000 * 16 + digit(s[i]);
+        i += 1;
+    }
+    value
+}
+
+// Puts the numbers of a field, 16 digits and a space each, to the start of out, and tells how many.
+pub fn numbers(s: &[u8], out: &mut [u64]) -> usize {
+    let mut at: usize = 0;
+    let mut k: usize = 0;
+    while k < out.len() {
+        if s.len() - at < 17 {
+            return k;
+        }
+        out[k] = hex(part(s, at, at + 16));
+        at += 17;
+        k += 1;
+    }
+    k
+}
+
+// Puts the bytes of a field to the start of out, which holds 0: four digits each, how many zeros stand before the byte, and the byte.
+pub fn bytes(s: &[u8], out: &mut [u8]) {
+    let mut at: usize = 0;
+    let mut k: usize = 0;
+    while k < out.len() {
+        if s.len() - at < 4 {
+            return;
+        }
+        let zeros = (hex(part(s, at, at + 2)) % 256) as usize;
+        if out.len() - k <= zeros {
+            return;
+        }
+        k += zeros;
+        out[k] = (hex(part(s, at + 2, at + 4)) % 256) as u8;
+        k += 1;
+        at += 4;
+    }
+}
