@@ -4,3 +4,5 @@ pub mod LawsCutting
 pub mod LawsReach
 pub mod LawsPages
 pub mod LawsSpecimens
+pub mod LawsPage
+pub mod LawsFields
