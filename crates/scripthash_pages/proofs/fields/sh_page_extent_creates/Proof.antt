@@ -16,7 +16,9 @@ version-of-requires : tie.Need-version-of-requires
 version-of-requires c κs = search needs
 
 returns-2 : tie.Need-returns-2
-returns-2 c = creates-none (c .before .before .before .before .args .page .now) (c .before .before .if1 .left) (c .before .version-of .result) (c .before .version-of .ensures) (c .if2 .taken)
+returns-2 c =
+    let d = c .before in
+    creates-none (d .before .before .before .args .page .now) (d .before .if1 .left) (d .version-of .result) (d .version-of .ensures) (c .if2 .taken)
 
 get-u32-requires : tie.Need-get-u32-requires
 get-u32-requires c κs = search needs
@@ -24,8 +26,9 @@ get-u32-requires c κs = search needs
 returns-3 : tie.Need-returns-3
 unfolding field
 returns-3 c =
-    creates-is (c .before .before .before .before .before .args .page .now) (c .before .before .before .if1 .left) (c .before .before .version-of .result) (c .get-u32 .result) (c .before .before .version-of .ensures) (c .before .if2 .left)
-    (c .get-u32 .ensures)
+    let d = c .before .before in
+    creates-is (d .before .before .before .args .page .now) (d .before .if1 .left) (d .version-of .result) (c .get-u32 .result) (d .version-of .ensures)
+    (c .before .if2 .left) (c .get-u32 .ensures)
 
 pub sh-page-extent-creates-spec : {M : Type 1} → statement M
 sh-page-extent-creates-spec = tie.close (tie.spec returns version-of-requires returns-2 get-u32-requires returns-3)

@@ -15,13 +15,17 @@ link-of-requires : tie.Need-link-of-requires
 link-of-requires c κs = search needs
 
 returns-2 : tie.Need-returns-2
-returns-2 c = first-no (c .before .before .before .before .args .page .now) (c .before .before .if1 .left) (c .before .link-of .result) (c .before .link-of .ensures .0) (c .if2 .taken)
+returns-2 c =
+    let d = c .before in
+    first-no (d .before .before .before .args .page .now) (d .before .if1 .left) (d .link-of .result) (d .link-of .ensures .0) (c .if2 .taken)
 
 mul-t6 : tie.Need-mul-t6
 mul-t6 c = search needs
 
 returns-3 : tie.Need-returns-3
-returns-3 c = first-yes (c .before .before .before .before .args .page .now) (c .before .before .if1 .left) (c .before .link-of .result) (c .before .link-of .ensures .0) (c .if2 .left)
+returns-3 c =
+    let d = c .before in
+    first-yes (d .before .before .before .args .page .now) (d .before .if1 .left) (d .link-of .result) (d .link-of .ensures .0) (c .if2 .left)
 
 pub sh-page-first-off-spec : {M : Type 1} → statement M
 sh-page-first-off-spec = tie.close (tie.spec returns link-of-requires returns-2 mul-t6 returns-3)

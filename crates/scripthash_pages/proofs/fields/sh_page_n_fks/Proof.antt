@@ -28,13 +28,17 @@ sub-if2 c = omega (arith, c .stream-off .ensures, stream-off-within (c .before .
 returns-2 : tie.Need-returns-2
 unfolding field
 returns-2 c =
-    count-above (c .before .before .before .before .before .args .page .now) (c .before .before .before .if1 .left) (c .before .stream-off .result) (c .before .before .get-u16 .result) (c .before .stream-off .ensures) (c .before .before .get-u16 .ensures)
+    let d = c .before in
+    let g = d .before in
+    count-above (g .before .before .before .args .page .now) (g .before .if1 .left) (d .stream-off .result) (g .get-u16 .result) (d .stream-off .ensures) (g .get-u16 .ensures)
     (c .if2 .taken)
 
 returns-3 : tie.Need-returns-3
 unfolding field
 returns-3 c =
-    count-is (c .before .before .before .before .before .args .page .now) (c .before .before .before .if1 .left) (c .before .stream-off .result) (c .before .before .get-u16 .result) (c .before .stream-off .ensures) (c .before .before .get-u16 .ensures)
+    let d = c .before in
+    let g = d .before in
+    count-is (g .before .before .before .args .page .now) (g .before .if1 .left) (d .stream-off .result) (g .get-u16 .result) (d .stream-off .ensures) (g .get-u16 .ensures)
     (c .if2 .left)
 
 pub sh-page-n-fks-spec : {M : Type 1} → statement M

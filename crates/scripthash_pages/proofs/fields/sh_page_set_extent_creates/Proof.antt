@@ -35,10 +35,12 @@ same-length-2 c = search needs
 returns-3 : tie.Need-returns-3
 unfolding setField
 returns-3 c =
-    let a = c .before .before .before .before .before .before .before .before .before .args in
+    let put = c .before .before in
+    let v = put .before .before .before in
+    let a = v .before .before .before .before .args in
     set-yes (a .page .now) _ (setCreates (a .page .now) (a .n))
-    (creates-set (a .page .now) (c .before .before .before .before .before .before .before .if1 .left) (a .n) (c .before .before .before .before .before .version-of .result) (c .before .before .before .before .before .version-of .ensures) (c .before .before .before .before .if2 .left))
-    (c .before .before .put-u32 .ensures)
+    (creates-set (a .page .now) (v .before .before .if1 .left) (a .n) (v .version-of .result) (v .version-of .ensures) (put .before .before .if2 .left))
+    (put .put-u32 .ensures)
 
 pub sh-page-set-extent-creates-spec : {M : Type 1} → statement M
 sh-page-set-extent-creates-spec = tie.close (tie.spec returns version-of-requires same-length returns-2 put-u32-requires same-length-2 returns-3)

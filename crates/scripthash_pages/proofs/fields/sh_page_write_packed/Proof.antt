@@ -27,7 +27,8 @@ returns-3 : tie.Need-returns-3
 unfolding writeLink
 returns-3 c =
     let a = c .before .before .before .before .args in
-    set-no (a .page .now) (writeLink (a .page .now) (a .last) (a .off)) (page-yes (a .page .now) _ (c .before .before .if1 .left) ∙ link-large (a .off) _ (c .before .if2 .left) (c .if3 .taken))
+    set-no (a .page .now) (writeLink (a .page .now) (a .last) (a .off))
+    (page-yes (a .page .now) _ (c .before .before .if1 .left) ∙ link-large (a .off) _ (c .before .if2 .left) (c .if3 .taken))
 
 link-to-requires : tie.Need-link-to-requires
 link-to-requires c κs = search needs
@@ -41,10 +42,12 @@ same-length c = search needs
 returns-4 : tie.Need-returns-4
 unfolding writeLink setField
 returns-4 c =
-    let a = c .before .before .before .before .before .before .before .before .before .args in
+    let put = c .before .before in
+    let t = put .before .before .before in
+    let a = t .before .before .before .before .args in
     set-yes (a .page .now) _ (writeLink (a .page .now) (a .last) (a .off))
-    (page-yes (a .page .now) _ (c .before .before .before .before .before .before .before .if1 .left) ∙ link-good (a .off) _ (c .before .before .before .before .before .before .if2 .left) (c .before .before .before .before .before .if3 .left))
-    (c .before .before .put-u40 .ensures ∙ ap (λ (l : ℕ). overwrite (a .page .now) 3 (bytesOf 5 l)) (c .before .before .before .link-to .ensures))
+    (page-yes (a .page .now) _ (t .before .before .if1 .left) ∙ link-good (a .off) _ (t .before .if2 .left) (t .if3 .left))
+    (put .put-u40 .ensures ∙ ap (λ (l : ℕ). overwrite (a .page .now) 3 (bytesOf 5 l)) (put .before .link-to .ensures))
 
 pub sh-page-write-packed-spec : {M : Type 1} → statement M
 sh-page-write-packed-spec = tie.close (tie.spec returns returns-2 returns-3 link-to-requires put-u40-requires same-length returns-4)
