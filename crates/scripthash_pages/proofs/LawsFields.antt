@@ -3,24 +3,24 @@ use Prim.Native.Nat.{ℕ, _+_, _-_, _/_, _%_, _^_, _≤_, _<_}
 use mathlib.Core.Bool.{Bool, true, false, cond, not, _&&_, _||_}
 use mathlib.Core.List.{List, [], _∷_, _++_}
 use mathlib.Core.Option.{none, some}
-use mathlib.Core.Path.{_≡_, refl, ap, sym, _∙_}
+use mathlib.Core.Path.{_≡_, ap, sym, _∙_}
 use native.Mathlib.Numerals.{add-one}
 use native.Mathlib.Omega.{arith}
 use borrow.Author.Tests.{eq-eqb, ne-eqb, lt-ltb, le-ltb, le-leb, lt-leb}
 use lib.Dec.{eqb, ltb}
 use lib.ListN.{length, set, take, replicate, replicate-append-replicate}
 use lib.Seq.{take-suc-set}
-use Rattle.error.specs.Refusal.{Answer, accepted, refused, refuseIf, pageLength, linkUnaligned, linkTooLarge, notLast, extentCountZero, extentBaseBad}
+use Rattle.error.specs.Refusal.{Answer, accepted, refused, refuseIf, linkUnaligned, linkTooLarge, notLast, extentCountZero, extentBaseBad}
 use Rattle.error.specs.Refusal.{countAboveCapacity, versionBad}
 use Rattle.error.proofs.LawsAnswer.{refuse-yes, refuse-no}
 use Rattle.scripthash_layout.specs.Sizes.{pageSize}
 use Rattle.scripthash_pages.specs.Page.{versionOf, countOf, linkOf, extentBaseOf, extentCountOf, createsFieldOf, namesExtent, streamOff, streamCap}
-use Rattle.scripthash_pages.specs.Page.{setField, isLastLink, linkOffset, onLink, onExtent, onDelta, deltaHeader, pageOf}
-use Rattle.scripthash_pages.specs.Fields.{readLink, isLast, firstOff, nextOff, extentOf, createsOf, nFks, requireDelta, streamOffOf, streamCapOf}
-use Rattle.scripthash_pages.specs.Fields.{emptyPage, setCreates, done, afterSet}
+use Rattle.scripthash_pages.specs.Page.{setField, extentVersion, isLastLink, linkOffset, linkTo, onLink, onExtent, onDelta, deltaHeader, pageOf}
+use Rattle.scripthash_pages.specs.Fields.{readLink, isLast, firstOff, nextOff, extentOf, createsOf, nFks, streamOffOf, streamCapOf}
+use Rattle.scripthash_pages.specs.Fields.{writeLink, setExtent, setCreates, emptyPage, done, afterSet}
 use Rattle.scripthash_pages.proofs.LawsPage.{page-yes}
 
--- ---- links and extents that are offered
+-- ---- links and extents that are offered: each test in turn, and what comes after them
 
 module _ {A : Type 0} (off : ℕ) (after : Answer A) where
   pub link-unaligned : (off % pageSize ≡ 0 → ⊥) → onLink off after ≡ refused linkUnaligned
@@ -136,25 +136,26 @@ module _ (page : List ℕ) (long : length page ≡ pageSize) where
       let tested = refuse-no (ltb (streamCap page) (countOf page)) countAboveCapacity (accepted (countOf page)) (le-ltb (streamCap page) (countOf page) within) in
       ap (λ (m : ℕ). accepted m) is ∙ sym (page-yes page (refuseIf (ltb (streamCap page) (countOf page)) countAboveCapacity (accepted (countOf page))) long ∙ tested)
 
+-- the tests of a page that is read, from its stream's start s, its count n and its version v
 module _ {A : Type 0} (page : List ℕ) (after : Answer A) (s n : ℕ) (off : s ≡ streamOff page) (is : n ≡ countOf page) where
   pub delta-above : pageSize - s < n → onDelta page after ≡ refused countAboveCapacity
   unfolding refuseIf
   delta-above h = let above : streamCap page < countOf page = omega arith in rw (lt-ltb (streamCap page) (countOf page) above)
 
-  delta-version : n ≤ pageSize - s → (v : ℕ) → v ≡ versionOf page → (k : Bool) → k ≡ (eqb v 1 || eqb v 2 || (eqb v 0 && eqb n 0))
+  delta-by-version : n ≤ pageSize - s → (v : ℕ) → v ≡ versionOf page → (k : Bool) → k ≡ (eqb v 1 || eqb v 2 || (eqb v 0 && eqb n 0))
       → onDelta page after ≡ refuseIf (not k) versionBad after
   unfolding refuseIf
-  delta-version h v version k known =
+  delta-by-version h v version k known =
       let within : countOf page ≤ streamCap page = omega arith in
       rw (le-ltb (streamCap page) (countOf page) within, ← version, ← is, ← known)
 
   pub delta-unknown : n ≤ pageSize - s → (v : ℕ) → v ≡ versionOf page → (k : Bool) → k ≡ (eqb v 1 || eqb v 2 || (eqb v 0 && eqb n 0)) → k ≡ false
       → onDelta page after ≡ refused versionBad
-  delta-unknown h v version k known no-k = delta-version h v version k known ∙ refuse-yes (not k) versionBad after (ap not no-k)
+  delta-unknown h v version k known no-k = delta-by-version h v version k known ∙ refuse-yes (not k) versionBad after (ap not no-k)
 
   pub delta-good : n ≤ pageSize - s → (v : ℕ) → v ≡ versionOf page → (k : Bool) → k ≡ (eqb v 1 || eqb v 2 || (eqb v 0 && eqb n 0)) → k ≡ true
       → onDelta page after ≡ after
-  delta-good h v version k known yes-k = delta-version h v version k known ∙ refuse-no (not k) versionBad after (ap not yes-k)
+  delta-good h v version k known yes-k = delta-by-version h v version k known ∙ refuse-no (not k) versionBad after (ap not yes-k)
 
 -- ---- what is set
 
@@ -165,6 +166,21 @@ set-no page a e = (rw e, rw e)
 -- an accepted one tells so, and the page is what was set
 pub set-yes : (page after : List ℕ) (a : Answer (List ℕ)) {set : List ℕ} → a ≡ accepted set → after ≡ set → (accepted tt ≡ done a) × (after ≡ afterSet page a)
 set-yes page after a e is = (rw e, rw e is)
+
+-- a page takes a link that can be named
+pub link-written : (page : List ℕ) → length page ≡ pageSize → (last : Bool) (off : ℕ) → off % pageSize ≡ 0 → off / pageSize < 2 ^ 39
+    → writeLink page last off ≡ accepted (setField page 3 5 (linkTo last off))
+unfolding writeLink
+link-written page long last off h l =
+    page-yes page (onLink off (accepted (setField page 3 5 (linkTo last off)))) long ∙ link-good off (accepted (setField page 3 5 (linkTo last off))) h l
+
+-- and an extent
+pub extent-written : (page : List ℕ) → length page ≡ pageSize → (base count : ℕ) → (count ≡ 0 → ⊥) → base % pageSize ≡ 0 → (base ≡ 0 → ⊥)
+    → setExtent page base count ≡ accepted (setField (setField (setField page 0 1 extentVersion) 8 8 base) 16 4 count)
+unfolding setExtent
+extent-written page long base count h u z =
+    let set : Answer (List ℕ) = accepted (setField (setField (setField page 0 1 extentVersion) 8 8 base) 16 4 count) in
+    page-yes page (onExtent base count set) long ∙ extent-good base count set h u z
 
 -- ---- an empty page
 

@@ -1,6 +1,5 @@
 -- `link_to` meets its contract: LAST adds one. Assumes nothing.
 use native.Mathlib.Omega.{arith}
-use mathlib.Core.Path.{sym}
 use borrow.Author.Needs.{needs}
 use Rattle.scripthash_pages.proofs.fields.link_to.Statement.{statement}
 use Rattle.scripthash_pages.proofs.fields.link_to.Tie as tie

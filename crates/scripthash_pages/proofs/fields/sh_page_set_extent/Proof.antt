@@ -8,7 +8,7 @@ use Rattle.buffer.specs.LittleEndian.{bytesOf}
 use Rattle.scripthash_pages.specs.Page.{setField}
 use Rattle.scripthash_pages.specs.Fields.{setExtent}
 use Rattle.scripthash_pages.proofs.LawsPage.{page-no, page-yes}
-use Rattle.scripthash_pages.proofs.LawsFields.{extent-zero, extent-unaligned, extent-baseless, extent-good, set-no, set-yes}
+use Rattle.scripthash_pages.proofs.LawsFields.{extent-zero, extent-unaligned, extent-baseless, extent-written, set-no, set-yes}
 use Rattle.scripthash_pages.proofs.fields.sh_page_set_extent.Statement.{statement}
 use Rattle.scripthash_pages.proofs.fields.sh_page_set_extent.Tie as tie
 
@@ -54,7 +54,7 @@ same-length : tie.Need-same-length
 same-length c = search needs
 
 returns-5 : tie.Need-returns-5
-unfolding setExtent setField
+unfolding setField
 returns-5 c =
     let last = c .before .before in
     let second = last .before .before .before .before in
@@ -62,8 +62,7 @@ returns-5 c =
     let t = first .before .before in
     let a = t .before .before .before .before .before .args in
     set-yes (a .page .now) _ (setExtent (a .page .now) (a .base) (a .n))
-    (page-yes (a .page .now) _ (t .before .before .before .if1 .left)
-    ∙ extent-good (a .base) (a .n) _ (t .before .before .if2 .left) (t .before .if3 .left) (t .if4 .left))
+    (extent-written (a .page .now) (t .before .before .before .if1 .left) (a .base) (a .n) (t .before .before .if2 .left) (t .before .if3 .left) (t .if4 .left))
     (last .put-u32 .ensures
     ∙ ap (λ (b : List ℕ). overwrite b 16 (bytesOf 4 (a .n)))
     (second .put-u64 .ensures ∙ ap (λ (b : List ℕ). overwrite b 8 (bytesOf 8 (a .base))) (first .set-version .ensures)))

@@ -4,10 +4,10 @@ use mathlib.Core.Path.{ap, _∙_}
 use borrow.Author.Needs.{needs}
 use Rattle.buffer.specs.Bytes.{overwrite}
 use Rattle.buffer.specs.LittleEndian.{bytesOf}
-use Rattle.scripthash_pages.specs.Page.{setField, linkTo}
+use Rattle.scripthash_pages.specs.Page.{setField}
 use Rattle.scripthash_pages.specs.Fields.{writeLink}
 use Rattle.scripthash_pages.proofs.LawsPage.{page-no, page-yes}
-use Rattle.scripthash_pages.proofs.LawsFields.{link-unaligned, link-large, link-good, set-no, set-yes}
+use Rattle.scripthash_pages.proofs.LawsFields.{link-unaligned, link-large, link-written, set-no, set-yes}
 use Rattle.scripthash_pages.proofs.fields.sh_page_write_packed.Statement.{statement}
 use Rattle.scripthash_pages.proofs.fields.sh_page_write_packed.Tie as tie
 
@@ -40,13 +40,13 @@ same-length : tie.Need-same-length
 same-length c = search needs
 
 returns-4 : tie.Need-returns-4
-unfolding writeLink setField
+unfolding setField
 returns-4 c =
     let put = c .before .before in
     let t = put .before .before .before in
     let a = t .before .before .before .before .args in
     set-yes (a .page .now) _ (writeLink (a .page .now) (a .last) (a .off))
-    (page-yes (a .page .now) _ (t .before .before .if1 .left) ∙ link-good (a .off) _ (t .before .if2 .left) (t .if3 .left))
+    (link-written (a .page .now) (t .before .before .if1 .left) (a .last) (a .off) (t .before .if2 .left) (t .if3 .left))
     (put .put-u40 .ensures ∙ ap (λ (l : ℕ). overwrite (a .page .now) 3 (bytesOf 5 l)) (put .before .link-to .ensures))
 
 pub sh-page-write-packed-spec : {M : Type 1} → statement M
