@@ -3,3 +3,5 @@ pub mod LawsRising
 pub mod LawsCutting
 pub mod LawsReach
 pub mod LawsPages
+pub mod LawsPage
+pub mod LawsFields
