@@ -4,3 +4,4 @@ pub mod LawsCutting
 pub mod LawsReach
 pub mod LawsPages
 pub mod LawsSpecimens
+pub mod LawsEntries

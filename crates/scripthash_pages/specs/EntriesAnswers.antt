@@ -1,0 +1,32 @@
+-- What the answers about a page's stream mean: 01's number and values for each of their cases.
+use Prim.Native.Nat.{ℕ}
+use Rattle.error.specs.Refusal.{Answer, accepted, refused}
+use Rattle.scripthash_pages.specs.Entries.{Place, PageRead}
+use Rattle.scripthash_pages.specs.declared.entries.StreamPlace.{StreamPlace}
+use Rattle.scripthash_pages.specs.declared.entries.StreamPlace.the-variants.{At, Refused as NoPlace}
+use Rattle.scripthash_pages.specs.declared.entries.PageLast.{PageLast}
+use Rattle.scripthash_pages.specs.declared.entries.PageLast.the-variants.{Last, Refused as NoLast}
+use Rattle.scripthash_pages.specs.declared.entries.PageEntries.{PageEntries}
+use Rattle.scripthash_pages.specs.declared.entries.PageEntries.the-variants.{Entries, Refused as NoEntries}
+use Rattle.scripthash_pages.specs.declared.entries.PageSlice.{PageSlice}
+use Rattle.scripthash_pages.specs.declared.entries.PageSlice.the-variants.{Decoded, Refused as NotDecoded}
+
+-- The place of a page's stream.
+abbrev pub placeAnswer : StreamPlace → Answer Place
+placeAnswer (At off count) = accepted (record { off = off; count = count })
+placeAnswer (NoPlace number) = refused number
+
+-- The answer of `sh_page_last_fk`.
+abbrev pub lastAnswer : PageLast → Answer ℕ
+lastAnswer (Last fk) = accepted fk
+lastAnswer (NoLast number) = refused number
+
+-- The answer of `sh_page_entries_into`.
+abbrev pub entriesAnswer : PageEntries → Answer ℕ
+entriesAnswer (Entries count) = accepted count
+entriesAnswer (NoEntries number) = refused number
+
+-- The answer of `sh_page_decode_slice_into`.
+abbrev pub sliceAnswer : PageSlice → Answer PageRead
+sliceAnswer (Decoded count next) = accepted (record { count = count; next = next })
+sliceAnswer (NotDecoded number) = refused number
