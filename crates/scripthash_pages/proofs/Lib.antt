@@ -5,3 +5,4 @@ pub mod LawsReach
 pub mod LawsPages
 pub mod LawsSpecimens
 pub mod LawsEntries
+pub mod LawsAppend
