@@ -30,7 +30,7 @@ offBy v = cond (eqb v 2) 24 8
 abbrev pub keptBy : ℕ → ℕ
 keptBy v = cond (eqb v 2) 2 1
 
-abbrev eitherOf : ℕ → ℕ → Bool → ℕ
+abbrev pub eitherOf : ℕ → ℕ → Bool → ℕ
 eitherOf x y b = cond b x y
 
 -- in version 2, and in another

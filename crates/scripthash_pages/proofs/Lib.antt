@@ -6,3 +6,4 @@ pub mod LawsPages
 pub mod LawsSpecimens
 pub mod LawsEntries
 pub mod LawsAppend
+pub mod LawsAppended
