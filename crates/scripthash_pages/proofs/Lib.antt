@@ -5,3 +5,6 @@ pub mod LawsReach
 pub mod LawsPages
 pub mod LawsPage
 pub mod LawsFields
+pub mod LawsEntries
+pub mod LawsAppend
+pub mod LawsAppended

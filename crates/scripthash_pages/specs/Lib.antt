@@ -4,3 +4,5 @@ pub mod CuttingAnswers
 pub mod Page
 pub mod Fields
 pub mod FieldsAnswers
+pub mod Entries
+pub mod EntriesAnswers

@@ -1,0 +1,91 @@
+-- The stream of a page (document 01, "Page"): read, with the link's next offset, and appended to.
+use Prim.Native.Nat.{ℕ, _+_, _-_, _^_}
+use mathlib.Core.Bool.{Bool, true, false, cond}
+use mathlib.Core.List.{List}
+use mathlib.Core.Option.{Option, none, some}
+use lib.Dec.{leb, ltb, eqb}
+use lib.ListN.{length, drop}
+use Rattle.error.specs.Refusal.{Answer, accepted, refused, refuseIf, andThen, streamPastCapacity, listTooShort, offeredFirstZero, offeredBit63, offeredNotRising}
+use Rattle.buffer.specs.Bytes.{overwrite}
+use Rattle.compact.specs.Uleb128.{ulebLen, shortest}
+use Rattle.scripthash_layout.specs.Sizes.{pageSize}
+use Rattle.scripthash_slabs.specs.Stream.{Scan, scan, lastFrom}
+use Rattle.scripthash_pages.specs.Page.{setField, countOf, linkOf, deltaVersion, extentVersion, namesExtent, streamOff, streamCap, isLastLink, linkOffset, onPage, onDelta}
+
+-- Where the stream of a page starts, and how many numbers it has.
+pub record Place : Type 0 where
+  pub off : ℕ
+  pub count : ℕ
+
+-- The stream's place in a page that passes the tests.
+unfoldable pub streamPlace : List ℕ → Answer Place
+streamPlace page = onPage page (onDelta page (accepted (record { off = streamOff page; count = countOf page })))
+
+-- Scanning the stream of a page, which ends within the page's capacity.
+unfoldable pub pageScan : List ℕ → Answer Scan
+pageScan page =
+    andThen (streamPlace page)
+    (λ p. andThen (scan (p .count) (drop (p .off) page)) (λ s. refuseIf (ltb (pageSize - p .off) (s .taken)) streamPastCapacity (accepted s)))
+
+-- The last number of a scanned stream, 0 where it has none.
+abbrev pub lastOf : Scan → ℕ
+lastOf s = lastFrom 0 (s .numbers)
+
+-- Reading the numbers of a page into a lent list with room for some, or a refusal.
+unfoldable pub pageEntries : ℕ → List ℕ → Answer Scan
+pageEntries room page = andThen (pageScan page) (λ s. refuseIf (ltb room (length (s .numbers))) listTooShort (accepted s))
+
+-- How many numbers were read.
+abbrev pub readCount : Scan → ℕ
+readCount s = length (s .numbers)
+
+-- The offset of the page behind a page, 0 where it is the last.
+unfoldable pub nextOff : List ℕ → ℕ
+nextOff page = cond (isLastLink (linkOf page)) 0 (linkOffset (linkOf page))
+
+-- What reading a page tells besides its numbers: how many, and the offset of the page behind it.
+pub record PageRead : Type 0 where
+  pub count : ℕ
+  pub next : ℕ
+
+unfoldable pub pageReadOf : List ℕ → Scan → PageRead
+pageReadOf page s = record { count = length (s .numbers); next = nextOff page }
+
+-- ---- appended to
+
+-- Where a number's form goes in a page, and the difference that it is the form of.
+pub record Spot : Type 0 where
+  pub at : ℕ
+  pub difference : ℕ
+
+-- The spot of a number behind a scanned stream; none where the used bytes plus the form's length exceed the capacity.
+unfoldable pub spotBehind : List ℕ → ℕ → Scan → Option Spot
+spotBehind page fk s =
+    cond (ltb (streamCap page) (s .taken + ulebLen (fk - lastOf s))) none (some (record { at = streamOff page + s .taken; difference = fk - lastOf s }))
+
+-- The spot of a number that is offered to a page, none where the page is full; or a refusal.
+unfoldable pub appendSpot : List ℕ → ℕ → Answer (Option Spot)
+appendSpot page fk =
+    onPage page
+    (refuseIf (eqb fk 0) offeredFirstZero
+    (refuseIf (leb (2 ^ 63) fk) offeredBit63
+    (andThen (pageScan page) (λ s. refuseIf (leb fk (lastOf s)) offeredNotRising (accepted (spotBehind page fk s))))))
+
+-- The number is appended, or the page is full.
+abbrev pub hasSpot : Option Spot → Bool
+hasSpot (some w) = true
+hasSpot none = false
+
+-- A page whose header counts one number more; version 0 becomes 1.
+unfoldable pub oneMore : List ℕ → List ℕ
+oneMore page = setField (setField page 0 1 (cond (namesExtent page) extentVersion deltaVersion)) 1 2 (countOf page + 1)
+
+-- A page with a number appended: it counts one more, and the form stands at its spot.
+unfoldable pub withAppended : List ℕ → Spot → List ℕ
+withAppended page w = overwrite (oneMore page) (w .at) (shortest (w .difference))
+
+-- What the page holds after an answer: the number appended, or what it held where it is full or the number is refused.
+unfoldable pub afterAppend : List ℕ → Answer (Option Spot) → List ℕ
+afterAppend page (accepted (some w)) = withAppended page w
+afterAppend page (accepted none) = page
+afterAppend page (refused number) = page

@@ -1,0 +1,309 @@
+// The stream of a page: read whole or to its end, and appended to. It starts at byte 8, in version 2 at byte 24, and goes to the page's end.
+ghost use mathlib.Core.Bool.{cond};
+ghost use mathlib.Core.Path.{_≡_};
+ghost use Prim.Native.Nat.{_+_, _≤_, _<_};
+ghost use lib.Dec.{eqb};
+ghost use lib.ListN.{length};
+ghost use Rattle.error.specs.Refusal.{answered, refusalOf};
+ghost use Rattle.compact.specs.Uleb128.{ulebLen};
+ghost use Rattle.scripthash_slabs.specs.Stream.{endFrom, afterDecode};
+ghost use Rattle.scripthash_slabs.specs.Answers.{scanAnswer};
+ghost use Rattle.scripthash_pages.specs.Page.{countOf, streamOff};
+ghost use Rattle.scripthash_pages.specs.Entries.{streamPlace, pageScan, lastOf, pageEntries, readCount, pageReadOf};
+ghost use Rattle.scripthash_pages.specs.Entries.{appendSpot, hasSpot, oneMore, withAppended, afterAppend};
+ghost use Rattle.scripthash_pages.specs.EntriesAnswers.{placeAnswer, lastAnswer, entriesAnswer, sliceAnswer, spotAnswer, tryAnswer};
+use compact::uleb128_len;
+use error::Refusal;
+use scripthash_layout::SH_PAGE_SIZE;
+use scripthash_slabs::ScanStream;
+use scripthash_slabs::StreamBytes;
+
+// The version of a page that names no extent.
+const SH_PAGE_DELTA_VER: u8 = 1;
+// The version of a page that names one.
+const SH_PAGE_EXTENT_VER: u8 = 2;
+// Where the stream starts, in a page that names no extent.
+const SH_PAGE_HEADER_LEN: usize = 8;
+// And in one that names one.
+const SH_PAGE_EXTENT_HEADER_LEN: usize = 24;
+// Where the count stands, and the link.
+const SH_PAGE_OFF_N_FKS: usize = 1;
+
+const SH_PAGE_OFF_PACKED: usize = 3;
+// Bit 63, which no number of a stream has.
+const SH_FLAG_BIT: u64 = 0x8000_0000_0000_0000;
+
+// Where a page's stream starts and how many numbers it has, or a refusal.
+pub enum StreamPlace {
+    At { off: usize, count: usize },
+    Refused(Refusal),
+}
+
+// The last number of a page, 0 where it has none, or a refusal.
+pub enum PageLastFk {
+    Last(u64),
+    Refused(Refusal),
+}
+
+// What reading a page's numbers answers: how many, or a refusal.
+pub enum PageEntries {
+    Entries(usize),
+    Refused(Refusal),
+}
+
+// What reading a page answers: how many numbers and the offset of the page behind it, 0 where it is the last; or a refusal.
+pub enum PageSlice {
+    Decoded { count: usize, next: u64 },
+    Refused(Refusal),
+}
+
+// Where an offered number goes in a page, and its difference; nowhere where the page is full; or a refusal.
+pub enum AppendSpot {
+    Behind { at: usize, difference: u64 },
+    Nowhere,
+    Refused(Refusal),
+}
+
+// What appending a number answers: it was appended, the page is full, or a refusal.
+pub enum TryAppend {
+    Appended,
+    Full,
+    Refused(Refusal),
+}
+
+impl StreamPlace {
+    // The refusal's number, and 0 of another answer.
+    pub fn refusal(self) -> Refusal
+        ensures { λ r. ⌜ r ≡ refusalOf (placeAnswer self) ⌝ }
+    {
+        match self {
+            StreamPlace::At { off: _, count: _ } => 0,
+            StreamPlace::Refused(number) => number,
+        }
+    }
+}
+
+impl PageLastFk {
+    // The refusal's number, and 0 of another answer.
+    pub fn refusal(self) -> Refusal
+        ensures { λ r. ⌜ r ≡ refusalOf (lastAnswer self) ⌝ }
+    {
+        match self {
+            PageLastFk::Last(_) => 0,
+            PageLastFk::Refused(number) => number,
+        }
+    }
+}
+
+impl PageEntries {
+    // The refusal's number, and 0 of another answer.
+    pub fn refusal(self) -> Refusal
+        ensures { λ r. ⌜ r ≡ refusalOf (entriesAnswer self) ⌝ }
+    {
+        match self {
+            PageEntries::Entries(_) => 0,
+            PageEntries::Refused(number) => number,
+        }
+    }
+}
+
+impl PageSlice {
+    // The refusal's number, and 0 of another answer.
+    pub fn refusal(self) -> Refusal
+        ensures { λ r. ⌜ r ≡ refusalOf (sliceAnswer self) ⌝ }
+    {
+        match self {
+            PageSlice::Decoded { count: _, next: _ } => 0,
+            PageSlice::Refused(number) => number,
+        }
+    }
+}
+
+impl TryAppend {
+    // The refusal's number, and 0 of another answer.
+    pub fn refusal(self) -> Refusal
+        ensures { λ r. ⌜ r ≡ refusalOf (tryAnswer self) ⌝ }
+    {
+        match self {
+            TryAppend::Appended => 0,
+            TryAppend::Full => 0,
+            TryAppend::Refused(number) => number,
+        }
+    }
+}
+
+// The place of a page's stream, where the buffer is a page, its count within the capacity and its version known.
+fn stream_place(page: &[u8]) -> StreamPlace
+    ensures { λ r. ⌜ placeAnswer r ≡ streamPlace (now (page .entry)) ⌝ }
+{
+    if page.len() != SH_PAGE_SIZE {
+        return StreamPlace::Refused(error::PAGE_LENGTH);
+    }
+    let version = page[0];
+    let count = buffer::get_u16(page, SH_PAGE_OFF_N_FKS) as usize;
+    if version == SH_PAGE_EXTENT_VER {
+        if SH_PAGE_SIZE - SH_PAGE_EXTENT_HEADER_LEN < count {
+            return StreamPlace::Refused(error::COUNT_ABOVE_CAPACITY);
+        }
+        return StreamPlace::At {
+            off: SH_PAGE_EXTENT_HEADER_LEN,
+            count,
+        };
+    }
+    if SH_PAGE_SIZE - SH_PAGE_HEADER_LEN < count {
+        return StreamPlace::Refused(error::COUNT_ABOVE_CAPACITY);
+    }
+    if version != SH_PAGE_DELTA_VER {
+        if version != 0 {
+            return StreamPlace::Refused(error::VERSION_BAD);
+        }
+        if count != 0 {
+            return StreamPlace::Refused(error::VERSION_BAD);
+        }
+    }
+    StreamPlace::At {
+        off: SH_PAGE_HEADER_LEN,
+        count,
+    }
+}
+
+// Scans the stream of a page: how many bytes it takes, and its last number, 0 where it has none.
+pub fn sh_page_stream_tail(page: &[u8]) -> ScanStream
+    ensures { λ r. ⌜ scanAnswer r ≡ answered (endFrom 0) (pageScan (now (page .entry))) ⌝ }
+{
+    let place = stream_place(page);
+    let StreamPlace::At { off, count } = place else {
+        return ScanStream::Refused(place.refusal());
+    };
+    scripthash_slabs::scan_fk_delta_stream(&page[off..], count)
+}
+
+// The last number of a page, 0 where it has none.
+pub fn sh_page_last_fk(page: &[u8]) -> PageLastFk
+    ensures { λ r. ⌜ lastAnswer r ≡ answered lastOf (pageScan (now (page .entry))) ⌝ }
+{
+    let tail = sh_page_stream_tail(page);
+    let ScanStream::Scanned { taken: _, last } = tail else {
+        return PageLastFk::Refused(tail.refusal());
+    };
+    PageLastFk::Last(last)
+}
+
+// Reads the numbers of a page into the start of out, and counts them; out is left as it is where the page is refused.
+pub fn sh_page_entries_into(page: &[u8], out: &mut [u64]) -> PageEntries
+    ensures answer { λ r. ⌜ entriesAnswer r ≡ answered readCount (pageEntries (length (now (out .entry))) (now (page .entry))) ⌝ }
+    ensures list { λ r. ⌜ now (out .exit) ≡ afterDecode (now (out .entry)) (pageEntries (length (now (out .entry))) (now (page .entry))) ⌝ }
+{
+    let place = stream_place(page);
+    let StreamPlace::At { off, count } = place else {
+        return PageEntries::Refused(place.refusal());
+    };
+    let got = scripthash_slabs::decode_fk_delta_stream_into(&page[off..], count, out);
+    let StreamBytes::Bytes(_) = got else {
+        return PageEntries::Refused(got.refusal());
+    };
+    PageEntries::Entries(count)
+}
+
+// Reads the numbers of a page as above, and where the page behind it is.
+pub fn sh_page_decode_slice_into(page: &[u8], out: &mut [u64]) -> PageSlice
+    ensures answer { λ r. ⌜ sliceAnswer r ≡ answered (pageReadOf (now (page .entry))) (pageEntries (length (now (out .entry))) (now (page .entry))) ⌝ }
+    ensures list { λ r. ⌜ now (out .exit) ≡ afterDecode (now (out .entry)) (pageEntries (length (now (out .entry))) (now (page .entry))) ⌝ }
+{
+    let got = sh_page_entries_into(page, out);
+    let PageEntries::Entries(count) = got else {
+        return PageSlice::Refused(got.refusal());
+    };
+    let link = buffer::get_u40(page, SH_PAGE_OFF_PACKED);
+    if link % 2 == 1 {
+        return PageSlice::Decoded { count, next: 0 };
+    }
+    PageSlice::Decoded {
+        count,
+        next: link / 2 * 4096,
+    }
+}
+
+// Where the stream of a page starts.
+fn stream_off(page: &[u8]) -> usize
+    requires { ⌜ 0 < length (now page) ⌝ }
+    ensures { λ r. ⌜ r ≡ streamOff (now (page .entry)) ⌝ }
+{
+    if page[0] == SH_PAGE_EXTENT_VER {
+        return SH_PAGE_EXTENT_HEADER_LEN;
+    }
+    SH_PAGE_HEADER_LEN
+}
+
+// Where the number fk goes in a page: behind its stream, which is scanned once.
+fn append_spot(page: &[u8], fk: u64) -> AppendSpot
+    ensures { λ r. ⌜ spotAnswer r ≡ appendSpot (now (page .entry)) fk ⌝ }
+{
+    if page.len() != SH_PAGE_SIZE {
+        return AppendSpot::Refused(error::PAGE_LENGTH);
+    }
+    if fk == 0 {
+        return AppendSpot::Refused(error::OFFERED_FIRST_ZERO);
+    }
+    if SH_FLAG_BIT <= fk {
+        return AppendSpot::Refused(error::OFFERED_BIT_63);
+    }
+    let tail = sh_page_stream_tail(page);
+    let ScanStream::Scanned { taken, last } = tail else {
+        return AppendSpot::Refused(tail.refusal());
+    };
+    if fk <= last {
+        return AppendSpot::Refused(error::OFFERED_NOT_RISING);
+    }
+    let at = stream_off(page) + taken;
+    let difference = fk - last;
+    if SH_PAGE_SIZE < at + uleb128_len(difference) {
+        return AppendSpot::Nowhere;
+    }
+    AppendSpot::Behind { at, difference }
+}
+
+// The version of a page once it has a number.
+fn kept_version(version: u8) -> u8
+    ensures { λ r. ⌜ r ≡ cond (eqb version 2) 2 1 ⌝ }
+{
+    if version == SH_PAGE_EXTENT_VER {
+        return SH_PAGE_EXTENT_VER;
+    }
+    SH_PAGE_DELTA_VER
+}
+
+// Counts one number more in a page's header.
+fn count_one_more(page: &mut [u8])
+    requires { ⌜ (3 ≤ length (now page)) × (countOf (now page) < 65535) ⌝ }
+    ensures { λ _. ⌜ now (page .exit) ≡ oneMore (now (page .entry)) ⌝ }
+{
+    let count = buffer::get_u16(page, SH_PAGE_OFF_N_FKS);
+    page[0] = kept_version(page[0]);
+    buffer::put_u16(page, SH_PAGE_OFF_N_FKS, count + 1);
+}
+
+// Appends the form of a difference at an offset of a page that has room for it, and counts it.
+fn append_form(page: &mut [u8], at: usize, difference: u64)
+    requires { ⌜ (3 ≤ length (now page)) × (countOf (now page) < 65535) × (at + ulebLen difference ≤ length (now page)) ⌝ }
+    ensures { λ _. ⌜ now (page .exit) ≡ withAppended (now (page .entry)) (record { at = at; difference = difference }) ⌝ }
+{
+    count_one_more(page);
+    compact::write_uleb128_into(&mut page[at..], difference);
+}
+
+// Appends the number fk to a page, or leaves all of the page where it is full or the number is refused.
+pub fn sh_page_try_append(page: &mut [u8], fk: u64) -> TryAppend
+    ensures answer { λ r. ⌜ tryAnswer r ≡ answered hasSpot (appendSpot (now (page .entry)) fk) ⌝ }
+    ensures bytes { λ r. ⌜ now (page .exit) ≡ afterAppend (now (page .entry)) (appendSpot (now (page .entry)) fk) ⌝ }
+{
+    let spot = append_spot(page, fk);
+    match spot {
+        AppendSpot::Behind { at, difference } => {
+            append_form(page, at, difference);
+            TryAppend::Appended
+        }
+        AppendSpot::Nowhere => TryAppend::Full,
+        AppendSpot::Refused(number) => TryAppend::Refused(number),
+    }
+}
