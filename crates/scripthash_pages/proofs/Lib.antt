@@ -7,3 +7,4 @@ pub mod LawsSpecimens
 pub mod LawsEntries
 pub mod LawsAppend
 pub mod LawsAppended
+pub mod LawsWritten
