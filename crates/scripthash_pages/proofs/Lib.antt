@@ -8,3 +8,4 @@ pub mod LawsFields
 pub mod LawsEntries
 pub mod LawsAppend
 pub mod LawsAppended
+pub mod LawsWritten

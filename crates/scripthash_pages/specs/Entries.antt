@@ -1,15 +1,16 @@
--- The stream of a page (document 01, "Page"): read, with the link's next offset, and appended to.
+-- The stream of a page (document 01, "Page"): read, with the link's next offset, appended to, and written.
 use Prim.Native.Nat.{ℕ, _+_, _-_, _^_}
 use mathlib.Core.Bool.{Bool, true, false, cond}
 use mathlib.Core.List.{List}
 use mathlib.Core.Option.{Option, none, some}
 use lib.Dec.{leb, ltb, eqb}
 use lib.ListN.{length, drop}
-use Rattle.error.specs.Refusal.{Answer, accepted, refused, refuseIf, andThen, streamPastCapacity, listTooShort, offeredFirstZero, offeredBit63, offeredNotRising}
+use Rattle.error.specs.Refusal.{Answer, accepted, refused, refuseIf, andThen, streamPastCapacity, listTooShort, offeredFirstZero, tooManyOffered, offeredBit63, offeredNotRising}
 use Rattle.buffer.specs.Bytes.{overwrite}
 use Rattle.compact.specs.Uleb128.{ulebLen, shortest}
 use Rattle.scripthash_layout.specs.Sizes.{pageSize}
-use Rattle.scripthash_slabs.specs.Stream.{Scan, scan, lastFrom}
+use Rattle.scripthash_slabs.specs.Stream.{Scan, scan, lastFrom, stream, encodeStream}
+use Rattle.scripthash_slabs.specs.Slab.{maxOffered}
 use Rattle.scripthash_pages.specs.Page.{setField, countOf, linkOf, deltaVersion, extentVersion, namesExtent, streamOff, streamCap, isLastLink, linkOffset, onPage, onDelta}
 
 -- Where the stream of a page starts, and how many numbers it has.
@@ -89,3 +90,14 @@ unfoldable pub afterAppend : List ℕ → Answer (Option Spot) → List ℕ
 afterAppend page (accepted (some w)) = withAppended page w
 afterAppend page (accepted none) = page
 afterAppend page (refused number) = page
+
+-- ---- written
+
+-- Writing the stream of an offered list to a page: its length, or a refusal.
+unfoldable pub writeStream : List ℕ → List ℕ → Answer ℕ
+writeStream page ns = onPage page (refuseIf (ltb maxOffered (length ns)) tooManyOffered (encodeStream (streamCap page) ns))
+
+-- What the page holds after an answer: the stream at its start with its count, the rest as it was; or what it held.
+unfoldable pub afterWriteStream : List ℕ → List ℕ → Answer ℕ → List ℕ
+afterWriteStream page ns (accepted len) = setField (overwrite page (streamOff page) (stream ns)) 1 2 (length ns)
+afterWriteStream page ns (refused number) = page

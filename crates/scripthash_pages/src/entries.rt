@@ -1,4 +1,4 @@
-// The stream of a page: read whole or to its end, and appended to. It starts at byte 8, in version 2 at byte 24, and goes to the page's end.
+// The stream of a page: read whole or to its end, appended to, and written. It starts at byte 8, in version 2 at byte 24, and goes to the page's end.
 ghost use mathlib.Core.Bool.{cond};
 ghost use mathlib.Core.Path.{_≡_};
 ghost use Prim.Native.Nat.{_+_, _≤_, _<_};
@@ -7,14 +7,15 @@ ghost use lib.ListN.{length};
 ghost use Rattle.error.specs.Refusal.{answered, refusalOf};
 ghost use Rattle.compact.specs.Uleb128.{ulebLen};
 ghost use Rattle.scripthash_slabs.specs.Stream.{endFrom, afterDecode};
-ghost use Rattle.scripthash_slabs.specs.Answers.{scanAnswer};
+ghost use Rattle.scripthash_slabs.specs.Answers.{scanAnswer, bytesAnswer};
 ghost use Rattle.scripthash_pages.specs.Page.{countOf, streamOff};
 ghost use Rattle.scripthash_pages.specs.Entries.{streamPlace, pageScan, lastOf, pageEntries, readCount, pageReadOf};
-ghost use Rattle.scripthash_pages.specs.Entries.{appendSpot, hasSpot, oneMore, withAppended, afterAppend};
+ghost use Rattle.scripthash_pages.specs.Entries.{appendSpot, hasSpot, oneMore, withAppended, afterAppend, writeStream, afterWriteStream};
 ghost use Rattle.scripthash_pages.specs.EntriesAnswers.{placeAnswer, lastAnswer, entriesAnswer, sliceAnswer, spotAnswer, tryAnswer};
 use compact::uleb128_len;
 use error::Refusal;
 use scripthash_layout::SH_PAGE_SIZE;
+use scripthash_slabs::MAX_OFFERED;
 use scripthash_slabs::ScanStream;
 use scripthash_slabs::StreamBytes;
 
@@ -306,4 +307,24 @@ pub fn sh_page_try_append(page: &mut [u8], fk: u64) -> TryAppend
         AppendSpot::Nowhere => TryAppend::Full,
         AppendSpot::Refused(number) => TryAppend::Refused(number),
     }
+}
+
+// Writes the stream of an offered list to a page whose version is set, and its count; all of the page is left where the list is refused.
+pub fn sh_page_write_stream(page: &mut [u8], fks: &[u64]) -> StreamBytes
+    ensures answer { λ r. ⌜ bytesAnswer r ≡ writeStream (now (page .entry)) (now (fks .entry)) ⌝ }
+    ensures bytes { λ r. ⌜ now (page .exit) ≡ afterWriteStream (now (page .entry)) (now (fks .entry)) (writeStream (now (page .entry)) (now (fks .entry))) ⌝ }
+{
+    if page.len() != SH_PAGE_SIZE {
+        return StreamBytes::Refused(error::PAGE_LENGTH);
+    }
+    if MAX_OFFERED < fks.len() {
+        return StreamBytes::Refused(error::TOO_MANY_OFFERED);
+    }
+    let off = stream_off(page);
+    let got = scripthash_slabs::encode_fk_delta_stream_into(&mut page[off..], fks);
+    let StreamBytes::Bytes(len) = got else {
+        return got;
+    };
+    buffer::put_u16(page, SH_PAGE_OFF_N_FKS, fks.len() as u16);
+    StreamBytes::Bytes(len)
 }

@@ -14,6 +14,7 @@ pub use entries::sh_page_entries_into;
 pub use entries::sh_page_last_fk;
 pub use entries::sh_page_stream_tail;
 pub use entries::sh_page_try_append;
+pub use entries::sh_page_write_stream;
 pub use fields::PageCount;
 pub use fields::PageCreates;
 pub use fields::PageDone;
