@@ -49,6 +49,7 @@ pub record PageRead : Type 0 where
   pub count : ℕ
   pub next : ℕ
 
+-- The same of a page that was scanned.
 unfoldable pub pageReadOf : List ℕ → Scan → PageRead
 pageReadOf page s = record { count = length (s .numbers); next = nextOff page }
 

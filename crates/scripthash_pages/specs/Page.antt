@@ -21,6 +21,7 @@ field page o k = littleEndian (part page o k)
 unfoldable pub setField : List ℕ → ℕ → ℕ → ℕ → List ℕ
 setField page o k n = overwrite page o (bytesOf k n)
 
+-- The version, as it stands.
 abbrev pub versionOf : List ℕ → ℕ
 versionOf page = field page 0 1
 
@@ -28,22 +29,27 @@ versionOf page = field page 0 1
 abbrev pub countOf : List ℕ → ℕ
 countOf page = field page 1 2
 
+-- The link, as it stands.
 abbrev pub linkOf : List ℕ → ℕ
 linkOf page = field page 3 5
 
+-- The extent's base, as it stands.
 abbrev pub extentBaseOf : List ℕ → ℕ
 extentBaseOf page = field page 8 8
 
+-- The extent's count, as it stands.
 abbrev pub extentCountOf : List ℕ → ℕ
 extentCountOf page = field page 16 4
 
+-- Creates, as it stands, whatever the version.
 abbrev pub createsFieldOf : List ℕ → ℕ
 createsFieldOf page = field page 20 4
 
--- The versions: a page that names no extent, and one that does.
+-- The version of a page that names no extent.
 abbrev pub deltaVersion : ℕ
 deltaVersion = 1
 
+-- The version of a page that names one.
 abbrev pub extentVersion : ℕ
 extentVersion = 2
 

@@ -40,5 +40,6 @@ pub record SlabList : Type 0 where
   pub used : ℕ
   pub len : ℕ
 
+-- The same of a stream that was scanned.
 abbrev pub slabListOf : Scan → SlabList
 slabListOf s = record { used = length (s .numbers); len = 2 + s .taken }

@@ -31,10 +31,11 @@ unfoldable pub streamLenFrom : ℕ → List ℕ → ℕ
 streamLenFrom prev [] = 0
 streamLenFrom prev (n ∷ ns) = ulebLen (n - prev) + streamLenFrom n ns
 
--- The stream of a list, and its length.
+-- The stream of a list.
 abbrev pub stream : List ℕ → List ℕ
 stream ns = streamFrom 0 ns
 
+-- The length of that stream.
 abbrev pub streamLen : List ℕ → ℕ
 streamLen ns = streamLenFrom 0 ns
 
@@ -89,6 +90,7 @@ pub record End : Type 0 where
   pub taken : ℕ
   pub last : ℕ
 
+-- The end of a scan behind `prev`.
 abbrev pub endFrom : ℕ → Scan → End
 endFrom prev s = record { taken = s .taken; last = lastFrom prev (s .numbers) }
 
