@@ -1,5 +1,5 @@
 // Offered lists written, as a stream and as a slab, one call for each case.
-use scripthash_slabs::StreamBytes;
+use scripthash_stream::StreamBytes;
 
 // Writes how many bytes were answered.
 pub fn answer(got: StreamBytes) {
@@ -27,7 +27,7 @@ fn show_out(out: &[u8]) {
 fn show_stream(fks: &[u64], out: &mut [u8]) {
     text::words(b"write");
     show_list(fks, out);
-    answer(scripthash_slabs::encode_fk_delta_stream_into(out, fks));
+    answer(scripthash_stream::encode_fk_delta_stream_into(out, fks));
     show_out(out);
 }
 

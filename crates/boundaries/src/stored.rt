@@ -1,6 +1,6 @@
 // Stored streams and slabs read, one call for each case.
-use scripthash_slabs::ScanStream;
 use scripthash_slabs::SlabPayload;
+use scripthash_stream::ScanStream;
 
 // Writes what scanning answered.
 fn scanned(got: ScanStream) {
@@ -43,7 +43,7 @@ fn show_scan(buf: &[u8], n: usize) {
     text::words(b" from");
     text::bytes(buf);
     text::words(b":");
-    scanned(scripthash_slabs::scan_fk_delta_stream(buf, n));
+    scanned(scripthash_stream::scan_fk_delta_stream(buf, n));
     text::words(b";");
 }
 
@@ -51,7 +51,7 @@ fn show_scan(buf: &[u8], n: usize) {
 fn show_stream(buf: &[u8], n: usize, list: &mut [u64]) {
     show_scan(buf, n);
     show_room(list);
-    crate::offered::answer(scripthash_slabs::decode_fk_delta_stream_into(buf, n, list));
+    crate::offered::answer(scripthash_stream::decode_fk_delta_stream_into(buf, n, list));
     show_list(list);
 }
 

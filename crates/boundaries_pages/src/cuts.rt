@@ -1,6 +1,6 @@
 // Lists cut into the parts that pages hold.
 ghost use Prim.Native.Nat.{_≤_};
-use scripthash_pages::ChunkRanges;
+use scripthash_cutting::ChunkRanges;
 
 // Writes the first ends of a lent list, as many as there are parts.
 fn show_ends(ends: &[usize], parts: usize) {
@@ -17,7 +17,7 @@ fn show_ends(ends: &[usize], parts: usize) {
 fn show_parts(fks: &[u64], ends: &mut [usize]) {
     text::named(b" into ", ends.len() as u64);
     text::words(b":");
-    let got = scripthash_pages::sh_page_chunk_ranges(fks, ends);
+    let got = scripthash_cutting::sh_page_chunk_ranges(fks, ends);
     match got {
         ChunkRanges::Parts(parts) => show_ends(ends, parts),
         ChunkRanges::Refused(number) => text::refused(number),

@@ -3,11 +3,11 @@ ghost use mathlib.Core.Path.{_≡_};
 ghost use Prim.Native.Nat.{_+_};
 ghost use lib.ListN.{length};
 ghost use Rattle.error.specs.Refusal.{refusalOf};
-ghost use Rattle.scripthash_slabs.specs.Stream.{afterDecode};
+ghost use Rattle.scripthash_stream.specs.Stream.{afterDecode};
 ghost use Rattle.scripthash_slabs.specs.Slab.{encodeSlab, afterEncodeSlab, decodeSlab};
 ghost use Rattle.exports.specs.Out.{told};
 use scripthash_slabs::SlabPayload;
-use scripthash_slabs::StreamBytes;
+use scripthash_stream::StreamBytes;
 
 // Writes the payload of a rising list to the start of out, and tells its length. Refuses 10 to 13, 32, 33.
 #[no_mangle]

@@ -2,9 +2,9 @@
 ghost use mathlib.Core.Path.{_≡_};
 ghost use lib.ListN.{length};
 ghost use Rattle.error.specs.Refusal.{refusalOf};
-ghost use Rattle.scripthash_slabs.specs.Stream.{encodeStream, afterEncode, decodeStream, afterDecode};
+ghost use Rattle.scripthash_stream.specs.Stream.{encodeStream, afterEncode, decodeStream, afterDecode};
 ghost use Rattle.exports.specs.Out.{told};
-use scripthash_slabs::StreamBytes;
+use scripthash_stream::StreamBytes;
 
 // Writes the stream of a rising list to the start of out, and tells its length. Refuses 12, 13, 32, 33.
 #[no_mangle]
@@ -17,7 +17,7 @@ pub extern "C" fn ouriscado_encode_fk_delta_stream_into(
     ensures bytes { λ r. ⌜ now (out .exit) ≡ afterEncode (now (out .entry)) (now (fks .entry)) (encodeStream (length (now (out .entry))) (now (fks .entry))) ⌝ }
     ensures len { λ r. ⌜ now (len .exit) ≡ told (λ x. x) (encodeStream (length (now (out .entry))) (now (fks .entry))) (now (len .entry)) ⌝ }
 {
-    let got = scripthash_slabs::encode_fk_delta_stream_into(out, fks);
+    let got = scripthash_stream::encode_fk_delta_stream_into(out, fks);
     let StreamBytes::Bytes(w) = got else {
         return got.refusal();
     };
@@ -37,7 +37,7 @@ pub extern "C" fn ouriscado_decode_fk_delta_stream_into(
     ensures list { λ r. ⌜ now (out .exit) ≡ afterDecode (now (out .entry)) (decodeStream (length (now (out .entry))) n (now (buf .entry))) ⌝ }
     ensures taken { λ r. ⌜ now (taken .exit) ≡ told (λ s. s .taken) (decodeStream (length (now (out .entry))) n (now (buf .entry))) (now (taken .entry)) ⌝ }
 {
-    let got = scripthash_slabs::decode_fk_delta_stream_into(buf, n, out);
+    let got = scripthash_stream::decode_fk_delta_stream_into(buf, n, out);
     let StreamBytes::Bytes(l) = got else {
         return got.refusal();
     };

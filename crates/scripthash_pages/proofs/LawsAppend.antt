@@ -15,9 +15,9 @@ use Rattle.buffer.specs.LittleEndian.{littleEndian, bytesOf}
 use Rattle.buffer.proofs.LawsBytes.{overwrite-one, length-overwrite}
 use Rattle.compact.specs.Uleb128.{ulebLen}
 use Rattle.scripthash_layout.specs.Sizes.{pageSize}
-use Rattle.scripthash_slabs.specs.Stream.{Scan}
-use Rattle.scripthash_slabs.proofs.LawsScan.{scan-accepted}
-use Rattle.scripthash_pages.specs.Page.{field, setField, versionOf, countOf, namesExtent, streamOff, streamCap}
+use Rattle.scripthash_stream.specs.Stream.{Scan}
+use Rattle.scripthash_stream.proofs.LawsScan.{scan-accepted}
+use Rattle.scripthash_fields.specs.Page.{field, setField, versionOf, countOf, namesExtent, streamOff, streamCap}
 use Rattle.scripthash_pages.specs.Entries.{pageScan, lastOf, Spot, spotBehind, appendSpot, oneMore, withAppended, afterAppend}
 use Rattle.scripthash_pages.proofs.LawsEntries.{version-byte, place-accepted, scan-placed}
 

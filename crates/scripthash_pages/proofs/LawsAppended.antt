@@ -18,10 +18,10 @@ use Rattle.buffer.proofs.LawsLittleEndian.{littleEndian-bytesOf}
 use Rattle.compact.specs.Uleb128.{Reading, ulebLen, shortest}
 use Rattle.compact.proofs.LawsLength.{len-pos, length-shortest}
 use Rattle.scripthash_layout.specs.Sizes.{pageSize}
-use Rattle.scripthash_slabs.specs.Stream.{Rising, lastFrom, streamFrom, streamLenFrom, nextNumber, Scan, scanFrom, scan}
-use Rattle.scripthash_slabs.proofs.LawsScan.{next-accepted, next-same, scan-step, scan-cons, scan-accepted}
-use Rattle.scripthash_slabs.proofs.LawsStream.{scan-stream}
-use Rattle.scripthash_pages.specs.Page.{field, setField, versionOf, countOf, namesExtent, streamOff}
+use Rattle.scripthash_stream.specs.Stream.{Rising, lastFrom, streamFrom, streamLenFrom, nextNumber, Scan, scanFrom, scan}
+use Rattle.scripthash_stream.proofs.LawsScan.{next-accepted, next-same, scan-step, scan-cons, scan-accepted}
+use Rattle.scripthash_stream.proofs.LawsStream.{scan-stream}
+use Rattle.scripthash_fields.specs.Page.{field, setField, versionOf, countOf, namesExtent, streamOff}
 use Rattle.scripthash_pages.specs.Entries.{Place, streamPlace, pageScan, lastOf, Spot, oneMore, withAppended}
 use Rattle.scripthash_pages.proofs.LawsEntries.{version-byte, placeBy, place-by, extent-place, delta-place, place-accepted, scan-placed, scan-yes}
 use Rattle.scripthash_pages.proofs.LawsAppend.{eitherOf, count-read, length-one-more, Roomy, scan-ends}

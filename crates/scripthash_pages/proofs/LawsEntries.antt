@@ -14,9 +14,9 @@ use Rattle.buffer.specs.LittleEndian.{littleEndian, AreBytes}
 use Rattle.buffer.proofs.LawsOverwrite.{part-listed, length-part}
 use Rattle.buffer.proofs.LawsLittleEndian.{littleEndian-below, part-bytes}
 use Rattle.scripthash_layout.specs.Sizes.{pageSize}
-use Rattle.scripthash_slabs.specs.Stream.{Scan, scan, decodeStream}
-use Rattle.scripthash_slabs.proofs.LawsScan.{scan-accepted}
-use Rattle.scripthash_pages.specs.Page.{field, versionOf, countOf, namesExtent, streamOff, streamCap}
+use Rattle.scripthash_stream.specs.Stream.{Scan, scan, decodeStream}
+use Rattle.scripthash_stream.proofs.LawsScan.{scan-accepted}
+use Rattle.scripthash_fields.specs.Page.{field, versionOf, countOf, namesExtent, streamOff, streamCap}
 use Rattle.scripthash_pages.specs.Entries.{Place, streamPlace, pageScan, pageEntries, nextOff, PageRead, pageReadOf}
 
 -- ---- the stream's place

@@ -12,9 +12,9 @@ use Rattle.error.proofs.LawsAnswer.{refuse-yes, refuse-no}
 use Rattle.buffer.specs.Bytes.{overwrite}
 use Rattle.buffer.specs.LittleEndian.{bytesOf}
 use Rattle.scripthash_layout.specs.Sizes.{pageSize}
-use Rattle.scripthash_slabs.specs.Stream.{stream, encodeStream}
-use Rattle.scripthash_slabs.specs.Slab.{maxOffered}
-use Rattle.scripthash_pages.specs.Page.{setField, namesExtent, streamOff, streamCap}
+use Rattle.scripthash_stream.specs.Stream.{stream, encodeStream}
+use Rattle.scripthash_stream.specs.Stream.{maxOffered}
+use Rattle.scripthash_fields.specs.Page.{setField, namesExtent, streamOff, streamCap}
 use Rattle.scripthash_pages.specs.Entries.{writeStream, afterWriteStream}
 use Rattle.scripthash_pages.proofs.LawsAppend.{eitherOf}
 

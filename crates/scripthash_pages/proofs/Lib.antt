@@ -1,10 +1,3 @@
-pub mod LawsFitting
-pub mod LawsRising
-pub mod LawsCutting
-pub mod LawsReach
-pub mod LawsPages
-pub mod LawsPage
-pub mod LawsFields
 pub mod LawsEntries
 pub mod LawsAppend
 pub mod LawsAppended

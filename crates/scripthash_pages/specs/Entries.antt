@@ -9,9 +9,9 @@ use Rattle.error.specs.Refusal.{Answer, accepted, refused, refuseIf, andThen, s
 use Rattle.buffer.specs.Bytes.{overwrite}
 use Rattle.compact.specs.Uleb128.{ulebLen, shortest}
 use Rattle.scripthash_layout.specs.Sizes.{pageSize}
-use Rattle.scripthash_slabs.specs.Stream.{Scan, scan, lastFrom, stream, encodeStream}
-use Rattle.scripthash_slabs.specs.Slab.{maxOffered}
-use Rattle.scripthash_pages.specs.Page.{setField, countOf, linkOf, deltaVersion, extentVersion, namesExtent, streamOff, streamCap, isLastLink, linkOffset, onPage, onDelta}
+use Rattle.scripthash_stream.specs.Stream.{Scan, scan, lastFrom, stream, encodeStream}
+use Rattle.scripthash_stream.specs.Stream.{maxOffered}
+use Rattle.scripthash_fields.specs.Page.{setField, countOf, linkOf, deltaVersion, extentVersion, namesExtent, streamOff, streamCap, isLastLink, linkOffset, onPage, onDelta}
 
 -- Where the stream of a page starts, and how many numbers it has.
 pub record Place : Type 0 where

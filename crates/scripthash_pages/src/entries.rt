@@ -6,18 +6,18 @@ ghost use lib.Dec.{eqb};
 ghost use lib.ListN.{length};
 ghost use Rattle.error.specs.Refusal.{answered, refusalOf};
 ghost use Rattle.compact.specs.Uleb128.{ulebLen};
-ghost use Rattle.scripthash_slabs.specs.Stream.{endFrom, afterDecode};
-ghost use Rattle.scripthash_slabs.specs.Answers.{scanAnswer, bytesAnswer};
-ghost use Rattle.scripthash_pages.specs.Page.{countOf, streamOff};
+ghost use Rattle.scripthash_stream.specs.Stream.{endFrom, afterDecode};
+ghost use Rattle.scripthash_stream.specs.Answers.{scanAnswer, bytesAnswer};
+ghost use Rattle.scripthash_fields.specs.Page.{countOf, streamOff};
 ghost use Rattle.scripthash_pages.specs.Entries.{streamPlace, pageScan, lastOf, pageEntries, readCount, pageReadOf};
 ghost use Rattle.scripthash_pages.specs.Entries.{appendSpot, hasSpot, oneMore, withAppended, afterAppend, writeStream, afterWriteStream};
-ghost use Rattle.scripthash_pages.specs.EntriesAnswers.{placeAnswer, lastAnswer, entriesAnswer, sliceAnswer, spotAnswer, tryAnswer};
+ghost use Rattle.scripthash_pages.specs.Answers.{placeAnswer, lastAnswer, entriesAnswer, sliceAnswer, spotAnswer, tryAnswer};
 use compact::uleb128_len;
 use error::Refusal;
 use scripthash_layout::SH_PAGE_SIZE;
-use scripthash_slabs::MAX_OFFERED;
-use scripthash_slabs::ScanStream;
-use scripthash_slabs::StreamBytes;
+use scripthash_stream::MAX_OFFERED;
+use scripthash_stream::ScanStream;
+use scripthash_stream::StreamBytes;
 
 // The version of a page that names no extent.
 const SH_PAGE_DELTA_VER: u8 = 1;
@@ -176,7 +176,7 @@ pub fn sh_page_stream_tail(page: &[u8]) -> ScanStream
     let StreamPlace::At { off, count } = place else {
         return ScanStream::Refused(place.refusal());
     };
-    scripthash_slabs::scan_fk_delta_stream(&page[off..], count)
+    scripthash_stream::scan_fk_delta_stream(&page[off..], count)
 }
 
 // The last number of a page, 0 where it has none.
@@ -199,7 +199,7 @@ pub fn sh_page_entries_into(page: &[u8], out: &mut [u64]) -> PageEntries
     let StreamPlace::At { off, count } = place else {
         return PageEntries::Refused(place.refusal());
     };
-    let got = scripthash_slabs::decode_fk_delta_stream_into(&page[off..], count, out);
+    let got = scripthash_stream::decode_fk_delta_stream_into(&page[off..], count, out);
     let StreamBytes::Bytes(_) = got else {
         return PageEntries::Refused(got.refusal());
     };
@@ -321,7 +321,7 @@ pub fn sh_page_write_stream(page: &mut [u8], fks: &[u64]) -> StreamBytes
         return StreamBytes::Refused(error::TOO_MANY_OFFERED);
     }
     let off = stream_off(page);
-    let got = scripthash_slabs::encode_fk_delta_stream_into(&mut page[off..], fks);
+    let got = scripthash_stream::encode_fk_delta_stream_into(&mut page[off..], fks);
     let StreamBytes::Bytes(len) = got else {
         return got;
     };

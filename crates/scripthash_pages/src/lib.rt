@@ -1,10 +1,6 @@
-// Pages of posting lists: the source's scripthash_pages.rs.
-mod cut;
+// The numbers of a page: read, appended and written, from the source's scripthash_pages.rs.
 mod entries;
-mod fields;
 
-pub use cut::ChunkRanges;
-pub use cut::sh_page_chunk_ranges;
 pub use entries::PageEntries;
 pub use entries::PageLastFk;
 pub use entries::PageSlice;
@@ -15,27 +11,3 @@ pub use entries::sh_page_last_fk;
 pub use entries::sh_page_stream_tail;
 pub use entries::sh_page_try_append;
 pub use entries::sh_page_write_stream;
-pub use fields::PageCount;
-pub use fields::PageCreates;
-pub use fields::PageDone;
-pub use fields::PageExtent;
-pub use fields::PageLast;
-pub use fields::PageLink;
-pub use fields::PageOffset;
-pub use fields::sh_page_extent;
-pub use fields::sh_page_extent_creates;
-pub use fields::sh_page_first_off;
-pub use fields::sh_page_init_empty;
-pub use fields::sh_page_is_last;
-pub use fields::sh_page_n_fks;
-pub use fields::sh_page_next;
-pub use fields::sh_page_read_packed;
-pub use fields::sh_page_require_delta;
-pub use fields::sh_page_set_extent;
-pub use fields::sh_page_set_extent_creates;
-pub use fields::sh_page_set_last;
-pub use fields::sh_page_set_n_fks;
-pub use fields::sh_page_set_next;
-pub use fields::sh_page_stream_cap;
-pub use fields::sh_page_stream_off;
-pub use fields::sh_page_write_packed;

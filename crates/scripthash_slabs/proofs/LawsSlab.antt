@@ -13,10 +13,11 @@ use Rattle.buffer.specs.LittleEndian.{littleEndian, bytesOf}
 use Rattle.buffer.proofs.LawsApart.{overwrite-apart}
 use Rattle.buffer.proofs.LawsOverwrite.{overwrite-adjoin}
 use Rattle.buffer.proofs.LawsLittleEndian.{littleEndian-bytesOf}
-use Rattle.scripthash_slabs.specs.Stream.{Rising, Scan, stream, streamLen, encodeStream, decodeStream}
-use Rattle.scripthash_slabs.specs.Slab.{maxOffered, slabPayload, encodeSlab, afterEncodeSlab, slabUsed, decodeSlab}
-use Rattle.scripthash_slabs.proofs.LawsStream.{scan-stream}
-use Rattle.scripthash_slabs.proofs.LawsDecode.{decode-fits}
+use Rattle.scripthash_stream.specs.Stream.{Rising, Scan, stream, streamLen, encodeStream, decodeStream}
+use Rattle.scripthash_stream.specs.Stream.{maxOffered}
+use Rattle.scripthash_slabs.specs.Slab.{slabPayload, encodeSlab, afterEncodeSlab, slabUsed, decodeSlab}
+use Rattle.scripthash_stream.proofs.LawsStream.{scan-stream}
+use Rattle.scripthash_stream.proofs.LawsDecode.{decode-fits}
 
 -- ---- writing
 

@@ -1,35 +1,12 @@
--- What the answers of the code mean: 01's number and values for each of their cases.
+-- What the answers of the code about slabs and classes mean: 01's number and values for each of their cases.
 use Prim.Native.Nat.{ℕ}
+use mathlib.Core.Option.{Option, none, some}
 use Rattle.error.specs.Refusal.{Answer, accepted, refused}
-use Rattle.compact.specs.Uleb128.{Reading}
-use Rattle.scripthash_slabs.specs.Stream.{End}
 use Rattle.scripthash_slabs.specs.Slab.{SlabList}
 use Rattle.scripthash_slabs.specs.declared.payload.SlabPayload.{SlabPayload}
 use Rattle.scripthash_slabs.specs.declared.payload.SlabPayload.the-variants.{Numbers, Refused as NoNumbers}
-use Rattle.scripthash_slabs.specs.declared.stream.NextFk.{NextFk}
-use Rattle.scripthash_slabs.specs.declared.stream.NextFk.the-variants.{Number, Refused as NoNumber}
-use Rattle.scripthash_slabs.specs.declared.stream.ScanStream.{ScanStream}
-use Rattle.scripthash_slabs.specs.declared.stream.ScanStream.the-variants.{Scanned, Refused as NotScanned}
-use Rattle.scripthash_slabs.specs.declared.stream.StreamBytes.{StreamBytes}
-use Rattle.scripthash_slabs.specs.declared.stream.StreamBytes.the-variants.{Bytes, Refused as NoBytes}
-use mathlib.Core.Option.{Option, none, some}
 use Rattle.scripthash_slabs.specs.declared.class.SlabClass.{SlabClass}
 use Rattle.scripthash_slabs.specs.declared.class.SlabClass.the-variants.{Class, Nothing}
-
--- The next number of a stream.
-abbrev pub nextAnswer : NextFk → Answer Reading
-nextAnswer (Number fk len) = accepted (record { value = fk; len = len })
-nextAnswer (NoNumber number) = refused number
-
--- The answer of `scan_fk_delta_stream`.
-abbrev pub scanAnswer : ScanStream → Answer End
-scanAnswer (Scanned taken last) = accepted (record { taken = taken; last = last })
-scanAnswer (NotScanned number) = refused number
-
--- The answer of the stream's encoder and decoder.
-abbrev pub bytesAnswer : StreamBytes → Answer ℕ
-bytesAnswer (Bytes len) = accepted len
-bytesAnswer (NoBytes number) = refused number
 
 -- The answer of `decode_slab_payload_into`.
 abbrev pub slabAnswer : SlabPayload → Answer SlabList

@@ -1,4 +1,3 @@
 pub mod Class
-pub mod Stream
 pub mod Slab
 pub mod Answers

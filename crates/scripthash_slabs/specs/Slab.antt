@@ -6,11 +6,7 @@ use lib.ListN.{length, drop}
 use Rattle.error.specs.Refusal.{Answer, accepted, refused, refuseIf, answered, tooManyOffered, slabTooShort}
 use Rattle.buffer.specs.Bytes.{part, overwrite}
 use Rattle.buffer.specs.LittleEndian.{littleEndian, bytesOf}
-use Rattle.scripthash_slabs.specs.Stream.{Scan, stream, encodeStream, decodeStream}
-
--- The most numbers that a slab, a page or a load is offered.
-abbrev pub maxOffered : ℕ
-maxOffered = 65535
+use Rattle.scripthash_stream.specs.Stream.{maxOffered, Scan, stream, encodeStream, decodeStream}
 
 -- The payload of a list.
 unfoldable pub slabPayload : List ℕ → List ℕ

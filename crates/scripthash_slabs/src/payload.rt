@@ -2,14 +2,13 @@
 ghost use mathlib.Core.Path.{_≡_};
 ghost use lib.ListN.{length};
 ghost use Rattle.error.specs.Refusal.{answered, refusalOf};
-ghost use Rattle.scripthash_slabs.specs.Stream.{afterDecode};
+ghost use Rattle.scripthash_stream.specs.Stream.{afterDecode};
 ghost use Rattle.scripthash_slabs.specs.Slab.{encodeSlab, afterEncodeSlab, decodeSlab, slabListOf};
-ghost use Rattle.scripthash_slabs.specs.Answers.{bytesAnswer, slabAnswer};
-use crate::StreamBytes;
+ghost use Rattle.scripthash_stream.specs.Answers.{bytesAnswer};
+ghost use Rattle.scripthash_slabs.specs.Answers.{slabAnswer};
 use error::Refusal;
-
-// The most numbers that a slab, a page or a load is offered.
-pub const MAX_OFFERED: usize = 65535;
+use scripthash_stream::MAX_OFFERED;
+use scripthash_stream::StreamBytes;
 
 // What reading a slab's payload answers: how many numbers it has and how many bytes it takes, or a refusal.
 pub enum SlabPayload {
@@ -41,7 +40,7 @@ pub fn encode_slab_payload_into(out: &mut [u8], fks: &[u64]) -> StreamBytes
     if out.len() < 2 {
         return StreamBytes::Refused(error::SLAB_TOO_SHORT);
     }
-    let got = crate::encode_fk_delta_stream_into(&mut out[2..], fks);
+    let got = scripthash_stream::encode_fk_delta_stream_into(&mut out[2..], fks);
     let StreamBytes::Bytes(len) = got else {
         return got;
     };
@@ -58,7 +57,7 @@ pub fn decode_slab_payload_into(buf: &[u8], out: &mut [u64]) -> SlabPayload
         return SlabPayload::Refused(error::SLAB_TOO_SHORT);
     }
     let used = buffer::get_u16(buf, 0) as usize;
-    let got = crate::decode_fk_delta_stream_into(&buf[2..], used, out);
+    let got = scripthash_stream::decode_fk_delta_stream_into(&buf[2..], used, out);
     let StreamBytes::Bytes(len) = got else {
         return SlabPayload::Refused(got.refusal());
     };

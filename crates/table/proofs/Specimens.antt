@@ -4,9 +4,9 @@ use Rattle.error.specs.Refusal.{refuseIf, andThen}
 use Rattle.buffer.specs.Bytes.{part}
 use Rattle.compact.specs.Uleb128.{isForm, value, formAt, overflows, readForm, readUleb, divided, shortest, ulebLen}
 use Rattle.scripthash_layout.specs.Head.{packHead, unpackHead}
-use Rattle.scripthash_slabs.specs.Stream.{streamFrom, storedNumber, nextNumber, scanFrom, decodeStream}
+use Rattle.scripthash_stream.specs.Stream.{streamFrom, storedNumber, nextNumber, scanFrom, decodeStream}
 use Rattle.scripthash_slabs.specs.Slab.{slabPayload, decodeSlab}
-use Rattle.scripthash_pages.specs.Cutting.{fitting, firstPart, greedyParts, recutLast, endsFrom}
+use Rattle.scripthash_cutting.specs.Cutting.{fitting, firstPart, greedyParts, recutLast, endsFrom}
 use Rattle.table.specs.Table.{Specimens, Is, IsSlab, IsHead, inARow}
 
 pub specimens : Specimens

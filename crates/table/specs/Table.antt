@@ -8,9 +8,9 @@ use Rattle.compact.specs.Uleb128.{Reading, shortest, readUleb}
 use Rattle.scripthash_layout.specs.Head.{packHead, unpackHead}
 use Rattle.scripthash_layout.specs.declared.head.ShHeadValue.{ShHeadValue}
 use Rattle.scripthash_layout.specs.declared.head.ShHeadValue.the-variants.{Slab}
-use Rattle.scripthash_slabs.specs.Stream.{Scan, scan}
+use Rattle.scripthash_stream.specs.Stream.{Scan, scan}
 use Rattle.scripthash_slabs.specs.Slab.{slabPayload, decodeSlab}
-use Rattle.scripthash_pages.specs.Cutting.{cutting, endsFrom}
+use Rattle.scripthash_cutting.specs.Cutting.{cutting, endsFrom}
 
 -- A number is some bytes: they are its shortest form, and they read as the number with their length.
 pub record Is (n : ℕ) (bytes : List ℕ) : Type 0 where

@@ -1,7 +1,7 @@
 -- `ouriscado_sh_page_chunk_ranges` hands out what `sh_page_chunk_ranges` answers. Assumes nothing.
 use mathlib.Core.Path.{_≡_, sym, _∙_, ap}
 use Rattle.error.specs.Refusal.{refusalOf}
-use Rattle.scripthash_pages.specs.CuttingAnswers.{chunkAnswer}
+use Rattle.scripthash_cutting.specs.Answers.{chunkAnswer}
 use Rattle.exports.proofs.LawsOut.{number-accepted, told-accepted, told-refused}
 use borrow.Author.Needs.{needs}
 use Rattle.exports.proofs.cut.ouriscado_sh_page_chunk_ranges.Statement.{statement}

@@ -3,7 +3,7 @@ use Prim.Native.Nat.{_+_}
 use mathlib.Core.Path.{_≡_, sym, _∙_, ap}
 use lib.ListN.{length}
 use Rattle.error.specs.Refusal.{refusalOf}
-use Rattle.scripthash_slabs.specs.Stream.{Scan}
+use Rattle.scripthash_stream.specs.Stream.{Scan}
 use Rattle.scripthash_slabs.specs.Slab.{slabListOf}
 use Rattle.scripthash_slabs.specs.Answers.{slabAnswer}
 use Rattle.exports.proofs.LawsOut.{number-accepted, number-answered, told-accepted, told-answered, told-refused}

@@ -10,10 +10,10 @@ use Rattle.error.proofs.LawsAnswer.{was-accepted, was-refused}
 use Rattle.compact.specs.Uleb128.{ulebLen}
 use Rattle.compact.proofs.LawsLength.{len-at-most}
 use Rattle.scripthash_layout.specs.Sizes.{pageSize}
-use Rattle.scripthash_slabs.specs.Stream.{Scan, End, endFrom}
-use Rattle.scripthash_slabs.specs.Answers.{scanAnswer}
-use Rattle.scripthash_slabs.specs.declared.stream.ScanStream.{ScanStream}
-use Rattle.scripthash_pages.specs.Page.{streamOff}
+use Rattle.scripthash_stream.specs.Stream.{Scan, End, endFrom}
+use Rattle.scripthash_stream.specs.Answers.{scanAnswer}
+use Rattle.scripthash_stream.specs.declared.stream.ScanStream.{ScanStream}
+use Rattle.scripthash_fields.specs.Page.{streamOff}
 use Rattle.scripthash_pages.specs.Entries.{pageScan, lastOf}
 use Rattle.scripthash_pages.proofs.LawsAppend.{Ends, scan-ends, spot-length, spot-zero, spot-flag, spot-stop, spot-low, spot-high, spot-full, spot-room}
 use Rattle.scripthash_pages.proofs.entries.append_spot.Statement.{statement}

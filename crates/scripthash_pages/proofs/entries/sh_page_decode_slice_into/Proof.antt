@@ -8,9 +8,9 @@ use lib.ListN.{length}
 use Rattle.error.specs.Refusal.{Answer, accepted, refused, refusalOf, answered}
 use Rattle.error.proofs.LawsAnswer.{was-accepted, was-refused, answered-yes, answered-no}
 use Rattle.scripthash_layout.specs.Sizes.{pageSize}
-use Rattle.scripthash_slabs.specs.Stream.{Scan}
+use Rattle.scripthash_stream.specs.Stream.{Scan}
 use Rattle.scripthash_pages.specs.Entries.{pageEntries, readCount, nextOff, PageRead, pageReadOf}
-use Rattle.scripthash_pages.specs.EntriesAnswers.{entriesAnswer}
+use Rattle.scripthash_pages.specs.Answers.{entriesAnswer}
 use Rattle.scripthash_pages.specs.declared.entries.PageEntries.{PageEntries}
 use Rattle.scripthash_pages.proofs.LawsEntries.{entries-long, link-below, next-none, next-some, read-of}
 use Rattle.scripthash_pages.proofs.entries.sh_page_decode_slice_into.Statement.{statement}

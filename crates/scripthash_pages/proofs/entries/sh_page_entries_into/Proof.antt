@@ -8,13 +8,13 @@ use lib.ListN.{length, take, drop}
 use Rattle.error.specs.Refusal.{Answer, accepted, refused, refusalOf, answered}
 use Rattle.error.proofs.LawsAnswer.{was-accepted, was-refused, answered-yes, answered-no}
 use Rattle.buffer.proofs.LawsBytes.{part-to-end}
-use Rattle.scripthash_slabs.specs.Stream.{Scan, decodeStream, afterDecode}
-use Rattle.scripthash_slabs.specs.Answers.{bytesAnswer}
-use Rattle.scripthash_slabs.specs.declared.stream.StreamBytes.{StreamBytes}
-use Rattle.scripthash_slabs.proofs.LawsScan.{scan-accepted}
-use Rattle.scripthash_slabs.proofs.LawsDecode.{decode-accepted, after-refused}
+use Rattle.scripthash_stream.specs.Stream.{Scan, decodeStream, afterDecode}
+use Rattle.scripthash_stream.specs.Answers.{bytesAnswer}
+use Rattle.scripthash_stream.specs.declared.stream.StreamBytes.{StreamBytes}
+use Rattle.scripthash_stream.proofs.LawsScan.{scan-accepted}
+use Rattle.scripthash_stream.proofs.LawsDecode.{decode-accepted, after-refused}
 use Rattle.scripthash_pages.specs.Entries.{Place, streamPlace, pageEntries, readCount}
-use Rattle.scripthash_pages.specs.EntriesAnswers.{placeAnswer}
+use Rattle.scripthash_pages.specs.Answers.{placeAnswer}
 use Rattle.scripthash_pages.specs.declared.entries.StreamPlace.{StreamPlace}
 use Rattle.scripthash_pages.proofs.LawsEntries.{Placed, place-accepted, entries-no, entries-yes}
 use Rattle.scripthash_pages.proofs.entries.sh_page_entries_into.Statement.{statement}

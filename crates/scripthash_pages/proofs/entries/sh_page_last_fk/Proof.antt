@@ -3,9 +3,9 @@ use mathlib.Core.Path.{_≡_, sym, ap, _∙_}
 use borrow.Author.Needs.{needs}
 use Rattle.error.specs.Refusal.{accepted, refused, refusalOf}
 use Rattle.error.proofs.LawsAnswer.{was-accepted, was-refused, answered-yes, answered-no}
-use Rattle.scripthash_slabs.specs.Stream.{End, endFrom}
-use Rattle.scripthash_slabs.specs.Answers.{scanAnswer}
-use Rattle.scripthash_slabs.specs.declared.stream.ScanStream.{ScanStream}
+use Rattle.scripthash_stream.specs.Stream.{End, endFrom}
+use Rattle.scripthash_stream.specs.Answers.{scanAnswer}
+use Rattle.scripthash_stream.specs.declared.stream.ScanStream.{ScanStream}
 use Rattle.scripthash_pages.specs.Entries.{pageScan, lastOf}
 use Rattle.scripthash_pages.proofs.entries.sh_page_last_fk.Statement.{statement}
 use Rattle.scripthash_pages.proofs.entries.sh_page_last_fk.Tie as tie

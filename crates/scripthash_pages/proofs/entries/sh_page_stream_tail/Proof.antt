@@ -8,9 +8,9 @@ use lib.ListN.{length}
 use Rattle.error.specs.Refusal.{accepted, refused, refusalOf, answered}
 use Rattle.error.proofs.LawsAnswer.{answered-no}
 use Rattle.buffer.proofs.LawsBytes.{part-to-end}
-use Rattle.scripthash_slabs.specs.Stream.{endFrom, scan}
+use Rattle.scripthash_stream.specs.Stream.{endFrom, scan}
 use Rattle.scripthash_pages.specs.Entries.{Place, streamPlace, pageScan}
-use Rattle.scripthash_pages.specs.EntriesAnswers.{placeAnswer}
+use Rattle.scripthash_pages.specs.Answers.{placeAnswer}
 use Rattle.scripthash_pages.specs.declared.entries.StreamPlace.{StreamPlace}
 use Rattle.scripthash_pages.proofs.LawsEntries.{Placed, place-accepted, scan-no, scan-yes}
 use Rattle.scripthash_pages.proofs.entries.sh_page_stream_tail.Statement.{statement}

@@ -13,11 +13,11 @@ use Rattle.buffer.specs.Bytes.{overwrite}
 use Rattle.buffer.specs.LittleEndian.{bytesOf}
 use Rattle.buffer.proofs.LawsBytes.{overwrite-part}
 use Rattle.scripthash_layout.specs.Sizes.{pageSize}
-use Rattle.scripthash_slabs.specs.Stream.{stream, streamLen, encodeStream}
-use Rattle.scripthash_slabs.specs.Answers.{bytesAnswer}
-use Rattle.scripthash_slabs.proofs.LawsStream.{length-stream}
-use Rattle.scripthash_slabs.proofs.LawsEncode.{encode-accepted, after-encode-no, after-encode-yes}
-use Rattle.scripthash_pages.specs.Page.{streamOff, streamCap}
+use Rattle.scripthash_stream.specs.Stream.{stream, streamLen, encodeStream}
+use Rattle.scripthash_stream.specs.Answers.{bytesAnswer}
+use Rattle.scripthash_stream.proofs.LawsStream.{length-stream}
+use Rattle.scripthash_stream.proofs.LawsEncode.{encode-accepted, after-encode-no, after-encode-yes}
+use Rattle.scripthash_fields.specs.Page.{streamOff, streamCap}
 use Rattle.scripthash_pages.specs.Entries.{writeStream}
 use Rattle.scripthash_pages.proofs.LawsWritten.{off-early, written-length, written-many, written-as-stream, after-written-no, after-written-yes}
 use Rattle.scripthash_pages.proofs.entries.sh_page_write_stream.Statement.{statement}

@@ -9,12 +9,13 @@ use lib.ListN.{length, take, drop, length-take, length-drop}
 use Rattle.error.specs.Refusal.{Answer, accepted, refused, refusalOf, answered}
 use Rattle.error.proofs.LawsAnswer.{answered-yes, answered-no, was-accepted, was-refused}
 use Rattle.buffer.proofs.LawsBytes.{part-to-end}
-use Rattle.scripthash_slabs.specs.Stream.{Scan, scan, decodeStream, afterDecode}
+use Rattle.scripthash_stream.specs.Stream.{Scan, scan, decodeStream, afterDecode}
 use Rattle.scripthash_slabs.specs.Slab.{SlabList, slabUsed, slabListOf, decodeSlab}
-use Rattle.scripthash_slabs.specs.Answers.{bytesAnswer, slabAnswer}
-use Rattle.scripthash_slabs.specs.declared.stream.StreamBytes.{StreamBytes}
-use Rattle.scripthash_slabs.proofs.LawsScan.{scan-accepted}
-use Rattle.scripthash_slabs.proofs.LawsDecode.{decode-accepted, after-refused}
+use Rattle.scripthash_stream.specs.Answers.{bytesAnswer}
+use Rattle.scripthash_slabs.specs.Answers.{slabAnswer}
+use Rattle.scripthash_stream.specs.declared.stream.StreamBytes.{StreamBytes}
+use Rattle.scripthash_stream.proofs.LawsScan.{scan-accepted}
+use Rattle.scripthash_stream.proofs.LawsDecode.{decode-accepted, after-refused}
 use Rattle.scripthash_slabs.proofs.LawsSlab.{unslab-short, unslab-as-stream}
 use Rattle.scripthash_slabs.proofs.payload.decode_slab_payload_into.Statement.{statement}
 use Rattle.scripthash_slabs.proofs.payload.decode_slab_payload_into.Tie as tie

@@ -12,11 +12,11 @@ use Rattle.error.proofs.LawsAnswer.{answered-yes, answered-no}
 use Rattle.buffer.specs.Bytes.{overwrite}
 use Rattle.buffer.specs.LittleEndian.{bytesOf}
 use Rattle.buffer.proofs.LawsBytes.{overwrite-part}
-use Rattle.scripthash_slabs.specs.Stream.{stream, streamLen, encodeStream}
+use Rattle.scripthash_stream.specs.Stream.{stream, streamLen, encodeStream}
 use Rattle.scripthash_slabs.specs.Slab.{encodeSlab}
-use Rattle.scripthash_slabs.specs.Answers.{bytesAnswer}
-use Rattle.scripthash_slabs.proofs.LawsStream.{length-stream}
-use Rattle.scripthash_slabs.proofs.LawsEncode.{encode-accepted, after-encode-no, after-encode-yes}
+use Rattle.scripthash_stream.specs.Answers.{bytesAnswer}
+use Rattle.scripthash_stream.proofs.LawsStream.{length-stream}
+use Rattle.scripthash_stream.proofs.LawsEncode.{encode-accepted, after-encode-no, after-encode-yes}
 use Rattle.scripthash_slabs.proofs.LawsSlab.{slab-many, slab-short, slab-as-stream, after-slab-no, after-slab-yes, payload-written}
 use Rattle.scripthash_slabs.proofs.payload.encode_slab_payload_into.Statement.{statement}
 use Rattle.scripthash_slabs.proofs.payload.encode_slab_payload_into.Tie as tie

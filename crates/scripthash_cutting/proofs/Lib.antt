@@ -1,0 +1,5 @@
+pub mod LawsFitting
+pub mod LawsRising
+pub mod LawsCutting
+pub mod LawsReach
+pub mod LawsPages

@@ -1,0 +1,2 @@
+pub mod LawsPage
+pub mod LawsFields

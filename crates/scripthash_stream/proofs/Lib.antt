@@ -1,0 +1,5 @@
+pub mod LawsScan
+pub mod LawsStream
+pub mod LawsScanEnd
+pub mod LawsDecode
+pub mod LawsEncode

@@ -1,0 +1,111 @@
+-- `put_form` meets its contract: one byte is one store, and any other form is written into the lent part from the offset on, where it fits.
+-- Assumes nothing.
+use Prim.Native.Nat.{ℕ, _+_, _-_, _≤_}
+use mathlib.Core.List.{List, _++_}
+use mathlib.Core.Path.{_≡_, sym, ap, _∙_}
+use native.Mathlib.Nat.{add-zero}
+use native.Mathlib.Omega.{arith}
+use borrow.Author.Needs.{needs}
+use lib.ListN.{length, take, drop, length-take, length-drop}
+use Rattle.error.specs.Refusal.{accepted}
+use Rattle.error.proofs.LawsAnswer.{refused≢accepted, accepted-inj}
+use Rattle.buffer.specs.Bytes.{overwrite}
+use Rattle.buffer.proofs.LawsBytes.{overwrite-one, overwrite-part}
+use Rattle.compact.specs.Uleb128.{ulebLen, shortest}
+use Rattle.compact.specs.Answers.{writeAnswer}
+use Rattle.compact.proofs.LawsLength.{len-pos, len-small, shortest-small, length-shortest}
+use Rattle.compact.proofs.LawsWrite.{write-fits, after-fits}
+use Rattle.scripthash_stream.proofs.stream.put_form.Statement.{statement}
+use Rattle.scripthash_stream.proofs.stream.put_form.Tie as tie
+
+-- the form that was written into the lent part
+module _ (c : tie.After-write-uleb128-into) where
+  abbrev at : tie.Start
+  at = c .before .before .before .before
+
+  abbrev bytes : List ℕ
+  bytes = at .args .out .now
+
+  abbrev room : ℕ
+  room = length bytes - at .args .off
+
+  abbrev lent : List ℕ
+  lent = take room (drop (at .args .off) bytes)
+
+  fits : ulebLen (at .args .d) ≤ length lent
+  fits = let h = at .pre in simp (length-take, length-drop) (omega arith)
+
+  answer : writeAnswer (c .write-uleb128-into .result) ≡ accepted (ulebLen (at .args .d))
+  answer = c .write-uleb128-into .ensures .0 ∙ write-fits (length lent) (at .args .d) fits
+
+  written : take (at .args .off) bytes ++ (c .write-uleb128-into .last .0 ++ drop room (drop (at .args .off) bytes)) ≡ overwrite bytes (at .args .off) (shortest (at .args .d))
+  written =
+      let h = at .pre in
+      let long = length-shortest (at .args .d) in
+      ap (λ (m : List ℕ). take (at .args .off) bytes ++ (m ++ drop room (drop (at .args .off) bytes))) (c .write-uleb128-into .ensures .1 ∙ after-fits lent (at .args .d) fits)
+      ∙ overwrite-part bytes (at .args .off) room 0 (shortest (at .args .d)) (omega arith) (omega arith)
+      ∙ ap (λ (o : ℕ). overwrite bytes o (shortest (at .args .d))) (add-zero (at .args .off))
+
+cast-out : tie.Need-cast-out
+cast-out c = search needs
+
+slice-write-out : tie.Need-slice-write-out
+slice-write-out c = omega (arith, len-pos (c .before .before .args .d))
+
+same-length : tie.Need-same-length
+same-length c = search needs
+
+returns : tie.Need-returns
+returns c =
+    let a = c .before .before .args in
+    let one = len-small (a .d) (omega arith) in
+    (sym one, sym (ap (overwrite (a .out .now) (a .off)) (shortest-small (a .d) (omega arith)) ∙ overwrite-one (a .out .now) (a .off) (a .d) (omega arith)))
+
+sub-write-uleb128-into : tie.Need-sub-write-uleb128-into
+sub-write-uleb128-into c = search needs
+
+part-write-uleb128-into-start : tie.Need-part-write-uleb128-into-start
+part-write-uleb128-into-start c = search needs
+
+part-write-uleb128-into-end : tie.Need-part-write-uleb128-into-end
+part-write-uleb128-into-end c = search needs
+
+write-uleb128-into-requires : tie.Need-write-uleb128-into-requires
+write-uleb128-into-requires c κs = search needs
+
+enum-known-put : tie.Need-enum-known-put
+enum-known-put c = search needs
+
+enum-told : tie.Need-enum-told
+enum-told c = search needs
+
+same-length-2 : tie.Need-same-length-2
+same-length-2 c = search needs
+
+returns-2 : tie.Need-returns-2
+returns-2 c = absurd (refused≢accepted {number = c .enum-told .given .0 .0} (sym (ap writeAnswer (c .enum-told .given .1)) ∙ answer (c .before .before .before .before)))
+
+same-length-3 : tie.Need-same-length-3
+same-length-3 c = search needs
+
+returns-3 : tie.Need-returns-3
+returns-3 c = (accepted-inj (sym (ap writeAnswer (c .before .put .given .1)) ∙ answer (c .before .before .before .before .before)), written (c .before .before .before .before .before))
+
+pub put-form-spec : {M : Type 1} → statement M
+put-form-spec =
+    tie.close
+    (tie.spec
+    cast-out
+    slice-write-out
+    same-length
+    returns
+    sub-write-uleb128-into
+    part-write-uleb128-into-start
+    part-write-uleb128-into-end
+    write-uleb128-into-requires
+    enum-known-put
+    enum-told
+    same-length-2
+    returns-2
+    same-length-3
+    returns-3)
