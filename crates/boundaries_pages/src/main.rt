@@ -1,8 +1,14 @@
-// Runs cutting and free lists at their boundaries, each result a line on standard output.
-mod cuts;
-mod gaps;
+// Runs the page functions at their boundaries, each case a line on standard output.
+mod appends;
+mod fields;
+mod made;
+mod reads;
+mod said;
+mod writes;
 
 fn main() {
-    cuts::run();
-    gaps::run();
+    fields::run();
+    appends::run();
+    reads::run();
+    writes::run();
 }

@@ -1,8 +1,8 @@
 -- `gaps` is safe, and its loop ends. Assumes nothing.
 use Prim.Native.Nat.{_-_}
 use borrow.Author.Needs.{needs}
-use Rattle.boundaries_pages.proofs.gaps.gaps.Statement.{statement}
-use Rattle.boundaries_pages.proofs.gaps.gaps.Tie as tie
+use Rattle.boundaries_cuts.proofs.gaps.gaps.Statement.{statement}
+use Rattle.boundaries_cuts.proofs.gaps.gaps.Tie as tie
 
 abbrev Inv-loop : tie.InvT-loop
 Inv-loop k₀ k = Unit

@@ -1,23 +1,23 @@
--- `fill` is safe, and its loop ends. Assumes nothing.
+-- `fill` is safe: the list keeps its length, and what is left of it shrinks with each turn. Assumes nothing.
 use Prim.Native.Nat.{_-_}
 use mathlib.Core.Path.{_≡_, refl}
 use native.Mathlib.Omega.{arith}
 use lib.ListN.{length, length-set}
 use borrow.Author.Needs.{needs}
-use Rattle.boundaries_pages.proofs.cuts.fill.Statement.{statement}
-use Rattle.boundaries_pages.proofs.cuts.fill.Tie as tie
+use Rattle.boundaries_pages.proofs.writes.fill.Statement.{statement}
+use Rattle.boundaries_pages.proofs.writes.fill.Tie as tie
 
 abbrev Inv-loop : tie.InvT-loop
-Inv-loop list₀ step last₀ i₀ list last i = length list ≡ length list₀
+Inv-loop list₀ i₀ list i = length list ≡ length list₀
 
 abbrev μ-loop : tie.MeasureT-loop
-μ-loop list₀ step last₀ i₀ list last i = length list₀ - i
+μ-loop list₀ i₀ list i = length list₀ - i
 
 loop-holds : tie.Need-loop-holds Inv-loop μ-loop
 loop-holds c = refl
 
-add-last : tie.Need-add-last Inv-loop μ-loop
-add-last c = search needs
+add-list : tie.Need-add-list Inv-loop μ-loop
+add-list c = search needs
 
 mul-list : tie.Need-mul-list Inv-loop μ-loop
 mul-list c = search needs
@@ -26,10 +26,10 @@ slice-write-list : tie.Need-slice-write-list Inv-loop μ-loop
 slice-write-list c = search needs
 
 add-i : tie.Need-add-i Inv-loop μ-loop
-add-i c = omega arith
+add-i c = search needs
 
 loop-less : tie.Need-loop-less Inv-loop μ-loop
-loop-less c = omega arith
+loop-less c = search needs
 
 loop-again : tie.Need-loop-again Inv-loop μ-loop
 loop-again c = simp length-set (omega arith)
@@ -47,7 +47,7 @@ fill-spec =
     Inv-loop
     μ-loop
     loop-holds
-    add-last
+    add-list
     mul-list
     slice-write-list
     add-i

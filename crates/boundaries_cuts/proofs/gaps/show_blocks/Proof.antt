@@ -1,8 +1,8 @@
 -- `show_blocks` is safe, and its loop ends. Assumes nothing.
 use Prim.Native.Nat.{_-_}
 use borrow.Author.Needs.{needs}
-use Rattle.boundaries_pages.proofs.gaps.show_blocks.Statement.{statement}
-use Rattle.boundaries_pages.proofs.gaps.show_blocks.Tie as tie
+use Rattle.boundaries_cuts.proofs.gaps.show_blocks.Statement.{statement}
+use Rattle.boundaries_cuts.proofs.gaps.show_blocks.Tie as tie
 
 abbrev Inv-loop : tie.InvT-loop
 Inv-loop body free class₀ class = Unit

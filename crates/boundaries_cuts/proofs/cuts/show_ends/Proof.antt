@@ -2,8 +2,8 @@
 use Prim.Native.Nat.{_-_}
 use lib.ListN.{length}
 use borrow.Author.Needs.{needs}
-use Rattle.boundaries_pages.proofs.cuts.show_ends.Statement.{statement}
-use Rattle.boundaries_pages.proofs.cuts.show_ends.Tie as tie
+use Rattle.boundaries_cuts.proofs.cuts.show_ends.Statement.{statement}
+use Rattle.boundaries_cuts.proofs.cuts.show_ends.Tie as tie
 
 abbrev Inv-loop : tie.InvT-loop
 Inv-loop ends parts k₀ t4 k = Unit
