@@ -3,7 +3,7 @@ use Prim.Native.Nat.{ℕ, _+_, _-_, _/_, _%_, _^_, _≤_, _<_}
 use mathlib.Core.Bool.{Bool, true, false, cond, not, _&&_, _||_}
 use mathlib.Core.List.{List, [], _∷_, _++_}
 use mathlib.Core.Option.{none, some}
-use mathlib.Core.Path.{_≡_, ap, sym, _∙_}
+use mathlib.Core.Path.{_≡_, refl, ap, sym, _∙_}
 use native.Mathlib.Numerals.{add-one}
 use native.Mathlib.Omega.{arith}
 use borrow.Author.Tests.{eq-eqb, ne-eqb, lt-ltb, le-ltb, le-leb, lt-leb}
@@ -196,6 +196,15 @@ set-no page a e = (rw e, rw e)
 -- an accepted one tells so, and the page is what was set
 pub set-yes : (page after : List ℕ) (a : Answer (List ℕ)) {set : List ℕ} → a ≡ accepted set → after ≡ set → (accepted tt ≡ done a) × (after ≡ afterSet page a)
 set-yes page after a e is = (rw e, rw e is)
+
+-- what was told of a call that sets, told back
+pub done-no : (a : Answer (List ℕ)) {number : ℕ} → done a ≡ refused number → a ≡ refused number
+done-no (accepted set) e = absurd (refused≢accepted (sym e))
+done-no (refused number) e = cc
+
+pub done-yes : (a : Answer (List ℕ)) → done a ≡ accepted tt → (set : List ℕ) × (a ≡ accepted set)
+done-yes (accepted set) e = (set, refl)
+done-yes (refused number) e = absurd (refused≢accepted e)
 
 -- a page takes a link that can be named
 pub link-written : (page : List ℕ) → length page ≡ pageSize → (last : Bool) (off : ℕ) → linkNamed off ≡ accepted tt
