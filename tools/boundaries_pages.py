@@ -419,7 +419,44 @@ def writes():
     print(said("write to length 4095:", write_stream, page, [0]) + show_page(page))
 
 
+def show_packed(name, call, page, *args):
+    line = said(name, call, page, *args) + said(", count", n_fks, page) + said(", tail", tail, page)
+    print(line + said(", link", link, page) + said(", extent", extent, page) + show_page(page))
+
+
+def show_pack(name, ns, off):
+    show_packed(f"pack {name} next {off}:", pack, [7] * PAGE, ns, off)
+
+
+def show_pack_extent(name, ns, base, n, off):
+    show_packed(f"pack {name} base {base} of {n} next {off}:", pack_extent, [7] * PAGE, ns, base, n, off)
+
+
+def packs():
+    for n in [0, 1, 4071, 4072, 4073, 4087, 4088, 4089, 65535, 65536]:
+        show_pack(f"1 to {n}", range(1, n + 1), 0)
+        show_pack_extent(f"1 to {n}", range(1, n + 1), 8192, 3, 0)
+    for ns in [[5, 300, 301], [TOP - 1], [0], [5, TOP], [5, 5], [5, 4, 0]]:
+        name = " ".join(map(str, ns))
+        show_pack(name, ns, 4096)
+        show_pack_extent(name, ns, 4096, 1, 8192)
+    top = 2**39 * PAGE
+    for off in [1, 4097, top - PAGE, top]:
+        show_pack("5", [5], off)
+    for base, n, off in [
+        (4096, 1, 0), (4096, 0, 0), (0, 1, 0), (0, 0, 4096), (0, 1, 4096), (4097, 0, 0), (4097, 0, 4096), (4097, 1, 4096),
+        (4096, 2**32 - 1, 4096), (4096, 0, 5), (top, 1, 0), (top, 1, 4096),
+    ]:
+        show_pack_extent("5", [5], base, n, off)
+    show_pack("0", [0], 5)
+    show_pack_extent("0", [0], 4096, 0, 4096)
+    page = [7] * (PAGE + 1)
+    show_packed("pack into length 4097:", pack, page, [0], 5)
+    show_packed("pack into length 4097:", pack_extent, page, [0], 0, 0, 5)
+
+
 fields()
 appends()
 reads()
 writes()
+packs()

@@ -50,3 +50,12 @@ pub fn ones(made: &mut [u8], version: u8, count: u16) {
     let all = [1u8; 4096];
     page(made, version, count, text::first(&all, count as usize));
 }
+
+// Fills a list with the numbers from 1 on.
+pub fn fill(list: &mut [u64]) {
+    let mut i: usize = 0;
+    while i < list.len() {
+        list[i] = i as u64 + 1;
+        i += 1;
+    }
+}

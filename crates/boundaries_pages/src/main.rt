@@ -2,6 +2,7 @@
 mod appends;
 mod fields;
 mod made;
+mod packs;
 mod reads;
 mod said;
 mod writes;
@@ -11,4 +12,5 @@ fn main() {
     appends::run();
     reads::run();
     writes::run();
+    packs::run();
 }

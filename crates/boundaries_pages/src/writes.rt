@@ -9,19 +9,10 @@ fn write(version: u8, fks: &[u64]) {
     crate::said::page(page);
 }
 
-// Fills a list with the numbers from 1 on.
-fn fill(list: &mut [u64]) {
-    let mut i: usize = 0;
-    while i < list.len() {
-        list[i] = i as u64 + 1;
-        i += 1;
-    }
-}
-
 // Writes the numbers from 1 to n, at most 65,536.
 fn row(version: u8, n: usize) {
     let mut list = [0u64; 65536];
-    fill(&mut list);
+    crate::made::fill(&mut list);
     let all: &[u64] = &list;
     if n <= all.len() {
         text::named(b"write 1 to ", n as u64);

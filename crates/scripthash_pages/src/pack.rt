@@ -97,7 +97,13 @@ pub fn sh_page_pack_fks(page: &mut [u8], fks: &[u64], next: u64) -> PageDone
 }
 
 // Packs a page that names an extent, with a next page; with none, at 0, it is LAST with the extent's base as first offset.
-pub fn sh_page_pack_extent_last_fks(page: &mut [u8], fks: &[u64], base: u64, n: u32, next: u64) -> PageDone
+pub fn sh_page_pack_extent_last_fks(
+    page: &mut [u8],
+    fks: &[u64],
+    base: u64,
+    n: u32,
+    next: u64,
+) -> PageDone
     ensures answer { λ r. ⌜ doneAnswer r ≡ done (packExtent (now (page .entry)) (now (fks .entry)) base n next) ⌝ }
     ensures page { λ r. ⌜ now (page .exit) ≡ afterSet (now (page .entry)) (packExtent (now (page .entry)) (now (fks .entry)) base n next) ⌝ }
 {

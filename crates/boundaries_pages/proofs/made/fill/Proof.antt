@@ -4,8 +4,8 @@ use mathlib.Core.Path.{_≡_, refl}
 use native.Mathlib.Omega.{arith}
 use lib.ListN.{length, length-set}
 use borrow.Author.Needs.{needs}
-use Rattle.boundaries_pages.proofs.writes.fill.Statement.{statement}
-use Rattle.boundaries_pages.proofs.writes.fill.Tie as tie
+use Rattle.boundaries_pages.proofs.made.fill.Statement.{statement}
+use Rattle.boundaries_pages.proofs.made.fill.Tie as tie
 
 abbrev Inv-loop : tie.InvT-loop
 Inv-loop list₀ i₀ list i = length list ≡ length list₀
