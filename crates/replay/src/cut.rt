@@ -38,12 +38,7 @@ fn call_on(
     match function {
         17 => exports::ouriscado_sh_page_chunk_ranges(list, &mut ranges[0..room], parts),
         _ => {
-            exports::ouriscado_split_last_chunk_for_extent(
-                list,
-                &mut ranges[0..room],
-                count,
-                parts,
-            )
+            exports::ouriscado_split_last_chunk_for_extent(list, &mut ranges[0..room], count, parts)
         }
     }
 }

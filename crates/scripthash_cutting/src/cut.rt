@@ -137,7 +137,8 @@ fn cut_from(fks: &[u64], from: usize, room: usize, out: &mut [ChunkRange], at: u
             return ChunkRanges::Refused(error::LIST_TOO_SHORT);
         }
     }
-    ChunkRanges::Parts(write_ranges(fks, from, room, out, at))
+    let count = write_ranges(fks, from, room, out, at);
+    ChunkRanges::Parts(count)
 }
 
 // Cuts `fks` into parts, and writes their ranges to the start of `out`. A lent list that is too short is left as it is.

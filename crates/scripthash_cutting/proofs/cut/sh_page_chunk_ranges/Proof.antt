@@ -1,10 +1,7 @@
 -- `sh_page_chunk_ranges` meets its contract: all numbers are cut, into the lent list from its start on. Assumes nothing.
-use Prim.Native.Nat.{_+_}
-use mathlib.Core.List.{List}
 use native.Mathlib.Nat.{zero-add}
-use lib.ListN.{length}
 use borrow.Author.Needs.{needs}
-use Rattle.scripthash_cutting.specs.Cutting.{cutting, chunkRanges, afterChunkRanges}
+use Rattle.scripthash_cutting.specs.Cutting.{chunkRanges, afterChunkRanges}
 use Rattle.scripthash_cutting.specs.Steps.{cutFrom, afterCutFrom}
 use Rattle.scripthash_cutting.proofs.cut.sh_page_chunk_ranges.Statement.{statement}
 use Rattle.scripthash_cutting.proofs.cut.sh_page_chunk_ranges.Tie as tie
