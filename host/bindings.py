@@ -28,23 +28,24 @@ def comment(lines):
 
 
 class Parameter:
-    """A parameter of an exported function: a number, or a reference to a number, an array or a slice."""
+    """A parameter of an exported function: a number, or a reference to a number, an array, or a slice of numbers or of arrays."""
 
     def __init__(self, text):
         self.name, kind = (s.strip() for s in text.split(":", 1))
-        m = re.fullmatch(r"(&)?(mut )?(?:\[(\w+)(?:; (\d+))?\]|(\w+))", kind)
+        m = re.fullmatch(r"(&)?(mut )?(?:\[(\w+|\[\w+; \d+\])(?:; (\d+))?\]|(\w+))", kind)
         if not m:
             sys.exit(f"bindings: the type {kind} of {self.name} can't cross the boundary")
         self.ref, self.mut, item, self.len, number = m[1], m[2], m[3], m[4], m[5]
         self.item, self.slice = item or number, bool(item) and not self.len
-        if self.item not in C_TYPE or (item and not self.ref):
+        self.number, *self.each = re.findall(r"\w+", self.item)  # of a slice of arrays, the length of each
+        if self.number not in C_TYPE or (item and not self.ref) or (self.each and self.len):
             sys.exit(f"bindings: the type {kind} of {self.name} can't cross the boundary")
 
     def c(self):
         const = "" if self.mut or not self.ref else "const "
         star = " *" if self.ref else " "
         name = "class_" if self.name == "class" else self.name  # a word of C++
-        out = f"{const}{C_TYPE[self.item]}{star}{name}"
+        out = f"{const}{C_TYPE[self.number]}" + (f" (*{name})[{self.each[0]}]" if self.each else f"{star}{name}")
         return f"{out}, size_t {name}_len" if self.slice else out
 
     def raw(self):

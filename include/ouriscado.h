@@ -84,8 +84,11 @@ bool ouriscado_slab_class_for_n_fks(uint32_t n, uint8_t *class_);
 /* The class for one number more than n, or where there is none the class for n. */
 bool ouriscado_slab_class_for_n_fks_with_slack(uint32_t n, uint8_t *class_);
 
-/* Cuts fks into parts, tells how many, and puts the index behind each part's last number to the start of out. Refuses 34. */
-uint32_t ouriscado_sh_page_chunk_ranges(const uint64_t *fks, size_t fks_len, size_t *out, size_t out_len, size_t *parts);
+/* Cuts fks into parts, tells how many, and puts their ranges, each from an index up to another, to the start of out. Refuses 34. */
+uint32_t ouriscado_sh_page_chunk_ranges(const uint64_t *fks, size_t fks_len, size_t (*out)[2], size_t out_len, size_t *parts);
+
+/* Cuts the last of the first count ranges of chunks again, into parts that fit a last page, and tells how many ranges there are then. One that is empty, or leaves fks, stays. Refuses 34. */
+uint32_t ouriscado_split_last_chunk_for_extent(const uint64_t *fks, size_t fks_len, size_t (*chunks)[2], size_t chunks_len, size_t count, size_t *parts);
 
 /* The largest class of a slab whose blocks have at most so many bytes; the result says whether there is one. */
 bool ouriscado_largest_reloc_class_le(uint64_t bytes, uint8_t *class_);

@@ -268,17 +268,32 @@ fn classes(cases: &mut Vec<Case>) {
     }
 }
 
-/// Lists of 65,535 numbers cut into the parts of pages.
+/// Lists of 65,535 numbers cut into the parts of pages, and as one range that is split.
 fn cutting(cases: &mut Vec<Case>) {
     for (name, bits) in [("one-byte", 7), ("two-byte", 14), ("mixed", 30)] {
         let mut rng = Rng(bits as u64);
         let list = inputs::rising(&mut rng, 65_535, &mut |r| r.bits(bits));
         let theirs: Vec<Fk> = list.iter().map(|n| Fk(*n)).collect();
-        let mut ends = vec![0usize; 65_535 / 408 + 2];
+        let mut ranges = vec![[0; 2]; 65_535 / 407 + 2];
+        let (list_too, theirs_too, mut chunks) = (list.clone(), theirs.clone(), ranges.clone());
         cases.push(case(
             format!("cut 65,535, {name} differences"),
-            move || seen(sys::sh_page_chunk_ranges(&list, &mut ends, &mut 0)),
+            move || seen(sys::sh_page_chunk_ranges(&list, &mut ranges, &mut 0)),
             move || seen(pages::sh_page_chunk_ranges(&theirs)),
+        ));
+        let mut chunks_too = Vec::new();
+        cases.push(case(
+            format!("cut the last range of 65,535, {name} differences"),
+            move || {
+                chunks[0] = [0, 65_535];
+                seen(sys::split_last_chunk_for_extent(&list_too, &mut chunks, 1, &mut 0))
+            },
+            move || {
+                chunks_too.clear();
+                chunks_too.push((0, 65_535));
+                pages::split_last_chunk_for_extent(&theirs_too, &mut chunks_too);
+                black_box(&chunks_too);
+            },
         ));
     }
 }

@@ -347,18 +347,57 @@ pub fn lists_to_cut(rng: &mut Rng, round: u64, each: Each) {
         }
     }
     for _ in 0..ROUND / 16 {
-        let bits = rng.pick(&[7, 14, 21, 35, 52]);
-        let bytes = (bits as u64).div_ceil(7);
-        let pages = 1 + rng.below(3);
-        let len = pages * 4080 / bytes + rng.below(40) - 20;
-        let mut list = rising(rng, len as usize, &mut |r| (r.next() >> (64 - bits)) | 1 << (bits - 1));
-        match rng.below(4) {
-            0 => list.iter_mut().for_each(|n| *n = rng.bits(64)),
-            1 => list.sort_by_key(|n| n.rotate_left(7)),
-            _ => {}
-        }
-        for room in [pages - 1, pages, pages + 1, pages + 3, len / 408 + 2] {
+        let (list, pages) = some_pages(rng);
+        for room in [pages - 1, pages, pages + 1, pages + 3, list.len() as u64 / 407 + 2] {
             give(&list, room);
+        }
+    }
+}
+
+/// A list that takes about so many pages, up to three: rising, or in no order.
+fn some_pages(rng: &mut Rng) -> (Vec<u64>, u64) {
+    let bits = rng.pick(&[7, 14, 21, 35, 52]);
+    let bytes = (bits as u64).div_ceil(7);
+    let pages = 1 + rng.below(3);
+    let len = pages * 4080 / bytes + rng.below(40) - 20;
+    let mut list = rising(rng, len as usize, &mut |r| (r.next() >> (64 - bits)) | 1 << (bits - 1));
+    match rng.below(4) {
+        0 => list.iter_mut().for_each(|n| *n = rng.bits(64)),
+        1 => list.sort_by_key(|n| n.rotate_left(7)),
+        _ => {}
+    }
+    (list, pages)
+}
+
+/// Lists with a range of them to be split: the last of so many in a lent list of some length, the range empty, within the list or leaving it.
+pub fn lists_to_split(rng: &mut Rng, round: u64, each: Each) {
+    let mut give = |list: &[u64], numbers: [u64; 4]| each(&Input::new(&numbers, &[], list));
+    if round == 0 {
+        let list: Vec<u64> = (1..=8).map(|n| n * 100).collect();
+        for len in [0, 1, 2, 8] {
+            for start in [0, 1, 2, 7, 8, 9, u64::MAX] {
+                for end in [0, 1, 2, 7, 8, 9, u64::MAX] {
+                    (0..3).for_each(|count| (0..4).for_each(|room| give(&list[..len], [room, count, start, end])));
+                }
+            }
+        }
+        let list: Vec<u64> = (1..=8300).collect();
+        for start in [0, 1, 126, 127, 128, 200] {
+            for len in (4069..4075).chain(4086..4090).chain(8141..8147) {
+                (1..6).for_each(|room| give(&list, [room, 1 + room / 3, start, start + len]));
+            }
+        }
+    }
+    for _ in 0..ROUND / 16 {
+        let (list, pages) = some_pages(rng);
+        let len = list.len() as u64;
+        let inside = rng.below(len);
+        let start = rng.pick(&[0, 1, inside]);
+        let before_end = start + rng.below(len - start);
+        let end = rng.pick(&[len, len, len - 1, before_end, len + 1]);
+        let count = rng.below(3);
+        for room in [count, count + pages - 1, count + pages, count + pages + 2, len / 407 + 4] {
+            give(&list, [room, count, start, end]);
         }
     }
 }

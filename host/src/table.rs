@@ -211,24 +211,17 @@ pub const FUNCTIONS: &[Function] = &[
     Function {
         name: "sh_page_chunk_ranges",
         ours: |i, o| {
-            let mut ends = vec![BEFORE as usize; i.numbers[0] as usize];
+            let mut ranges = vec![[BEFORE as usize; 2]; i.numbers[0] as usize];
             let mut parts = BEFORE as usize;
-            let number = sys::sh_page_chunk_ranges(&i.list, &mut ends, &mut parts);
+            let number = sys::sh_page_chunk_ranges(&i.list, &mut ranges, &mut parts);
             o.ours(number, &[parts as u64]);
             let told = if number == 0 { parts } else { 0 };
-            assert!(ends[told..].iter().all(|e| *e == BEFORE as usize), "ends past the parts were written");
-            put_ends(ends[..told].iter().copied(), &mut o.list);
+            assert!(ranges[told..].iter().flatten().all(|n| *n == BEFORE as usize), "ranges past the parts were written");
+            put_ranges(&ranges[..told], &mut o.list);
         },
         theirs: |i, o| {
-            let fks: Vec<Fk> = i.list.iter().map(|n| Fk(*n)).collect();
-            let ranges = pages::sh_page_chunk_ranges(&fks).unwrap();
-            if i.numbers[0] < ranges.len() as u64 {
-                o.refusal = 34;
-                return;
-            }
-            o.numbers.push(ranges.len() as u64);
-            assert!(ranges.windows(2).all(|w| w[0].1 == w[1].0) && ranges.first().is_none_or(|r| r.0 == 0));
-            put_ends(ranges.iter().map(|r| r.1), &mut o.list);
+            let ranges = pages::sh_page_chunk_ranges(&fks_of(&i.list)).unwrap();
+            put_chunks(&ranges, 0, i, o);
         },
         inputs: inputs::lists_to_cut,
     },
@@ -267,6 +260,32 @@ pub const FUNCTIONS: &[Function] = &[
         theirs: |i, o| free_theirs(o, |body, heads| free_lists::carve_gap_into_freelist(body, heads, i.numbers[0], i.numbers[1])),
         inputs: inputs::gaps,
     },
+    Function {
+        name: "split_last_chunk_for_extent",
+        ours: |i, o| {
+            let before = last_of(i);
+            let (count, mut ranges) = (i.numbers[1] as usize, before.clone());
+            let mut parts = BEFORE as usize;
+            let number = sys::split_last_chunk_for_extent(&i.list, &mut ranges, count, &mut parts);
+            o.ours(number, &[parts as u64]);
+            let (first, told) = if number == 0 { (count.saturating_sub(1), parts) } else { (0, 0) };
+            assert!(ranges[..first] == before[..first] && ranges[told..] == before[told..], "ranges beside the last one's parts were written");
+            put_ranges(&ranges[first..told], &mut o.list);
+        },
+        theirs: |i, o| {
+            let (room, count, start, end) = (i.numbers[0], i.numbers[1] as usize, i.numbers[2], i.numbers[3]);
+            if room < count as u64 {
+                o.refusal = 34;
+                return;
+            }
+            let mut ranges: Vec<(usize, usize)> = last_of(i)[..count].iter().map(|r| (r[0], r[1])).collect();
+            if count == 0 || start >= end || end <= i.list.len() as u64 {
+                pages::split_last_chunk_for_extent(&fks_of(&i.list), &mut ranges);
+            }
+            put_chunks(&ranges, count.saturating_sub(1), i, o);
+        },
+        inputs: inputs::lists_to_split,
+    },
 ];
 
 /// Bytes of a body before its first block. The bytes of an input are those after them.
@@ -299,9 +318,34 @@ fn free_theirs(o: &mut Output, call: impl FnOnce(&TableFile, &mut [u64; 25]) -> 
     o.bytes.copy_from_slice(&body[FRONT..]);
 }
 
-/// Puts the ends of parts over the first numbers of the list that was cut.
-fn put_ends(ends: impl Iterator<Item = usize>, list: &mut [u64]) {
-    list.iter_mut().zip(ends).for_each(|(place, end)| *place = end as u64);
+/// Puts the numbers of ranges over the first numbers of the list that was cut, as far as it reaches.
+fn put_ranges(ranges: &[[usize; 2]], list: &mut [u64]) {
+    list.iter_mut().zip(ranges.iter().flatten()).for_each(|(place, n)| *place = *n as u64);
+}
+
+/// Their numbers of a list.
+fn fks_of(list: &[u64]) -> Vec<Fk> {
+    list.iter().map(|n| Fk(*n)).collect()
+}
+
+/// Their ranges, of which those from one on are new, where a lent list has room for so many.
+fn put_chunks(ranges: &[(usize, usize)], first: usize, i: &Input, o: &mut Output) {
+    if i.numbers[0] < ranges.len() as u64 {
+        o.refusal = 34;
+        return;
+    }
+    o.numbers.push(ranges.len() as u64);
+    let new: Vec<[usize; 2]> = ranges[first..].iter().map(|r| [r.0, r.1]).collect();
+    put_ranges(&new, &mut o.list);
+}
+
+/// A lent list of ranges, by its length, how many count, and the last of those.
+fn last_of(i: &Input) -> Vec<[usize; 2]> {
+    let mut ranges = vec![[BEFORE as usize; 2]; i.numbers[0] as usize];
+    if let Some(last) = (i.numbers[1] as usize).checked_sub(1).and_then(|k| ranges.get_mut(k)) {
+        *last = [i.numbers[2] as usize, i.numbers[3] as usize];
+    }
+    ranges
 }
 
 /// Our head word of the four numbers of a head value.

@@ -192,10 +192,21 @@ pub fn decode_slab_payload_into(buf: &[u8], out: &mut [u64]) -> Result<SlabPaylo
     answer(number, SlabPayload { used, len })
 }
 
-/// Cuts a list into the parts that pages hold: tells how many, and puts the index behind each part's last number to the start of `out`.
-pub fn sh_page_chunk_ranges(fks: &[u64], out: &mut [usize]) -> Result<usize, Refusal> {
+/// A part of a list: the index of its first number, and the one behind its last.
+pub type ChunkRange = [usize; 2];
+
+/// Cuts a list into the parts that pages hold: tells how many, and puts their ranges to the start of `out`.
+pub fn sh_page_chunk_ranges(fks: &[u64], out: &mut [ChunkRange]) -> Result<usize, Refusal> {
     let mut parts = 0;
     let number = sys::sh_page_chunk_ranges(fks, out, &mut parts);
+    answer(number, parts)
+}
+
+/// Cuts the last of the first `count` ranges of `chunks` again, into parts that fit a last page, and tells how many ranges there are then. One
+/// that is empty, or leaves `fks`, stays.
+pub fn split_last_chunk_for_extent(fks: &[u64], chunks: &mut [ChunkRange], count: usize) -> Result<usize, Refusal> {
+    let mut parts = 0;
+    let number = sys::split_last_chunk_for_extent(fks, chunks, count, &mut parts);
     answer(number, parts)
 }
 

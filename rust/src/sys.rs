@@ -9,8 +9,10 @@ pub mod raw {
         pub fn ouriscado_slab_class_for_n_fks(n: u32, class: &mut u8) -> bool;
         /// The class for one number more than n, or where there is none the class for n.
         pub fn ouriscado_slab_class_for_n_fks_with_slack(n: u32, class: &mut u8) -> bool;
-        /// Cuts fks into parts, tells how many, and puts the index behind each part's last number to the start of out. Refuses 34.
-        pub fn ouriscado_sh_page_chunk_ranges(fks: *const u64, fks_len: usize, out: *mut usize, out_len: usize, parts: &mut usize) -> u32;
+        /// Cuts fks into parts, tells how many, and puts their ranges, each from an index up to another, to the start of out. Refuses 34.
+        pub fn ouriscado_sh_page_chunk_ranges(fks: *const u64, fks_len: usize, out: *mut [usize; 2], out_len: usize, parts: &mut usize) -> u32;
+        /// Cuts the last of the first count ranges of chunks again, into parts that fit a last page, and tells how many ranges there are then. One that is empty, or leaves fks, stays. Refuses 34.
+        pub fn ouriscado_split_last_chunk_for_extent(fks: *const u64, fks_len: usize, chunks: *mut [usize; 2], chunks_len: usize, count: usize, parts: &mut usize) -> u32;
         /// The largest class of a slab whose blocks have at most so many bytes; the result says whether there is one.
         pub fn ouriscado_largest_reloc_class_le(bytes: u64, class: &mut u8) -> bool;
         /// Pushes a block onto its class's free list: its first 8 bytes name the head so far, and it becomes the head. Refuses 35.
@@ -80,10 +82,16 @@ pub fn slab_class_for_n_fks_with_slack(n: u32, class: &mut u8) -> bool {
     unsafe { raw::ouriscado_slab_class_for_n_fks_with_slack(n, class) }
 }
 
-/// Cuts fks into parts, tells how many, and puts the index behind each part's last number to the start of out. Refuses 34.
+/// Cuts fks into parts, tells how many, and puts their ranges, each from an index up to another, to the start of out. Refuses 34.
 #[inline]
-pub fn sh_page_chunk_ranges(fks: &[u64], out: &mut [usize], parts: &mut usize) -> u32 {
+pub fn sh_page_chunk_ranges(fks: &[u64], out: &mut [[usize; 2]], parts: &mut usize) -> u32 {
     unsafe { raw::ouriscado_sh_page_chunk_ranges(fks.as_ptr(), fks.len(), out.as_mut_ptr(), out.len(), parts) }
+}
+
+/// Cuts the last of the first count ranges of chunks again, into parts that fit a last page, and tells how many ranges there are then. One that is empty, or leaves fks, stays. Refuses 34.
+#[inline]
+pub fn split_last_chunk_for_extent(fks: &[u64], chunks: &mut [[usize; 2]], count: usize, parts: &mut usize) -> u32 {
+    unsafe { raw::ouriscado_split_last_chunk_for_extent(fks.as_ptr(), fks.len(), chunks.as_mut_ptr(), chunks.len(), count, parts) }
 }
 
 /// The largest class of a slab whose blocks have at most so many bytes; the result says whether there is one.

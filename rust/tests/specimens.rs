@@ -40,10 +40,14 @@ fn heads() {
 #[test]
 fn cutting() {
     let list: Vec<u64> = (1..=4088).collect();
-    let mut ends = [0; 4];
-    assert_eq!(sh_page_chunk_ranges(&list, &mut ends), Ok(2));
-    assert_eq!(ends[..2], [4072, 4088]);
-    assert_eq!(sh_page_chunk_ranges(&list[..4072], &mut ends), Ok(1));
+    let mut ranges = [[0; 2]; 4];
+    assert_eq!(sh_page_chunk_ranges(&list, &mut ranges), Ok(2));
+    assert_eq!(ranges[..2], [[0, 4072], [4072, 4088]]);
+    assert_eq!(sh_page_chunk_ranges(&list[..4072], &mut ranges), Ok(1));
+    ranges[0] = [0, 4088];
+    assert_eq!(split_last_chunk_for_extent(&list, &mut ranges[..1], 1), Err(Refusal::ListTooShort));
+    assert_eq!(split_last_chunk_for_extent(&list, &mut ranges, 1), Ok(2));
+    assert_eq!(ranges[..2], [[0, 4072], [4072, 4088]]);
 }
 
 #[test]

@@ -10,12 +10,12 @@ use lib.Seq.{take-suc-set, drop-set-lt, take-all, take-take, take-add, drop-appe
 use Rattle.buffer.specs.Bytes.{overwrite}
 
 -- writing nothing changes nothing
-pub overwrite-nil : (b : List ℕ) (o : ℕ) → overwrite b o [] ≡ b
+pub overwrite-nil : {A : Type 0} (b : List A) (o : ℕ) → overwrite b o [] ≡ b
 unfolding overwrite
 overwrite-nil b o = rw (add-zero, take-append-drop)
 
 -- a write is the write of its first element, and then of the others behind it
-pub overwrite-step : (b : List ℕ) (o x : ℕ) (xs : List ℕ) → o < length b → overwrite b o (x ∷ xs) ≡ overwrite (set b o x) (o + 1) xs
+pub overwrite-step : {A : Type 0} (b : List A) (o : ℕ) (x : A) (xs : List A) → o < length b → overwrite b o (x ∷ xs) ≡ overwrite (set b o x) (o + 1) xs
 unfolding overwrite
 overwrite-step b o x xs h =
     let place : o + 1 + length xs ≡ o + suc (length xs) = omega arith in
@@ -28,7 +28,7 @@ pub overwrite-one : (b : List ℕ) (o x : ℕ) → o < length b → overwrite b 
 overwrite-one b o x h = overwrite-step b o x [] h ∙ overwrite-nil (set b o x) (o + 1)
 
 -- a write that fits keeps the buffer's length
-pub length-overwrite : (b : List ℕ) (o : ℕ) (ys : List ℕ) → o + length ys ≤ length b → length (overwrite b o ys) ≡ length b
+pub length-overwrite : {A : Type 0} (b : List A) (o : ℕ) (ys : List A) → o + length ys ≤ length b → length (overwrite b o ys) ≡ length b
 unfolding overwrite
 length-overwrite b o ys h = simp (length-append, length-take, length-drop) (omega arith)
 

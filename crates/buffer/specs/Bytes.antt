@@ -8,5 +8,5 @@ unfoldable pub part : List ℕ → ℕ → ℕ → List ℕ
 part b o n = take n (drop o b)
 
 -- A buffer with ys written over its elements from offset o on.
-unfoldable pub overwrite : List ℕ → ℕ → List ℕ → List ℕ
+unfoldable pub overwrite : {A : Type 0} → List A → ℕ → List A → List A
 overwrite b o ys = take o b ++ (ys ++ drop (o + length ys) b)

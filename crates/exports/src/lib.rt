@@ -13,6 +13,7 @@ pub use class::ouriscado_slab_class_for_n_fks;
 pub use class::ouriscado_slab_class_for_n_fks_with_slack;
 pub use class::ouriscado_slab_class_for_packed_len;
 pub use cut::ouriscado_sh_page_chunk_ranges;
+pub use cut::ouriscado_split_last_chunk_for_extent;
 pub use free::ouriscado_carve_gap_into_freelist;
 pub use free::ouriscado_largest_reloc_class_le;
 pub use free::ouriscado_pop_free_head;

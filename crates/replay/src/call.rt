@@ -1,4 +1,5 @@
 // The exported functions by their numbers in the text, each on numbers, a buffer and a list. Out-parameters hold BEFORE before a call.
+use crate::cut;
 use crate::free;
 
 pub const BEFORE: u64 = 0x5a;
@@ -148,41 +149,6 @@ fn decode_slab_payload_into(bytes: &[u8], list: &mut [u64], told: &mut [u64; 4])
     number
 }
 
-// Cuts a list into parts, with room for so many ends.
-fn cut_into(list: &[u64], ends: &mut [usize], room: usize, parts: &mut usize) -> u32 {
-    if ends.len() < room {
-        return UNKNOWN;
-    }
-    exports::ouriscado_sh_page_chunk_ranges(list, &mut ends[0..room], parts)
-}
-
-// Puts the first ends over the first numbers of a list.
-fn put_ends(ends: &[usize], parts: usize, list: &mut [u64]) {
-    let mut k: usize = 0;
-    while k < list.len() {
-        if k >= parts {
-            return;
-        }
-        if k >= ends.len() {
-            return;
-        }
-        list[k] = ends[k] as u64;
-        k += 1;
-    }
-}
-
-// Cuts a list into parts, and puts their ends over its first numbers.
-fn sh_page_chunk_ranges(room: u64, list: &mut [u64], told: &mut [u64; 4]) -> u32 {
-    let mut ends = [0usize; 8];
-    let mut parts = BEFORE as usize;
-    let number = cut_into(list, &mut ends, room as usize, &mut parts);
-    told[0] = parts as u64;
-    if number == 0 {
-        put_ends(&ends, parts, list);
-    }
-    number
-}
-
 // Calls the function of a number, and answers its refusal's number, or 0.
 pub fn call(
     function: u64,
@@ -210,7 +176,7 @@ pub fn call(
         14 => return decode_fk_delta_stream_into(bytes, n, list, told),
         15 => return encode_slab_payload_into(bytes, list, told),
         16 => return decode_slab_payload_into(bytes, list, told),
-        17 => return sh_page_chunk_ranges(n, list, told),
+        17 | 22 => return cut::call(function, given, list, told),
         18 => choose(3, n, told),
         19 | 20 | 21 => return free::call(function, given, bytes, list, told),
         _ => return UNKNOWN,

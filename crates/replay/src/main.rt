@@ -1,6 +1,7 @@
 // Replays answers of the published source, which data/ holds, a file for each function: calls the exported function on the same input, and
 // compares what it answers and what its buffers then hold. Writes a line for each function.
 mod call;
+mod cut;
 mod free;
 mod line;
 mod same;

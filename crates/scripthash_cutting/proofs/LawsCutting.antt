@@ -2,21 +2,29 @@
 -- fewer parts. What a part leaves over of numbers that fit the large room has to fit the small one, so the rooms are near to each other: with
 -- 10 and 100 bytes, 1 to 100 would be cut into ten parts, where 1 to 90 and 91 to 100 are allowed. Assumes nothing.
 use Prim.Native.Nat.{ℕ, zero, suc, _+_, _-_, _*_, _^_, _≤_, _<_, zero-le, suc-le-suc}
+use mathlib.Core.Bool.{Bool, true, false, cond}
 use mathlib.Core.List.{List, [], _∷_, _++_, append-nil}
 use mathlib.Core.Logic.{_⊎_, inl, inr, ⊎-elim}
 use mathlib.Core.Path.{_≡_, refl, sym, ap, _∙_}
 use native.Mathlib.Nat.{le-refl, le-trans, suc-mul, mul-le-mul-right}
 use native.Mathlib.Omega.{arith}
 use borrow.Author.Tests.{eq-eqb, ne-eqb}
+use lib.Dec.{eqb}
 use lib.ListN.{length, take, drop, length-drop, length-append, take-append-drop}
 use lib.Seq.{take-length, drop-length, drop-nil, length-take-le, drop-drop, drop-append-le, drop-append-add, take-at}
 use Rattle.buffer.proofs.LawsOrder.{lt-or-ge}
 use Rattle.compact.specs.Uleb128.{ulebLen}
 use Rattle.scripthash_stream.specs.Stream.{Rising, streamLenFrom, streamLen}
-use Rattle.scripthash_cutting.specs.Cutting.{fitting, firstPart, greedyParts, greedy, recutLast, cuttingFor, joined, Fit, Allowed}
+use Rattle.scripthash_cutting.specs.Cutting.{fitting, firstPart, greedyParts, greedy, replaceLast, recutLast, cuttingFor, joined, Fit, Allowed}
 use Rattle.scripthash_cutting.specs.Steps.{nextPart}
 use Rattle.scripthash_cutting.proofs.LawsFitting.{Words, words-drop, Fitting, part-some, part-known}
 use Rattle.scripthash_cutting.proofs.LawsRising.{rising-words, rising-left, rising-right, stream-drop}
+
+-- what stands in front of others is kept when the last of them is replaced
+pub replace-behind : {A : Type 0} (f : A → List A) (x : A) (ys : List A) → 0 < length ys → replaceLast f (x ∷ ys) ≡ x ∷ replaceLast f ys
+unfolding replaceLast
+replace-behind f x [] h = absurd (omega arith)
+replace-behind f x (y ∷ ys) h = refl
 
 -- ---- the greedy cutting
 
@@ -59,18 +67,12 @@ module _ (room : ℕ) where
       let all : firstPart room (n ∷ ns) ≡ length (n ∷ ns) = omega (arith, p .longest (length (n ∷ ns)) (le-refl (length (n ∷ ns))) (rw (take-length (n ∷ ns)) e), p .within) in
       greedy-step n ns ∙ rw (all, take-length (n ∷ ns), drop-length (n ∷ ns), greedy-nil)
 
-  -- some part in front of others is kept when the last is cut again
-  recut-behind : (p : List ℕ) (ps : List (List ℕ)) → 0 < length ps → recutLast room (p ∷ ps) ≡ p ∷ recutLast room ps
-  unfolding recutLast
-  recut-behind p [] h = absurd (omega arith)
-  recut-behind p (q ∷ ps) h = refl
-
 -- ---- the cutting, part by part
 
 module _ (small large : ℕ) (ten : 10 ≤ small) (less : small ≤ large) (near : large + 9 ≤ small + small) where
   -- numbers that fit the large room together are cut for the small one
   cut-whole : (ns : List ℕ) → Words ns → streamLen ns ≤ large → cuttingFor small large ns ≡ greedy small ns
-  unfolding recutLast greedyParts
+  unfolding replaceLast greedyParts
   cut-whole [] w e = refl
   cut-whole (n ∷ ns) w e = ap (recutLast small) (greedy-one large n ns (le-trans ten less) w e)
 
@@ -108,7 +110,7 @@ module _ (small large : ℕ) (ten : 10 ≤ small) (less : small ≤ large) (near
         within = p .within;
         fits = p .fits;
         cut = ap (recutLast small) (greedy-step large n ns)
-            ∙ recut-behind small _ (greedy large (drop (firstPart large (n ∷ ns)) (n ∷ ns))) (greedy-some large (drop (firstPart large (n ∷ ns)) (n ∷ ns)) (simp length-drop (omega arith)));
+            ∙ replace-behind (greedy small) _ (greedy large (drop (firstPart large (n ∷ ns)) (n ∷ ns))) (greedy-some large (drop (firstPart large (n ∷ ns)) (n ∷ ns)) (simp length-drop (omega arith)));
         which = inl (refl, l);
       })
 
@@ -163,7 +165,7 @@ module _ (small large : ℕ) (ten : 10 ≤ small) (less : small ≤ large) (near
   cut-some (n ∷ ns) w h = rw (next-known n ns w .cut) (suc-le-suc zero-le)
 
   cut-nil : cuttingFor small large [] ≡ []
-  unfolding recutLast greedyParts
+  unfolding replaceLast greedyParts
   cut-nil = refl
 
   allowed-nil : Allowed small large [] []
@@ -279,3 +281,28 @@ module _ (small large : ℕ) (ten : 10 ≤ small) (less : small ≤ large) (near
           rw (x .cut, suc-mul (length (cuttingFor small large (drop k (n ∷ ns)))) least) (omega (arith, l .0, p .many w short, length-drop k (n ∷ ns))))
           (λ r. le-trans (mul-le-mul-right least (cut-two (n ∷ ns) w (r .0))) (omega arith))
           (x .which)
+
+-- ---- rooms that are the same
+
+-- the next part is the greedy one
+next-same : (room : ℕ) (ns : List ℕ) → nextPart room room ns ≡ firstPart room ns
+unfolding nextPart
+next-same room ns = either (eqb (firstPart room ns) (length ns))
+  where
+    either : (b : Bool) → cond b (firstPart room ns) (firstPart room ns) ≡ firstPart room ns
+    either true = refl
+    either false = refl
+
+-- and so is the cutting: its last part fits as it is
+pub cut-same : (room : ℕ) → 10 ≤ room → (ns : List ℕ) → Words ns → cuttingFor room room ns ≡ greedy room ns
+cut-same room ten =
+    by-parts room room ten (le-refl room) (omega arith) (λ ns. cuttingFor room room ns ≡ greedy room ns)
+    (cut-nil room room ten (le-refl room) (omega arith) ∙ sym (greedy-nil room)) step
+  where
+    step : (n : ℕ) (ns : List ℕ) → Words (n ∷ ns)
+        → (let behind = drop (nextPart room room (n ∷ ns)) (n ∷ ns) in cuttingFor room room behind ≡ greedy room behind)
+        → cuttingFor room room (n ∷ ns) ≡ greedy room (n ∷ ns)
+    step n ns w ih =
+        next-known room room ten (le-refl room) (omega arith) n ns w .cut
+        ∙ ap (λ (ps : List (List ℕ)). take (nextPart room room (n ∷ ns)) (n ∷ ns) ∷ ps) ih
+        ∙ ap (λ (k : ℕ). take k (n ∷ ns) ∷ greedy room (drop k (n ∷ ns))) (next-same room (n ∷ ns)) ∙ sym (greedy-step room n ns)

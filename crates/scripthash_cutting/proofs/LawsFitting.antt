@@ -22,6 +22,13 @@ Words ns = (i : ℕ) → getD ns i 0 < 2 ^ 64
 pub words-drop : (k : ℕ) (ns : List ℕ) → Words ns → Words (drop k ns)
 words-drop k ns w i = rw getD-drop (w (k + i))
 
+-- and those before one
+pub words-take : (k : ℕ) (ns : List ℕ) → Words ns → Words (take k ns)
+words-take zero ns w i = omega arith
+words-take (suc k) [] w i = omega arith
+words-take (suc k) (n ∷ ns) w zero = w 0
+words-take (suc k) (n ∷ ns) w (suc i) = words-take k ns (λ j. w (suc j)) i
+
 -- a number that fits, and one that doesn't
 pub fit-yes : (room prev n : ℕ) (ns : List ℕ) → ulebLen (n - prev) ≤ room → fitting room prev (n ∷ ns) ≡ suc (fitting (room - ulebLen (n - prev)) n ns)
 unfolding fitting

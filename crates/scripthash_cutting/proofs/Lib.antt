@@ -3,3 +3,4 @@ pub mod LawsRising
 pub mod LawsCutting
 pub mod LawsReach
 pub mod LawsPages
+pub mod LawsSplit

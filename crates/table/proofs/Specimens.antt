@@ -6,11 +6,11 @@ use Rattle.compact.specs.Uleb128.{isForm, value, formAt, overflows, readForm, r
 use Rattle.scripthash_layout.specs.Head.{packHead, unpackHead}
 use Rattle.scripthash_stream.specs.Stream.{streamFrom, storedNumber, nextNumber, scanFrom, decodeStream}
 use Rattle.scripthash_slabs.specs.Slab.{slabPayload, decodeSlab}
-use Rattle.scripthash_cutting.specs.Cutting.{fitting, firstPart, greedyParts, recutLast, endsFrom}
+use Rattle.scripthash_cutting.specs.Cutting.{fitting, firstPart, greedyParts, replaceLast, rangesFrom}
 use Rattle.table.specs.Table.{Specimens, Is, IsSlab, IsHead, inARow}
 
 pub specimens : Specimens
-unfolding refuseIf andThen part isForm value formAt overflows readForm readUleb divided shortest packHead unpackHead streamFrom storedNumber nextNumber scanFrom decodeStream slabPayload decodeSlab ulebLen fitting firstPart greedyParts recutLast endsFrom inARow
+unfolding refuseIf andThen part isForm value formAt overflows readForm readUleb divided shortest packHead unpackHead streamFrom storedNumber nextNumber scanFrom decodeStream slabPayload decodeSlab ulebLen fitting firstPart greedyParts replaceLast rangesFrom inARow
 specimens =
     record {
       S1 = (record { written = refl; read = refl }, record { written = refl; read = refl });

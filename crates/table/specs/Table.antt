@@ -10,7 +10,7 @@ use Rattle.scripthash_layout.specs.declared.head.ShHeadValue.{ShHeadValue}
 use Rattle.scripthash_layout.specs.declared.head.ShHeadValue.the-variants.{Slab}
 use Rattle.scripthash_stream.specs.Stream.{Scan, scan}
 use Rattle.scripthash_slabs.specs.Slab.{slabPayload, decodeSlab}
-use Rattle.scripthash_cutting.specs.Cutting.{cutting, endsFrom}
+use Rattle.scripthash_cutting.specs.Cutting.{cutting, rangeOf, rangesFrom}
 
 -- A number is some bytes: they are its shortest form, and they read as the number with their length.
 pub record Is (n : ℕ) (bytes : List ℕ) : Type 0 where
@@ -54,4 +54,4 @@ pub record Specimens : Type 0 where
   -- 8000000000000000 gives 29.
   pub S9 : unpackHead 9223372036854775808 ≡ refused 29
   -- 1 to 4,088 cuts after 4,072; 1 to 4,072 is one part.
-  pub S10 : (endsFrom 0 (cutting (inARow 1 4088)) ≡ 4072 ∷ 4088 ∷ []) × (cutting (inARow 1 4072) ≡ inARow 1 4072 ∷ [])
+  pub S10 : (rangesFrom 0 (cutting (inARow 1 4088)) ≡ rangeOf 0 4072 ∷ rangeOf 4072 4088 ∷ []) × (cutting (inARow 1 4072) ≡ inARow 1 4072 ∷ [])

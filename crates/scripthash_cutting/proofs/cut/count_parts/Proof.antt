@@ -6,17 +6,17 @@ use native.Mathlib.Nat.{zero-add}
 use native.Mathlib.Omega.{arith}
 use borrow.Author.Needs.{needs}
 use lib.ListN.{length, drop}
-use Rattle.scripthash_cutting.specs.Cutting.{cutting}
+use Rattle.scripthash_cutting.specs.Cutting.{lastPageRoom, cuttingFor}
 use Rattle.scripthash_cutting.proofs.LawsPages.{PartFrom, part-from, parts-behind}
 use Rattle.scripthash_cutting.proofs.cut.count_parts.Statement.{statement}
 use Rattle.scripthash_cutting.proofs.cut.count_parts.Tie as tie
 
 abbrev Inv-loop : tie.InvT-loop
-Inv-loop fks start₀ count₀ start count =
-    (count ≤ start) × (start ≤ length fks) × (count + length (cutting (drop start fks)) ≡ length (cutting fks))
+Inv-loop fks from room start₀ count₀ start count =
+    (count ≤ start) × (start ≤ length fks) × (count + length (cuttingFor lastPageRoom room (drop start fks)) ≡ length (cuttingFor lastPageRoom room (drop from fks)))
 
 abbrev μ-loop : tie.MeasureT-loop
-μ-loop fks start₀ count₀ start count = length fks - start
+μ-loop fks from room start₀ count₀ start count = length fks - start
 
 loop-holds : tie.Need-loop-holds Inv-loop μ-loop
 loop-holds c = (search needs, search needs, zero-add _)
@@ -32,9 +32,11 @@ module _ (c : tie.After-part-end Inv-loop μ-loop) where
   abbrev start : ℕ
   start = c .before .before .loop .start
 
-  found : PartFrom fks start (c .part-end .result)
+  found : PartFrom (c .before .before .before .before .args .room) fks start (c .part-end .result)
   found =
-      part-from fks start (c .part-end .result) (search needs) (λ i. omega (arith, c .before .before .before .shared-slice-known .given i)) (c .part-end .ensures)
+      let pre = c .before .before .before .before .pre in
+      part-from (c .before .before .before .before .args .room) (pre .1) (pre .2) fks start (c .part-end .result) (search needs)
+      (λ i. omega (arith, c .before .before .before .shared-slice-known .given i)) (c .part-end .ensures)
 
 add-count : tie.Need-add-count Inv-loop μ-loop
 add-count c = search needs
@@ -47,8 +49,10 @@ loop-again c = (omega (arith, found c .later), found c .within, omega (arith, fo
 
 returns : tie.Need-returns Inv-loop μ-loop
 returns c =
-    let inv : c .before .loop .count + 0 ≡ length (cutting (c .before .before .before .args .fks .now)) =
-    rw (parts-behind (c .before .before .before .args .fks .now) (c .before .loop .start) (c .loop-test .left)) at (c .before .loop .inv .2) in
+    let args = c .before .before .before .args in
+    let pre = c .before .before .before .pre in
+    let inv : c .before .loop .count + 0 ≡ length (cuttingFor lastPageRoom (args .room) (drop (args .from) (args .fks .now))) =
+    rw (parts-behind (args .room) (pre .1) (pre .2) (args .fks .now) (c .before .loop .start) (c .loop-test .left)) at (c .before .loop .inv .2) in
     omega arith
 
 pub count-parts-spec : {M : Type 1} → statement M

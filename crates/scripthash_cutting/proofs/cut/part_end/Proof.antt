@@ -5,7 +5,7 @@ use native.Mathlib.Omega.{arith}
 use lib.ListN.{getD}
 use Rattle.compact.specs.Uleb128.{ulebLen}
 use Rattle.compact.proofs.LawsLength.{len-at-most}
-use Rattle.scripthash_cutting.specs.Cutting.{pageRoom, lastPageRoom}
+use Rattle.scripthash_cutting.specs.Cutting.{lastPageRoom}
 use Rattle.scripthash_cutting.specs.Steps.{Reached}
 use Rattle.scripthash_cutting.proofs.LawsReach.{next-last, next-other}
 use borrow.Author.Needs.{needs}
@@ -42,14 +42,17 @@ module _ (c : tie.After-struct-known) where
   abbrev start : ℕ
   start = c .before .before .before .before .before .before .args .start
 
+  abbrev room : ℕ
+  room = c .before .before .before .before .before .before .args .room
+
   near : Reached fks (start + 1) (ulebLen (getD fks start 0)) lastPageRoom (c .before .before .extend-part .result .end) (c .before .before .extend-part .result .used)
   near = rw (c .before .before .before .uleb128-len .ensures) at (c .before .before .extend-part .ensures)
 
 returns : tie.Need-returns
-returns c = next-last (fks (c .before)) (start (c .before)) lastPageRoom pageRoom (search needs) (omega arith) _ _ _ _ (near (c .before)) (c .before .before .extend-part2 .ensures) (c .if1 .taken)
+returns c = next-last (fks (c .before)) (start (c .before)) lastPageRoom (room (c .before)) (search needs) (c .before .before .before .before .before .before .before .pre .1) _ _ _ _ (near (c .before)) (c .before .before .extend-part2 .ensures) (c .if1 .taken)
 
 returns-2 : tie.Need-returns-2
-returns-2 c = next-other (fks (c .before)) (start (c .before)) lastPageRoom pageRoom (search needs) (omega arith) _ _ _ _ (near (c .before)) (c .before .before .extend-part2 .ensures) (c .if1 .left)
+returns-2 c = next-other (fks (c .before)) (start (c .before)) lastPageRoom (room (c .before)) (search needs) (c .before .before .before .before .before .before .before .pre .1) _ _ _ _ (near (c .before)) (c .before .before .extend-part2 .ensures) (c .if1 .left)
 
 pub part-end-spec : {M : Type 1} → statement M
 part-end-spec =

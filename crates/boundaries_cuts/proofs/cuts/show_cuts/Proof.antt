@@ -1,14 +1,15 @@
--- `rows` is safe, and its loop ends. Assumes nothing.
+-- `show_cuts` is safe, and its loop ends. Assumes nothing.
 use Prim.Native.Nat.{_-_}
+use lib.ListN.{length}
 use borrow.Author.Needs.{needs}
-use Rattle.boundaries_cuts.proofs.cuts.rows.Statement.{statement}
-use Rattle.boundaries_cuts.proofs.cuts.rows.Tie as tie
+use Rattle.boundaries_cuts.proofs.cuts.show_cuts.Statement.{statement}
+use Rattle.boundaries_cuts.proofs.cuts.show_cuts.Tie as tie
 
 abbrev Inv-loop : tie.InvT-loop
-Inv-loop list some i₀ i = Unit
+Inv-loop list step lengths i₀ i = Unit
 
 abbrev μ-loop : tie.MeasureT-loop
-μ-loop list some i₀ i = 14 - i
+μ-loop list step lengths i₀ i = length lengths - i
 
 fill-requires : tie.Need-fill-requires Inv-loop μ-loop
 fill-requires c κs = search needs
@@ -19,8 +20,8 @@ loop-holds c = search needs
 mul-show-cut : tie.Need-mul-show-cut Inv-loop μ-loop
 mul-show-cut c = search needs
 
-array-read-show-cut : tie.Need-array-read-show-cut Inv-loop μ-loop
-array-read-show-cut c = search needs
+shared-slice-read-show-cut : tie.Need-shared-slice-read-show-cut Inv-loop μ-loop
+shared-slice-read-show-cut c = search needs
 
 show-cut-requires : tie.Need-show-cut-requires Inv-loop μ-loop
 show-cut-requires c κs = search needs
@@ -40,8 +41,8 @@ same-length c = search needs
 returns : tie.Need-returns Inv-loop μ-loop
 returns c = search needs
 
-pub rows-spec : {M : Type 1} → statement M
-rows-spec =
+pub show-cuts-spec : {M : Type 1} → statement M
+show-cuts-spec =
     tie.close
     (tie.spec
     Inv-loop
@@ -49,7 +50,7 @@ rows-spec =
     fill-requires
     loop-holds
     mul-show-cut
-    array-read-show-cut
+    shared-slice-read-show-cut
     show-cut-requires
     add-i
     loop-less
