@@ -9,7 +9,7 @@ use native.Mathlib.Omega.{arith}
 use lib.Count.{leadingZeros, leading-top}
 use lib.Dec.{leb}
 use lib.Pow.{pow-mono}
-use borrow.Author.Tests.{leb-true, eqb-true, le-leb, lt-leb, eq-eqb}
+use borrow.Author.Tests.{leb-true, eqb-true, le-leb, lt-leb, eq-eqb, ne-eqb}
 use Rattle.buffer.proofs.LawsOrder.{lt-or-ge}
 use Rattle.scripthash_layout.specs.Sizes.{slabBytes, whereBelow}
 use Rattle.scripthash_layout.proofs.LawsSizes.{where-below, size-below, size-mono}
@@ -81,6 +81,19 @@ not-holds false f = refl
 -- A block that cannot stand so fails its test.
 pub no-block : (class off end : ℕ) → (Standing class off end → ⊥) → isBlock class off end ≡ false
 no-block class off end f = not-holds (isBlock class off end) (λ e. f (block-stands class off end e))
+
+-- A slab begins at a multiple of 16.
+slab-unit : (class : ℕ) → class ≤ 7 → unitOf class ≡ 16
+slab-unit class small = rw (ne-eqb class 8 (λ z. omega arith))
+
+pub slab-aligned : (class off : ℕ) → class ≤ 7 → off % unitOf class ≡ 0 → off % 16 ≡ 0
+slab-aligned class off small e = ap (λ (unit : ℕ). off % unit) (sym (slab-unit class small)) ∙ e
+
+-- A slab at a multiple of 16 from 4,096 on, that ends at or below an end, can stand there.
+pub slab-stands : (class off end : ℕ) → class ≤ 7 → off % 16 ≡ 0 → 4096 ≤ off → off + slabBytes class ≤ end → isBlock class off end ≡ true
+slab-stands class off end small aligned begins ends =
+    let there : off % unitOf class ≡ 0 = ap (λ (unit : ℕ). off % unit) (slab-unit class small) ∙ aligned in
+    stands-block class off end (record { class-to-8 = omega arith; aligned = there; begins = begins; ends = ends })
 
 -- What is known of a gap that has bytes: its alignment, and where it begins and ends.
 pub record Gap (from to end : ℕ) : Type 0 where

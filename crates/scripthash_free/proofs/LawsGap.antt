@@ -9,10 +9,10 @@ use Prim.Native.Nat.{ℕ, zero, suc, _+_, _-_, _*_, _/_, _%_, _^_, _≤_, _<_}
 use native.Mathlib.Omega.{arith}
 use lib.Dec.{eqb}
 use lib.ListN.{length}
-use borrow.Author.Tests.{eqb-true, eqb-false, ne-eqb}
+use borrow.Author.Tests.{eqb-true, eqb-false}
 use Rattle.scripthash_layout.specs.Sizes.{slabBytes}
 use Rattle.scripthash_free.specs.FreeList.{Lists, Block, relocClass, blockThen, carve, gapBlocks, pushed, pushAll, isBlock, headOf, Names, Clear, Each, Within, IsSlab, Adjoin, stackAfter}
-use Rattle.scripthash_free.proofs.LawsBlock.{bytes-from-16, stands-block, Gap, largest-none, largest-some, largest-nothing}
+use Rattle.scripthash_free.proofs.LawsBlock.{bytes-from-16, slab-stands, Gap, largest-none, largest-some, largest-nothing}
 use Rattle.scripthash_free.proofs.LawsNames.{clear-within, length-pushed, length-pushed-heads, names-push, names-other}
 
 -- A block is found, and the others are carved behind it.
@@ -137,12 +137,6 @@ unfolding Adjoin
 adjoin-apart off b bs end a =
     subst (λ (x : ℕ). Each (Within (x + slabBytes (b .class)) end) bs) (sym (a .0)) (adjoin-within (off + slabBytes (b .class)) bs end (a .1))
 
--- A slab found at a multiple of 16 from 4,096 on, that ends at or below an end, can stand there.
-slab-found : (class off end : ℕ) → class ≤ 7 → off % 16 ≡ 0 → 4096 ≤ off → off + slabBytes class ≤ end → isBlock class off end ≡ true
-slab-found class off end small aligned begins ends =
-    let slab : eqb class 8 ≡ false = ne-eqb class 8 (λ z. omega arith) in
-    stands-block class off end (record { class-to-8 = omega arith; aligned = rw slab aligned; begins = begins; ends = ends })
-
 -- The blocks carved are slabs that can stand where they do.
 module _ (end k off n : ℕ) (aligned : off % 16 ≡ 0) (begins : 4096 ≤ off) (ends : off + n ≤ end) where
   slabs-found : (o : Option ℕ) → relocClass n ≡ o
@@ -152,7 +146,7 @@ module _ (end k off n : ℕ) (aligned : off % 16 ≡ 0) (begins : 4096 ≤ off) 
   slabs-found none e more = rw (carve-nothing (suc k) off n e) tt
   slabs-found (some class) e more =
       let f = largest-some 7 n class e in
-      rw (carve-found k off n e) ((f .0, slab-found class off end (f .0) aligned begins (omega arith)), more class (f .1))
+      rw (carve-found k off n e) ((f .0, slab-stands class off end (f .0) aligned begins (omega arith)), more class (f .1))
 
 pub carve-slabs : (end k off n : ℕ) → off % 16 ≡ 0 → 4096 ≤ off → off + n ≤ end → Each (IsSlab end) (carve k off n)
 unfolding Each carve

@@ -2,11 +2,11 @@
 // first 8 bytes. A lent body stands in for the file.
 ghost use mathlib.Core.Path.{_≡_};
 ghost use mathlib.Core.Bool.{Bool};
-ghost use Prim.Native.Nat.{_+_, _%_, _≤_, _<_, min};
-ghost use lib.Dec.{eqb};
+ghost use Prim.Native.Nat.{_+_, _≤_, _<_, min};
 ghost use lib.ListN.{length};
 ghost use Rattle.error.specs.Refusal.{answered, refusalOf};
-ghost use Rattle.scripthash_free.specs.FreeList.{Pop, lists, unitOf, isBlock, pushed, pushFree, popFree, relocClass, gapBlocks, pushAll, isGap, carveGap, after, headsAfter};
+ghost use Rattle.scripthash_layout.specs.Sizes.{maxSlabClass, pageClass};
+ghost use Rattle.scripthash_free.specs.FreeList.{Pop, lists, isBlock, pushed, pushFree, popFree, relocClass, gapBlocks, pushAll, isGap, carveGap, after, headsAfter};
 ghost use Rattle.scripthash_free.specs.Answers.{classAnswer, pushAnswer, popAnswer, done};
 use error::Refusal;
 use scripthash_layout::SH_MAX_SLAB_CLASS;
@@ -15,6 +15,8 @@ use scripthash_layout::SH_SLAB_BASE_BYTES;
 
 // Blocks stand in a body from this offset on.
 const PAYLOAD_START: u64 = 4096;
+// The bytes of a page.
+const PAGE_BYTES: u64 = 4096;
 // The bytes of the largest slab.
 const LARGEST_BYTES: u64 = 2048;
 
@@ -94,24 +96,11 @@ pub fn largest_reloc_class_le(bytes: u64) -> RelocClass
     RelocClass::Class((63 - zeros) as u8)
 }
 
-// Tells whether an offset is a multiple of 16, or of 4,096 for a page.
-fn is_aligned(class: u8, off: u64) -> bool
-    ensures { λ r. ⌜ r ≡ eqb (off % unitOf class) 0 ⌝ }
+// Tells whether a page can stand at an offset and end at or below an end.
+fn is_page(off: u64, end: u64) -> bool
+    ensures { λ r. ⌜ r ≡ isBlock pageClass off end ⌝ }
 {
-    if class == SH_PAGE_SLAB_CLASS {
-        return off % 4096 == 0;
-    }
-    off % 16 == 0
-}
-
-// Tells whether a block of a class can stand at an offset and end at or below an end.
-fn is_block(class: u8, off: u64, end: u64) -> bool
-    ensures { λ r. ⌜ r ≡ isBlock class off end ⌝ }
-{
-    if class > SH_PAGE_SLAB_CLASS {
-        return false;
-    }
-    if !is_aligned(class, off) {
+    if off % PAGE_BYTES != 0 {
         return false;
     }
     if off < PAYLOAD_START {
@@ -120,10 +109,46 @@ fn is_block(class: u8, off: u64, end: u64) -> bool
     if end < off {
         return false;
     }
+    if end - off < PAGE_BYTES {
+        return false;
+    }
+    true
+}
+
+// Tells whether a slab of a class 0 to 7 can stand at an offset and end at or below an end. Where the bytes of the largest are left, each fits.
+fn is_slab(class: u8, off: u64, end: u64) -> bool
+    requires { ⌜ class ≤ maxSlabClass ⌝ }
+    ensures { λ r. ⌜ r ≡ isBlock class off end ⌝ }
+{
+    if off % 16 != 0 {
+        return false;
+    }
+    if off < PAYLOAD_START {
+        return false;
+    }
+    if end < off {
+        return false;
+    }
+    if end - off >= LARGEST_BYTES {
+        return true;
+    }
     if end - off < scripthash_layout::slab_bytes(class) {
         return false;
     }
     true
+}
+
+// Tells whether a block of a class can stand at an offset and end at or below an end.
+fn is_block(class: u8, off: u64, end: u64) -> bool
+    ensures { λ r. ⌜ r ≡ isBlock class off end ⌝ }
+{
+    if class >= SH_PAGE_SLAB_CLASS {
+        if class == SH_PAGE_SLAB_CLASS {
+            return is_page(off, end);
+        }
+        return false;
+    }
+    is_slab(class, off, end)
 }
 
 // The lower of two offsets.
