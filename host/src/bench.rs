@@ -1,10 +1,8 @@
 //! Our speed against theirs: both sides of a case do the same work on the same inputs, in turns.
 use crate::inputs;
 use crate::rng::Rng;
-use oracle::file::TableFile;
-use oracle::{boundary, free_lists, scripthash_pages as pages, scripthash_slabs as slabs, Fk};
+use oracle::{boundary, scripthash_pages as pages, scripthash_slabs as slabs, Fk};
 use ouriscado::sys;
-use std::cell::Cell;
 use std::hint::black_box;
 use std::time::Duration;
 
@@ -300,9 +298,10 @@ fn cutting(cases: &mut Vec<Case>) {
 
 /// Gaps of up to a page carved, and blocks pushed and popped.
 fn free(cases: &mut Vec<Case>) {
+    const LEN: usize = 8192 * 66;
     let mut rng = Rng(9);
     let gaps: Vec<(u64, u64)> = (0..64).map(|k| (8192 * k + 4096 + 16 * rng.below(256), 8192 * k + 8192)).collect();
-    let (theirs, mut ours_body) = (gaps.clone(), vec![0u8; 8192 * 66]);
+    let (theirs, mut ours_body) = (gaps.clone(), vec![0u8; LEN]);
     let mut theirs_body = ours_body.clone();
     cases.push(case(
         "carve 64 gaps".into(),
@@ -311,24 +310,22 @@ fn free(cases: &mut Vec<Case>) {
             gaps.iter().for_each(|&(from, to)| seen(sys::carve_gap_into_freelist(&mut ours_body, &mut heads, from, to)));
         },
         move || {
-            let body = TableFile(Cell::from_mut(&mut theirs_body[..]).as_slice_of_cells());
-            let mut heads = [0; 25];
-            theirs.iter().for_each(|&(from, to)| seen(free_lists::carve_gap_into_freelist(&body, &mut heads, from, to)));
+            let (body, mut heads) = (theirs_body.as_mut_ptr(), [0; 25]);
+            theirs.iter().for_each(|&(from, to)| seen(unsafe { boundary::carve_gap_into_freelist(body, LEN, &mut heads, from, to) }));
         },
     ));
-    let (mut ours_body, mut theirs_body) = (vec![0u8; 8192 * 66], vec![0u8; 8192 * 66]);
+    let (mut ours_body, mut theirs_body) = (vec![0u8; LEN], vec![0u8; LEN]);
     cases.push(case(
         "push and pop 256 blocks".into(),
         move || {
             let mut heads = [0; 9];
             (0..256).for_each(|k| seen(sys::push_free_head(&mut ours_body, &mut heads, 3, 4096 + 128 * k)));
-            (0..256).for_each(|_| seen(sys::pop_free_head(&ours_body, &mut heads, 3, 8192 * 66, &mut 0)));
+            (0..256).for_each(|_| seen(sys::pop_free_head(&ours_body, &mut heads, 3, LEN as u64, &mut 0)));
         },
         move || {
-            let body = TableFile(Cell::from_mut(&mut theirs_body[..]).as_slice_of_cells());
-            let mut heads = [0; 25];
-            (0..256).for_each(|k| seen(free_lists::push_free_head(&body, &mut heads, 3, 4096 + 128 * k)));
-            (0..256).for_each(|_| seen(free_lists::pop_free_head(&body, &mut heads, 3)));
+            let (body, mut heads) = (theirs_body.as_mut_ptr(), [0; 25]);
+            (0..256).for_each(|k| seen(unsafe { boundary::push_free_head(body, LEN, &mut heads, 3, 4096 + 128 * k) }));
+            (0..256).for_each(|_| seen(unsafe { boundary::pop_free_head(body, LEN, &mut heads, 3, &mut 0) }));
         },
     ));
 }

@@ -5,7 +5,6 @@ ghost use Rattle.scripthash_free.specs.FreeList.{lists, pushFree, popFree, carv
 ghost use Rattle.scripthash_free.specs.Answers.{classAnswer, popAnswer};
 ghost use Rattle.exports.specs.Out.{told};
 ghost use Rattle.exports.specs.OutClass.{isSome, someOr};
-use scripthash_free::FreeHeads;
 use scripthash_free::PopFree;
 use scripthash_free::RelocClass;
 
@@ -61,12 +60,7 @@ pub extern "C" fn ouriscado_push_free_head(
     ensures number { λ r. ⌜ r ≡ refusalOf (pushFree class off (lists (now (body .entry)) (now (heads .entry)))) ⌝ }
     ensures lists { λ r. ⌜ lists (now (body .exit)) (now (heads .exit)) ≡ after (pushFree class off (lists (now (body .entry)) (now (heads .entry)))) (lists (now (body .entry)) (now (heads .entry))) ⌝ }
 {
-    let before = *heads;
-    let got = scripthash_free::push_free_head(body, FreeHeads { heads: before }, class, off);
-    let free = got.free;
-    let answer = got.answer;
-    let afterwards = free.heads;
-    *heads = afterwards;
+    let answer = scripthash_free::push_lent(body, heads, class, off);
     answer.refusal()
 }
 
@@ -83,12 +77,7 @@ pub extern "C" fn ouriscado_pop_free_head(
     ensures heads { λ r. ⌜ now (heads .exit) ≡ headsAfter (popFree class mark (lists (now (body .entry)) (now (heads .entry)))) (now (heads .entry)) ⌝ }
     ensures off { λ r. ⌜ now (off .exit) ≡ told (λ p. someOr (p .block) 0) (popFree class mark (lists (now (body .entry)) (now (heads .entry)))) (now (off .entry)) ⌝ }
 {
-    let before = *heads;
-    let got = scripthash_free::pop_free_head(body, FreeHeads { heads: before }, class, mark);
-    let free = got.free;
-    let answer = got.answer;
-    let afterwards = free.heads;
-    *heads = afterwards;
+    let answer = scripthash_free::pop_lent(body, heads, class, mark);
     put_block(answer, off)
 }
 
@@ -103,11 +92,6 @@ pub extern "C" fn ouriscado_carve_gap_into_freelist(
     ensures number { λ r. ⌜ r ≡ refusalOf (carveGap from to (lists (now (body .entry)) (now (heads .entry)))) ⌝ }
     ensures lists { λ r. ⌜ lists (now (body .exit)) (now (heads .exit)) ≡ after (carveGap from to (lists (now (body .entry)) (now (heads .entry)))) (lists (now (body .entry)) (now (heads .entry))) ⌝ }
 {
-    let before = *heads;
-    let got = scripthash_free::carve_gap_into_freelist(body, FreeHeads { heads: before }, from, to);
-    let free = got.free;
-    let answer = got.answer;
-    let afterwards = free.heads;
-    *heads = afterwards;
+    let answer = scripthash_free::carve_lent(body, heads, from, to);
     answer.refusal()
 }

@@ -3,11 +3,13 @@ use mathlib.Core.Path.{_≡_, refl, ap, sym, _∙_}
 use mathlib.Core.Bool.{Bool, true, false, cond, _&&_, true≢false}
 use mathlib.Core.Logic.{_⊎_, ⊎-elim}
 use mathlib.Core.Option.{Option, none, some, Option·some-injective}
-use Prim.Native.Nat.{ℕ, zero, suc, _+_, _-_, _%_, _≤_, _<_, zero-le}
-use native.Mathlib.Nat.{not-suc-le-zero}
+use Prim.Native.Nat.{ℕ, zero, suc, _+_, _-_, _/_, _%_, _^_, _≤_, _<_, zero-le}
+use native.Mathlib.Nat.{eq-or-lt-of-le, le-of-suc-le-suc, lt-of-lt-of-le, pow-suc}
 use native.Mathlib.Omega.{arith}
+use lib.Count.{leadingZeros, leading-top}
 use lib.Dec.{leb}
-use borrow.Author.Tests.{leb-true, eqb-true, le-leb, lt-leb, eq-eqb}
+use lib.Pow.{pow-mono}
+use borrow.Author.Tests.{leb-true, eqb-true, le-leb, lt-leb, eq-eqb, ne-eqb}
 use Rattle.buffer.proofs.LawsOrder.{lt-or-ge}
 use Rattle.scripthash_layout.specs.Sizes.{slabBytes, whereBelow}
 use Rattle.scripthash_layout.proofs.LawsSizes.{where-below, size-below, size-mono}
@@ -20,6 +22,10 @@ bytes-from-16 class = size-mono 4 {c = 0} {d = class} zero-le
 -- A slab has at most 2,048 bytes.
 pub bytes-to-2048 : (class : ℕ) → class ≤ 7 → slabBytes class ≤ 2048
 bytes-to-2048 class h = size-mono 4 h
+
+-- A block has twice the bytes of one of the class before.
+pub bytes-twice : (class : ℕ) → slabBytes (suc class) ≡ slabBytes class + slabBytes class
+bytes-twice class = omega (arith, pow-suc 2 class)
 
 -- The bytes of a block of class 0 to 8 fit 64 bits.
 pub bytes-fit : (class : ℕ) → class ≤ 8 → whereBelow 64 (slabBytes class) ≡ slabBytes class
@@ -76,6 +82,19 @@ not-holds false f = refl
 pub no-block : (class off end : ℕ) → (Standing class off end → ⊥) → isBlock class off end ≡ false
 no-block class off end f = not-holds (isBlock class off end) (λ e. f (block-stands class off end e))
 
+-- A slab begins at a multiple of 16.
+slab-unit : (class : ℕ) → class ≤ 7 → unitOf class ≡ 16
+slab-unit class small = rw (ne-eqb class 8 (λ z. omega arith))
+
+pub slab-aligned : (class off : ℕ) → class ≤ 7 → off % unitOf class ≡ 0 → off % 16 ≡ 0
+slab-aligned class off small e = ap (λ (unit : ℕ). off % unit) (sym (slab-unit class small)) ∙ e
+
+-- A slab at a multiple of 16 from 4,096 on, that ends at or below an end, can stand there.
+pub slab-stands : (class off end : ℕ) → class ≤ 7 → off % 16 ≡ 0 → 4096 ≤ off → off + slabBytes class ≤ end → isBlock class off end ≡ true
+slab-stands class off end small aligned begins ends =
+    let there : off % unitOf class ≡ 0 = ap (λ (unit : ℕ). off % unit) (slab-unit class small) ∙ aligned in
+    stands-block class off end (record { class-to-8 = omega arith; aligned = there; begins = begins; ends = ends })
+
 -- What is known of a gap that has bytes: its alignment, and where it begins and ends.
 pub record Gap (from to end : ℕ) : Type 0 where
   pub aligned : from % 16 ≡ 0
@@ -111,11 +130,33 @@ largest-past : (c n : ℕ) → n < slabBytes (suc c) → largestUpTo (suc c) n �
 unfolding largestUpTo
 largest-past c n h = rw (lt-leb (slabBytes (suc c)) n h)
 
-pub largest-lower : (c n : ℕ) → 0 < c → n < slabBytes c → largestUpTo c n ≡ largestUpTo (c - 1) n
-largest-lower zero n p h = absurd (not-suc-le-zero p)
-largest-lower (suc c) n p h =
-    let below : c ≡ suc c - 1 = omega arith in
-    largest-past c n h ∙ ap (λ (k : ℕ). largestUpTo k n) below
+-- The class up to d is that up to c where those of the class after c are too large.
+largest-skip : (c d n : ℕ) → c ≤ d → n < slabBytes (suc c) → largestUpTo d n ≡ largestUpTo c n
+largest-skip c zero n l h = let z : zero ≡ c = omega arith in ap (λ (k : ℕ). largestUpTo k n) z
+largest-skip c (suc d) n l h =
+    ⊎-elim (λ (z : c ≡ suc d). ap (λ (k : ℕ). largestUpTo k n) (sym z))
+    (λ (less : c < suc d). largest-past d n (lt-of-lt-of-le h (size-mono 4 less)) ∙ largest-skip c d n (le-of-suc-le-suc less) h)
+    (eq-or-lt-of-le l)
+
+-- Class c is the largest for the numbers of bytes from its own to below the next one's.
+pub largest-is : (c n : ℕ) → c ≤ 7 → slabBytes c ≤ n → n < slabBytes (suc c) → largestUpTo 7 n ≡ some c
+largest-is c n l fits h = largest-skip c 7 n l h ∙ largest-found c n fits
+
+-- From 16 bytes on, up to those of class 7, the largest class is one less than the length in bits of n / 16, which 63 - its leading
+-- zeros is.
+module _ (n : ℕ) (low : 16 ≤ n) (high : n < 2048) where
+  bits : (j : ℕ) × (leadingZeros 64 (n / 16) + suc j ≡ 64) × (2 ^ j ≤ n / 16) × (n / 16 < 2 ^ suc j)
+  bits = leading-top 64 (n / 16) (omega arith) (omega arith)
+
+  pub bits-below-64 : leadingZeros 64 (n / 16) ≤ 63
+  bits-below-64 = omega (arith, bits .1)
+
+  pub largest-bits : largestUpTo 7 n ≡ some (63 - leadingZeros 64 (n / 16))
+  largest-bits =
+      let (j, total, from, below) = bits in
+      let same : 63 - leadingZeros 64 (n / 16) ≡ j = omega arith in
+      let slab : j ≤ 7 = ⊎-elim (λ (more : 7 < j). let past : 2 ^ 8 ≤ 2 ^ j = pow-mono more in absurd (omega arith)) (λ (l : j ≤ 7). l) (lt-or-ge 7 j) in
+      rw same (largest-is j n slab (omega arith) (omega arith))
 
 -- There is none where even those of class 0 are too large.
 pub largest-none : (c n : ℕ) → n < 16 → largestUpTo c n ≡ none

@@ -1,6 +1,6 @@
 -- Laws of the blocks that a gap is carved into: one by one as they are found. By cases on the class found, and by induction on the
 -- bound of their number.
-use mathlib.Core.Path.{_≡_, refl, ap, sym, subst}
+use mathlib.Core.Path.{_≡_, refl, ap, sym, subst, _∙_}
 use mathlib.Core.Bool.{Bool, true, false, cond}
 use mathlib.Core.List.{List, [], _∷_}
 use mathlib.Core.Logic.{inl}
@@ -9,33 +9,71 @@ use Prim.Native.Nat.{ℕ, zero, suc, _+_, _-_, _*_, _/_, _%_, _^_, _≤_, _<_}
 use native.Mathlib.Omega.{arith}
 use lib.Dec.{eqb}
 use lib.ListN.{length}
-use borrow.Author.Tests.{eqb-true, eqb-false, ne-eqb}
+use borrow.Author.Tests.{eqb-true, eqb-false}
 use Rattle.scripthash_layout.specs.Sizes.{slabBytes}
 use Rattle.scripthash_free.specs.FreeList.{Lists, Block, relocClass, blockThen, carve, gapBlocks, pushed, pushAll, isBlock, headOf, Names, Clear, Each, Within, IsSlab, Adjoin, stackAfter}
-use Rattle.scripthash_free.proofs.LawsBlock.{bytes-from-16, stands-block, Gap, largest-some, largest-nothing}
+use Rattle.scripthash_free.proofs.LawsBlock.{bytes-from-16, slab-stands, Gap, largest-none, largest-some, largest-nothing}
 use Rattle.scripthash_free.proofs.LawsNames.{clear-within, length-pushed, length-pushed-heads, names-push, names-other}
 
 -- A block is found, and the others are carved behind it.
-pub carve-found : (k off n : ℕ) {class : ℕ} → relocClass n ≡ some class
+carve-found : (k off n : ℕ) {class : ℕ} → relocClass n ≡ some class
     → carve (suc k) off n ≡ record { class = class; off = off } ∷ carve k (off + slabBytes class) (n - slabBytes class)
 unfolding carve blockThen
 carve-found k off n e = rw e
 
 -- No block is found.
-pub carve-nothing : (k off n : ℕ) → relocClass n ≡ none → carve k off n ≡ []
+carve-nothing : (k off n : ℕ) → relocClass n ≡ none → carve k off n ≡ []
 unfolding carve blockThen
 carve-nothing zero off n e = refl
 carve-nothing (suc k) off n e = rw e
 
 -- Blocks pushed one after the other: the first, and then the others.
-pub push-first : (class off : ℕ) (bs : List Block) (l : Lists) → pushAll (record { class = class; off = off } ∷ bs) l ≡ pushAll bs (pushed class off l)
+push-first : (class off : ℕ) (bs : List Block) (l : Lists) → pushAll (record { class = class; off = off } ∷ bs) l ≡ pushAll bs (pushed class off l)
 unfolding pushAll
 push-first class off bs l = refl
 
 -- No blocks change nothing.
-pub push-nothing : (l : Lists) → pushAll [] l ≡ l
+push-nothing : (l : Lists) → pushAll [] l ≡ l
 unfolding pushAll
 push-nothing l = refl
+
+-- Bounds that are large enough give the same blocks, by the class found first.
+module _ (j k off n : ℕ) where
+  same-found : (o : Option ℕ) → relocClass n ≡ o → n / 16 ≤ suc j → n / 16 ≤ suc k
+      → ((class : ℕ) → (n - slabBytes class) / 16 ≤ j → (n - slabBytes class) / 16 ≤ k → carve j (off + slabBytes class) (n - slabBytes class) ≡ carve k (off + slabBytes class) (n - slabBytes class))
+      → carve (suc j) off n ≡ carve (suc k) off n
+  same-found none e hj hk more = carve-nothing (suc j) off n e ∙ sym (carve-nothing (suc k) off n e)
+  same-found (some class) e hj hk more =
+      let rest = more class (omega (arith, bytes-from-16 class)) (omega (arith, bytes-from-16 class)) in
+      carve-found j off n e ∙ ap (λ (bs : List Block). record { class = class; off = off } ∷ bs) rest ∙ sym (carve-found k off n e)
+
+-- Bounds that are large enough give the same blocks.
+carve-same : (j k off n : ℕ) → n / 16 ≤ j → n / 16 ≤ k → carve j off n ≡ carve k off n
+carve-same zero k off n hj hk =
+    let e = largest-none 7 n (omega arith) in carve-nothing zero off n e ∙ sym (carve-nothing k off n e)
+carve-same (suc j) zero off n hj hk =
+    let e = largest-none 7 n (omega arith) in carve-nothing (suc j) off n e ∙ sym (carve-nothing zero off n e)
+carve-same (suc j) (suc k) off n hj hk =
+    same-found j k off n (relocClass n) refl hj hk (λ class. carve-same j k (off + slabBytes class) (n - slabBytes class))
+
+-- The blocks of a gap, pushed: the one at its low end, and then those of what is left.
+pub gap-first : (off to class : ℕ) (l : Lists) → relocClass (to - off) ≡ some class
+    → pushAll (gapBlocks off to) l ≡ pushAll (gapBlocks (off + slabBytes class) to) (pushed class off l)
+gap-first off to class l e =
+    let f = largest-some 7 (to - off) class e in
+    let n : ℕ = to - off in
+    let one-more : n / 16 ≡ suc (n / 16 - 1) = omega (arith, bytes-from-16 class) in
+    let less : n - slabBytes class ≡ to - (off + slabBytes class) = omega arith in
+    let rest : carve (n / 16 - 1) (off + slabBytes class) (to - (off + slabBytes class)) ≡ gapBlocks (off + slabBytes class) to
+    = carve-same (n / 16 - 1) _ (off + slabBytes class) (to - (off + slabBytes class)) (omega (arith, bytes-from-16 class)) (omega arith) in
+    ap (λ (k : ℕ). pushAll (carve k off n) l) one-more ∙ ap (λ bs. pushAll bs l) (carve-found (n / 16 - 1) off n e)
+    ∙ push-first class off _ l
+    ∙ ap (λ (m : ℕ). pushAll (carve (n / 16 - 1) (off + slabBytes class) m) (pushed class off l)) less
+    ∙ ap (λ bs. pushAll bs (pushed class off l)) rest
+
+-- Where less than 16 bytes are left there are no more blocks.
+pub gap-left : (off to : ℕ) (l : Lists) → to - off < 16 → pushAll (gapBlocks off to) l ≡ l
+gap-left off to l h = ap (λ bs. pushAll bs l) (carve-nothing ((to - off) / 16) off (to - off) (largest-none 7 (to - off) h)) ∙ push-nothing l
 
 -- Blocks found in n bytes from an offset on, by the class found first.
 module _ (k off n : ℕ) where
@@ -99,12 +137,6 @@ unfolding Adjoin
 adjoin-apart off b bs end a =
     subst (λ (x : ℕ). Each (Within (x + slabBytes (b .class)) end) bs) (sym (a .0)) (adjoin-within (off + slabBytes (b .class)) bs end (a .1))
 
--- A slab found at a multiple of 16 from 4,096 on, that ends at or below an end, can stand there.
-slab-found : (class off end : ℕ) → class ≤ 7 → off % 16 ≡ 0 → 4096 ≤ off → off + slabBytes class ≤ end → isBlock class off end ≡ true
-slab-found class off end small aligned begins ends =
-    let slab : eqb class 8 ≡ false = ne-eqb class 8 (λ z. omega arith) in
-    stands-block class off end (record { class-to-8 = omega arith; aligned = rw slab aligned; begins = begins; ends = ends })
-
 -- The blocks carved are slabs that can stand where they do.
 module _ (end k off n : ℕ) (aligned : off % 16 ≡ 0) (begins : 4096 ≤ off) (ends : off + n ≤ end) where
   slabs-found : (o : Option ℕ) → relocClass n ≡ o
@@ -114,7 +146,7 @@ module _ (end k off n : ℕ) (aligned : off % 16 ≡ 0) (begins : 4096 ≤ off) 
   slabs-found none e more = rw (carve-nothing (suc k) off n e) tt
   slabs-found (some class) e more =
       let f = largest-some 7 n class e in
-      rw (carve-found k off n e) ((f .0, slab-found class off end (f .0) aligned begins (omega arith)), more class (f .1))
+      rw (carve-found k off n e) ((f .0, slab-stands class off end (f .0) aligned begins (omega arith)), more class (f .1))
 
 pub carve-slabs : (end k off n : ℕ) → off % 16 ≡ 0 → 4096 ≤ off → off + n ≤ end → Each (IsSlab end) (carve k off n)
 unfolding Each carve

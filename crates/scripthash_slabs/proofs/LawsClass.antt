@@ -207,6 +207,10 @@ pub slack-last : classWithSlack maxSlabCount ≡ some 6
 unfolding classWithSlack classFor firstClass
 slack-last = refl
 
+-- With slack, the class is that for n where no slab takes more.
+pub slack-from : (n : ℕ) → maxSlabCount ≤ n → classWithSlack n ≡ classByCount n
+slack-from n h = slack-of n none (class-above byCount (n + 1) (omega arith))
+
 -- The class with slack holds n.
 pub slack-holds : (n : ℕ) {c : ℕ} → classWithSlack n ≡ some c → n ≤ slabSlots c
 slack-holds n {c} e =

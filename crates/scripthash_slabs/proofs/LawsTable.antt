@@ -1,32 +1,25 @@
 -- A table's rule at each entry, from one test that is computed over the whole table.
-use mathlib.Core.Path.{_≡_}
+use mathlib.Core.Path.{_≡_, subst, sym}
 use mathlib.Core.Bool.{Bool, true, false, _&&_}
-use mathlib.Core.List.{List, [], _∷_}
-use Prim.Native.Nat.{ℕ, zero, suc, _+_, _<_}
-use native.Mathlib.Nat.{le-of-suc-le-suc, not-suc-le-zero}
-use native.Mathlib.Omega.{arith}
+use mathlib.Core.Logic.{⊎-elim}
+use Prim.Native.Nat.{ℕ, zero, suc, _<_}
+use native.Mathlib.Nat.{eq-or-lt-of-le, le-of-suc-le-suc, not-suc-le-zero}
 use lib.Dec.{T, eqb, eqb→eq}
-use lib.ListN.{length, getD}
 
--- Each entry of a table is what a rule gives for its place, counted from i.
-abbrev pub follows : (ℕ → ℕ) → ℕ → List ℕ → Bool
-follows rule i [] = true
-follows rule i (x ∷ xs) = eqb x (rule i) && follows rule (i + 1) xs
+-- Two rules give the same for each number below n.
+abbrev pub agree : (ℕ → ℕ) → (ℕ → ℕ) → ℕ → Bool
+agree f g zero = true
+agree f g (suc n) = eqb (f n) (g n) && agree f g n
 
 -- Both parts of a test that passes do.
 both : (a b : Bool) → T (a && b) → T a × T b
 both true b t = (tt, t)
 both false b t = absurd t
 
--- The rule at place k of a table whose places are counted from i.
-follows-at : (rule : ℕ → ℕ) (i : ℕ) (xs : List ℕ) → T (follows rule i xs) → (k : ℕ) → k < length xs → getD xs k 0 ≡ rule (i + k)
-follows-at rule i [] t k h = absurd (not-suc-le-zero h)
-follows-at rule i (x ∷ xs) t zero h =
-    let z : i + 0 ≡ i = omega arith in rw z (eqb→eq x (rule i) (both (eqb x (rule i)) (follows rule (i + 1) xs) t .0))
-follows-at rule i (x ∷ xs) t (suc k) h =
-    let z : i + suc k ≡ i + 1 + k = omega arith in
-    rw z (follows-at rule (i + 1) xs (both (eqb x (rule i)) (follows rule (i + 1) xs) t .1) k (le-of-suc-le-suc h))
-
--- A table that passes the test follows its rule at each place.
-pub entry-is : (rule : ℕ → ℕ) (xs : List ℕ) → T (follows rule 0 xs) → (k : ℕ) → k < length xs → getD xs k 0 ≡ rule k
-entry-is rule xs t k h = let z : 0 + k ≡ k = omega arith in rw z at (follows-at rule 0 xs t k h)
+-- Rules that pass the test agree at each number below n.
+pub agree-at : (f g : ℕ → ℕ) (n : ℕ) → T (agree f g n) → (k : ℕ) → k < n → f k ≡ g k
+agree-at f g zero t k h = absurd (not-suc-le-zero h)
+agree-at f g (suc n) t k h =
+    let b = both (eqb (f n) (g n)) (agree f g n) t in
+    ⊎-elim (λ (z : k ≡ n). subst (λ (j : ℕ). f j ≡ g j) (sym z) (eqb→eq (f n) (g n) (b .0)))
+    (λ (less : k < n). agree-at f g n (b .1) k less) (eq-or-lt-of-le (le-of-suc-le-suc h))

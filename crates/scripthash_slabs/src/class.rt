@@ -6,7 +6,6 @@ ghost use Rattle.scripthash_slabs.specs.Answers.{chosen};
 mod table;
 
 use scripthash_layout::SH_MAX_SLAB_BYTES;
-use table::CLASS_BY_COUNT;
 use table::NO_CLASS;
 
 // The class that was chosen, or none.
@@ -40,23 +39,23 @@ pub fn slab_class_for_n_fks(n: u32) -> SlabClass
     if n >= SH_MEGAKEY_MIN_FKS {
         return SlabClass::Nothing;
     }
-    let class = CLASS_BY_COUNT[n as usize];
+    let class = table::entry(n);
     if class == NO_CLASS {
         return SlabClass::Nothing;
     }
-    SlabClass::Class(class)
+    SlabClass::Class(class as u8)
+}
+
+// The count whose class is looked up with slack: one number more than n, and n where no slab takes more.
+fn with_spare(n: u32) -> u32
+    ensures { λ r. ⌜ classByCount r ≡ classWithSlack n ⌝ }
+{
+    if n < SH_MEGAKEY_MIN_FKS - 1 { n + 1 } else { n }
 }
 
 // The class for one number more than n, so that a slot is spare, or where there is none the class for n.
 pub fn slab_class_for_n_fks_with_slack(n: u32) -> SlabClass
     ensures { λ r. ⌜ chosen r ≡ classWithSlack n ⌝ }
 {
-    if n >= SH_MEGAKEY_MIN_FKS {
-        return SlabClass::Nothing;
-    }
-    let spare = slab_class_for_n_fks(n + 1);
-    match spare {
-        SlabClass::Class(class) => SlabClass::Class(class),
-        SlabClass::Nothing => slab_class_for_n_fks(n),
-    }
+    slab_class_for_n_fks(with_spare(n))
 }

@@ -42,8 +42,10 @@ pub mod file {
 /// Small functions of the source behind the kind of boundary that ours have: not inlined, pointers and lengths, a number for the answer.
 /// They serve the measurements alone.
 pub mod boundary {
-    use crate::scripthash_layout::{pack8 as pack, unpack8 as unpack, ShHeadValue};
-    use crate::{compact, scripthash_slabs};
+    use crate::file::TableFile;
+    use crate::scripthash_layout::{pack8 as pack, unpack8 as unpack, ShHeadValue, SH_MAX_CLASS};
+    use crate::{compact, free_lists, scripthash_slabs};
+    use std::cell::Cell;
 
     #[inline(never)]
     pub extern "C" fn uleb128_len(n: u64) -> usize {
@@ -120,5 +122,43 @@ pub mod boundary {
     #[inline(never)]
     pub extern "C" fn slab_class_for_n_fks_with_slack(n: u32, class: &mut u8) -> bool {
         put(scripthash_slabs::slab_class_for_n_fks_with_slack(n), class)
+    }
+
+    /// The free heads of the source's classes.
+    pub type FreeHeads = [u64; SH_MAX_CLASS as usize + 1];
+
+    /// A body that is lent by its pointer and length.
+    ///
+    /// # Safety
+    /// `body` points to `len` bytes.
+    unsafe fn lent<'a>(body: *mut u8, len: usize) -> TableFile<'a> {
+        TableFile(Cell::from_mut(std::slice::from_raw_parts_mut(body, len)).as_slice_of_cells())
+    }
+
+    /// # Safety
+    /// `body` points to `len` bytes.
+    #[inline(never)]
+    pub unsafe extern "C" fn push_free_head(body: *mut u8, len: usize, heads: &mut FreeHeads, class: u8, off: u64) -> u32 {
+        free_lists::push_free_head(&lent(body, len), heads, class, off).is_err() as u32
+    }
+
+    /// # Safety
+    /// `body` points to `len` bytes.
+    #[inline(never)]
+    pub unsafe extern "C" fn pop_free_head(body: *mut u8, len: usize, heads: &mut FreeHeads, class: u8, off: &mut u64) -> u32 {
+        match free_lists::pop_free_head(&lent(body, len), heads, class) {
+            Ok(block) => {
+                *off = block.unwrap_or(0);
+                0
+            }
+            Err(_) => 1,
+        }
+    }
+
+    /// # Safety
+    /// `body` points to `len` bytes.
+    #[inline(never)]
+    pub unsafe extern "C" fn carve_gap_into_freelist(body: *mut u8, len: usize, heads: &mut FreeHeads, from: u64, to: u64) -> u32 {
+        free_lists::carve_gap_into_freelist(&lent(body, len), heads, from, to).is_err() as u32
     }
 }

@@ -8,20 +8,20 @@ use borrow.Author.Needs.{needs}
 use Rattle.scripthash_free.proofs.put_free_head.Statement.{statement}
 use Rattle.scripthash_free.proofs.put_free_head.Tie as tie
 
-mul-put-u64 : tie.Need-mul-put-u64
-mul-put-u64 c = search needs
+mul-head : tie.Need-mul-head
+mul-head c = search needs
 
-element-copy-out-put-u64 : tie.Need-element-copy-out-put-u64
-element-copy-out-put-u64 c = search needs
+element-copy-out-head : tie.Need-element-copy-out-head
+element-copy-out-head c = search needs
 
 put-u64-requires : tie.Need-put-u64-requires
 put-u64-requires c κs = search needs
 
-mul-now : tie.Need-mul-now
-mul-now c = search needs
+mul-heads : tie.Need-mul-heads
+mul-heads c = search needs
 
-element-write-now : tie.Need-element-write-now
-element-write-now c = search needs
+element-write-heads : tie.Need-element-write-heads
+element-write-heads c = search needs
 
 same-length : tie.Need-same-length
 same-length c = search needs
@@ -30,16 +30,16 @@ returns : tie.Need-returns
 unfolding pushed
 returns c =
     let a = c .before .before .before .before .before .before .args in
-    ap (λ (b : List ℕ). lists b (set (a .free .heads) (a .class) (a .off))) (c .before .before .put-u64 .ensures)
+    ap (λ (b : List ℕ). lists b (set (a .heads .now) (a .class) (a .off))) (c .before .before .put-u64 .ensures)
 
 pub put-free-head-spec : {M : Type 1} → statement M
 put-free-head-spec =
     tie.close
     (tie.spec
-    mul-put-u64
-    element-copy-out-put-u64
+    mul-head
+    element-copy-out-head
     put-u64-requires
-    mul-now
-    element-write-now
+    mul-heads
+    element-write-heads
     same-length
     returns)

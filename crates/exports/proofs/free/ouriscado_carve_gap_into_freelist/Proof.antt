@@ -1,4 +1,4 @@
--- `ouriscado_carve_gap_into_freelist` hands out what `carve_gap_into_freelist` answers. Assumes nothing.
+-- `ouriscado_carve_gap_into_freelist` hands out what `carve_lent` answers. Assumes nothing.
 use mathlib.Core.Path.{_∙_, ap}
 use Rattle.error.specs.Refusal.{refusalOf}
 use Rattle.scripthash_free.specs.Answers.{done}
@@ -7,8 +7,8 @@ use borrow.Author.Needs.{needs}
 use Rattle.exports.proofs.free.ouriscado_carve_gap_into_freelist.Statement.{statement}
 use Rattle.exports.proofs.free.ouriscado_carve_gap_into_freelist.Tie as tie
 
-carve-gap-into-freelist-requires : tie.Need-carve-gap-into-freelist-requires
-carve-gap-into-freelist-requires c κs = search needs
+carve-lent-requires : tie.Need-carve-lent-requires
+carve-lent-requires c κs = search needs
 
 refusal-requires : tie.Need-refusal-requires
 refusal-requires c κs = search needs
@@ -18,8 +18,8 @@ same-length c = search needs
 
 returns : tie.Need-returns
 returns c =
-    let e = c .before .before .before .before .before .carve-gap-into-freelist .ensures in
+    let e = c .before .before .before .carve-lent .ensures in
     (c .refusal .ensures ∙ ap refusalOf (e .0) ∙ number-answered done _, e .1)
 
 pub ouriscado-carve-gap-into-freelist-spec : {M : Type 1} → statement M
-ouriscado-carve-gap-into-freelist-spec = tie.close (tie.spec carve-gap-into-freelist-requires refusal-requires same-length returns)
+ouriscado-carve-gap-into-freelist-spec = tie.close (tie.spec carve-lent-requires refusal-requires same-length returns)

@@ -1,4 +1,4 @@
--- `ouriscado_push_free_head` hands out what `push_free_head` answers. Assumes nothing.
+-- `ouriscado_push_free_head` hands out what `push_lent` answers. Assumes nothing.
 use mathlib.Core.Path.{_∙_, ap}
 use Rattle.error.specs.Refusal.{refusalOf}
 use Rattle.scripthash_free.specs.Answers.{done}
@@ -7,8 +7,8 @@ use borrow.Author.Needs.{needs}
 use Rattle.exports.proofs.free.ouriscado_push_free_head.Statement.{statement}
 use Rattle.exports.proofs.free.ouriscado_push_free_head.Tie as tie
 
-push-free-head-requires : tie.Need-push-free-head-requires
-push-free-head-requires c κs = search needs
+push-lent-requires : tie.Need-push-lent-requires
+push-lent-requires c κs = search needs
 
 refusal-requires : tie.Need-refusal-requires
 refusal-requires c κs = search needs
@@ -18,8 +18,8 @@ same-length c = search needs
 
 returns : tie.Need-returns
 returns c =
-    let e = c .before .before .before .before .before .push-free-head .ensures in
+    let e = c .before .before .before .push-lent .ensures in
     (c .refusal .ensures ∙ ap refusalOf (e .0) ∙ number-answered done _, e .1)
 
 pub ouriscado-push-free-head-spec : {M : Type 1} → statement M
-ouriscado-push-free-head-spec = tie.close (tie.spec push-free-head-requires refusal-requires same-length returns)
+ouriscado-push-free-head-spec = tie.close (tie.spec push-lent-requires refusal-requires same-length returns)

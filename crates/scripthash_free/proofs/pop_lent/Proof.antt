@@ -1,4 +1,4 @@
--- `pop_free_head` meets its contract: the class, the head and the test of its block decide. Assumes nothing.
+-- `pop_lent` meets its contract: the class, the head and the test of its block decide. Assumes nothing.
 use Prim.Native.Nat.{ℕ, min}
 use mathlib.Core.Path.{_≡_, sym, ap, _∙_}
 use native.Mathlib.Omega.{arith}
@@ -8,8 +8,8 @@ use Rattle.scripthash_free.specs.FreeList.{Pop, headOf, isBlock, lists}
 use Rattle.scripthash_free.proofs.LawsBlock.{bytes-from-16, block-stands}
 use Rattle.scripthash_free.proofs.LawsFree.{heads-accepted, heads-refused, pop-beyond, pop-none, pop-yes, pop-no}
 use borrow.Author.Needs.{needs}
-use Rattle.scripthash_free.proofs.pop_free_head.Statement.{statement}
-use Rattle.scripthash_free.proofs.pop_free_head.Tie as tie
+use Rattle.scripthash_free.proofs.pop_lent.Statement.{statement}
+use Rattle.scripthash_free.proofs.pop_lent.Tie as tie
 
 -- the head's block is tested against the lower of the mark and the body's end
 module _ (t : tie.After-is-block) where
@@ -17,7 +17,7 @@ module _ (t : tie.After-is-block) where
   args = t .before .before .before .before .before .before
 
   abbrev head : ℕ
-  head = headOf (args .args .class) (lists (args .args .body .now) (args .args .free .heads))
+  head = headOf (args .args .class) (lists (args .args .body .now) (args .args .heads .now))
 
   block-tested : isBlock (args .args .class) head (min (args .args .mark) (length (args .args .body .now))) ≡ t .is-block .result
   block-tested = ap (λ (end : ℕ). isBlock (args .args .class) head end) (sym (t .before .lower .ensures)) ∙ sym (t .is-block .ensures)
@@ -25,8 +25,8 @@ module _ (t : tie.After-is-block) where
 returns : tie.Need-returns
 returns c =
     let a = c .before .before .args in
-    let answer = pop-beyond (a .class) (a .mark) (lists (a .body .now) (a .free .heads)) (c .if1 .taken) in
-    (sym (answered-yes (λ (p : Pop). p .block) _ answer), sym (heads-accepted _ (a .free .heads) answer))
+    let answer = pop-beyond (a .class) (a .mark) (lists (a .body .now) (a .heads .now)) (c .if1 .taken) in
+    (sym (answered-yes (λ (p : Pop). p .block) _ answer), sym (heads-accepted _ (a .heads .now) answer))
 
 mul-off : tie.Need-mul-off
 mul-off c = search needs
@@ -37,8 +37,8 @@ element-copy-out-off c = search needs
 returns-2 : tie.Need-returns-2
 returns-2 c =
     let a = c .before .before .before .before .args in
-    let answer = pop-none (a .class) (a .mark) (lists (a .body .now) (a .free .heads)) (omega arith) (c .if2 .taken) in
-    (sym (answered-yes (λ (p : Pop). p .block) _ answer), sym (heads-accepted _ (a .free .heads) answer))
+    let answer = pop-none (a .class) (a .mark) (lists (a .body .now) (a .heads .now)) (omega arith) (c .if2 .taken) in
+    (sym (answered-yes (λ (p : Pop). p .block) _ answer), sym (heads-accepted _ (a .heads .now) answer))
 
 lower-requires : tie.Need-lower-requires
 lower-requires c κs = search needs
@@ -51,30 +51,30 @@ get-u64-requires c κs =
     let s = block-stands _ _ _ (block-tested (c .before) ∙ c .if3 .taken) in
     omega (arith, s .ends, bytes-from-16 (c .before .before .before .before .before .before .before .args .class))
 
-mul-now : tie.Need-mul-now
-mul-now c = search needs
+mul-heads : tie.Need-mul-heads
+mul-heads c = search needs
 
-element-write-now : tie.Need-element-write-now
-element-write-now c = search needs
+element-write-heads : tie.Need-element-write-heads
+element-write-heads c = search needs
 
 returns-3 : tie.Need-returns-3
 returns-3 c =
     let t = c .before .before in
     let a = t .before .before .before .before .before .before .args in
-    let answer = pop-yes (a .class) (a .mark) (lists (a .body .now) (a .free .heads)) (omega arith) (t .before .before .if2 .left) (block-tested t ∙ c .before .if3 .taken) in (
+    let answer = pop-yes (a .class) (a .mark) (lists (a .body .now) (a .heads .now)) (omega arith) (t .before .before .if2 .left) (block-tested t ∙ c .before .if3 .taken) in (
       sym (answered-yes (λ (p : Pop). p .block) _ answer),
-      ap (λ (next : ℕ). set (a .free .heads) (a .class) next) (c .get-u64 .ensures) ∙ sym (heads-accepted _ (a .free .heads) answer),
+      ap (λ (next : ℕ). set (a .heads .now) (a .class) next) (c .get-u64 .ensures) ∙ sym (heads-accepted _ (a .heads .now) answer),
     )
 
 returns-4 : tie.Need-returns-4
 returns-4 c =
     let t = c .before in
     let a = t .before .before .before .before .before .before .args in
-    let answer = pop-no (a .class) (a .mark) (lists (a .body .now) (a .free .heads)) (omega arith) (t .before .before .if2 .left) (block-tested t ∙ c .if3 .left) in
-    (sym (answered-no (λ (p : Pop). p .block) _ answer), sym (heads-refused _ (a .free .heads) answer))
+    let answer = pop-no (a .class) (a .mark) (lists (a .body .now) (a .heads .now)) (omega arith) (t .before .before .if2 .left) (block-tested t ∙ c .if3 .left) in
+    (sym (answered-no (λ (p : Pop). p .block) _ answer), sym (heads-refused _ (a .heads .now) answer))
 
-pub pop-free-head-spec : {M : Type 1} → statement M
-pop-free-head-spec =
+pub pop-lent-spec : {M : Type 1} → statement M
+pop-lent-spec =
     tie.close
     (tie.spec
     returns
@@ -84,7 +84,7 @@ pop-free-head-spec =
     lower-requires
     is-block-requires
     get-u64-requires
-    mul-now
-    element-write-now
+    mul-heads
+    element-write-heads
     returns-3
     returns-4)
