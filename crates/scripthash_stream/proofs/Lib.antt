@@ -1,5 +1,6 @@
 pub mod LawsScan
 pub mod LawsStream
 pub mod LawsScanEnd
+pub mod LawsSums
 pub mod LawsDecode
 pub mod LawsEncode

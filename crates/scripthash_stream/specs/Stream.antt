@@ -2,6 +2,8 @@
 use Prim.Native.Nat.{ℕ, zero, suc, _+_, _-_, _^_, _<_}
 use mathlib.Core.Bool.{Bool, cond, _&&_}
 use mathlib.Core.List.{List, [], _∷_, _++_}
+use mathlib.Core.Logic.{_⊎_}
+use mathlib.Core.Path.{_≡_}
 use lib.Dec.{leb, ltb, eqb}
 use lib.ListN.{length, drop}
 use Rattle.error.specs.Refusal.{Answer, accepted, refused, refuseIf, andThen, answered, offeredFirstZero, offeredBit63, offeredNotRising, doesNotFit, listTooShort}
@@ -106,3 +108,8 @@ decodeStream room n bs = andThen (scan n bs) (λ s. refuseIf (ltb room n) listTo
 unfoldable pub afterDecode : List ℕ → Answer Scan → List ℕ
 afterDecode out (accepted s) = overwrite out 0 (s .numbers)
 afterDecode out (refused number) = out
+
+-- A try at reading a stream into a lent list, whose answer would be `a`: it tells 0 and leaves the list, or the bytes of an accepted stream,
+-- whose numbers the list holds.
+unfoldable pub Quick : ℕ → List ℕ → List ℕ → Answer Scan → Type 0
+Quick told before after a = ((told ≡ 0) × (after ≡ before)) ⊎ ((0 < told) × (answered (λ s. s .taken) a ≡ accepted told) × (after ≡ afterDecode before a))
