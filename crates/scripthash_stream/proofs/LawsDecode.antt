@@ -3,10 +3,12 @@ use Prim.Native.Nat.{ℕ, _≤_, _<_}
 use mathlib.Core.List.{List}
 use mathlib.Core.Logic.{_⊎_, inl, inr, ⊎-elim}
 use mathlib.Core.Path.{_≡_, refl, sym, _∙_}
+use native.Mathlib.Nat.{zero-add}
 use native.Mathlib.Omega.{arith}
 use borrow.Author.Tests.{lt-ltb, le-ltb, ltb-false}
 use lib.Dec.{ltb}
-use lib.ListN.{length}
+use lib.ListN.{length, take, drop, take-append-drop}
+use lib.Seq.{length-take-le}
 use Rattle.error.specs.Refusal.{Answer, accepted, refused, answered, listTooShort}
 use Rattle.error.proofs.LawsAnswer.{went-on, passed, then-yes, then-no, refuse-yes, refuse-no, answered-yes}
 use Rattle.buffer.specs.Bytes.{overwrite}
@@ -44,6 +46,11 @@ after-refused out d e = rw e
 pub after-accepted : (out : List ℕ) (d : Answer Scan) {s : Scan} → d ≡ accepted s → afterDecode out d ≡ overwrite out 0 (s .numbers)
 unfolding afterDecode
 after-accepted out d e = rw e
+
+-- a list that changed in its first n numbers alone holds a write of them
+pub written : (out₀ out : List ℕ) (n : ℕ) → n ≤ length out → drop n out ≡ drop n out₀ → out ≡ overwrite out₀ 0 (take n out)
+unfolding overwrite
+written out₀ out n h e = rw (zero-add (length (take n out)), length-take-le n out h, ← e, take-append-drop n out)
 
 -- ---- a try
 

@@ -1,12 +1,13 @@
 // Streams of rising numbers: the first number, then the differences, each as a ULEB128 form.
 ghost use mathlib.Core.Path.{_≡_};
+ghost use mathlib.Core.Bool.{true};
 ghost use Prim.Native.Nat.{_+_, _-_, _/_, _^_, _≤_, _<_};
 ghost use mathlib.Core.List.{[], _∷_};
 ghost use lib.ListN.{length, take, drop};
 ghost use Rattle.error.specs.Refusal.{Answer, accepted, answered, refusalOf};
 ghost use Rattle.compact.specs.Uleb128.{Reading, ulebLen, shortest};
 ghost use Rattle.buffer.specs.Bytes.{overwrite};
-ghost use Rattle.scripthash_stream.specs.Stream.{Scan, End, storedNumber, nextNumber, endFrom, scan, decodeStream, afterDecode, Quick};
+ghost use Rattle.scripthash_stream.specs.Stream.{Scan, End, storedNumber, nextNumber, endFrom, scan, decodeStream, afterDecode, OneByteForms, Quick};
 ghost use Rattle.scripthash_stream.specs.Stream.{Rising, stream, streamLen, judged, encodeStream, afterEncode};
 ghost use Rattle.scripthash_stream.specs.Answers.{nextAnswer, scanAnswer, bytesAnswer};
 use compact::ReadUleb128;
@@ -270,11 +271,78 @@ fn decode_4096(buf: &[u8], n: usize, out: &mut [u64]) -> usize
     decode_through(buf, n, &mut space, out)
 }
 
+// The larger of two bytes.
+fn larger(a: u8, b: u8) -> u8
+    ensures { λ r. ⌜ (a ≤ r) × (b ≤ r) ⌝ }
+{
+    if a < b {
+        return b;
+    }
+    a
+}
+
+// The smaller of two bytes.
+fn smaller(a: u8, b: u8) -> u8
+    ensures { λ r. ⌜ (r ≤ a) × (r ≤ b) ⌝ }
+{
+    if a < b {
+        return a;
+    }
+    b
+}
+
+// Each of the first n bytes is a form by itself, and none is 0: their least and their greatest tell it, whatever comes first, so that many
+// bytes are looked at at a time.
+fn one_byte_forms(buf: &[u8], n: usize) -> bool
+    ensures { λ r. ⌜ (r ≡ true → OneByteForms (now (buf .entry)) n) ⌝ }
+{
+    if n == 0 {
+        return false;
+    }
+    if MAX_OFFERED < n {
+        return false;
+    }
+    if buf.len() < n {
+        return false;
+    }
+    let mut low: u8 = 255;
+    let mut high: u8 = 0;
+    let mut k: usize = 0;
+    while k < n {
+        let b = buf[k];
+        low = smaller(low, b);
+        high = larger(high, b);
+        k += 1;
+    }
+    if low == 0 {
+        return false;
+    }
+    high < 128
+}
+
+// Writes the sums of n forms of one byte each to the start of out, and tells their bytes.
+fn sum_bytes(buf: &[u8], n: usize, out: &mut [u64]) -> usize
+    requires { ⌜ OneByteForms (now buf) n × (n ≤ length (now out)) ⌝ }
+    ensures { λ r. ⌜ Quick r (now (out .entry)) (now (out .exit)) (decodeStream (length (now (out .entry))) n (now (buf .entry))) ⌝ }
+{
+    let mut sum: u64 = 0;
+    let mut k: usize = 0;
+    while k < n {
+        sum += wide(buf[k]);
+        out[k] = sum;
+        k += 1;
+    }
+    n
+}
+
 // Reads a stream of n numbers in one pass, where that is quicker than two: tells the bytes that they take, or 0 and leaves out.
 fn decode_quickly(buf: &[u8], n: usize, out: &mut [u64]) -> usize
     ensures { λ r. ⌜ Quick r (now (out .entry)) (now (out .exit)) (decodeStream (length (now (out .entry))) n (now (buf .entry))) ⌝ }
 {
     if n <= out.len() {
+        if one_byte_forms(buf, n) {
+            return sum_bytes(buf, n, out);
+        }
         if n <= 64 {
             return decode_64(buf, n, out);
         }
@@ -337,7 +405,7 @@ fn measure_fks(fks: &[u64]) -> StreamBytes
     StreamBytes::Bytes(len)
 }
 
-// Writes the shortest form of d at an offset of out, and tells its length. A form of one byte takes a short path.
+// Writes the shortest form of d at an offset of out, and tells its length. Forms of one byte and of two take short paths.
 fn put_form(out: &mut [u8], off: usize, d: u64) -> usize
     requires { ⌜ off + ulebLen d ≤ length (now out) ⌝ }
     ensures len { λ r. ⌜ r ≡ ulebLen d ⌝ }
@@ -346,6 +414,11 @@ fn put_form(out: &mut [u8], off: usize, d: u64) -> usize
     if d < 128 {
         out[off] = d as u8;
         return 1;
+    }
+    if d < 16384 {
+        out[off] = (d % 128) as u8 + 128;
+        out[off + 1] = (d / 128) as u8;
+        return 2;
     }
     let put = compact::write_uleb128_into(&mut out[off..], d);
     let WriteUleb128::Written(len) = put else {
