@@ -53,6 +53,9 @@ pub len-large : (n : ℕ) → 128 ≤ n → ulebLen n ≡ ulebLen (n / 128) + 1
 unfolding ulebLen
 len-large n h = divided-large (λ m. 1) (λ m rest. rest + 1) n h
 
+pub len-two : (n : ℕ) → 128 ≤ n → n < 16384 → ulebLen n ≡ 2
+len-two n h k = rw (len-large n h, len-small (n / 128) (omega arith))
+
 -- every form has a byte
 pub len-pos : (n : ℕ) → 1 ≤ ulebLen n
 len-pos = by-sevens (λ n. 1 ≤ ulebLen n) (λ n h. omega (arith, len-small n h)) (λ n h ih. omega (arith, len-large n h))
@@ -89,6 +92,9 @@ shortest-small n h = divided-small (λ m. m ∷ []) (λ m rest. (m % 128 + 128) 
 pub shortest-large : (n : ℕ) → 128 ≤ n → shortest n ≡ (n % 128 + 128) ∷ shortest (n / 128)
 unfolding shortest
 shortest-large n h = divided-large (λ m. m ∷ []) (λ m rest. (m % 128 + 128) ∷ rest) n h
+
+pub shortest-two : (n : ℕ) → 128 ≤ n → n < 16384 → shortest n ≡ (n % 128 + 128) ∷ (n / 128) ∷ []
+shortest-two n h k = rw (shortest-large n h, shortest-small (n / 128) (omega arith))
 
 -- it has the length that the divisions give
 pub length-shortest : (n : ℕ) → length (shortest n) ≡ ulebLen n

@@ -76,15 +76,10 @@ pub fn read_uleb128(buf: &[u8]) -> ReadUleb128
 {
     let mut value: u64 = 0;
     let mut i: usize = 0;
-    if 0 < buf.len() {
-        let first = buf[0];
-        value = piece_of(first);
-        if first < 128 {
-            return ReadUleb128::Value { value, len: 1 };
+    while i < 10 {
+        if buf.len() <= i {
+            return ReadUleb128::Refused(error::ULEB_CUT_SHORT);
         }
-        i = 1;
-    }
-    while i < buf.len() {
         let b = buf[i];
         if passes_64_bits(i, b) {
             return ReadUleb128::Refused(error::ULEB_OVERFLOW);
@@ -95,10 +90,14 @@ pub fn read_uleb128(buf: &[u8]) -> ReadUleb128
             return ReadUleb128::Value { value, len: i };
         }
     }
-    ReadUleb128::Refused(error::ULEB_CUT_SHORT)
+    if buf.len() == 10 {
+        return ReadUleb128::Refused(error::ULEB_CUT_SHORT);
+    }
+    ReadUleb128::Refused(error::ULEB_OVERFLOW)
 }
 
-// Writes n's shortest form to the start of dst and leaves the rest, or leaves all of dst where the form doesn't fit.
+// Writes n's shortest form to the start of dst and leaves the rest, or leaves all of dst where the form doesn't fit. Ten bytes are room for
+// any form, so that its length is found for a shorter dst alone.
 pub fn write_uleb128_into(dst: &mut [u8], n: u64) -> WriteUleb128
     ensures answer { λ r. ⌜ writeAnswer r ≡ writeUleb (length (now (dst .entry))) n ⌝ }
     ensures bytes { λ r. ⌜ now (dst .exit) ≡ afterWrite (now (dst .entry)) n ⌝ }
@@ -109,8 +108,10 @@ pub fn write_uleb128_into(dst: &mut [u8], n: u64) -> WriteUleb128
             return WriteUleb128::Written(1);
         }
     }
-    if dst.len() < uleb128_len(n) {
-        return WriteUleb128::Refused(error::DOES_NOT_FIT);
+    if dst.len() < 10 {
+        if dst.len() < uleb128_len(n) {
+            return WriteUleb128::Refused(error::DOES_NOT_FIT);
+        }
     }
     let mut rest = n;
     let mut i: usize = 0;

@@ -1,13 +1,18 @@
 -- Reading a stream into a lent list: the cases of the answer and of the list afterwards. Assumes nothing.
 use Prim.Native.Nat.{ℕ, _≤_, _<_}
 use mathlib.Core.List.{List}
-use mathlib.Core.Path.{_≡_, _∙_}
+use mathlib.Core.Logic.{_⊎_, inl, inr, ⊎-elim}
+use mathlib.Core.Path.{_≡_, refl, sym, _∙_}
+use native.Mathlib.Nat.{zero-add}
+use native.Mathlib.Omega.{arith}
 use borrow.Author.Tests.{lt-ltb, le-ltb, ltb-false}
 use lib.Dec.{ltb}
-use Rattle.error.specs.Refusal.{Answer, accepted, refused, listTooShort}
-use Rattle.error.proofs.LawsAnswer.{went-on, passed, then-yes, then-no, refuse-yes, refuse-no}
+use lib.ListN.{length, take, drop, take-append-drop}
+use lib.Seq.{length-take-le}
+use Rattle.error.specs.Refusal.{Answer, accepted, refused, answered, listTooShort}
+use Rattle.error.proofs.LawsAnswer.{went-on, passed, then-yes, then-no, refuse-yes, refuse-no, answered-yes}
 use Rattle.buffer.specs.Bytes.{overwrite}
-use Rattle.scripthash_stream.specs.Stream.{Scan, scan, decodeStream, afterDecode}
+use Rattle.scripthash_stream.specs.Stream.{Scan, scan, decodeStream, afterDecode, Quick}
 
 -- a stream that doesn't scan is refused
 pub decode-refused : (room n : ℕ) (bs : List ℕ) {number : ℕ} → scan n bs ≡ refused number → decodeStream room n bs ≡ refused number
@@ -41,3 +46,34 @@ after-refused out d e = rw e
 pub after-accepted : (out : List ℕ) (d : Answer Scan) {s : Scan} → d ≡ accepted s → afterDecode out d ≡ overwrite out 0 (s .numbers)
 unfolding afterDecode
 after-accepted out d e = rw e
+
+-- a list that changed in its first n numbers alone holds a write of them
+pub written : (out₀ out : List ℕ) (n : ℕ) → n ≤ length out → drop n out ≡ drop n out₀ → out ≡ overwrite out₀ 0 (take n out)
+unfolding overwrite
+written out₀ out n h e = rw (zero-add (length (take n out)), length-take-le n out h, ← e, take-append-drop n out)
+
+-- ---- a try
+
+-- one that does nothing
+pub quick-none : (out : List ℕ) (a : Answer Scan) → Quick 0 out out a
+unfolding Quick
+quick-none out a = inl (refl, refl)
+
+-- one that reads the whole stream
+pub quick-all : (n : ℕ) (bs out : List ℕ) (s : Scan) → scan n bs ≡ accepted s → n ≤ length out → 0 < s .taken
+    → Quick (s .taken) out (overwrite out 0 (s .numbers)) (decodeStream (length out) n bs)
+unfolding Quick
+quick-all n bs out s e h p =
+    let answer = decode-fits (length out) n bs e h in
+    inr (p, answered-yes (λ t. t .taken) _ answer, sym (after-accepted out _ answer))
+
+module _ (told : ℕ) (before after : List ℕ) (a : Answer Scan) (q : Quick told before after a) where
+  -- one that told 0 left the list
+  pub quick-left : told ≤ 0 → after ≡ before
+  unfolding Quick
+  quick-left h = ⊎-elim (λ w. w .1) (λ w. absurd (omega (arith, w .0))) q
+
+  -- one that told more is the whole reading
+  pub quick-right : 0 < told → (accepted told ≡ answered (λ s. s .taken) a) × (after ≡ afterDecode before a)
+  unfolding Quick
+  quick-right h = ⊎-elim (λ w. absurd (omega (arith, w .0))) (λ w. (sym (w .1), w .2)) q

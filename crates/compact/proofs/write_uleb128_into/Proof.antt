@@ -2,7 +2,8 @@
 -- says; i and the length of what is left are the length of the whole. Assumes nothing.
 use Prim.Native.Nat.{ℕ, _+_, _/_, _%_, _≤_, _<_}
 use mathlib.Core.List.{List}
-use mathlib.Core.Path.{_≡_, sym, ap, _∙_}
+use mathlib.Core.Logic.{⊎-elim}
+use mathlib.Core.Path.{_≡_, refl, sym, ap, _∙_}
 use native.Mathlib.Omega.{arith}
 use borrow.Author.Needs.{needs}
 use lib.ListN.{length, set, length-set}
@@ -10,7 +11,7 @@ use Rattle.error.specs.Refusal.{accepted}
 use Rattle.buffer.specs.Bytes.{overwrite}
 use Rattle.buffer.proofs.LawsBytes.{overwrite-step, overwrite-one}
 use Rattle.compact.specs.Uleb128.{ulebLen, shortest}
-use Rattle.compact.proofs.LawsLength.{len-pos, len-small, len-large, shortest-small, shortest-large}
+use Rattle.compact.proofs.LawsLength.{len-pos, len-at-most, len-small, len-large, shortest-small, shortest-large}
 use Rattle.compact.proofs.LawsWrite.{write-fits, after-fits, write-short, after-short}
 use Rattle.compact.proofs.write_uleb128_into.Statement.{statement}
 use Rattle.compact.proofs.write_uleb128_into.Tie as tie
@@ -46,13 +47,18 @@ uleb128-len-requires c κs = search needs
 
 returns-2 : tie.Need-returns-2 Inv-loop μ-loop
 returns-2 c =
-    let dst = c .before .before .before .before .args .dst .now in
-    let n = c .before .before .before .before .args .n in
+    let a = c .before .before .before .before .before .args in
+    let dst = a .dst .now in
+    let n = a .n in
     let short : length dst < ulebLen n = omega arith in
     (sym (write-short (length dst) n short), sym (after-short dst n short))
 
 loop-holds : tie.Need-loop-holds Inv-loop μ-loop
-loop-holds c = search needs
+loop-holds c =
+    let a = c .before .before .before .args in
+    let fits : ulebLen (a .n) ≤ length (a .dst .now) =
+    ⊎-elim (λ w. omega arith) (λ w. omega (arith, len-at-most (a .n) (search needs))) (c .if3 .came) in
+    (fits, refl, search needs, refl)
 
 cast-dst-2 : tie.Need-cast-dst-2 Inv-loop μ-loop
 cast-dst-2 c = search needs
@@ -95,8 +101,9 @@ same-length-2 c = search needs
 returns-3 : tie.Need-returns-3 Inv-loop μ-loop
 returns-3 c =
     let l = c .before .loop in
-    let dst = c .before .before .before .before .before .before .args .dst .now in
-    let n = c .before .before .before .before .before .before .args .n in
+    let a = c .before .before .before .before .before .args in
+    let dst = a .dst .now in
+    let n = a .n in
     let small = len-small (l .rest) (omega arith) in
     let whole : ulebLen n ≡ l .i + 1 = omega arith in (
       ap accepted (sym whole) ∙ sym (write-fits (length dst) n (l .inv .0)),

@@ -1,19 +1,19 @@
--- `put_form` meets its contract: one byte is one store, and any other form is written into the lent part from the offset on, where it fits.
--- Assumes nothing.
-use Prim.Native.Nat.{ℕ, _+_, _-_, _≤_}
-use mathlib.Core.List.{List, _++_}
+-- `put_form` meets its contract: one byte is one store, two bytes are two, and any other form is written into the lent part from the offset
+-- on, where it fits. Assumes nothing.
+use Prim.Native.Nat.{ℕ, _+_, _-_, _/_, _%_, _≤_, _<_}
+use mathlib.Core.List.{List, [], _∷_, _++_}
 use mathlib.Core.Path.{_≡_, sym, ap, _∙_}
 use native.Mathlib.Nat.{add-zero}
 use native.Mathlib.Omega.{arith}
 use borrow.Author.Needs.{needs}
-use lib.ListN.{length, take, drop, length-take, length-drop}
+use lib.ListN.{length, take, drop, set, length-set, length-take, length-drop}
 use Rattle.error.specs.Refusal.{accepted}
 use Rattle.error.proofs.LawsAnswer.{refused≢accepted, accepted-inj}
 use Rattle.buffer.specs.Bytes.{overwrite}
-use Rattle.buffer.proofs.LawsBytes.{overwrite-one, overwrite-part}
+use Rattle.buffer.proofs.LawsBytes.{overwrite-step, overwrite-one, overwrite-part}
 use Rattle.compact.specs.Uleb128.{ulebLen, shortest}
 use Rattle.compact.specs.Answers.{writeAnswer}
-use Rattle.compact.proofs.LawsLength.{len-pos, len-small, shortest-small, length-shortest}
+use Rattle.compact.proofs.LawsLength.{len-pos, len-small, len-two, shortest-small, shortest-two, length-shortest}
 use Rattle.compact.proofs.LawsWrite.{write-fits, after-fits}
 use Rattle.scripthash_stream.proofs.stream.put_form.Statement.{statement}
 use Rattle.scripthash_stream.proofs.stream.put_form.Tie as tie
@@ -21,7 +21,7 @@ use Rattle.scripthash_stream.proofs.stream.put_form.Tie as tie
 -- the form that was written into the lent part
 module _ (c : tie.After-write-uleb128-into) where
   abbrev at : tie.Start
-  at = c .before .before .before .before
+  at = c .before .before .before .before .before
 
   abbrev bytes : List ℕ
   bytes = at .args .out .now
@@ -61,6 +61,39 @@ returns c =
     let one = len-small (a .d) (omega arith) in
     (sym one, sym (ap (overwrite (a .out .now) (a .off)) (shortest-small (a .d) (omega arith)) ∙ overwrite-one (a .out .now) (a .off) (a .d) (omega arith)))
 
+cast-out-2 : tie.Need-cast-out-2
+cast-out-2 c = search needs
+
+add-out : tie.Need-add-out
+add-out c = search needs
+
+slice-write-out-2 : tie.Need-slice-write-out-2
+slice-write-out-2 c = omega (arith, len-pos (c .before .before .before .args .d))
+
+cast-out-3 : tie.Need-cast-out-3
+cast-out-3 c = search needs
+
+add-out-2 : tie.Need-add-out-2
+add-out-2 c = search needs
+
+slice-write-out-3 : tie.Need-slice-write-out-3
+slice-write-out-3 c = let a = c .before .before .before .args in simp length-set (omega (arith, len-two (a .d) (omega arith) (omega arith)))
+
+same-length-2 : tie.Need-same-length-2
+same-length-2 c = search needs
+
+returns-2 : tie.Need-returns-2
+returns-2 c =
+    let a = c .before .before .before .args in
+    let b = a .out .now in
+    let two = len-two (a .d) (omega arith) (omega arith) in
+    let inside : a .off + 1 < length (set b (a .off) (a .d % 128 + 128)) = simp length-set (omega arith) in (
+      sym two,
+      sym (ap (overwrite b (a .off)) (shortest-two (a .d) (omega arith) (omega arith))
+          ∙ overwrite-step b (a .off) (a .d % 128 + 128) ((a .d / 128) ∷ []) (omega arith)
+          ∙ overwrite-one (set b (a .off) (a .d % 128 + 128)) (a .off + 1) (a .d / 128) inside),
+    )
+
 sub-write-uleb128-into : tie.Need-sub-write-uleb128-into
 sub-write-uleb128-into c = search needs
 
@@ -79,17 +112,17 @@ enum-known-put c = search needs
 enum-told : tie.Need-enum-told
 enum-told c = search needs
 
-same-length-2 : tie.Need-same-length-2
-same-length-2 c = search needs
-
-returns-2 : tie.Need-returns-2
-returns-2 c = absurd (refused≢accepted {number = c .enum-told .given .0 .0} (sym (ap writeAnswer (c .enum-told .given .1)) ∙ answer (c .before .before .before .before)))
-
 same-length-3 : tie.Need-same-length-3
 same-length-3 c = search needs
 
 returns-3 : tie.Need-returns-3
-returns-3 c = (accepted-inj (sym (ap writeAnswer (c .before .put .given .1)) ∙ answer (c .before .before .before .before .before)), written (c .before .before .before .before .before))
+returns-3 c = absurd (refused≢accepted {number = c .enum-told .given .0 .0} (sym (ap writeAnswer (c .enum-told .given .1)) ∙ answer (c .before .before .before .before)))
+
+same-length-4 : tie.Need-same-length-4
+same-length-4 c = search needs
+
+returns-4 : tie.Need-returns-4
+returns-4 c = (accepted-inj (sym (ap writeAnswer (c .before .put .given .1)) ∙ answer (c .before .before .before .before .before)), written (c .before .before .before .before .before))
 
 pub put-form-spec : {M : Type 1} → statement M
 put-form-spec =
@@ -99,13 +132,21 @@ put-form-spec =
     slice-write-out
     same-length
     returns
+    cast-out-2
+    add-out
+    slice-write-out-2
+    cast-out-3
+    add-out-2
+    slice-write-out-3
+    same-length-2
+    returns-2
     sub-write-uleb128-into
     part-write-uleb128-into-start
     part-write-uleb128-into-end
     write-uleb128-into-requires
     enum-known-put
     enum-told
-    same-length-2
-    returns-2
     same-length-3
-    returns-3)
+    returns-3
+    same-length-4
+    returns-4)

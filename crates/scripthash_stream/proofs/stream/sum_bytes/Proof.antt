@@ -1,0 +1,110 @@
+-- `sum_bytes` meets its contract. Invariant: `Summed` of `LawsSums`, between two forms, and the list from k on is as it was. Assumes nothing.
+use Prim.Native.Nat.{ℕ, _+_, _-_, _*_, _%_, _^_, _≤_, _<_}
+use mathlib.Core.List.{List}
+use mathlib.Core.Path.{_≡_, refl, sym, ap, _∙_}
+use native.Mathlib.Omega.{arith}
+use borrow.Author.Needs.{needs}
+use lib.ListN.{length, take, drop, getD, set, length-set}
+use lib.Seq.{drop-set-lt, drop-drop}
+use Rattle.scripthash_stream.specs.Stream.{OneByteForms}
+use Rattle.scripthash_stream.proofs.LawsDecode.{quick-all, written}
+use Rattle.scripthash_stream.proofs.LawsSums.{Summed, summed-start, summed-end, summed-turn}
+use Rattle.scripthash_stream.proofs.stream.sum_bytes.Statement.{statement}
+use Rattle.scripthash_stream.proofs.stream.sum_bytes.Tie as tie
+
+abbrev Inv-loop : tie.InvT-loop
+Inv-loop buf n out₀ sum₀ k₀ out sum k =
+    (k ≤ n) × OneByteForms buf n × (n ≤ length out₀) × (length out ≡ length out₀) × (sum ≤ 127 * k) × (drop k out ≡ drop k out₀) × Summed buf n out sum 0 k k
+
+abbrev μ-loop : tie.MeasureT-loop
+μ-loop buf n out₀ sum₀ k₀ out sum k = n - k
+
+-- the byte that is next, and its sum
+module _ (c : tie.After-wide Inv-loop μ-loop) where
+  abbrev loc : tie.At-loop Inv-loop μ-loop
+  loc = c .before .before .before
+
+  abbrev args : tie.Start Inv-loop μ-loop
+  args = loc .before .before .before
+
+  abbrev byte : ℕ
+  byte = getD (args .args .buf .now) (loc .loop .k) 0
+
+  small : (0 < byte) × (byte < 128)
+  small = loc .loop .inv .1 .each (loc .loop .k) (omega arith)
+
+  most : loc .loop .sum + c .wide .result ≤ 127 * (loc .loop .k + 1)
+  most = let s = small in omega (arith, c .wide .ensures)
+
+loop-holds : tie.Need-loop-holds Inv-loop μ-loop
+loop-holds c =
+    let a = c .before .before .args in
+    (search needs, search needs, search needs, refl, search needs, refl, summed-start (a .buf .now) (a .n) (a .out .now))
+
+shared-slice-read-wide : tie.Need-shared-slice-read-wide Inv-loop μ-loop
+shared-slice-read-wide c = omega (arith, c .before .before .loop .inv .1 .within)
+
+wide-requires : tie.Need-wide-requires Inv-loop μ-loop
+wide-requires c κs = search needs
+
+add-sum : tie.Need-add-sum Inv-loop μ-loop
+add-sum c = omega (arith, most c, loc c .loop .inv .1 .few)
+
+mul-out : tie.Need-mul-out Inv-loop μ-loop
+mul-out c = search needs
+
+slice-write-out : tie.Need-slice-write-out Inv-loop μ-loop
+slice-write-out c = search needs
+
+add-k : tie.Need-add-k Inv-loop μ-loop
+add-k c = search needs
+
+loop-less : tie.Need-loop-less Inv-loop μ-loop
+loop-less c = search needs
+
+loop-again : tie.Need-loop-again Inv-loop μ-loop
+loop-again c =
+    let l = loc c .loop in
+    let a = args c .args in
+    let s = small c in
+    let x = l .sum + c .wide .result in
+    let is : x ≡ l .sum + byte c % 128 * 2 ^ 0 % 2 ^ 64 = omega (arith, c .wide .ensures) in (
+      search needs,
+      l .inv .1,
+      l .inv .2,
+      simp length-set (l .inv .3),
+      most c,
+      drop-set-lt (l .k + 1) (l .out) (l .k) x (omega arith) ∙ sym (drop-drop 1 (l .k) (l .out)) ∙ ap (drop 1) (l .inv .5) ∙ drop-drop 1 (l .k) (a .out .now),
+      summed-turn (a .buf .now) (a .n) (l .out) (l .sum) 0 (l .k) (l .k) (l .inv .6) (omega (arith, l .inv .1 .within)) (omega arith) x 0 is (omega arith) (omega arith) (s .0)
+          (omega (arith, most c, l .inv .1 .few)) (omega arith) (omega arith),
+    )
+
+same-length : tie.Need-same-length Inv-loop μ-loop
+same-length c = search needs
+
+returns : tie.Need-returns Inv-loop μ-loop
+returns c =
+    let l = c .before .loop in
+    let a = c .before .before .before .before .args in
+    let done : l .k ≡ a .n = omega arith in
+    let scans = rw done at (summed-end (a .buf .now) (a .n) (l .out) (l .sum) 0 (l .k) (l .k) (l .inv .6) (omega arith)) in
+    rw (written (a .out .now) (l .out) (a .n) (omega arith) (rw done at (l .inv .5)))
+    (quick-all (a .n) (a .buf .now) (a .out .now) _ scans (omega arith) (l .inv .1 .some))
+
+pub sum-bytes-spec : {M : Type 1} → statement M
+sum-bytes-spec =
+    tie.close
+    (tie.spec
+    Inv-loop
+    μ-loop
+    loop-holds
+    shared-slice-read-wide
+    wide-requires
+    add-sum
+    mul-out
+    slice-write-out
+    add-k
+    loop-less
+    loop-again
+    same-length
+    returns)
