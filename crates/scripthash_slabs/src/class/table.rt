@@ -50,7 +50,9 @@ fn word(i: u32) -> u64
         13 => CLASS_BY_COUNT[13],
         14 => CLASS_BY_COUNT[14],
         15 => CLASS_BY_COUNT[15],
-        _ => CLASS_BY_COUNT[16],
+        16 => CLASS_BY_COUNT[16],
+        // The table has no more words.
+        _ => 0,
     }
 }
 

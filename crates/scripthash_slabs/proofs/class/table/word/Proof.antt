@@ -3,7 +3,7 @@
 use Prim.Native.Nat.{ℕ, zero, suc, _+_, _*_, _/_, _%_, _^_, _≤_, _<_, zero-le}
 use mathlib.Core.List.{List, [], _∷_, _++_}
 use mathlib.Core.Path.{_≡_, sym, ap, _∙_}
-use native.Mathlib.Nat.{le-antisymm}
+use native.Mathlib.Nat.{le-trans, lt-irrefl}
 use native.Mathlib.Numerals.{lt-of-le-of-ne}
 use native.Mathlib.Omega.{arith}
 use lib.Dec.{lit≤}
@@ -164,7 +164,10 @@ returns-16 c = entries 15 (c .match .keys16) (lit≤ tt)
 
 returns-17 : tie.Need-returns-17
 unfolding words
-returns-17 c = entries 16 (le-antisymm (c .before .pre) (from-other 16 (c .match .rest))) (lit≤ tt)
+returns-17 c = entries 16 (c .match .keys17) (lit≤ tt)
+
+returns-18 : tie.Need-returns-18
+returns-18 c = let more : 17 ≤ c .before .args .i = from-other 17 (c .match .rest) in absurd (lt-irrefl 16 (le-trans more (c .before .pre)))
 
 pub word-spec : {M : Type 1} → statement M
 word-spec =
@@ -203,4 +206,5 @@ word-spec =
     returns-14
     returns-15
     returns-16
-    returns-17)
+    returns-17
+    returns-18)
