@@ -2,7 +2,7 @@
 use crate::case::{Input, Output, BEFORE};
 use crate::compare::known;
 use crate::rng::Rng;
-use crate::table::{Function, FUNCTIONS};
+use crate::table::{functions, Function};
 use std::fmt::Write;
 
 /// The most answers of a function.
@@ -89,7 +89,7 @@ fn lines(place: usize, function: &Function) -> Vec<String> {
 
 /// Writes a file for each function to a folder, with its number as the name: its lines, and after them one with its name.
 pub fn answers(folder: &str) {
-    for (place, function) in FUNCTIONS.iter().enumerate() {
+    for (place, function) in functions().enumerate() {
         let text = lines(place, function).join("\n");
         let path = format!("{folder}/{place:02}");
         std::fs::write(&path, format!("{text}\n={}\n", function.name)).unwrap_or_else(|e| panic!("{path}: {e}"));
