@@ -198,6 +198,12 @@ uint32_t ouriscado_sh_page_require_delta(const uint8_t *page, size_t page_len);
 /* Makes a page empty: version 1, LAST with first offset 0, every other byte 0. Refuses 4. */
 uint32_t ouriscado_sh_page_init_empty(uint8_t *page, size_t page_len);
 
+/* Makes a page of version 1 of a rising list, with a next page, or LAST with first offset 0 where next is 0. Refuses 4 to 6, 10, 12, 13, 32, 33. */
+uint32_t ouriscado_sh_page_pack_fks(uint8_t *page, size_t page_len, const uint64_t *fks, size_t fks_len, uint64_t next);
+
+/* Makes a page of version 2 of a rising list, which names an extent, with a next page, or LAST with the extent's base where next is 0. Refuses 4 to 6, 8 to 10, 12, 13, 32, 33. */
+uint32_t ouriscado_sh_page_pack_extent_last_fks(uint8_t *page, size_t page_len, const uint64_t *fks, size_t fks_len, uint64_t base, uint32_t n, uint64_t next);
+
 /* How many numbers a slab of a class has slots for, or 0 where that passes 32 bits. */
 uint32_t ouriscado_slab_cap(uint8_t class_);
 

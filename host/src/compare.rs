@@ -91,7 +91,7 @@ fn compare_round(run: &Run, function: &Function, round: u64, found: &mut Found) 
 /// Tells whether no difference was found that isn't listed.
 pub fn compare(run: &Run) -> bool {
     let chosen: Vec<&Function> = functions().filter(|f| run.only.as_deref().is_none_or(|n| n == f.name)).collect();
-    let share = Duration::from_secs(60) / chosen.len().max(1) as u32;
+    let share = Duration::from_secs(100) / chosen.len().max(1) as u32;
     let mut all: Vec<Found> = chosen.iter().map(|_| Found::default()).collect();
     let mut first = 0;
     println!("seed {}", run.seed);

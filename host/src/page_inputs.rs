@@ -298,8 +298,8 @@ fn count_of(page: &[u8]) -> usize {
 pub fn pages_and_room(rng: &mut Rng, round: u64, each: Each) {
     pages(rng, round, &mut |input| {
         let n = count_of(&input.bytes).min(PAGE);
-        let rooms = [n, n.saturating_sub(1), n + 1, 0];
-        rooms.iter().take(if n > 500 { 2 } else { 4 }).for_each(|&room| each(&Input::new(&[], &input.bytes, &vec![FILL_NUMBER; room])));
+        let rooms = [n, 0, n.saturating_sub(1), n + 1];
+        rooms.iter().take(if n > 500 { 3 } else { 4 }).for_each(|&room| each(&Input::new(&[], &input.bytes, &vec![FILL_NUMBER; room])));
     });
 }
 
@@ -388,6 +388,45 @@ pub fn pages_and_list(rng: &mut Rng, round: u64, each: Each) {
             give(&page, &long);
         }
     }
+}
+
+/// The offset of a page: most are such that a link can name them, or 0.
+fn page_offset(rng: &mut Rng) -> u64 {
+    match rng.below(16) {
+        0 => number(rng),
+        1 => 4096 * rng.bits(41),
+        k => 4096 * rng.pick(&[0, 1, k, (1 << 39) - 1]),
+    }
+}
+
+/// Pages and lists as above, each with numbers that are drawn; and each of some numbers with lists that are good and bad.
+fn lists_with(rng: &mut Rng, round: u64, each: Each, short: &[Vec<u64>], draw: fn(&mut Rng) -> Vec<u64>) {
+    if round == 0 {
+        let long: Vec<u64> = (1..=65_536).collect();
+        let lists = [&[][..], &[7, 9], &[9, 9], &[0], &long[..4073]];
+        short.iter().for_each(|n| lists.iter().for_each(|fks| each(&Input::new(n, &[0xa5; PAGE], fks))));
+        short.iter().step_by(5).for_each(|n| each(&Input::new(n, &[0xa5; PAGE], &long)));
+    }
+    let mut drawn = Rng(rng.next());
+    pages_and_list(rng, round, &mut |input| each(&Input::new(&draw(&mut drawn), &input.bytes, &input.list)));
+}
+
+/// Pages, lists, and the offset of a next page.
+pub fn lists_and_next(rng: &mut Rng, round: u64, each: Each) {
+    let short: Vec<Vec<u64>> = page_offsets().iter().map(|&next| vec![next]).collect();
+    lists_with(rng, round, each, &short, |rng| vec![page_offset(rng)]);
+}
+
+/// Pages, lists, the offset of a next page, and an extent's base and count.
+pub fn lists_and_extent(rng: &mut Rng, round: u64, each: Each) {
+    let mut short = Vec::new();
+    for base in page_offsets() {
+        [0, 1, u32::MAX as u64].iter().for_each(|&n| [0, 1, 4096, 1 << 51].iter().for_each(|&next| short.push(vec![next, base, n])));
+    }
+    lists_with(rng, round, each, &short, |rng| {
+        let (next, base, n) = (page_offset(rng), page_offset(rng), rng.bits(32));
+        vec![next, rng.pick(&[base, base, 4096]), n.max(rng.below(20).min(1))]
+    });
 }
 
 /// A page of anything behind a random header.

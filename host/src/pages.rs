@@ -197,6 +197,28 @@ pub const FUNCTIONS: &[Function] = &[
         },
         inputs: inputs::pages_and_list,
     },
+    Function {
+        name: "sh_page_pack_fks",
+        ours: |i, o| o.refusal = sys::sh_page_pack_fks(&mut o.bytes, &i.list, i.numbers[0]),
+        theirs: |i, o| {
+            change_theirs(o, Side::Offered, |page| pages::sh_page_pack_fks(page, &i.list, i.numbers[0]).map(|()| []));
+            count_refused(i, o);
+        },
+        inputs: inputs::lists_and_next,
+    },
+    Function {
+        name: "sh_page_pack_extent_last_fks",
+        ours: |i, o| {
+            let n = &i.numbers;
+            o.refusal = sys::sh_page_pack_extent_last_fks(&mut o.bytes, &i.list, n[1], n[2] as u32, n[0]);
+        },
+        theirs: |i, o| {
+            let n = &i.numbers;
+            change_theirs(o, Side::Offered, |page| pages::sh_page_pack_extent_last_fks(page, &i.list, n[1], n[2] as u32, n[0]).map(|()| []));
+            count_refused(i, o);
+        },
+        inputs: inputs::lists_and_extent,
+    },
 ];
 
 /// A number that a call of ours hands out.

@@ -177,3 +177,13 @@ pub fn sh_page_try_append(page: &mut [u8], fk: u64) -> Result<bool, Refusal> {
 pub fn sh_page_write_stream(page: &mut [u8], fks: &[u64]) -> Result<usize, Refusal> {
     handed(|len| sys::sh_page_write_stream(page, fks, len))
 }
+
+/// Makes a page of version 1 of a rising list, with a next page's offset; 0 makes it the last.
+pub fn sh_page_pack_fks(page: &mut [u8], fks: &[u64], next_off: u64) -> Result<(), Refusal> {
+    answer(sys::sh_page_pack_fks(page, fks, next_off), ())
+}
+
+/// Makes a page of version 2 of a rising list, which names an extent, with a next page's offset; 0 makes it the last.
+pub fn sh_page_pack_extent_last_fks(page: &mut [u8], fks: &[u64], extent: Extent, next_off: u64) -> Result<(), Refusal> {
+    answer(sys::sh_page_pack_extent_last_fks(page, fks, extent.base, extent.n, next_off), ())
+}

@@ -85,6 +85,10 @@ pub mod raw {
         pub fn ouriscado_sh_page_require_delta(page: *const u8, page_len: usize) -> u32;
         /// Makes a page empty: version 1, LAST with first offset 0, every other byte 0. Refuses 4.
         pub fn ouriscado_sh_page_init_empty(page: *mut u8, page_len: usize) -> u32;
+        /// Makes a page of version 1 of a rising list, with a next page, or LAST with first offset 0 where next is 0. Refuses 4 to 6, 10, 12, 13, 32, 33.
+        pub fn ouriscado_sh_page_pack_fks(page: *mut u8, page_len: usize, fks: *const u64, fks_len: usize, next: u64) -> u32;
+        /// Makes a page of version 2 of a rising list, which names an extent, with a next page, or LAST with the extent's base where next is 0. Refuses 4 to 6, 8 to 10, 12, 13, 32, 33.
+        pub fn ouriscado_sh_page_pack_extent_last_fks(page: *mut u8, page_len: usize, fks: *const u64, fks_len: usize, base: u64, n: u32, next: u64) -> u32;
         /// How many numbers a slab of a class has slots for, or 0 where that passes 32 bits.
         pub fn ouriscado_slab_cap(class: u8) -> u32;
         /// How many bytes a block of a class has, or 0 where that passes 64 bits.
@@ -352,6 +356,18 @@ pub fn sh_page_require_delta(page: &[u8]) -> u32 {
 #[inline]
 pub fn sh_page_init_empty(page: &mut [u8]) -> u32 {
     unsafe { raw::ouriscado_sh_page_init_empty(page.as_mut_ptr(), page.len()) }
+}
+
+/// Makes a page of version 1 of a rising list, with a next page, or LAST with first offset 0 where next is 0. Refuses 4 to 6, 10, 12, 13, 32, 33.
+#[inline]
+pub fn sh_page_pack_fks(page: &mut [u8], fks: &[u64], next: u64) -> u32 {
+    unsafe { raw::ouriscado_sh_page_pack_fks(page.as_mut_ptr(), page.len(), fks.as_ptr(), fks.len(), next) }
+}
+
+/// Makes a page of version 2 of a rising list, which names an extent, with a next page, or LAST with the extent's base where next is 0. Refuses 4 to 6, 8 to 10, 12, 13, 32, 33.
+#[inline]
+pub fn sh_page_pack_extent_last_fks(page: &mut [u8], fks: &[u64], base: u64, n: u32, next: u64) -> u32 {
+    unsafe { raw::ouriscado_sh_page_pack_extent_last_fks(page.as_mut_ptr(), page.len(), fks.as_ptr(), fks.len(), base, n, next) }
 }
 
 /// How many numbers a slab of a class has slots for, or 0 where that passes 32 bits.

@@ -84,6 +84,22 @@ fn page_entries() {
 }
 
 #[test]
+fn packed_pages() {
+    let mut page = [0xff; 4096];
+    assert_eq!(sh_page_pack_fks(&mut page, &[5, 300, 301], 8192), Ok(()));
+    assert_eq!(page[..13], [1, 3, 0, 4, 0, 0, 0, 0, 5, 0xa7, 2, 1, 0]);
+    assert_eq!(page[13..], [0; 4083]);
+    let before = page;
+    assert_eq!(sh_page_pack_fks(&mut page, &[5, 5], 0), Err(Refusal::OfferedNotRising));
+    assert_eq!(page, before);
+    let full: Vec<u64> = (1..=4073).collect();
+    let extent = Extent { base: 4096, n: 1 };
+    assert_eq!(sh_page_pack_extent_last_fks(&mut page, &full, extent, 0), Err(Refusal::DoesNotFit));
+    assert_eq!(sh_page_pack_extent_last_fks(&mut page, &full[1..], extent, 0), Ok(()));
+    assert_eq!((sh_page_extent(&page), sh_page_first_off(&page), sh_page_n_fks(&page)), (Ok(Some(extent)), Ok(4096), Ok(4072)));
+}
+
+#[test]
 fn refusals_know_their_numbers() {
     assert!(Refusal::ALL.iter().all(|r| Refusal::of_number(r.number()) == Some(*r) && !r.text().is_empty()));
     assert_eq!(Refusal::UlebOverflow.number(), 18);

@@ -30,6 +30,13 @@ module _ {A : Type 0} where
   refuse-no test number after e = rw e
 
 module _ {A B : Type 0} where
+  -- a call that is refused by the same test or by what comes after it
+  pub refused-alike : (test : Bool) (number : ℕ) (a : Answer A) (b : Answer B) {m : ℕ}
+      → (a ≡ refused m → b ≡ refused m) → refuseIf test number a ≡ refused m → refuseIf test number b ≡ refused m
+  unfolding refuseIf
+  refused-alike true number a b f e = cc
+  refused-alike false number a b f e = f e
+
   -- a part that a call passed was accepted, and the call goes on as after it
   pub went-on : (part : Answer A) (after : A → Answer B) {x : B} → andThen part after ≡ accepted x → (y : A) × (part ≡ accepted y) × (after y ≡ accepted x)
   unfolding andThen

@@ -2,7 +2,7 @@
 ghost use mathlib.Core.Path.{_≡_};
 ghost use mathlib.Core.Bool.{true, false};
 ghost use Rattle.error.specs.Refusal.{refusalOf};
-ghost use Rattle.scripthash_fields.specs.Fields.{readLink, isLast, firstOff, nextOff, extentOf, createsOf, nFks, requireDelta};
+ghost use Rattle.scripthash_fields.specs.Fields.{readLink, isLast, firstOff, nextOffOf, extentOf, createsOf, nFks, requireDelta};
 ghost use Rattle.scripthash_fields.specs.Fields.{streamOffOf, streamCapOf, writeLink, setExtent, setCreates, setCount, initEmpty, afterSet};
 ghost use Rattle.scripthash_fields.specs.Answers.{linkAnswer, lastAnswer, offsetAnswer, extentAnswer, createsAnswer, countAnswer};
 ghost use Rattle.exports.specs.Out.{told};
@@ -138,8 +138,8 @@ pub extern "C" fn ouriscado_sh_page_first_off(page: &[u8], off: &mut u64) -> u32
 // The next page's offset, 0 where the page is LAST. Refuses 4.
 #[no_mangle]
 pub extern "C" fn ouriscado_sh_page_next(page: &[u8], off: &mut u64) -> u32
-    ensures number { λ r. ⌜ r ≡ refusalOf (nextOff (now (page .entry))) ⌝ }
-    ensures off { λ r. ⌜ now (off .exit) ≡ told (λ x. x) (nextOff (now (page .entry))) (now (off .entry)) ⌝ }
+    ensures number { λ r. ⌜ r ≡ refusalOf (nextOffOf (now (page .entry))) ⌝ }
+    ensures off { λ r. ⌜ now (off .exit) ≡ told (λ x. x) (nextOffOf (now (page .entry))) (now (off .entry)) ⌝ }
 {
     put_offset(scripthash_fields::sh_page_next(page), off)
 }

@@ -3,20 +3,20 @@ use Prim.Native.Nat.{ℕ, _+_, _-_, _/_, _%_, _^_, _≤_, _<_}
 use mathlib.Core.Bool.{Bool, true, false, cond, not, _&&_, _||_}
 use mathlib.Core.List.{List, [], _∷_, _++_}
 use mathlib.Core.Option.{none, some}
-use mathlib.Core.Path.{_≡_, ap, sym, _∙_}
+use mathlib.Core.Path.{_≡_, refl, ap, sym, _∙_}
 use native.Mathlib.Numerals.{add-one}
 use native.Mathlib.Omega.{arith}
 use borrow.Author.Tests.{eq-eqb, ne-eqb, lt-ltb, le-ltb, le-leb, lt-leb}
-use lib.Dec.{eqb, ltb}
+use lib.Dec.{eqb, ltb, leb}
 use lib.ListN.{length, set, take, replicate, replicate-append-replicate}
 use lib.Seq.{take-suc-set}
 use Rattle.error.specs.Refusal.{Answer, accepted, refused, refuseIf, linkUnaligned, linkTooLarge, notLast, extentCountZero, extentBaseBad}
 use Rattle.error.specs.Refusal.{countAboveCapacity, versionBad}
-use Rattle.error.proofs.LawsAnswer.{refuse-yes, refuse-no}
+use Rattle.error.proofs.LawsAnswer.{refused≢accepted, passed, refuse-yes, refuse-no, refused-alike}
 use Rattle.scripthash_layout.specs.Sizes.{pageSize}
 use Rattle.scripthash_fields.specs.Page.{versionOf, countOf, linkOf, extentBaseOf, extentCountOf, createsFieldOf, namesExtent, streamOff, streamCap}
-use Rattle.scripthash_fields.specs.Page.{setField, extentVersion, isLastLink, linkOffset, linkTo, onLink, onExtent, onDelta, deltaHeader, pageOf}
-use Rattle.scripthash_fields.specs.Fields.{readLink, isLast, firstOff, nextOff, extentOf, createsOf, nFks, streamOffOf, streamCapOf}
+use Rattle.scripthash_fields.specs.Page.{setField, extentVersion, isLastLink, linkOffset, nextOff, linkTo, onLink, onExtent, linkNamed, extentNamed, onDelta, deltaHeader, pageOf}
+use Rattle.scripthash_fields.specs.Fields.{readLink, isLast, firstOff, nextOffOf, extentOf, createsOf, nFks, streamOffOf, streamCapOf}
 use Rattle.scripthash_fields.specs.Fields.{writeLink, setExtent, setCreates, emptyPage, done, afterSet}
 use Rattle.scripthash_fields.proofs.LawsPage.{page-yes}
 
@@ -52,6 +52,31 @@ module _ {A : Type 0} (base count : ℕ) (after : Answer A) where
   unfolding refuseIf
   extent-good h u z = rw (ne-eqb count 0 h, eq-eqb (base % pageSize) 0 u, ne-eqb base 0 z)
 
+-- where nothing comes after the tests: the same refusal whatever comes after, and what comes after
+module _ {A : Type 0} (off : ℕ) (after : Answer A) where
+  pub link-no : {number : ℕ} → linkNamed off ≡ refused number → onLink off after ≡ refused number
+  link-no e =
+      refused-alike (not (eqb (off % pageSize) 0)) linkUnaligned _ _
+      (refused-alike (leb (2 ^ 39) (off / pageSize)) linkTooLarge _ _ (λ z. absurd (refused≢accepted (sym z)))) e
+
+  pub link-yes : linkNamed off ≡ accepted tt → onLink off after ≡ after
+  link-yes e =
+      let u = passed (not (eqb (off % pageSize) 0)) _ _ e in
+      let l = passed (leb (2 ^ 39) (off / pageSize)) _ _ (u .1) in
+      refuse-no (not (eqb (off % pageSize) 0)) _ _ (u .0) ∙ refuse-no (leb (2 ^ 39) (off / pageSize)) _ _ (l .0)
+
+module _ {A : Type 0} (base count : ℕ) (after : Answer A) where
+  pub extent-no : {number : ℕ} → extentNamed base count ≡ refused number → onExtent base count after ≡ refused number
+  extent-no e =
+      refused-alike (eqb count 0) extentCountZero _ _
+      (refused-alike (not (eqb (base % pageSize) 0) || eqb base 0) extentBaseBad _ _ (λ z. absurd (refused≢accepted (sym z)))) e
+
+  pub extent-yes : extentNamed base count ≡ accepted tt → onExtent base count after ≡ after
+  extent-yes e =
+      let u = passed (eqb count 0) _ _ e in
+      let l = passed (not (eqb (base % pageSize) 0) || eqb base 0) _ _ (u .1) in
+      refuse-no (eqb count 0) _ _ (u .0) ∙ refuse-no (not (eqb (base % pageSize) 0) || eqb base 0) _ _ (l .0)
+
 -- ---- what is asked of a page
 
 within : (t : Bool) → cond t 24 8 ≤ 24
@@ -68,6 +93,15 @@ stream-off-extent page h = rw (eq-eqb (versionOf page) 2 h)
 
 pub stream-off-other : (page : List ℕ) → (versionOf page ≡ 2 → ⊥) → streamOff page ≡ 8
 stream-off-other page h = rw (ne-eqb (versionOf page) 2 h)
+
+-- by the link l: a page with LAST has none behind it, and another names it
+pub behind-none : (page : List ℕ) (l : ℕ) → l ≡ linkOf page → l % 2 ≡ 1 → nextOff page ≡ 0
+unfolding nextOff
+behind-none page l is h = rw (← is, eq-eqb (l % 2) 1 h)
+
+pub behind-is : (page : List ℕ) (l : ℕ) → l ≡ linkOf page → (l % 2 ≡ 1 → ⊥) → nextOff page ≡ linkOffset l
+unfolding nextOff
+behind-is page l is h = rw (← is, ne-eqb (l % 2) 1 h)
 
 module _ (page : List ℕ) (long : length page ≡ pageSize) where
   -- the link l
@@ -87,13 +121,9 @@ module _ (page : List ℕ) (long : length page ≡ pageSize) where
   unfolding firstOff refuseIf
   first-yes l is h = rw (eq-eqb (length page) pageSize long, ← is, eq-eqb (l % 2) 1 h)
 
-  pub next-none : (l : ℕ) → l ≡ linkOf page → l % 2 ≡ 1 → accepted 0 ≡ nextOff page
-  unfolding nextOff refuseIf
-  next-none l is h = rw (eq-eqb (length page) pageSize long, ← is, eq-eqb (l % 2) 1 h)
-
-  pub next-is : (l : ℕ) → l ≡ linkOf page → (l % 2 ≡ 1 → ⊥) → accepted (linkOffset l) ≡ nextOff page
-  unfolding nextOff refuseIf
-  next-is l is h = rw (eq-eqb (length page) pageSize long, ← is, ne-eqb (l % 2) 1 h)
+  pub next-is : (off : ℕ) → nextOff page ≡ off → accepted off ≡ nextOffOf page
+  unfolding nextOffOf
+  next-is off is = sym (page-yes page (accepted (nextOff page)) long ∙ ap (λ (o : ℕ). accepted o) is)
 
   -- the version v, extent and creates
   pub extent-none : (v : ℕ) → v ≡ versionOf page → (v ≡ 2 → ⊥) → accepted none ≡ extentOf page
@@ -167,20 +197,29 @@ set-no page a e = (rw e, rw e)
 pub set-yes : (page after : List ℕ) (a : Answer (List ℕ)) {set : List ℕ} → a ≡ accepted set → after ≡ set → (accepted tt ≡ done a) × (after ≡ afterSet page a)
 set-yes page after a e is = (rw e, rw e is)
 
+-- what was told of a call that sets, told back
+pub done-no : (a : Answer (List ℕ)) {number : ℕ} → done a ≡ refused number → a ≡ refused number
+done-no (accepted set) e = absurd (refused≢accepted (sym e))
+done-no (refused number) e = cc
+
+pub done-yes : (a : Answer (List ℕ)) → done a ≡ accepted tt → (set : List ℕ) × (a ≡ accepted set)
+done-yes (accepted set) e = (set, refl)
+done-yes (refused number) e = absurd (refused≢accepted e)
+
 -- a page takes a link that can be named
-pub link-written : (page : List ℕ) → length page ≡ pageSize → (last : Bool) (off : ℕ) → off % pageSize ≡ 0 → off / pageSize < 2 ^ 39
+pub link-written : (page : List ℕ) → length page ≡ pageSize → (last : Bool) (off : ℕ) → linkNamed off ≡ accepted tt
     → writeLink page last off ≡ accepted (setField page 3 5 (linkTo last off))
 unfolding writeLink
-link-written page long last off h l =
-    page-yes page (onLink off (accepted (setField page 3 5 (linkTo last off)))) long ∙ link-good off (accepted (setField page 3 5 (linkTo last off))) h l
+link-written page long last off named =
+    page-yes page (onLink off (accepted (setField page 3 5 (linkTo last off)))) long ∙ link-yes off (accepted (setField page 3 5 (linkTo last off))) named
 
 -- and an extent
-pub extent-written : (page : List ℕ) → length page ≡ pageSize → (base count : ℕ) → (count ≡ 0 → ⊥) → base % pageSize ≡ 0 → (base ≡ 0 → ⊥)
+pub extent-written : (page : List ℕ) → length page ≡ pageSize → (base count : ℕ) → extentNamed base count ≡ accepted tt
     → setExtent page base count ≡ accepted (setField (setField (setField page 0 1 extentVersion) 8 8 base) 16 4 count)
 unfolding setExtent
-extent-written page long base count h u z =
+extent-written page long base count named =
     let set : Answer (List ℕ) = accepted (setField (setField (setField page 0 1 extentVersion) 8 8 base) 16 4 count) in
-    page-yes page (onExtent base count set) long ∙ extent-good base count set h u z
+    page-yes page (onExtent base count set) long ∙ extent-yes base count set named
 
 -- ---- an empty page
 

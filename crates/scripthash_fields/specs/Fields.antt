@@ -6,7 +6,7 @@ use mathlib.Core.Option.{Option, none, some}
 use lib.Dec.{ltb}
 use Rattle.error.specs.Refusal.{Answer, accepted, refused, refuseIf, notLast, countAboveCapacity}
 use Rattle.scripthash_fields.specs.Page.{setField, countOf, linkOf, extentBaseOf, extentCountOf, createsFieldOf, extentVersion, namesExtent}
-use Rattle.scripthash_fields.specs.Page.{streamOff, streamCap, isLastLink, linkOffset, linkTo, onPage, onLink, onExtent, onDelta, deltaHeader, pageOf}
+use Rattle.scripthash_fields.specs.Page.{streamOff, streamCap, isLastLink, linkOffset, nextOff, linkTo, onPage, onLink, onExtent, onDelta, deltaHeader, pageOf}
 
 -- ---- asking
 
@@ -28,8 +28,8 @@ unfoldable pub firstOff : List ℕ → Answer ℕ
 firstOff page = onPage page (refuseIf (not (isLastLink (linkOf page))) notLast (accepted (linkOffset (linkOf page))))
 
 -- The next page's offset, 0 where the page is LAST.
-unfoldable pub nextOff : List ℕ → Answer ℕ
-nextOff page = onPage page (accepted (cond (isLastLink (linkOf page)) 0 (linkOffset (linkOf page))))
+unfoldable pub nextOffOf : List ℕ → Answer ℕ
+nextOffOf page = onPage page (accepted (nextOff page))
 
 -- An extent: its base, and how many pages it has.
 pub record Extent : Type 0 where

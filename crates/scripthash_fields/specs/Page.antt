@@ -79,6 +79,10 @@ isLastLink link = eqb (link % 2) 1
 abbrev pub linkOffset : ℕ → ℕ
 linkOffset link = link / 2 * pageSize
 
+-- The offset of the page behind a page, 0 where the page is LAST.
+unfoldable pub nextOff : List ℕ → ℕ
+nextOff page = cond (isLastLink (linkOf page)) 0 (linkOffset (linkOf page))
+
 -- The link that names the page at an offset, LAST or not.
 abbrev pub linkTo : Bool → ℕ → ℕ
 linkTo last off = off / pageSize * 2 + cond last 1 0
@@ -97,6 +101,14 @@ onLink off after = refuseIf (not (eqb (off % pageSize) 0)) linkUnaligned (refuse
 abbrev pub onExtent : {A : Type 0} → ℕ → ℕ → Answer A → Answer A
 onExtent base count after =
     refuseIf (eqb count 0) extentCountZero (refuseIf (not (eqb (base % pageSize) 0) || eqb base 0) extentBaseBad after)
+
+-- Whether a link can name an offset.
+abbrev pub linkNamed : ℕ → Answer (Unit {0})
+linkNamed off = onLink off (accepted tt)
+
+-- Whether a page can name an extent.
+abbrev pub extentNamed : ℕ → ℕ → Answer (Unit {0})
+extentNamed base count = onExtent base count (accepted tt)
 
 -- A page whose count is within its capacity and whose version is known, version 0 only with count 0; or its refusal.
 abbrev pub onDelta : {A : Type 0} → List ℕ → Answer A → Answer A

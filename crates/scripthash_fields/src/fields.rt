@@ -7,35 +7,35 @@ ghost use lib.Dec.{eqb};
 ghost use lib.ListN.{length, replicate};
 ghost use Rattle.error.specs.Refusal.{refusalOf};
 ghost use Rattle.scripthash_layout.specs.Sizes.{pageSize};
-ghost use Rattle.scripthash_fields.specs.Page.{setField, versionOf, linkOf, streamOff, linkTo};
-ghost use Rattle.scripthash_fields.specs.Fields.{readLink, isLast, firstOff, nextOff, extentOf, createsOf, nFks, requireDelta};
+ghost use Rattle.scripthash_fields.specs.Page.{setField, versionOf, linkOf, streamOff, linkTo, linkNamed, extentNamed};
+ghost use Rattle.scripthash_fields.specs.Fields.{readLink, isLast, firstOff, nextOffOf, extentOf, createsOf, nFks, requireDelta};
 ghost use Rattle.scripthash_fields.specs.Fields.{streamOffOf, streamCapOf, writeLink, setExtent, setCreates, setCount, initEmpty, done, afterSet};
 ghost use Rattle.scripthash_fields.specs.Answers.{linkAnswer, lastAnswer, offsetAnswer, extentAnswer, createsAnswer, countAnswer, doneAnswer};
 use error::Refusal;
 use scripthash_layout::SH_PAGE_SIZE;
 
 // The bytes of a page, as an offset counts them.
-const SH_PAGE_BYTES: u64 = 4096;
+pub const SH_PAGE_BYTES: u64 = 4096;
 // Where the version stands.
 const SH_PAGE_OFF_VER: usize = 0;
 // Where the count stands, in two bytes.
-const SH_PAGE_OFF_N_FKS: usize = 1;
+pub const SH_PAGE_OFF_N_FKS: usize = 1;
 // Where the link stands, in five bytes.
-const SH_PAGE_OFF_PACKED: usize = 3;
+pub const SH_PAGE_OFF_PACKED: usize = 3;
 // Where the extent's base stands, in eight bytes.
-const SH_PAGE_OFF_EXTENT_BASE: usize = 8;
+pub const SH_PAGE_OFF_EXTENT_BASE: usize = 8;
 // Where the extent's count stands, in four bytes.
-const SH_PAGE_OFF_EXTENT_N: usize = 16;
+pub const SH_PAGE_OFF_EXTENT_N: usize = 16;
 // Where creates stands, in four bytes.
-const SH_PAGE_OFF_EXTENT_CREATES: usize = 20;
+pub const SH_PAGE_OFF_EXTENT_CREATES: usize = 20;
 // The version of a page that names no extent.
-const SH_PAGE_DELTA_VER: u8 = 1;
+pub const SH_PAGE_DELTA_VER: u8 = 1;
 // The version of a page that names one.
-const SH_PAGE_EXTENT_VER: u8 = 2;
+pub const SH_PAGE_EXTENT_VER: u8 = 2;
 // The bytes before the stream, without an extent and with one.
-const SH_PAGE_HEADER_LEN: usize = 8;
+pub const SH_PAGE_HEADER_LEN: usize = 8;
 
-const SH_PAGE_EXTENT_HEADER_LEN: usize = 24;
+pub const SH_PAGE_EXTENT_HEADER_LEN: usize = 24;
 // A link has 39 bits for a page's index.
 const SH_PAGE_INDEX_RANGE: u64 = 1 << 39;
 
@@ -176,7 +176,7 @@ fn version_of(page: &[u8]) -> u8
 }
 
 // Writes a page's version.
-fn set_version(page: &mut [u8], version: u8)
+pub fn set_version(page: &mut [u8], version: u8)
     requires { ⌜ length (now page) ≡ pageSize ⌝ }
     ensures { λ _. ⌜ now (page .exit) ≡ setField (now (page .entry)) 0 1 version ⌝ }
 {
@@ -193,7 +193,7 @@ fn link_of(page: &[u8]) -> u64
 }
 
 // The link that names the page at an offset, LAST or not.
-fn link_to(last: bool, off: u64) -> u64
+pub fn link_to(last: bool, off: u64) -> u64
     ensures { λ r. ⌜ r ≡ linkTo last off ⌝ }
 {
     if last {
@@ -203,7 +203,7 @@ fn link_to(last: bool, off: u64) -> u64
 }
 
 // Where the stream of a page starts.
-fn stream_off(page: &[u8]) -> usize
+pub fn stream_off(page: &[u8]) -> usize
     requires { ⌜ length (now page) ≡ pageSize ⌝ }
     ensures { λ r. ⌜ r ≡ streamOff (now (page .entry)) ⌝ }
 {
@@ -211,6 +211,35 @@ fn stream_off(page: &[u8]) -> usize
         return SH_PAGE_EXTENT_HEADER_LEN;
     }
     SH_PAGE_HEADER_LEN
+}
+
+// Passes an offset that a link can name.
+pub fn check_link(off: u64) -> PageDone
+    ensures { λ r. ⌜ doneAnswer r ≡ linkNamed off ⌝ }
+{
+    if off % SH_PAGE_BYTES != 0 {
+        return PageDone::Refused(error::LINK_UNALIGNED);
+    }
+    if off / SH_PAGE_BYTES >= SH_PAGE_INDEX_RANGE {
+        return PageDone::Refused(error::LINK_TOO_LARGE);
+    }
+    PageDone::Done
+}
+
+// Passes an extent that a page can name.
+pub fn check_extent(base: u64, n: u32) -> PageDone
+    ensures { λ r. ⌜ doneAnswer r ≡ extentNamed base n ⌝ }
+{
+    if n == 0 {
+        return PageDone::Refused(error::EXTENT_COUNT_ZERO);
+    }
+    if base % SH_PAGE_BYTES != 0 {
+        return PageDone::Refused(error::EXTENT_BASE_BAD);
+    }
+    if base == 0 {
+        return PageDone::Refused(error::EXTENT_BASE_BAD);
+    }
+    PageDone::Done
 }
 
 // A version that a page with n numbers may have.
@@ -230,7 +259,7 @@ fn version_known(version: u8, n: u16) -> bool
 }
 
 // Makes every byte 0.
-fn clear(page: &mut [u8])
+pub fn clear(page: &mut [u8])
     ensures { λ _. ⌜ now (page .exit) ≡ replicate (length (now (page .entry))) 0 ⌝ }
 {
     let mut i: usize = 0;
@@ -280,7 +309,7 @@ pub fn sh_page_first_off(page: &[u8]) -> PageOffset
 
 // The next page's offset, 0 where the page is LAST.
 pub fn sh_page_next(page: &[u8]) -> PageOffset
-    ensures { λ r. ⌜ offsetAnswer r ≡ nextOff (now (page .entry)) ⌝ }
+    ensures { λ r. ⌜ offsetAnswer r ≡ nextOffOf (now (page .entry)) ⌝ }
 {
     if page.len() != SH_PAGE_SIZE {
         return PageOffset::Refused(error::PAGE_LENGTH);
@@ -300,12 +329,10 @@ pub fn sh_page_write_packed(page: &mut [u8], last: bool, off: u64) -> PageDone
     if page.len() != SH_PAGE_SIZE {
         return PageDone::Refused(error::PAGE_LENGTH);
     }
-    if off % SH_PAGE_BYTES != 0 {
-        return PageDone::Refused(error::LINK_UNALIGNED);
-    }
-    if off / SH_PAGE_BYTES >= SH_PAGE_INDEX_RANGE {
-        return PageDone::Refused(error::LINK_TOO_LARGE);
-    }
+    let named = check_link(off);
+    let PageDone::Done = named else {
+        return named;
+    };
     buffer::put_u40(page, SH_PAGE_OFF_PACKED, link_to(last, off));
     PageDone::Done
 }
@@ -358,15 +385,10 @@ pub fn sh_page_extent(page: &[u8]) -> PageExtent
     }
     let start = buffer::get_u64(page, SH_PAGE_OFF_EXTENT_BASE);
     let pages = buffer::get_u32(page, SH_PAGE_OFF_EXTENT_N);
-    if pages == 0 {
-        return PageExtent::Refused(error::EXTENT_COUNT_ZERO);
-    }
-    if start % SH_PAGE_BYTES != 0 {
-        return PageExtent::Refused(error::EXTENT_BASE_BAD);
-    }
-    if start == 0 {
-        return PageExtent::Refused(error::EXTENT_BASE_BAD);
-    }
+    let named = check_extent(start, pages);
+    let PageDone::Done = named else {
+        return PageExtent::Refused(named.refusal());
+    };
     PageExtent::Extent {
         base: start,
         n: pages,
@@ -381,15 +403,10 @@ pub fn sh_page_set_extent(page: &mut [u8], base: u64, n: u32) -> PageDone
     if page.len() != SH_PAGE_SIZE {
         return PageDone::Refused(error::PAGE_LENGTH);
     }
-    if n == 0 {
-        return PageDone::Refused(error::EXTENT_COUNT_ZERO);
-    }
-    if base % SH_PAGE_BYTES != 0 {
-        return PageDone::Refused(error::EXTENT_BASE_BAD);
-    }
-    if base == 0 {
-        return PageDone::Refused(error::EXTENT_BASE_BAD);
-    }
+    let named = check_extent(base, n);
+    let PageDone::Done = named else {
+        return named;
+    };
     set_version(page, SH_PAGE_EXTENT_VER);
     buffer::put_u64(page, SH_PAGE_OFF_EXTENT_BASE, base);
     buffer::put_u32(page, SH_PAGE_OFF_EXTENT_N, n);

@@ -18,15 +18,13 @@ use Rattle.scripthash_layout.specs.Sizes.{pageSize}
 use Rattle.scripthash_stream.specs.Stream.{Scan}
 use Rattle.scripthash_stream.proofs.LawsScan.{scan-accepted}
 use Rattle.scripthash_fields.specs.Page.{field, setField, versionOf, countOf, namesExtent, streamOff, streamCap}
+use Rattle.scripthash_fields.proofs.LawsFields.{stream-off-within}
 use Rattle.scripthash_pages.specs.Entries.{pageScan, lastOf, Spot, spotBehind, appendSpot, oneMore, withAppended, afterAppend}
 use Rattle.scripthash_pages.proofs.LawsEntries.{version-byte, place-accepted, scan-placed}
 
 -- ---- the header
 
--- What a version decides: where the stream starts, and the version of a page that has a number.
-abbrev pub offBy : ℕ → ℕ
-offBy v = cond (eqb v 2) 24 8
-
+-- The version of a page that has a number.
 abbrev pub keptBy : ℕ → ℕ
 keptBy v = cond (eqb v 2) 2 1
 
@@ -34,30 +32,16 @@ abbrev pub eitherOf : ℕ → ℕ → Bool → ℕ
 eitherOf x y b = cond b x y
 
 -- in version 2, and in another
-pub off-extent : (v : ℕ) → v ≡ 2 → offBy v ≡ 24
-off-extent v e = ap (eitherOf 24 8) (eq-eqb v 2 e)
-
-pub off-delta : (v : ℕ) → (v ≡ 2 → ⊥) → offBy v ≡ 8
-off-delta v h = ap (eitherOf 24 8) (ne-eqb v 2 h)
-
 pub kept-extent : (v : ℕ) → v ≡ 2 → keptBy v ≡ 2
 kept-extent v e = ap (eitherOf 2 1) (eq-eqb v 2 e)
 
 pub kept-delta : (v : ℕ) → (v ≡ 2 → ⊥) → keptBy v ≡ 1
 kept-delta v h = ap (eitherOf 2 1) (ne-eqb v 2 h)
 
--- the stream's start by the version's byte
-pub off-by : (page : List ℕ) → 0 < length page → streamOff page ≡ offBy (getD page 0 0)
-off-by page h = ap offBy (version-byte page h)
-
 -- the count, as it is read
 pub count-read : (page : List ℕ) → countOf page ≡ littleEndian (part page 1 2)
 unfolding field
 count-read page = refl
-
-early : (b : Bool) → eitherOf 24 8 b ≤ 24
-early true = omega arith
-early false = omega arith
 
 byte : (b : Bool) → eitherOf 2 1 b % 256 ≡ eitherOf 2 1 b
 byte true = refl
@@ -160,13 +144,13 @@ module _ (page : List ℕ) (fk : ℕ) (s : Scan) (at d : ℕ) (at-is : at ≡ st
   unfolding spotBehind
   spot-full h =
       ap (λ (b : Bool). spotIf b (streamOff page + s .taken) (fk - lastOf s))
-      (lt-ltb (streamCap page) (s .taken + ulebLen (fk - lastOf s)) (omega (arith, ap ulebLen d-is, early (namesExtent page))))
+      (lt-ltb (streamCap page) (s .taken + ulebLen (fk - lastOf s)) (omega (arith, ap ulebLen d-is, stream-off-within page)))
 
   pub spot-room : at + ulebLen d ≤ pageSize → spotBehind page fk s ≡ some (record { at = at; difference = d })
   unfolding spotBehind
   spot-room h =
       ap (λ (b : Bool). spotIf b (streamOff page + s .taken) (fk - lastOf s))
-      (le-ltb (streamCap page) (s .taken + ulebLen (fk - lastOf s)) (omega (arith, ap ulebLen d-is, early (namesExtent page))))
+      (le-ltb (streamCap page) (s .taken + ulebLen (fk - lastOf s)) (omega (arith, ap ulebLen d-is, stream-off-within page)))
       ∙ ap (λ (x : ℕ). spotIf false x (fk - lastOf s)) (sym at-is) ∙ ap (λ (x : ℕ). spotIf false at x) (sym d-is)
 
 spot-if : (b : Bool) (x d : ℕ) (w : Spot) → spotIf b x d ≡ some w → (b ≡ false) × (x ≡ w .at) × (d ≡ w .difference)
@@ -203,7 +187,7 @@ spot-accepted page fk w e =
       below = leb-false (2 ^ 63) fk (f .0);
       at-is = o .1;
       difference-is = o .2;
-      fits = omega (arith, ltb-false (streamCap page) (s .taken + ulebLen (fk - lastOf s)) (o .0), ap ulebLen (o .2), o .1, early (namesExtent page));
+      fits = omega (arith, ltb-false (streamCap page) (s .taken + ulebLen (fk - lastOf s)) (o .0), ap ulebLen (o .2), o .1, stream-off-within page);
     }
 
 -- ---- the page afterwards

@@ -16,15 +16,16 @@ use Rattle.buffer.proofs.LawsLittleEndian.{littleEndian-below, part-bytes}
 use Rattle.scripthash_layout.specs.Sizes.{pageSize}
 use Rattle.scripthash_stream.specs.Stream.{Scan, scan, decodeStream}
 use Rattle.scripthash_stream.proofs.LawsScan.{scan-accepted}
-use Rattle.scripthash_fields.specs.Page.{field, versionOf, countOf, namesExtent, streamOff, streamCap}
-use Rattle.scripthash_pages.specs.Entries.{Place, streamPlace, pageScan, pageEntries, nextOff, PageRead, pageReadOf}
+use Rattle.scripthash_fields.specs.Page.{field, versionOf, countOf, linkOf, nextOff, namesExtent, streamOff, streamCap}
+use Rattle.scripthash_fields.proofs.LawsPage.{field-byte}
+use Rattle.scripthash_fields.proofs.LawsFields.{stream-off-within}
+use Rattle.scripthash_pages.specs.Entries.{Place, streamPlace, pageScan, pageEntries, PageRead, pageReadOf}
 
 -- ---- the stream's place
 
 -- the version is the first byte
 pub version-byte : (page : List ℕ) → 0 < length page → versionOf page ≡ getD page 0 0
-unfolding field
-version-byte page h = ap littleEndian (part-listed 1 page 0 h) ∙ omega arith
+version-byte page h = field-byte page 0 (omega arith)
 
 -- The place of the stream of a page with a version and a count.
 abbrev pub placeBy : ℕ → ℕ → Answer Place
@@ -79,10 +80,6 @@ pub record Placed (page : List ℕ) (p : Place) : Type 0 where
   pub counted : p .count ≤ pageSize - p .off
   pub early : p .off ≤ 24
 
-early-either : (b : Bool) → cond b 24 8 ≤ 24
-early-either true = omega arith
-early-either false = omega arith
-
 pub place-accepted : (page : List ℕ) (p : Place) → streamPlace page ≡ accepted p → Placed page p
 unfolding streamPlace
 place-accepted page p e =
@@ -98,7 +95,7 @@ place-accepted page p e =
       off-is = off-is;
       count-is = count-is;
       counted = rw (off-is, count-is) at within;
-      early = rw off-is at (early-either (namesExtent page));
+      early = rw off-is at (stream-off-within page);
     }
 
 -- ---- scanned
@@ -167,15 +164,10 @@ link-below page h long =
     let size : length (part page 3 5) ≡ 5 = length-part page 3 5 (omega arith) in
     rw size at below
 
--- a page with LAST has none behind it
-pub next-none : (page : List ℕ) (link : ℕ) → link ≡ littleEndian (part page 3 5) → link % 2 ≡ 1 → nextOff page ≡ 0
-unfolding nextOff field
-next-none page link e h = rw (← e, eq-eqb (link % 2) 1 h)
-
--- and another names it
-pub next-some : (page : List ℕ) (link : ℕ) → link ≡ littleEndian (part page 3 5) → (link % 2 ≡ 1 → ⊥) → nextOff page ≡ link / 2 * pageSize
-unfolding nextOff field
-next-some page link e h = rw (← e, ne-eqb (link % 2) 1 h)
+-- the link, as it is read
+pub link-read : (page : List ℕ) → linkOf page ≡ littleEndian (part page 3 5)
+unfolding field
+link-read page = refl
 
 -- what reading tells, from the count and the offset
 pub read-of : (page : List ℕ) (s : Scan) (count next : ℕ) → length (s .numbers) ≡ count → nextOff page ≡ next → pageReadOf page s ≡ record { count = count; next = next }

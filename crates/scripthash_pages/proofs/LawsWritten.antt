@@ -18,14 +18,6 @@ use Rattle.scripthash_fields.specs.Page.{setField, namesExtent, streamOff, stre
 use Rattle.scripthash_pages.specs.Entries.{writeStream, afterWriteStream}
 use Rattle.scripthash_pages.proofs.LawsAppend.{eitherOf}
 
-early-off : (b : Bool) → eitherOf 24 8 b ≤ 24
-early-off true = omega arith
-early-off false = omega arith
-
--- a stream starts at byte 24 at the latest
-pub off-early : (page : List ℕ) → streamOff page ≤ 24
-off-early page = early-off (namesExtent page)
-
 module _ (page ns : List ℕ) where
   -- a buffer of another length is refused
   pub written-length : (length page ≡ pageSize → ⊥) → writeStream page ns ≡ refused pageLength

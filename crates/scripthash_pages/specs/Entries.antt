@@ -11,7 +11,7 @@ use Rattle.compact.specs.Uleb128.{ulebLen, shortest}
 use Rattle.scripthash_layout.specs.Sizes.{pageSize}
 use Rattle.scripthash_stream.specs.Stream.{Scan, scan, lastFrom, stream, encodeStream}
 use Rattle.scripthash_stream.specs.Stream.{maxOffered}
-use Rattle.scripthash_fields.specs.Page.{setField, countOf, linkOf, deltaVersion, extentVersion, namesExtent, streamOff, streamCap, isLastLink, linkOffset, onPage, onDelta}
+use Rattle.scripthash_fields.specs.Page.{setField, countOf, nextOff, deltaVersion, extentVersion, namesExtent, streamOff, streamCap, onPage, onDelta}
 
 -- Where the stream of a page starts, and how many numbers it has.
 pub record Place : Type 0 where
@@ -39,10 +39,6 @@ pageEntries room page = andThen (pageScan page) (λ s. refuseIf (ltb room (lengt
 -- How many numbers were read.
 abbrev pub readCount : Scan → ℕ
 readCount s = length (s .numbers)
-
--- The offset of the page behind a page, 0 where it is the last.
-unfoldable pub nextOff : List ℕ → ℕ
-nextOff page = cond (isLastLink (linkOf page)) 0 (linkOffset (linkOf page))
 
 -- What reading a page tells besides its numbers: how many, and the offset of the page behind it.
 pub record PageRead : Type 0 where

@@ -8,29 +8,25 @@ ghost use Rattle.error.specs.Refusal.{answered, refusalOf};
 ghost use Rattle.compact.specs.Uleb128.{ulebLen};
 ghost use Rattle.scripthash_stream.specs.Stream.{endFrom, afterDecode};
 ghost use Rattle.scripthash_stream.specs.Answers.{scanAnswer, bytesAnswer};
-ghost use Rattle.scripthash_fields.specs.Page.{countOf, streamOff};
+ghost use Rattle.scripthash_fields.specs.Page.{countOf};
 ghost use Rattle.scripthash_pages.specs.Entries.{streamPlace, pageScan, lastOf, pageEntries, readCount, pageReadOf};
 ghost use Rattle.scripthash_pages.specs.Entries.{appendSpot, hasSpot, oneMore, withAppended, afterAppend, writeStream, afterWriteStream};
 ghost use Rattle.scripthash_pages.specs.Answers.{placeAnswer, lastAnswer, entriesAnswer, sliceAnswer, spotAnswer, tryAnswer};
 use compact::uleb128_len;
 use error::Refusal;
+use scripthash_fields::SH_PAGE_BYTES;
+use scripthash_fields::SH_PAGE_DELTA_VER;
+use scripthash_fields::SH_PAGE_EXTENT_HEADER_LEN;
+use scripthash_fields::SH_PAGE_EXTENT_VER;
+use scripthash_fields::SH_PAGE_HEADER_LEN;
+use scripthash_fields::SH_PAGE_OFF_N_FKS;
+use scripthash_fields::SH_PAGE_OFF_PACKED;
+use scripthash_fields::stream_off;
 use scripthash_layout::SH_PAGE_SIZE;
 use scripthash_stream::MAX_OFFERED;
 use scripthash_stream::ScanStream;
 use scripthash_stream::StreamBytes;
 
-// The version of a page that names no extent.
-const SH_PAGE_DELTA_VER: u8 = 1;
-// The version of a page that names one.
-const SH_PAGE_EXTENT_VER: u8 = 2;
-// Where the stream starts, in a page that names no extent.
-const SH_PAGE_HEADER_LEN: usize = 8;
-// And in one that names one.
-const SH_PAGE_EXTENT_HEADER_LEN: usize = 24;
-// Where the count stands, and the link.
-const SH_PAGE_OFF_N_FKS: usize = 1;
-
-const SH_PAGE_OFF_PACKED: usize = 3;
 // Bit 63, which no number of a stream has.
 const SH_FLAG_BIT: u64 = 0x8000_0000_0000_0000;
 
@@ -221,19 +217,8 @@ pub fn sh_page_decode_slice_into(page: &[u8], out: &mut [u64]) -> PageSlice
     }
     PageSlice::Decoded {
         count,
-        next: link / 2 * 4096,
+        next: link / 2 * SH_PAGE_BYTES,
     }
-}
-
-// Where the stream of a page starts.
-fn stream_off(page: &[u8]) -> usize
-    requires { ⌜ 0 < length (now page) ⌝ }
-    ensures { λ r. ⌜ r ≡ streamOff (now (page .entry)) ⌝ }
-{
-    if page[0] == SH_PAGE_EXTENT_VER {
-        return SH_PAGE_EXTENT_HEADER_LEN;
-    }
-    SH_PAGE_HEADER_LEN
 }
 
 // Where the number fk goes in a page: behind its stream, which is scanned once.
@@ -290,7 +275,7 @@ fn append_form(page: &mut [u8], at: usize, difference: u64)
     ensures { λ _. ⌜ now (page .exit) ≡ withAppended (now (page .entry)) (record { at = at; difference = difference }) ⌝ }
 {
     count_one_more(page);
-    compact::write_uleb128_into(&mut page[at..], difference);
+    scripthash_stream::put_form(page, at, difference);
 }
 
 // Appends the number fk to a page, or leaves all of the page where it is full or the number is refused.

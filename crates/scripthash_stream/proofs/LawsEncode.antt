@@ -10,7 +10,7 @@ use borrow.Author.Tests.{lt-leb, leb-false, ne-eqb, lt-ltb, le-ltb, ltb-false}
 use lib.Dec.{leb, ltb, eqb}
 use lib.ListN.{length}
 use Rattle.error.specs.Refusal.{Answer, accepted, refused, refuseIf, offeredFirstZero, offeredBit63, offeredNotRising, doesNotFit}
-use Rattle.error.proofs.LawsAnswer.{refused≢accepted, accepted-inj, passed, refuse-yes, refuse-no}
+use Rattle.error.proofs.LawsAnswer.{refused≢accepted, accepted-inj, passed, refuse-yes, refuse-no, refused-alike}
 use Rattle.buffer.specs.Bytes.{overwrite}
 use Rattle.compact.specs.Uleb128.{ulebLen}
 use Rattle.scripthash_stream.specs.Stream.{Rising, streamLenFrom, streamLen, stream, judged, encodeStream, afterEncode}
@@ -39,12 +39,6 @@ module _ {A : Type 0} where
       let rises = passed (leb n prev) _ _ (flag .1) in
       let more = judged-accepted n ns after (rises .1) in
       ((leb-false n prev (rises .0), leb-false (2 ^ 63) n (flag .0), more .0), more .1)
-
-refused-alike : {A B : Type 0} (test : Bool) (number : ℕ) (a : Answer A) (b : Answer B) {m : ℕ}
-    → (a ≡ refused m → b ≡ refused m) → refuseIf test number a ≡ refused m → refuseIf test number b ≡ refused m
-unfolding refuseIf
-refused-alike true number a b f e = cc
-refused-alike false number a b f e = f e
 
 -- a list that is refused whatever comes after
 pub judged-refused : {A B : Type 0} (prev : ℕ) (ns : List ℕ) (x : A) (after : Answer B) {m : ℕ}

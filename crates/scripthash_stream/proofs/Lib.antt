@@ -3,3 +3,4 @@ pub mod LawsStream
 pub mod LawsScanEnd
 pub mod LawsDecode
 pub mod LawsEncode
+pub mod LawsLent

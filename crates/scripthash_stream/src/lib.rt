@@ -7,4 +7,5 @@ pub use stream::ScanStream;
 pub use stream::StreamBytes;
 pub use stream::decode_fk_delta_stream_into;
 pub use stream::encode_fk_delta_stream_into;
+pub use stream::put_form;
 pub use stream::scan_fk_delta_stream;

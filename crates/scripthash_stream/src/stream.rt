@@ -214,7 +214,7 @@ fn measure_fks(fks: &[u64]) -> StreamBytes
 }
 
 // Writes the shortest form of d at an offset of out, and tells its length. A form of one byte takes a short path.
-fn put_form(out: &mut [u8], off: usize, d: u64) -> usize
+pub fn put_form(out: &mut [u8], off: usize, d: u64) -> usize
     requires { ⌜ off + ulebLen d ≤ length (now out) ⌝ }
     ensures len { λ r. ⌜ r ≡ ulebLen d ⌝ }
     ensures bytes { λ r. ⌜ now (out .exit) ≡ overwrite (now (out .entry)) off (shortest d) ⌝ }

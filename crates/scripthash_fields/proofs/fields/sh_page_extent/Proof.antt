@@ -2,13 +2,15 @@
 use Prim.Native.Nat.{ℕ}
 use mathlib.Core.List.{List}
 use mathlib.Core.Option.{Option, some}
-use mathlib.Core.Path.{_≡_, sym, _∙_}
+use mathlib.Core.Path.{_≡_, sym, ap, _∙_}
 use borrow.Author.Needs.{needs}
-use Rattle.error.specs.Refusal.{Answer, accepted}
+use Rattle.error.specs.Refusal.{Answer, accepted, refused, refusalOf}
 use Rattle.scripthash_fields.specs.Page.{field, onExtent}
 use Rattle.scripthash_fields.specs.Fields.{Extent, extentOf}
+use Rattle.scripthash_fields.specs.Answers.{doneAnswer}
+use Rattle.scripthash_fields.specs.declared.fields.PageDone.{PageDone}
 use Rattle.scripthash_fields.proofs.LawsPage.{page-no}
-use Rattle.scripthash_fields.proofs.LawsFields.{extent-zero, extent-unaligned, extent-baseless, extent-good, extent-none, extent-is}
+use Rattle.scripthash_fields.proofs.LawsFields.{extent-no, extent-yes, extent-none, extent-is}
 use Rattle.scripthash_fields.proofs.fields.sh_page_extent.Statement.{statement}
 use Rattle.scripthash_fields.proofs.fields.sh_page_extent.Tie as tie
 
@@ -51,21 +53,44 @@ get-u64-requires c κs = search needs
 get-u32-requires : tie.Need-get-u32-requires
 get-u32-requires c κs = search needs
 
+check-extent-requires : tie.Need-check-extent-requires
+check-extent-requires c κs = search needs
+
+enum-told : tie.Need-enum-told
+enum-told c = search needs
+
+enum-told-2 : tie.Need-enum-told-2
+enum-told-2 c = search needs
+
+refusal-requires : tie.Need-refusal-requires
+refusal-requires c κs = search needs
+
 returns-3 : tie.Need-returns-3
-returns-3 c = let d = c .before in sym (extent-zero (base d) (count d) (told d) (c .if3 .taken)) ∙ stored d
+returns-3 c =
+    let is = c .before .enum-told2 .given .1 in
+    let e = c .before .before .before in
+    let d = e .before in
+    ap refused (c .refusal .ensures ∙ ap (λ (g : PageDone). refusalOf (doneAnswer g)) is)
+    ∙ sym (extent-no (base d) (count d) (told d) (sym (e .check-extent .ensures) ∙ ap doneAnswer is)) ∙ stored d
 
 returns-4 : tie.Need-returns-4
-returns-4 c = let d = c .before .before in sym (extent-unaligned (base d) (count d) (told d) (c .before .if3 .left) (c .if4 .taken)) ∙ stored d
-
-returns-5 : tie.Need-returns-5
-returns-5 c =
-    let d = c .before .before .before in
-    sym (extent-baseless (base d) (count d) (told d) (c .before .before .if3 .left) (c .before .if4 .left) (c .if5 .taken)) ∙ stored d
-
-returns-6 : tie.Need-returns-6
-returns-6 c =
-    let d = c .before .before .before in
-    sym (extent-good (base d) (count d) (told d) (c .before .before .if3 .left) (c .before .if4 .left) (c .if5 .left)) ∙ stored d
+returns-4 c =
+    let e = c .before .before in
+    let d = e .before in
+    sym (extent-yes (base d) (count d) (told d) (sym (e .check-extent .ensures) ∙ ap doneAnswer (c .enum-told .given .1))) ∙ stored d
 
 pub sh-page-extent-spec : {M : Type 1} → statement M
-sh-page-extent-spec = tie.close (tie.spec returns version-of-requires returns-2 get-u64-requires get-u32-requires returns-3 returns-4 returns-5 returns-6)
+sh-page-extent-spec =
+    tie.close
+    (tie.spec
+    returns
+    version-of-requires
+    returns-2
+    get-u64-requires
+    get-u32-requires
+    check-extent-requires
+    enum-told
+    enum-told-2
+    refusal-requires
+    returns-3
+    returns-4)

@@ -1,14 +1,15 @@
 -- `sh_page_set_extent` meets its contract: each test refuses before anything is written. Assumes nothing.
 use Prim.Native.Nat.{ℕ}
 use mathlib.Core.List.{List}
-use mathlib.Core.Path.{ap, _∙_}
+use mathlib.Core.Path.{_≡_, sym, ap, _∙_}
 use borrow.Author.Needs.{needs}
 use Rattle.buffer.specs.Bytes.{overwrite}
 use Rattle.buffer.specs.LittleEndian.{bytesOf}
 use Rattle.scripthash_fields.specs.Page.{setField}
 use Rattle.scripthash_fields.specs.Fields.{setExtent}
+use Rattle.scripthash_fields.specs.Answers.{doneAnswer}
 use Rattle.scripthash_fields.proofs.LawsPage.{page-no, page-yes}
-use Rattle.scripthash_fields.proofs.LawsFields.{extent-zero, extent-unaligned, extent-baseless, extent-written, set-no, set-yes}
+use Rattle.scripthash_fields.proofs.LawsFields.{extent-no, extent-written, set-no, set-yes}
 use Rattle.scripthash_fields.proofs.fields.sh_page_set_extent.Statement.{statement}
 use Rattle.scripthash_fields.proofs.fields.sh_page_set_extent.Tie as tie
 
@@ -18,28 +19,24 @@ returns c =
     let a = c .before .before .args in
     set-no (a .page .now) (setExtent (a .page .now) (a .base) (a .n)) (page-no (a .page .now) _ (c .if1 .taken))
 
+check-extent-requires : tie.Need-check-extent-requires
+check-extent-requires c κs = search needs
+
+enum-told : tie.Need-enum-told
+enum-told c = search needs
+
+enum-told-2 : tie.Need-enum-told-2
+enum-told-2 c = search needs
+
 returns-2 : tie.Need-returns-2
 unfolding setExtent
 returns-2 c =
-    let a = c .before .before .before .args in
-    set-no (a .page .now) (setExtent (a .page .now) (a .base) (a .n))
-    (page-yes (a .page .now) _ (c .before .if1 .left) ∙ extent-zero (a .base) (a .n) _ (c .if2 .taken))
-
-returns-3 : tie.Need-returns-3
-unfolding setExtent
-returns-3 c =
-    let a = c .before .before .before .before .args in
-    set-no (a .page .now) (setExtent (a .page .now) (a .base) (a .n))
-    (page-yes (a .page .now) _ (c .before .before .if1 .left) ∙ extent-unaligned (a .base) (a .n) _ (c .before .if2 .left) (c .if3 .taken))
-
-returns-4 : tie.Need-returns-4
-unfolding setExtent
-returns-4 c =
-    let t = c .before in
-    let a = t .before .before .before .before .args in
-    set-no (a .page .now) (setExtent (a .page .now) (a .base) (a .n))
-    (page-yes (a .page .now) _ (t .before .before .if1 .left)
-    ∙ extent-baseless (a .base) (a .n) _ (t .before .if2 .left) (t .if3 .left) (c .if4 .taken))
+    let told = c .enum-told2 .given .1 in
+    let d = c .before .before in
+    let a = d .before .before .before .args in
+    let no = set-no (a .page .now) (setExtent (a .page .now) (a .base) (a .n))
+    (page-yes (a .page .now) _ (d .before .if1 .left) ∙ extent-no (a .base) (a .n) _ (sym (d .check-extent .ensures) ∙ ap doneAnswer told)) in
+    (ap doneAnswer told ∙ no .0, no .1)
 
 set-version-requires : tie.Need-set-version-requires
 set-version-requires c κs = search needs
@@ -53,19 +50,32 @@ put-u32-requires c κs = search needs
 same-length : tie.Need-same-length
 same-length c = search needs
 
-returns-5 : tie.Need-returns-5
+returns-3 : tie.Need-returns-3
 unfolding setField
-returns-5 c =
+returns-3 c =
     let last = c .before .before in
     let second = last .before .before .before .before in
     let first = second .before .before .before .before in
     let t = first .before .before in
-    let a = t .before .before .before .before .before .args in
+    let d = t .before .before in
+    let a = d .before .before .before .args in
     set-yes (a .page .now) _ (setExtent (a .page .now) (a .base) (a .n))
-    (extent-written (a .page .now) (t .before .before .before .if1 .left) (a .base) (a .n) (t .before .before .if2 .left) (t .before .if3 .left) (t .if4 .left))
+    (extent-written (a .page .now) (d .before .if1 .left) (a .base) (a .n) (sym (d .check-extent .ensures) ∙ ap doneAnswer (t .enum-told .given .1)))
     (last .put-u32 .ensures
     ∙ ap (λ (b : List ℕ). overwrite b 16 (bytesOf 4 (a .n)))
     (second .put-u64 .ensures ∙ ap (λ (b : List ℕ). overwrite b 8 (bytesOf 8 (a .base))) (first .set-version .ensures)))
 
 pub sh-page-set-extent-spec : {M : Type 1} → statement M
-sh-page-set-extent-spec = tie.close (tie.spec returns returns-2 returns-3 returns-4 set-version-requires put-u64-requires put-u32-requires same-length returns-5)
+sh-page-set-extent-spec =
+    tie.close
+    (tie.spec
+    returns
+    check-extent-requires
+    enum-told
+    enum-told-2
+    returns-2
+    set-version-requires
+    put-u64-requires
+    put-u32-requires
+    same-length
+    returns-3)

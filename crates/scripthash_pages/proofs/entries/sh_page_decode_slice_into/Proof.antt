@@ -9,10 +9,12 @@ use Rattle.error.specs.Refusal.{Answer, accepted, refused, refusalOf, answered}
 use Rattle.error.proofs.LawsAnswer.{was-accepted, was-refused, answered-yes, answered-no}
 use Rattle.scripthash_layout.specs.Sizes.{pageSize}
 use Rattle.scripthash_stream.specs.Stream.{Scan}
-use Rattle.scripthash_pages.specs.Entries.{pageEntries, readCount, nextOff, PageRead, pageReadOf}
+use Rattle.scripthash_fields.specs.Page.{nextOff}
+use Rattle.scripthash_fields.proofs.LawsFields.{behind-none, behind-is}
+use Rattle.scripthash_pages.specs.Entries.{pageEntries, readCount, PageRead, pageReadOf}
 use Rattle.scripthash_pages.specs.Answers.{entriesAnswer}
 use Rattle.scripthash_pages.specs.declared.entries.PageEntries.{PageEntries}
-use Rattle.scripthash_pages.proofs.LawsEntries.{entries-long, link-below, next-none, next-some, read-of}
+use Rattle.scripthash_pages.proofs.LawsEntries.{entries-long, link-below, link-read, read-of}
 use Rattle.scripthash_pages.proofs.entries.sh_page_decode_slice_into.Statement.{statement}
 use Rattle.scripthash_pages.proofs.entries.sh_page_decode_slice_into.Tie as tie
 
@@ -74,7 +76,7 @@ same-length-2 c = search needs
 returns-2 : tie.Need-returns-2
 returns-2 c =
     let d = c .before .before in
-    (told d 0 (next-none (page d) (c .before .get-u40 .result) (c .before .get-u40 .ensures) (omega arith)), called d .sh-page-entries-into .ensures .1)
+    (told d 0 (behind-none (page d) (c .before .get-u40 .result) (c .before .get-u40 .ensures ∙ sym (link-read (page d))) (omega arith)), called d .sh-page-entries-into .ensures .1)
 
 mul-t11 : tie.Need-mul-t11
 mul-t11 c =
@@ -88,7 +90,7 @@ same-length-3 c = search needs
 returns-3 : tie.Need-returns-3
 returns-3 c =
     let d = c .before .before in (
-      told d _ (next-some (page d) (c .before .get-u40 .result) (c .before .get-u40 .ensures) (λ (e : c .before .get-u40 .result % 2 ≡ 1). omega arith)),
+      told d _ (behind-is (page d) (c .before .get-u40 .result) (c .before .get-u40 .ensures ∙ sym (link-read (page d))) (λ (e : c .before .get-u40 .result % 2 ≡ 1). omega arith)),
       called d .sh-page-entries-into .ensures .1,
     )
 

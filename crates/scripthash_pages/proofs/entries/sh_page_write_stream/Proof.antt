@@ -18,8 +18,9 @@ use Rattle.scripthash_stream.specs.Answers.{bytesAnswer}
 use Rattle.scripthash_stream.proofs.LawsStream.{length-stream}
 use Rattle.scripthash_stream.proofs.LawsEncode.{encode-accepted, after-encode-no, after-encode-yes}
 use Rattle.scripthash_fields.specs.Page.{streamOff, streamCap}
+use Rattle.scripthash_fields.proofs.LawsFields.{stream-off-within}
 use Rattle.scripthash_pages.specs.Entries.{writeStream}
-use Rattle.scripthash_pages.proofs.LawsWritten.{off-early, written-length, written-many, written-as-stream, after-written-no, after-written-yes}
+use Rattle.scripthash_pages.proofs.LawsWritten.{written-length, written-many, written-as-stream, after-written-no, after-written-yes}
 use Rattle.scripthash_pages.proofs.entries.sh_page_write_stream.Statement.{statement}
 use Rattle.scripthash_pages.proofs.entries.sh_page_write_stream.Tie as tie
 
@@ -44,7 +45,7 @@ module _ (c : tie.After-stream-off) where
   whole = omega arith
 
   within : off ≤ length page
-  within = omega (arith, off-is, off-early page, whole)
+  within = omega (arith, off-is, stream-off-within page, whole)
 
   as-stream : writeStream page fks ≡ encodeStream (streamCap page) fks
   as-stream = written-as-stream page fks whole (omega arith)
