@@ -3,6 +3,7 @@
 mod call;
 mod free;
 mod line;
+mod page;
 mod same;
 
 use call::BEFORE;
