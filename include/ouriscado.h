@@ -132,6 +132,81 @@ uint32_t ouriscado_unpack8(uint64_t w, uint8_t *kind, uint8_t *class_, uint16_t 
 /* What eight stored bytes say, as four numbers. Refuses 28 to 30. */
 uint32_t ouriscado_unpack8_bytes(const uint8_t *buf, uint8_t *kind, uint8_t *class_, uint16_t *used, uint64_t *place);
 
+/* How many bytes a page's stream takes, and its last number, 0 where it has none. Refuses 4, 15 to 18, 20 to 23. */
+uint32_t ouriscado_sh_page_stream_tail(const uint8_t *page, size_t page_len, size_t *taken, uint64_t *last);
+
+/* The last number of a page, 0 where it has none. Refuses 4, 15 to 18, 20 to 23. */
+uint32_t ouriscado_sh_page_last_fk(const uint8_t *page, size_t page_len, uint64_t *last);
+
+/* Reads the numbers of a page into the start of out, and tells how many. Refuses 4, 15 to 18, 20 to 23, 34. */
+uint32_t ouriscado_sh_page_entries_into(const uint8_t *page, size_t page_len, uint64_t *out, size_t out_len, size_t *count);
+
+/* Reads the numbers of a page into the start of out, and tells how many and the next page's offset, 0 where the page is LAST. Refuses 4, 15 to 18, 20 to 23, 34. */
+uint32_t ouriscado_sh_page_decode_slice_into(const uint8_t *page, size_t page_len, uint64_t *out, size_t out_len, size_t *count, uint64_t *next);
+
+/* Appends a number to a page, and tells whether it was: it isn't where the page is full. Refuses 4, 12, 13, 15 to 18, 20 to 23, 32. */
+uint32_t ouriscado_sh_page_try_append(uint8_t *page, size_t page_len, uint64_t fk, bool *appended);
+
+/* Writes the stream of a rising list to a page whose version is set, with its count, and tells its length. Refuses 4, 10, 12, 13, 32, 33. */
+uint32_t ouriscado_sh_page_write_stream(uint8_t *page, size_t page_len, const uint64_t *fks, size_t fks_len, size_t *len);
+
+/* What a page's link says: whether the page is LAST, and the offset of the page that it names. Refuses 4. */
+uint32_t ouriscado_sh_page_read_packed(const uint8_t *page, size_t page_len, bool *last, uint64_t *off);
+
+/* Whether a page is LAST. Refuses 4. */
+uint32_t ouriscado_sh_page_is_last(const uint8_t *page, size_t page_len, bool *last);
+
+/* The first page's offset, of a page with LAST. Refuses 4, 7. */
+uint32_t ouriscado_sh_page_first_off(const uint8_t *page, size_t page_len, uint64_t *off);
+
+/* The next page's offset, 0 where the page is LAST. Refuses 4. */
+uint32_t ouriscado_sh_page_next(const uint8_t *page, size_t page_len, uint64_t *off);
+
+/* Writes a page's link: LAST or not, and the offset of the page that it names. Refuses 4 to 6. */
+uint32_t ouriscado_sh_page_write_packed(uint8_t *page, size_t page_len, bool last, uint64_t off);
+
+/* Makes a page LAST, with the first page's offset. Refuses 4 to 6. */
+uint32_t ouriscado_sh_page_set_last(uint8_t *page, size_t page_len, uint64_t off);
+
+/* Gives a page a next page, without LAST. Refuses 4 to 6. */
+uint32_t ouriscado_sh_page_set_next(uint8_t *page, size_t page_len, uint64_t off);
+
+/* Where a page's stream starts. Refuses 4. */
+uint32_t ouriscado_sh_page_stream_off(const uint8_t *page, size_t page_len, size_t *off);
+
+/* How many bytes a page's stream may take. Refuses 4. */
+uint32_t ouriscado_sh_page_stream_cap(const uint8_t *page, size_t page_len, size_t *cap);
+
+/* The extent that a page names, its base and how many pages it has: 0 and 0 outside version 2. Refuses 4, 8, 9. */
+uint32_t ouriscado_sh_page_extent(const uint8_t *page, size_t page_len, uint64_t *base, uint32_t *n);
+
+/* Makes a page name an extent, in version 2. Refuses 4, 8, 9. */
+uint32_t ouriscado_sh_page_set_extent(uint8_t *page, size_t page_len, uint64_t base, uint32_t n);
+
+/* A page's creates, 0 outside version 2. Refuses 4. */
+uint32_t ouriscado_sh_page_extent_creates(const uint8_t *page, size_t page_len, uint32_t *n);
+
+/* Writes a page's creates, in version 2 only. Refuses 4. */
+uint32_t ouriscado_sh_page_set_extent_creates(uint8_t *page, size_t page_len, uint32_t n);
+
+/* How many numbers a page has. Refuses 4, 15. */
+uint32_t ouriscado_sh_page_n_fks(const uint8_t *page, size_t page_len, size_t *n);
+
+/* Writes a page's count. Refuses 4. */
+uint32_t ouriscado_sh_page_set_n_fks(uint8_t *page, size_t page_len, uint16_t n);
+
+/* Passes a page that can be read. Refuses 4, 15, 16. */
+uint32_t ouriscado_sh_page_require_delta(const uint8_t *page, size_t page_len);
+
+/* Makes a page empty: version 1, LAST with first offset 0, every other byte 0. Refuses 4. */
+uint32_t ouriscado_sh_page_init_empty(uint8_t *page, size_t page_len);
+
+/* Makes a page of version 1 of a rising list, with a next page, or LAST with first offset 0 where next is 0. Refuses 4 to 6, 10, 12, 13, 32, 33. */
+uint32_t ouriscado_sh_page_pack_fks(uint8_t *page, size_t page_len, const uint64_t *fks, size_t fks_len, uint64_t next);
+
+/* Makes a page of version 2 of a rising list, which names an extent, with a next page, or LAST with the extent's base where next is 0. Refuses 4 to 6, 8 to 10, 12, 13, 32, 33. */
+uint32_t ouriscado_sh_page_pack_extent_last_fks(uint8_t *page, size_t page_len, const uint64_t *fks, size_t fks_len, uint64_t base, uint32_t n, uint64_t next);
+
 /* How many numbers a slab of a class has slots for, or 0 where that passes 32 bits. */
 uint32_t ouriscado_slab_cap(uint8_t class_);
 

@@ -1,7 +1,7 @@
 //! Our answers against theirs.
 use crate::case::{difference, Input, Output};
 use crate::rng::Rng;
-use crate::table::{Function, FRONT, FUNCTIONS};
+use crate::table::{functions, Function, FRONT};
 use std::io::{IsTerminal, Write};
 use std::time::{Duration, Instant};
 
@@ -65,7 +65,7 @@ fn shown(input: &Input) -> String {
 
 /// Compares a function on the inputs of a round.
 fn compare_round(run: &Run, function: &Function, round: u64, found: &mut Found) {
-    let place = FUNCTIONS.iter().position(|f| f.name == function.name).unwrap() as u64;
+    let place = functions().position(|f| f.name == function.name).unwrap() as u64;
     let mut rng = Rng(run.seed ^ place << 56 ^ round << 24);
     let (mut ours, mut theirs) = (Output::default(), Output::default());
     (function.inputs)(&mut rng, round, &mut |input| {
@@ -90,8 +90,8 @@ fn compare_round(run: &Run, function: &Function, round: u64, found: &mut Found) 
 /// Compares every function, round 0 first and then random rounds for its share of the time, and again without end where the run is long.
 /// Tells whether no difference was found that isn't listed.
 pub fn compare(run: &Run) -> bool {
-    let chosen: Vec<&Function> = FUNCTIONS.iter().filter(|f| run.only.as_deref().is_none_or(|n| n == f.name)).collect();
-    let share = Duration::from_secs(60) / chosen.len().max(1) as u32;
+    let chosen: Vec<&Function> = functions().filter(|f| run.only.as_deref().is_none_or(|n| n == f.name)).collect();
+    let share = Duration::from_secs(100) / chosen.len().max(1) as u32;
     let mut all: Vec<Found> = chosen.iter().map(|_| Found::default()).collect();
     let mut first = 0;
     println!("seed {}", run.seed);

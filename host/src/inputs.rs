@@ -5,11 +5,11 @@ use crate::rng::Rng;
 use crate::table::Each;
 
 /// Random inputs in a round.
-const ROUND: usize = 256;
+pub const ROUND: usize = 256;
 /// What a buffer holds before a call, so that bytes that a call leaves are seen.
 const FILL: u8 = 0xa5;
 /// What a lent list holds before a call.
-const FILL_NUMBER: u64 = 0xa5a5_a5a5_a5a5_a5a5;
+pub const FILL_NUMBER: u64 = 0xa5a5_a5a5_a5a5_a5a5;
 
 /// Numbers on both sides of each power of two, and so of each length and bound of the formats.
 pub fn boundaries() -> Vec<u64> {
@@ -23,7 +23,7 @@ pub fn boundaries() -> Vec<u64> {
 }
 
 /// A random number: of any length in bits, or near a boundary.
-fn number(rng: &mut Rng) -> u64 {
+pub fn number(rng: &mut Rng) -> u64 {
     match rng.below(4) {
         0 => (1u64 << rng.below(64)).wrapping_add(rng.below(5)).wrapping_sub(2),
         _ => rng.bits(64),
@@ -31,7 +31,7 @@ fn number(rng: &mut Rng) -> u64 {
 }
 
 /// The shortest form of a number, with some bytes of padding.
-fn form(n: u64, padding: usize) -> Vec<u8> {
+pub fn form(n: u64, padding: usize) -> Vec<u8> {
     let mut out = Vec::new();
     let mut rest = n;
     while rest >= 0x80 {

@@ -5,6 +5,8 @@ mod case;
 mod compare;
 mod errors;
 mod inputs;
+mod page_inputs;
+mod pages;
 mod rng;
 mod table;
 

@@ -21,8 +21,13 @@ pub struct Function {
     pub inputs: fn(&mut Rng, u64, Each),
 }
 
-/// Every function.
-pub const FUNCTIONS: &[Function] = &[
+/// Every function, in the order of their numbers in the fixed list of answers.
+pub fn functions() -> impl Iterator<Item = &'static Function> {
+    FUNCTIONS.iter().chain(crate::pages::FUNCTIONS)
+}
+
+/// Every function that isn't about one page.
+const FUNCTIONS: &[Function] = &[
     Function {
         name: "uleb128_len",
         ours: |i, o| o.ours(0, &[sys::uleb128_len(i.numbers[0]) as u64]),
@@ -391,7 +396,7 @@ fn class_theirs(o: &mut Output, class: Option<u8>) {
 }
 
 /// Puts the numbers that they read into a lent list, and gives the refusal's number or 0: 34 where the list is too short.
-fn lent(answer: Result<(), u32>, read: &[Fk], list: &mut [u64]) -> u32 {
+pub fn lent(answer: Result<(), u32>, read: &[Fk], list: &mut [u64]) -> u32 {
     if let Err(number) = answer {
         return number;
     }

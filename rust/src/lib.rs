@@ -4,9 +4,11 @@
 //! [`sys`] has the functions as the library defines them.
 use std::fmt;
 
+mod pages;
 mod refusal;
 pub mod sys;
 
+pub use pages::*;
 pub use refusal::Refusal;
 
 impl Refusal {

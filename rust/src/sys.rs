@@ -41,6 +41,56 @@ pub mod raw {
         pub fn ouriscado_unpack8(w: u64, kind: &mut u8, class: &mut u8, used: &mut u16, place: &mut u64) -> u32;
         /// What eight stored bytes say, as four numbers. Refuses 28 to 30.
         pub fn ouriscado_unpack8_bytes(buf: &[u8; 8], kind: &mut u8, class: &mut u8, used: &mut u16, place: &mut u64) -> u32;
+        /// How many bytes a page's stream takes, and its last number, 0 where it has none. Refuses 4, 15 to 18, 20 to 23.
+        pub fn ouriscado_sh_page_stream_tail(page: *const u8, page_len: usize, taken: &mut usize, last: &mut u64) -> u32;
+        /// The last number of a page, 0 where it has none. Refuses 4, 15 to 18, 20 to 23.
+        pub fn ouriscado_sh_page_last_fk(page: *const u8, page_len: usize, last: &mut u64) -> u32;
+        /// Reads the numbers of a page into the start of out, and tells how many. Refuses 4, 15 to 18, 20 to 23, 34.
+        pub fn ouriscado_sh_page_entries_into(page: *const u8, page_len: usize, out: *mut u64, out_len: usize, count: &mut usize) -> u32;
+        /// Reads the numbers of a page into the start of out, and tells how many and the next page's offset, 0 where the page is LAST. Refuses 4, 15 to 18, 20 to 23, 34.
+        pub fn ouriscado_sh_page_decode_slice_into(page: *const u8, page_len: usize, out: *mut u64, out_len: usize, count: &mut usize, next: &mut u64) -> u32;
+        /// Appends a number to a page, and tells whether it was: it isn't where the page is full. Refuses 4, 12, 13, 15 to 18, 20 to 23, 32.
+        pub fn ouriscado_sh_page_try_append(page: *mut u8, page_len: usize, fk: u64, appended: &mut bool) -> u32;
+        /// Writes the stream of a rising list to a page whose version is set, with its count, and tells its length. Refuses 4, 10, 12, 13, 32, 33.
+        pub fn ouriscado_sh_page_write_stream(page: *mut u8, page_len: usize, fks: *const u64, fks_len: usize, len: &mut usize) -> u32;
+        /// What a page's link says: whether the page is LAST, and the offset of the page that it names. Refuses 4.
+        pub fn ouriscado_sh_page_read_packed(page: *const u8, page_len: usize, last: &mut bool, off: &mut u64) -> u32;
+        /// Whether a page is LAST. Refuses 4.
+        pub fn ouriscado_sh_page_is_last(page: *const u8, page_len: usize, last: &mut bool) -> u32;
+        /// The first page's offset, of a page with LAST. Refuses 4, 7.
+        pub fn ouriscado_sh_page_first_off(page: *const u8, page_len: usize, off: &mut u64) -> u32;
+        /// The next page's offset, 0 where the page is LAST. Refuses 4.
+        pub fn ouriscado_sh_page_next(page: *const u8, page_len: usize, off: &mut u64) -> u32;
+        /// Writes a page's link: LAST or not, and the offset of the page that it names. Refuses 4 to 6.
+        pub fn ouriscado_sh_page_write_packed(page: *mut u8, page_len: usize, last: bool, off: u64) -> u32;
+        /// Makes a page LAST, with the first page's offset. Refuses 4 to 6.
+        pub fn ouriscado_sh_page_set_last(page: *mut u8, page_len: usize, off: u64) -> u32;
+        /// Gives a page a next page, without LAST. Refuses 4 to 6.
+        pub fn ouriscado_sh_page_set_next(page: *mut u8, page_len: usize, off: u64) -> u32;
+        /// Where a page's stream starts. Refuses 4.
+        pub fn ouriscado_sh_page_stream_off(page: *const u8, page_len: usize, off: &mut usize) -> u32;
+        /// How many bytes a page's stream may take. Refuses 4.
+        pub fn ouriscado_sh_page_stream_cap(page: *const u8, page_len: usize, cap: &mut usize) -> u32;
+        /// The extent that a page names, its base and how many pages it has: 0 and 0 outside version 2. Refuses 4, 8, 9.
+        pub fn ouriscado_sh_page_extent(page: *const u8, page_len: usize, base: &mut u64, n: &mut u32) -> u32;
+        /// Makes a page name an extent, in version 2. Refuses 4, 8, 9.
+        pub fn ouriscado_sh_page_set_extent(page: *mut u8, page_len: usize, base: u64, n: u32) -> u32;
+        /// A page's creates, 0 outside version 2. Refuses 4.
+        pub fn ouriscado_sh_page_extent_creates(page: *const u8, page_len: usize, n: &mut u32) -> u32;
+        /// Writes a page's creates, in version 2 only. Refuses 4.
+        pub fn ouriscado_sh_page_set_extent_creates(page: *mut u8, page_len: usize, n: u32) -> u32;
+        /// How many numbers a page has. Refuses 4, 15.
+        pub fn ouriscado_sh_page_n_fks(page: *const u8, page_len: usize, n: &mut usize) -> u32;
+        /// Writes a page's count. Refuses 4.
+        pub fn ouriscado_sh_page_set_n_fks(page: *mut u8, page_len: usize, n: u16) -> u32;
+        /// Passes a page that can be read. Refuses 4, 15, 16.
+        pub fn ouriscado_sh_page_require_delta(page: *const u8, page_len: usize) -> u32;
+        /// Makes a page empty: version 1, LAST with first offset 0, every other byte 0. Refuses 4.
+        pub fn ouriscado_sh_page_init_empty(page: *mut u8, page_len: usize) -> u32;
+        /// Makes a page of version 1 of a rising list, with a next page, or LAST with first offset 0 where next is 0. Refuses 4 to 6, 10, 12, 13, 32, 33.
+        pub fn ouriscado_sh_page_pack_fks(page: *mut u8, page_len: usize, fks: *const u64, fks_len: usize, next: u64) -> u32;
+        /// Makes a page of version 2 of a rising list, which names an extent, with a next page, or LAST with the extent's base where next is 0. Refuses 4 to 6, 8 to 10, 12, 13, 32, 33.
+        pub fn ouriscado_sh_page_pack_extent_last_fks(page: *mut u8, page_len: usize, fks: *const u64, fks_len: usize, base: u64, n: u32, next: u64) -> u32;
         /// How many numbers a slab of a class has slots for, or 0 where that passes 32 bits.
         pub fn ouriscado_slab_cap(class: u8) -> u32;
         /// How many bytes a block of a class has, or 0 where that passes 64 bits.
@@ -176,6 +226,156 @@ pub fn unpack8(w: u64, kind: &mut u8, class: &mut u8, used: &mut u16, place: &mu
 #[inline]
 pub fn unpack8_bytes(buf: &[u8; 8], kind: &mut u8, class: &mut u8, used: &mut u16, place: &mut u64) -> u32 {
     unsafe { raw::ouriscado_unpack8_bytes(buf, kind, class, used, place) }
+}
+
+/// How many bytes a page's stream takes, and its last number, 0 where it has none. Refuses 4, 15 to 18, 20 to 23.
+#[inline]
+pub fn sh_page_stream_tail(page: &[u8], taken: &mut usize, last: &mut u64) -> u32 {
+    unsafe { raw::ouriscado_sh_page_stream_tail(page.as_ptr(), page.len(), taken, last) }
+}
+
+/// The last number of a page, 0 where it has none. Refuses 4, 15 to 18, 20 to 23.
+#[inline]
+pub fn sh_page_last_fk(page: &[u8], last: &mut u64) -> u32 {
+    unsafe { raw::ouriscado_sh_page_last_fk(page.as_ptr(), page.len(), last) }
+}
+
+/// Reads the numbers of a page into the start of out, and tells how many. Refuses 4, 15 to 18, 20 to 23, 34.
+#[inline]
+pub fn sh_page_entries_into(page: &[u8], out: &mut [u64], count: &mut usize) -> u32 {
+    unsafe { raw::ouriscado_sh_page_entries_into(page.as_ptr(), page.len(), out.as_mut_ptr(), out.len(), count) }
+}
+
+/// Reads the numbers of a page into the start of out, and tells how many and the next page's offset, 0 where the page is LAST. Refuses 4, 15 to 18, 20 to 23, 34.
+#[inline]
+pub fn sh_page_decode_slice_into(page: &[u8], out: &mut [u64], count: &mut usize, next: &mut u64) -> u32 {
+    unsafe { raw::ouriscado_sh_page_decode_slice_into(page.as_ptr(), page.len(), out.as_mut_ptr(), out.len(), count, next) }
+}
+
+/// Appends a number to a page, and tells whether it was: it isn't where the page is full. Refuses 4, 12, 13, 15 to 18, 20 to 23, 32.
+#[inline]
+pub fn sh_page_try_append(page: &mut [u8], fk: u64, appended: &mut bool) -> u32 {
+    unsafe { raw::ouriscado_sh_page_try_append(page.as_mut_ptr(), page.len(), fk, appended) }
+}
+
+/// Writes the stream of a rising list to a page whose version is set, with its count, and tells its length. Refuses 4, 10, 12, 13, 32, 33.
+#[inline]
+pub fn sh_page_write_stream(page: &mut [u8], fks: &[u64], len: &mut usize) -> u32 {
+    unsafe { raw::ouriscado_sh_page_write_stream(page.as_mut_ptr(), page.len(), fks.as_ptr(), fks.len(), len) }
+}
+
+/// What a page's link says: whether the page is LAST, and the offset of the page that it names. Refuses 4.
+#[inline]
+pub fn sh_page_read_packed(page: &[u8], last: &mut bool, off: &mut u64) -> u32 {
+    unsafe { raw::ouriscado_sh_page_read_packed(page.as_ptr(), page.len(), last, off) }
+}
+
+/// Whether a page is LAST. Refuses 4.
+#[inline]
+pub fn sh_page_is_last(page: &[u8], last: &mut bool) -> u32 {
+    unsafe { raw::ouriscado_sh_page_is_last(page.as_ptr(), page.len(), last) }
+}
+
+/// The first page's offset, of a page with LAST. Refuses 4, 7.
+#[inline]
+pub fn sh_page_first_off(page: &[u8], off: &mut u64) -> u32 {
+    unsafe { raw::ouriscado_sh_page_first_off(page.as_ptr(), page.len(), off) }
+}
+
+/// The next page's offset, 0 where the page is LAST. Refuses 4.
+#[inline]
+pub fn sh_page_next(page: &[u8], off: &mut u64) -> u32 {
+    unsafe { raw::ouriscado_sh_page_next(page.as_ptr(), page.len(), off) }
+}
+
+/// Writes a page's link: LAST or not, and the offset of the page that it names. Refuses 4 to 6.
+#[inline]
+pub fn sh_page_write_packed(page: &mut [u8], last: bool, off: u64) -> u32 {
+    unsafe { raw::ouriscado_sh_page_write_packed(page.as_mut_ptr(), page.len(), last, off) }
+}
+
+/// Makes a page LAST, with the first page's offset. Refuses 4 to 6.
+#[inline]
+pub fn sh_page_set_last(page: &mut [u8], off: u64) -> u32 {
+    unsafe { raw::ouriscado_sh_page_set_last(page.as_mut_ptr(), page.len(), off) }
+}
+
+/// Gives a page a next page, without LAST. Refuses 4 to 6.
+#[inline]
+pub fn sh_page_set_next(page: &mut [u8], off: u64) -> u32 {
+    unsafe { raw::ouriscado_sh_page_set_next(page.as_mut_ptr(), page.len(), off) }
+}
+
+/// Where a page's stream starts. Refuses 4.
+#[inline]
+pub fn sh_page_stream_off(page: &[u8], off: &mut usize) -> u32 {
+    unsafe { raw::ouriscado_sh_page_stream_off(page.as_ptr(), page.len(), off) }
+}
+
+/// How many bytes a page's stream may take. Refuses 4.
+#[inline]
+pub fn sh_page_stream_cap(page: &[u8], cap: &mut usize) -> u32 {
+    unsafe { raw::ouriscado_sh_page_stream_cap(page.as_ptr(), page.len(), cap) }
+}
+
+/// The extent that a page names, its base and how many pages it has: 0 and 0 outside version 2. Refuses 4, 8, 9.
+#[inline]
+pub fn sh_page_extent(page: &[u8], base: &mut u64, n: &mut u32) -> u32 {
+    unsafe { raw::ouriscado_sh_page_extent(page.as_ptr(), page.len(), base, n) }
+}
+
+/// Makes a page name an extent, in version 2. Refuses 4, 8, 9.
+#[inline]
+pub fn sh_page_set_extent(page: &mut [u8], base: u64, n: u32) -> u32 {
+    unsafe { raw::ouriscado_sh_page_set_extent(page.as_mut_ptr(), page.len(), base, n) }
+}
+
+/// A page's creates, 0 outside version 2. Refuses 4.
+#[inline]
+pub fn sh_page_extent_creates(page: &[u8], n: &mut u32) -> u32 {
+    unsafe { raw::ouriscado_sh_page_extent_creates(page.as_ptr(), page.len(), n) }
+}
+
+/// Writes a page's creates, in version 2 only. Refuses 4.
+#[inline]
+pub fn sh_page_set_extent_creates(page: &mut [u8], n: u32) -> u32 {
+    unsafe { raw::ouriscado_sh_page_set_extent_creates(page.as_mut_ptr(), page.len(), n) }
+}
+
+/// How many numbers a page has. Refuses 4, 15.
+#[inline]
+pub fn sh_page_n_fks(page: &[u8], n: &mut usize) -> u32 {
+    unsafe { raw::ouriscado_sh_page_n_fks(page.as_ptr(), page.len(), n) }
+}
+
+/// Writes a page's count. Refuses 4.
+#[inline]
+pub fn sh_page_set_n_fks(page: &mut [u8], n: u16) -> u32 {
+    unsafe { raw::ouriscado_sh_page_set_n_fks(page.as_mut_ptr(), page.len(), n) }
+}
+
+/// Passes a page that can be read. Refuses 4, 15, 16.
+#[inline]
+pub fn sh_page_require_delta(page: &[u8]) -> u32 {
+    unsafe { raw::ouriscado_sh_page_require_delta(page.as_ptr(), page.len()) }
+}
+
+/// Makes a page empty: version 1, LAST with first offset 0, every other byte 0. Refuses 4.
+#[inline]
+pub fn sh_page_init_empty(page: &mut [u8]) -> u32 {
+    unsafe { raw::ouriscado_sh_page_init_empty(page.as_mut_ptr(), page.len()) }
+}
+
+/// Makes a page of version 1 of a rising list, with a next page, or LAST with first offset 0 where next is 0. Refuses 4 to 6, 10, 12, 13, 32, 33.
+#[inline]
+pub fn sh_page_pack_fks(page: &mut [u8], fks: &[u64], next: u64) -> u32 {
+    unsafe { raw::ouriscado_sh_page_pack_fks(page.as_mut_ptr(), page.len(), fks.as_ptr(), fks.len(), next) }
+}
+
+/// Makes a page of version 2 of a rising list, which names an extent, with a next page, or LAST with the extent's base where next is 0. Refuses 4 to 6, 8 to 10, 12, 13, 32, 33.
+#[inline]
+pub fn sh_page_pack_extent_last_fks(page: &mut [u8], fks: &[u64], base: u64, n: u32, next: u64) -> u32 {
+    unsafe { raw::ouriscado_sh_page_pack_extent_last_fks(page.as_mut_ptr(), page.len(), fks.as_ptr(), fks.len(), base, n, next) }
 }
 
 /// How many numbers a slab of a class has slots for, or 0 where that passes 32 bits.

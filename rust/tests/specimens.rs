@@ -51,6 +51,59 @@ fn cutting() {
 }
 
 #[test]
+fn page_fields() {
+    let mut page = [0xff; 4096];
+    assert_eq!(sh_page_init_empty(&mut page), Ok(()));
+    assert_eq!(sh_page_read_packed(&page), Ok(Link { last: true, off: 0 }));
+    assert_eq!(sh_page_extent(&page), Ok(None));
+    assert_eq!(sh_page_set_extent(&mut page, Extent { base: 8192, n: 3 }), Ok(()));
+    assert_eq!(sh_page_extent(&page), Ok(Some(Extent { base: 8192, n: 3 })));
+    assert_eq!(sh_page_stream_cap(&page), Ok(4072));
+    assert_eq!(sh_page_set_extent_creates(&mut page, 7), Ok(()));
+    assert_eq!(sh_page_extent_creates(&page), Ok(7));
+    assert_eq!(sh_page_set_next(&mut page, 4096), Ok(()));
+    assert_eq!((sh_page_next(&page), sh_page_is_last(&page)), (Ok(4096), Ok(false)));
+    assert_eq!(sh_page_first_off(&page), Err(Refusal::NotLast));
+    assert_eq!(sh_page_set_last(&mut page, 1), Err(Refusal::LinkUnaligned));
+    assert_eq!(sh_page_require_delta(&page[1..]), Err(Refusal::PageLength));
+}
+
+#[test]
+fn page_entries() {
+    let mut page = [0; 4096];
+    assert_eq!(sh_page_last_fk(&page), Ok(None));
+    assert_eq!([5, 300, 301].map(|fk| sh_page_try_append(&mut page, fk)), [Ok(true); 3]);
+    assert_eq!(page[..12], [1, 3, 0, 0, 0, 0, 0, 0, 5, 0xa7, 2, 1]);
+    assert_eq!(sh_page_try_append(&mut page, 301), Err(Refusal::OfferedNotRising));
+    assert_eq!(sh_page_stream_tail(&page), Ok(StreamTail { taken: 4, last: 301 }));
+    let mut list = [0; 4096];
+    assert_eq!(sh_page_decode_slice_into(&page, &mut list), Ok(PageSlice { count: 3, next: 0 }));
+    assert_eq!(list[..4], [5, 300, 301, 0]);
+    let full: Vec<u64> = (1..=4088).collect();
+    assert_eq!(sh_page_write_stream(&mut page, &full), Ok(4088));
+    assert_eq!(sh_page_try_append(&mut page, 4089), Ok(false));
+    assert_eq!(sh_page_entries_into(&page, &mut list), Ok(4088));
+    assert_eq!(list[..4088], full[..]);
+    assert_eq!(sh_page_write_stream(&mut page, &list), Err(Refusal::OfferedNotRising));
+}
+
+#[test]
+fn packed_pages() {
+    let mut page = [0xff; 4096];
+    assert_eq!(sh_page_pack_fks(&mut page, &[5, 300, 301], 8192), Ok(()));
+    assert_eq!(page[..13], [1, 3, 0, 4, 0, 0, 0, 0, 5, 0xa7, 2, 1, 0]);
+    assert_eq!(page[13..], [0; 4083]);
+    let before = page;
+    assert_eq!(sh_page_pack_fks(&mut page, &[5, 5], 0), Err(Refusal::OfferedNotRising));
+    assert_eq!(page, before);
+    let full: Vec<u64> = (1..=4073).collect();
+    let extent = Extent { base: 4096, n: 1 };
+    assert_eq!(sh_page_pack_extent_last_fks(&mut page, &full, extent, 0), Err(Refusal::DoesNotFit));
+    assert_eq!(sh_page_pack_extent_last_fks(&mut page, &full[1..], extent, 0), Ok(()));
+    assert_eq!((sh_page_extent(&page), sh_page_first_off(&page), sh_page_n_fks(&page)), (Ok(Some(extent)), Ok(4096), Ok(4072)));
+}
+
+#[test]
 fn refusals_know_their_numbers() {
     assert!(Refusal::ALL.iter().all(|r| Refusal::of_number(r.number()) == Some(*r) && !r.text().is_empty()));
     assert_eq!(Refusal::UlebOverflow.number(), 18);

@@ -1,3 +1,4 @@
 pub mod Out
 pub mod OutClass
 pub mod OutHead
+pub mod OutPage

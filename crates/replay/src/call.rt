@@ -1,8 +1,11 @@
 // The exported functions by their numbers in the text, each on numbers, a buffer and a list. Out-parameters hold BEFORE before a call.
 use crate::cut;
 use crate::free;
+use crate::page;
 
 pub const BEFORE: u64 = 0x5a;
+// The number of the first function on pages.
+const FIRST_OF_PAGES: u64 = 23;
 // What a call answers that the program can't make: no refusal has this number.
 pub const UNKNOWN: u32 = 0xffff_ffff;
 
@@ -179,7 +182,7 @@ pub fn call(
         17 | 22 => return cut::call(function, given, list, told),
         18 => choose(3, n, told),
         19 | 20 | 21 => return free::call(function, given, bytes, list, told),
-        _ => return UNKNOWN,
+        _ => return page::call(function - FIRST_OF_PAGES, given, bytes, list, told),
     }
     0
 }

@@ -83,7 +83,19 @@ pub fn numbers(s: &[u8], out: &mut [u64]) -> usize {
     k
 }
 
-// Puts the bytes of a field to the start of out, which holds 0: four digits each, how many zeros stand before the byte, and the byte.
+// Makes a part of out hold one byte, as far as it reaches.
+fn fill(out: &mut [u8], from: usize, to: usize, b: u8) {
+    let mut i = from;
+    while i < out.len() {
+        if i >= to {
+            return;
+        }
+        out[i] = b;
+        i += 1;
+    }
+}
+
+// Puts the bytes of a field to the start of out, by runs of four digits: how often a byte stands, less one, and the byte.
 pub fn bytes(s: &[u8], out: &mut [u8]) {
     let mut at: usize = 0;
     let mut k: usize = 0;
@@ -91,13 +103,13 @@ pub fn bytes(s: &[u8], out: &mut [u8]) {
         if s.len() - at < 4 {
             return;
         }
-        let zeros = (hex(part(s, at, at + 2)) % 256) as usize;
-        if out.len() - k <= zeros {
+        let run = (hex(part(s, at, at + 2)) % 256) as usize + 1;
+        if out.len() - k < run {
             return;
         }
-        k += zeros;
-        out[k] = (hex(part(s, at + 2, at + 4)) % 256) as u8;
-        k += 1;
+        let b = (hex(part(s, at + 2, at + 4)) % 256) as u8;
+        fill(out, k, k + run, b);
+        k += run;
         at += 4;
     }
 }

@@ -4,6 +4,7 @@ mod call;
 mod cut;
 mod free;
 mod line;
+mod page;
 mod same;
 
 use call::BEFORE;

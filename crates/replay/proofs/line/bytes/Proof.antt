@@ -34,6 +34,9 @@ part-requires c κs = search needs
 hex-requires : tie.Need-hex-requires Inv-loop μ-loop
 hex-requires c κs = search needs
 
+add-run : tie.Need-add-run Inv-loop μ-loop
+add-run c = search needs
+
 sub-if2 : tie.Need-sub-if2 Inv-loop μ-loop
 sub-if2 c = search needs
 
@@ -42,9 +45,6 @@ same-length-2 c = search needs
 
 returns-2 : tie.Need-returns-2 Inv-loop μ-loop
 returns-2 c = search needs
-
-add-k : tie.Need-add-k Inv-loop μ-loop
-add-k c = search needs
 
 add-part-2 : tie.Need-add-part-2 Inv-loop μ-loop
 add-part-2 c = search needs
@@ -58,14 +58,17 @@ part-requires-2 c κs = search needs
 hex-requires-2 : tie.Need-hex-requires-2 Inv-loop μ-loop
 hex-requires-2 c κs = search needs
 
-cast-out : tie.Need-cast-out Inv-loop μ-loop
-cast-out c = search needs
+cast-b : tie.Need-cast-b Inv-loop μ-loop
+cast-b c = search needs
 
-slice-write-out : tie.Need-slice-write-out Inv-loop μ-loop
-slice-write-out c = search needs
+add-fill : tie.Need-add-fill Inv-loop μ-loop
+add-fill c = search needs
 
-add-k-2 : tie.Need-add-k-2 Inv-loop μ-loop
-add-k-2 c = search needs
+fill-requires : tie.Need-fill-requires Inv-loop μ-loop
+fill-requires c κs = search needs
+
+add-k : tie.Need-add-k Inv-loop μ-loop
+add-k c = search needs
 
 add-at : tie.Need-add-at Inv-loop μ-loop
 add-at c = search needs
@@ -95,17 +98,18 @@ bytes-spec =
     add-part
     part-requires
     hex-requires
+    add-run
     sub-if2
     same-length-2
     returns-2
-    add-k
     add-part-2
     add-part-3
     part-requires-2
     hex-requires-2
-    cast-out
-    slice-write-out
-    add-k-2
+    cast-b
+    add-fill
+    fill-requires
+    add-k
     add-at
     loop-less
     loop-again

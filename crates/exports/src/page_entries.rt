@@ -1,0 +1,140 @@
+// The stream of a page: read, appended to and written.
+ghost use mathlib.Core.Path.{_≡_};
+ghost use lib.ListN.{length};
+ghost use Rattle.error.specs.Refusal.{refusalOf};
+ghost use Rattle.scripthash_stream.specs.Stream.{afterDecode};
+ghost use Rattle.scripthash_stream.specs.Answers.{scanAnswer, bytesAnswer};
+ghost use Rattle.scripthash_fields.specs.Page.{nextOff};
+ghost use Rattle.scripthash_pages.specs.Entries.{pageScan, lastOf, pageEntries, readCount, appendSpot, hasSpot, afterAppend, writeStream, afterWriteStream};
+ghost use Rattle.scripthash_pages.specs.Answers.{tryAnswer};
+ghost use Rattle.exports.specs.Out.{told};
+use scripthash_pages::PageEntries;
+use scripthash_pages::PageLastFk;
+use scripthash_pages::PageSlice;
+use scripthash_pages::TryAppend;
+use scripthash_stream::ScanStream;
+use scripthash_stream::StreamBytes;
+
+// How many bytes a page's stream takes, and its last number, 0 where it has none. Refuses 4, 15 to 18, 20 to 23.
+#[no_mangle]
+pub extern "C" fn ouriscado_sh_page_stream_tail(
+    page: &[u8],
+    taken: &mut usize,
+    last: &mut u64,
+) -> u32
+    ensures number { λ r. ⌜ r ≡ refusalOf (pageScan (now (page .entry))) ⌝ }
+    ensures taken { λ r. ⌜ now (taken .exit) ≡ told (λ s. s .taken) (pageScan (now (page .entry))) (now (taken .entry)) ⌝ }
+    ensures last { λ r. ⌜ now (last .exit) ≡ told lastOf (pageScan (now (page .entry))) (now (last .entry)) ⌝ }
+{
+    let got = scripthash_pages::sh_page_stream_tail(page);
+    let ScanStream::Scanned { taken: t, last: l } = got else {
+        return got.refusal();
+    };
+    *taken = t;
+    *last = l;
+    0
+}
+
+// The last number of a page, 0 where it has none. Refuses 4, 15 to 18, 20 to 23.
+#[no_mangle]
+pub extern "C" fn ouriscado_sh_page_last_fk(page: &[u8], last: &mut u64) -> u32
+    ensures number { λ r. ⌜ r ≡ refusalOf (pageScan (now (page .entry))) ⌝ }
+    ensures last { λ r. ⌜ now (last .exit) ≡ told lastOf (pageScan (now (page .entry))) (now (last .entry)) ⌝ }
+{
+    let got = scripthash_pages::sh_page_last_fk(page);
+    let PageLastFk::Last(l) = got else {
+        return got.refusal();
+    };
+    *last = l;
+    0
+}
+
+// Reads the numbers of a page into the start of out, and tells how many. Refuses 4, 15 to 18, 20 to 23, 34.
+#[no_mangle]
+pub extern "C" fn ouriscado_sh_page_entries_into(
+    page: &[u8],
+    out: &mut [u64],
+    count: &mut usize,
+) -> u32
+    ensures number { λ r. ⌜ r ≡ refusalOf (pageEntries (length (now (out .entry))) (now (page .entry))) ⌝ }
+    ensures list { λ r. ⌜ now (out .exit) ≡ afterDecode (now (out .entry)) (pageEntries (length (now (out .entry))) (now (page .entry))) ⌝ }
+    ensures count { λ r. ⌜ now (count .exit) ≡ told readCount (pageEntries (length (now (out .entry))) (now (page .entry))) (now (count .entry)) ⌝ }
+{
+    let got = scripthash_pages::sh_page_entries_into(page, out);
+    let PageEntries::Entries(n) = got else {
+        return got.refusal();
+    };
+    *count = n;
+    0
+}
+
+// Reads the numbers of a page into the start of out, and tells how many and the next page's offset, 0 where the page is LAST. Refuses 4, 15
+// to 18, 20 to 23, 34.
+#[no_mangle]
+pub extern "C" fn ouriscado_sh_page_decode_slice_into(
+    page: &[u8],
+    out: &mut [u64],
+    count: &mut usize,
+    next: &mut u64,
+) -> u32
+    ensures number { λ r. ⌜ r ≡ refusalOf (pageEntries (length (now (out .entry))) (now (page .entry))) ⌝ }
+    ensures list { λ r. ⌜ now (out .exit) ≡ afterDecode (now (out .entry)) (pageEntries (length (now (out .entry))) (now (page .entry))) ⌝ }
+    ensures count { λ r. ⌜ now (count .exit) ≡ told readCount (pageEntries (length (now (out .entry))) (now (page .entry))) (now (count .entry)) ⌝ }
+    ensures next { λ r. ⌜ now (next .exit) ≡ told (λ _. nextOff (now (page .entry))) (pageEntries (length (now (out .entry))) (now (page .entry))) (now (next .entry)) ⌝ }
+{
+    let got = scripthash_pages::sh_page_decode_slice_into(page, out);
+    let PageSlice::Decoded { count: n, next: o } = got else {
+        return got.refusal();
+    };
+    *count = n;
+    *next = o;
+    0
+}
+
+// Hands out whether a number was appended.
+fn put_appended(got: TryAppend, appended: &mut bool) -> u32
+    ensures number { λ r. ⌜ r ≡ refusalOf (tryAnswer got) ⌝ }
+    ensures appended { λ r. ⌜ now (appended .exit) ≡ told (λ x. x) (tryAnswer got) (now (appended .entry)) ⌝ }
+{
+    match got {
+        TryAppend::Appended => {
+            *appended = true;
+            0
+        }
+        TryAppend::Full => {
+            *appended = false;
+            0
+        }
+        TryAppend::Refused(number) => number,
+    }
+}
+
+// Appends a number to a page, and tells whether it was: it isn't where the page is full. Refuses 4, 12, 13, 15 to 18, 20 to 23, 32.
+#[no_mangle]
+pub extern "C" fn ouriscado_sh_page_try_append(page: &mut [u8], fk: u64, appended: &mut bool) -> u32
+    ensures number { λ r. ⌜ r ≡ refusalOf (appendSpot (now (page .entry)) fk) ⌝ }
+    ensures bytes { λ r. ⌜ now (page .exit) ≡ afterAppend (now (page .entry)) (appendSpot (now (page .entry)) fk) ⌝ }
+    ensures appended { λ r. ⌜ now (appended .exit) ≡ told hasSpot (appendSpot (now (page .entry)) fk) (now (appended .entry)) ⌝ }
+{
+    let got = scripthash_pages::sh_page_try_append(page, fk);
+    put_appended(got, appended)
+}
+
+// Writes the stream of a rising list to a page whose version is set, with its count, and tells its length. Refuses 4, 10, 12, 13, 32, 33.
+#[no_mangle]
+pub extern "C" fn ouriscado_sh_page_write_stream(
+    page: &mut [u8],
+    fks: &[u64],
+    len: &mut usize,
+) -> u32
+    ensures number { λ r. ⌜ r ≡ refusalOf (writeStream (now (page .entry)) (now (fks .entry))) ⌝ }
+    ensures bytes { λ r. ⌜ now (page .exit) ≡ afterWriteStream (now (page .entry)) (now (fks .entry)) (writeStream (now (page .entry)) (now (fks .entry))) ⌝ }
+    ensures len { λ r. ⌜ now (len .exit) ≡ told (λ x. x) (writeStream (now (page .entry)) (now (fks .entry))) (now (len .entry)) ⌝ }
+{
+    let got = scripthash_pages::sh_page_write_stream(page, fks);
+    let StreamBytes::Bytes(w) = got else {
+        return got.refusal();
+    };
+    *len = w;
+    0
+}
