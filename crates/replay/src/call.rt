@@ -161,6 +161,9 @@ pub fn call(
     told: &mut [u64; 4],
 ) -> u32 {
     let n = given[0];
+    if FIRST_OF_PAGES <= function {
+        return page::call(function - FIRST_OF_PAGES, given, bytes, list, told);
+    }
     match function {
         0 => told[0] = exports::ouriscado_uleb128_len(n) as u64,
         1 => return read_uleb128(bytes, told),
@@ -181,8 +184,7 @@ pub fn call(
         16 => return decode_slab_payload_into(bytes, list, told),
         17 | 22 => return cut::call(function, given, list, told),
         18 => choose(3, n, told),
-        19 | 20 | 21 => return free::call(function, given, bytes, list, told),
-        _ => return page::call(function - FIRST_OF_PAGES, given, bytes, list, told),
+        _ => return free::call(function, given, bytes, list, told),
     }
     0
 }
