@@ -4,13 +4,13 @@ use mathlib.Core.Bool.{Bool, true, false, cond, not, _&&_, _||_, false≢true}
 use mathlib.Core.List.{List, [], _∷_}
 use mathlib.Core.Logic.{_⊎_, inl, inr, ⊎-elim}
 use mathlib.Core.Path.{_≡_, refl, sym, ap, _∙_}
-use native.Mathlib.Nat.{zero-add, add-mul, add-assoc, mul-one, mul-comm, mul-assoc, mul-le-mul-right, mod-eq-of-lt}
+use native.Mathlib.Nat.{zero-add, add-zero, add-mul, add-assoc, mul-one, mul-comm, mul-assoc, mul-le-mul-right, mod-eq-of-lt}
 use native.Mathlib.Numerals.{add-one}
 use native.Mathlib.Omega.{arith}
 use borrow.Author.Tests.{lt-leb, le-leb, lt-ltb, le-ltb, ltb-true, ltb-false, eq-eqb, ne-eqb}
 use lib.Dec.{leb, ltb, eqb}
-use lib.ListN.{length, drop, getD}
-use lib.Seq.{drop-cons}
+use lib.ListN.{length, drop, getD, length-drop}
+use lib.Seq.{drop-cons, getD-drop}
 use lib.Pow.{pow-add, pow-mono}
 use Rattle.error.specs.Refusal.{Answer, accepted, refused, refuseIf, ulebCutShort, ulebOverflow}
 use Rattle.error.proofs.LawsAnswer.{neither}
@@ -140,6 +140,18 @@ pub read-byte-at : (buf : List ℕ) (off : ℕ) → off < length buf → getD bu
 read-byte-at buf off h k =
     let small : getD buf off 0 % 128 ≡ getD buf off 0 = omega arith in
     rw (drop-cons buf off 0 h) (rw small at (read-byte (getD buf off 0 ∷ drop (suc off) buf) (suc-le-suc zero-le) k))
+
+-- two bytes at an offset, of which the first goes on and the second doesn't, are a form
+pub read-two-at : (buf : List ℕ) (off : ℕ) → off + 1 < length buf → 128 ≤ getD buf off 0 → getD buf (off + 1) 0 < 128
+    → readUleb (drop off buf) ≡ accepted (record { value = getD buf off 0 % 128 + 128 * getD buf (off + 1) 0; len = 2 })
+read-two-at buf off h k l =
+    let bs = drop off buf in
+    let long : 1 < length bs = simp length-drop (omega arith) in
+    let first : getD bs 0 0 ≡ getD buf off 0 = getD-drop off buf 0 0 ∙ ap (λ (i : ℕ). getD buf i 0) (add-zero off) in
+    let second : getD bs 1 0 ≡ getD buf (off + 1) 0 = getD-drop off buf 1 0 in
+    let sum : 0 + piece (getD bs 0 0) * 2 ^ (7 * 0) + piece (getD bs 1 0) * 2 ^ (7 * 1) ≡ getD buf off 0 % 128 + 128 * getD buf (off + 1) 0 = omega arith in
+    sym (from-start bs) ∙ at-more bs 0 0 (omega arith) refl (omega arith) ∙ at-last bs 1 _ long refl (omega arith)
+    ∙ ap (λ (v : ℕ). accepted (record { value = v; len = 2 })) sum
 
 -- What a piece leaves room for: shifted to its place it keeps all its bits, and so does its sum with the pieces before it.
 pub record Room (i acc b : ℕ) : Type 0 where

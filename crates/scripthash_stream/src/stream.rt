@@ -101,7 +101,7 @@ fn stored_number(prev: u64, d: u64, len: usize) -> NextFk
     NextFk::Number { fk: prev + d, len }
 }
 
-// The number at an offset of a stream, behind prev. A form of one byte takes a short path.
+// The number at an offset of a stream, behind prev. Forms of one byte and of two take short paths.
 fn next_fk(buf: &[u8], off: usize, prev: u64) -> NextFk
     requires { ⌜ (off ≤ length (now buf)) × (prev < 2 ^ 63) ⌝ }
     ensures { λ r. ⌜ nextAnswer r ≡ nextNumber prev (drop off (now (buf .entry))) ⌝ }
@@ -110,6 +110,12 @@ fn next_fk(buf: &[u8], off: usize, prev: u64) -> NextFk
         let d = wide(buf[off]);
         if d < 128 {
             return stored_number(prev, d, 1);
+        }
+        if off + 1 < buf.len() {
+            let e = wide(buf[off + 1]);
+            if e < 128 {
+                return stored_number(prev, d % 128 + 128 * e, 2);
+            }
         }
     }
     let got = compact::read_uleb128(&buf[off..]);
