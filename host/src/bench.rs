@@ -11,21 +11,21 @@ const ROUNDS: usize = 101;
 /// What a round of one side takes at least.
 const ROUND_TIME: Duration = Duration::from_micros(400);
 /// Numbers or words in a batch of tiny calls.
-const BATCH: usize = 1024;
+pub const BATCH: usize = 1024;
 
 /// A case: its name, and the work of each side.
-struct Case {
+pub struct Case {
     name: String,
     ours: Box<dyn FnMut()>,
     theirs: Box<dyn FnMut()>,
 }
 
-fn case(name: String, ours: impl FnMut() + 'static, theirs: impl FnMut() + 'static) -> Case {
+pub fn case(name: String, ours: impl FnMut() + 'static, theirs: impl FnMut() + 'static) -> Case {
     Case { name, ours: Box::new(ours), theirs: Box::new(theirs) }
 }
 
 /// Keeps the compiler from leaving out a call whose answer nobody reads.
-fn seen<T>(answer: T) {
+pub fn seen<T>(answer: T) {
     black_box(answer);
 }
 
@@ -76,7 +76,7 @@ fn measure(case: &mut Case) -> f64 {
     }
     [&mut ratios, &mut us, &mut them].into_iter().for_each(|v| v.sort_by(f64::total_cmp));
     let (mid, low, high) = (ratios[ROUNDS / 2], ratios[ROUNDS / 10], ratios[ROUNDS - 1 - ROUNDS / 10]);
-    println!("{:<44} {mid:>5.2}  ({low:.2} to {high:.2})  {:>9.0} ns against {:>9.0} ns", case.name, us[ROUNDS / 2] * 1e9, them[ROUNDS / 2] * 1e9);
+    println!("{:<50} {mid:>5.2}  ({low:.2} to {high:.2})  {:>9.0} ns against {:>9.0} ns", case.name, us[ROUNDS / 2] * 1e9, them[ROUNDS / 2] * 1e9);
     mid
 }
 
@@ -339,6 +339,7 @@ pub fn bench(only: Option<&str>) {
     small(&mut cases);
     cutting(&mut cases);
     free(&mut cases);
+    crate::page_bench::cases(&mut cases);
     println!("Our time over theirs: the median of {ROUNDS} rounds in turns (a tenth and nine tenths of them), and the time of a batch.");
     println!("Destinations are reused and not cleared between calls; their lists keep their capacity.");
     let mut worst = (0.0, String::new());

@@ -5,6 +5,7 @@ mod case;
 mod compare;
 mod errors;
 mod inputs;
+mod page_bench;
 mod page_inputs;
 mod pages;
 mod rng;

@@ -5,6 +5,8 @@ include!(concat!(env!("OUT_DIR"), "/modules.rs"));
 pub use compact::{read_uleb128, uleb128_len, write_uleb128_into, PackError};
 pub use fk::Fk;
 
+pub mod page_boundary;
+
 /// What stands in for the table file.
 pub mod file {
     use crate::error::StoreError;
