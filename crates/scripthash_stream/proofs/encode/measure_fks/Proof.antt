@@ -14,8 +14,8 @@ use Rattle.scripthash_stream.specs.Stream.{Rising, streamLen, judged}
 use Rattle.scripthash_stream.specs.Answers.{bytesAnswer}
 use Rattle.scripthash_stream.proofs.LawsStream.{front}
 use Rattle.scripthash_stream.proofs.LawsEncode.{measuredFrom, measured-start, measured-end, measured-more, measured-refused, judged-accepted}
-use Rattle.scripthash_stream.proofs.stream.measure_fks.Statement.{statement}
-use Rattle.scripthash_stream.proofs.stream.measure_fks.Tie as tie
+use Rattle.scripthash_stream.proofs.encode.measure_fks.Statement.{statement}
+use Rattle.scripthash_stream.proofs.encode.measure_fks.Tie as tie
 
 abbrev Inv-loop : tie.InvT-loop
 Inv-loop fks prev₀ len₀ k₀ prev len k =

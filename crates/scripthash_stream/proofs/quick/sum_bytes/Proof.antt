@@ -9,8 +9,8 @@ use lib.Seq.{drop-set-lt, drop-drop}
 use Rattle.scripthash_stream.specs.Stream.{OneByteForms}
 use Rattle.scripthash_stream.proofs.LawsDecode.{quick-all, written}
 use Rattle.scripthash_stream.proofs.LawsSums.{Summed, summed-start, summed-end, summed-turn}
-use Rattle.scripthash_stream.proofs.stream.sum_bytes.Statement.{statement}
-use Rattle.scripthash_stream.proofs.stream.sum_bytes.Tie as tie
+use Rattle.scripthash_stream.proofs.quick.sum_bytes.Statement.{statement}
+use Rattle.scripthash_stream.proofs.quick.sum_bytes.Tie as tie
 
 abbrev Inv-loop : tie.InvT-loop
 Inv-loop buf n out₀ sum₀ k₀ out sum k =

@@ -10,8 +10,8 @@ use borrow.Author.Tests.{ltb-true}
 use lib.ListN.{length, getD}
 use Rattle.buffer.proofs.LawsOrder.{lt-or-ge}
 use Rattle.scripthash_stream.specs.Stream.{OneByteForms}
-use Rattle.scripthash_stream.proofs.stream.one_byte_forms.Statement.{statement}
-use Rattle.scripthash_stream.proofs.stream.one_byte_forms.Tie as tie
+use Rattle.scripthash_stream.proofs.quick.one_byte_forms.Statement.{statement}
+use Rattle.scripthash_stream.proofs.quick.one_byte_forms.Tie as tie
 
 -- each of the first k bytes lies between two numbers
 abbrev Between : List ℕ → ℕ → ℕ → ℕ → Type 0

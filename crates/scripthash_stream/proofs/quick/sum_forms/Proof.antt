@@ -10,8 +10,8 @@ use borrow.Author.Needs.{needs}
 use lib.ListN.{length, getD, set, length-set}
 use Rattle.buffer.proofs.LawsOrder.{lt-or-ge}
 use Rattle.scripthash_stream.proofs.LawsSums.{Summed, summed-start, summed-end, summed-below, summed-turn}
-use Rattle.scripthash_stream.proofs.stream.sum_forms.Statement.{statement}
-use Rattle.scripthash_stream.proofs.stream.sum_forms.Tie as tie
+use Rattle.scripthash_stream.proofs.quick.sum_forms.Statement.{statement}
+use Rattle.scripthash_stream.proofs.quick.sum_forms.Tie as tie
 
 abbrev Inv-loop : tie.InvT-loop
 Inv-loop buf n space₀ sum₀ shift₀ i₀ k₀ space sum shift i k =

@@ -11,8 +11,8 @@ use Rattle.error.specs.Refusal.{refuseIf, accepted}
 use Rattle.compact.specs.Uleb128.{ulebLen}
 use Rattle.scripthash_stream.specs.Stream.{Rising, judged}
 use Rattle.scripthash_stream.proofs.LawsEncode.{and-no, judged-rising}
-use Rattle.scripthash_stream.proofs.stream.offered_number.Statement.{statement}
-use Rattle.scripthash_stream.proofs.stream.offered_number.Tie as tie
+use Rattle.scripthash_stream.proofs.encode.offered_number.Statement.{statement}
+use Rattle.scripthash_stream.proofs.encode.offered_number.Tie as tie
 
 returns : tie.Need-returns
 unfolding judged refuseIf

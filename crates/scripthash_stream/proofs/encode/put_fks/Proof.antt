@@ -13,8 +13,8 @@ use Rattle.compact.specs.Uleb128.{ulebLen, shortest}
 use Rattle.compact.proofs.LawsLength.{length-shortest}
 use Rattle.scripthash_stream.specs.Stream.{Rising, streamFrom, stream, streamLenFrom, streamLen}
 use Rattle.scripthash_stream.proofs.LawsStream.{front}
-use Rattle.scripthash_stream.proofs.stream.put_fks.Statement.{statement}
-use Rattle.scripthash_stream.proofs.stream.put_fks.Tie as tie
+use Rattle.scripthash_stream.proofs.encode.put_fks.Statement.{statement}
+use Rattle.scripthash_stream.proofs.encode.put_fks.Tie as tie
 
 abbrev Inv-loop : tie.InvT-loop
 Inv-loop out₀ fks prev₀ off₀ k₀ out prev off k =

@@ -2,8 +2,8 @@
 use native.Mathlib.Omega.{arith}
 use borrow.Author.Needs.{needs}
 use Rattle.scripthash_stream.proofs.LawsDecode.{quick-none}
-use Rattle.scripthash_stream.proofs.stream.decode_quickly.Statement.{statement}
-use Rattle.scripthash_stream.proofs.stream.decode_quickly.Tie as tie
+use Rattle.scripthash_stream.proofs.quick.decode_quickly.Statement.{statement}
+use Rattle.scripthash_stream.proofs.quick.decode_quickly.Tie as tie
 
 one-byte-forms-requires : tie.Need-one-byte-forms-requires
 one-byte-forms-requires c κs = search needs

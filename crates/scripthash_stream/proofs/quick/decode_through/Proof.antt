@@ -5,8 +5,8 @@ use borrow.Author.Needs.{needs}
 use lib.ListN.{length, take}
 use Rattle.scripthash_stream.specs.Stream.{decodeStream}
 use Rattle.scripthash_stream.proofs.LawsDecode.{quick-none, quick-all}
-use Rattle.scripthash_stream.proofs.stream.decode_through.Statement.{statement}
-use Rattle.scripthash_stream.proofs.stream.decode_through.Tie as tie
+use Rattle.scripthash_stream.proofs.quick.decode_through.Statement.{statement}
+use Rattle.scripthash_stream.proofs.quick.decode_through.Tie as tie
 
 sum-forms-requires : tie.Need-sum-forms-requires
 sum-forms-requires c κs = search needs

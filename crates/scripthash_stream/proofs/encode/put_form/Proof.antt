@@ -15,8 +15,8 @@ use Rattle.compact.specs.Uleb128.{ulebLen, shortest}
 use Rattle.compact.specs.Answers.{writeAnswer}
 use Rattle.compact.proofs.LawsLength.{len-pos, len-small, len-two, shortest-small, shortest-two, length-shortest}
 use Rattle.compact.proofs.LawsWrite.{write-fits, after-fits}
-use Rattle.scripthash_stream.proofs.stream.put_form.Statement.{statement}
-use Rattle.scripthash_stream.proofs.stream.put_form.Tie as tie
+use Rattle.scripthash_stream.proofs.encode.put_form.Statement.{statement}
+use Rattle.scripthash_stream.proofs.encode.put_form.Tie as tie
 
 -- the form that was written into the lent part
 module _ (c : tie.After-write-uleb128-into) where
