@@ -1,2 +1,3 @@
 pub mod LawsPage
 pub mod LawsFields
+pub mod LawsWhole

@@ -17,7 +17,7 @@ use scripthash_layout::SH_PAGE_SIZE;
 // The bytes of a page, as an offset counts them.
 pub const SH_PAGE_BYTES: u64 = 4096;
 // Where the version stands.
-const SH_PAGE_OFF_VER: usize = 0;
+pub const SH_PAGE_OFF_VER: usize = 0;
 // Where the count stands, in two bytes.
 pub const SH_PAGE_OFF_N_FKS: usize = 1;
 // Where the link stands, in five bytes.
@@ -176,7 +176,7 @@ fn version_of(page: &[u8]) -> u8
 }
 
 // Writes a page's version.
-pub fn set_version(page: &mut [u8], version: u8)
+fn set_version(page: &mut [u8], version: u8)
     requires { ⌜ length (now page) ≡ pageSize ⌝ }
     ensures { λ _. ⌜ now (page .exit) ≡ setField (now (page .entry)) 0 1 version ⌝ }
 {

@@ -86,7 +86,7 @@ drop-past b o ys fits k h =
     sym (part-to-end (overwrite b o ys) k)
     ∙ ap (λ (m : ℕ). take (m - k) (drop k (overwrite b o ys))) (length-overwrite b o ys fits) ∙ part-after b o ys fits k (length b - k) h ∙ part-to-end b k
 
-kept-place : (b : Bool) (m : ℕ) → m ≤ pageSize - eitherOf 24 8 b → placeBy (eitherOf 2 1 b) m ≡ accepted (record { off = eitherOf 24 8 b; count = m })
+pub kept-place : (b : Bool) (m : ℕ) → m ≤ pageSize - eitherOf 24 8 b → placeBy (eitherOf 2 1 b) m ≡ accepted (record { off = eitherOf 24 8 b; count = m })
 kept-place true m h = extent-place m h
 kept-place false m h = delta-place m h
 
@@ -94,7 +94,7 @@ kept-small : (b : Bool) → eitherOf 2 1 b < 256 ^ 1
 kept-small true = omega arith
 kept-small false = omega arith
 
-off-late : (b : Bool) → 8 ≤ eitherOf 24 8 b
+pub off-late : (b : Bool) → 8 ≤ eitherOf 24 8 b
 off-late true = omega arith
 off-late false = omega arith
 

@@ -1,5 +1,5 @@
 -- The stream of a page: where it stands, what it is scanned and read as, and the offset of the page behind. Assumes nothing.
-use Prim.Native.Nat.{ℕ, _+_, _-_, _*_, _/_, _%_, _^_, _≤_, _<_}
+use Prim.Native.Nat.{ℕ, _-_, _^_, _≤_, _<_}
 use mathlib.Core.Bool.{Bool, true, false, cond, not, _&&_, _||_}
 use mathlib.Core.List.{List}
 use mathlib.Core.Path.{_≡_, refl, sym, ap, _∙_}
@@ -11,7 +11,7 @@ use Rattle.error.specs.Refusal.{Answer, accepted, refused, refuseIf, andThen, p
 use Rattle.error.proofs.LawsAnswer.{accepted-inj, passed, went-on, refuse-yes, refuse-no, then-yes, then-no}
 use Rattle.buffer.specs.Bytes.{part}
 use Rattle.buffer.specs.LittleEndian.{littleEndian, AreBytes}
-use Rattle.buffer.proofs.LawsOverwrite.{part-listed, length-part}
+use Rattle.buffer.proofs.LawsOverwrite.{length-part}
 use Rattle.buffer.proofs.LawsLittleEndian.{littleEndian-below, part-bytes}
 use Rattle.scripthash_layout.specs.Sizes.{pageSize}
 use Rattle.scripthash_stream.specs.Stream.{Scan, scan, decodeStream}

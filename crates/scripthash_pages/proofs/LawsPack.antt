@@ -2,22 +2,20 @@
 use Prim.Native.Nat.{ℕ, _+_, _-_, _≤_, _<_}
 use mathlib.Core.Bool.{Bool}
 use mathlib.Core.List.{List, [], _++_, append-assoc, append-nil}
-use mathlib.Core.Path.{_≡_, refl, sym, ap, _∙_}
+use mathlib.Core.Path.{_≡_, sym, ap, _∙_}
 use native.Mathlib.Nat.{zero-add}
 use native.Mathlib.Omega.{arith}
 use borrow.Author.Tests.{lt-ltb, le-ltb, ltb-false}
 use lib.Dec.{ltb}
-use lib.ListN.{length, take, drop, set, replicate, length-append, length-take, length-drop, drop-of-length-le}
+use lib.ListN.{length, take, drop, replicate, length-append, length-take, length-drop, drop-of-length-le}
 use lib.Seq.{take-at, drop-at, length-take-le}
-use Rattle.error.specs.Refusal.{Answer, accepted, refused, refuseIf, answered, tooManyOffered}
+use Rattle.error.specs.Refusal.{Answer, accepted, refused, answered, tooManyOffered}
 use Rattle.error.proofs.LawsAnswer.{passed, refuse-yes, refuse-no, refused-alike, answered-yes, answered-no, was-accepted, was-refused}
 use Rattle.buffer.specs.Bytes.{overwrite}
-use Rattle.buffer.specs.LittleEndian.{bytesOf}
 use Rattle.buffer.proofs.LawsBytes.{length-overwrite}
 use Rattle.buffer.proofs.LawsOverwrite.{overwrite-adjoin}
 use Rattle.scripthash_layout.specs.Sizes.{pageSize}
-use Rattle.scripthash_stream.specs.Stream.{Rising, stream, streamLen, encodeStream, maxOffered}
-use Rattle.scripthash_stream.proofs.LawsEncode.{encode-accepted}
+use Rattle.scripthash_stream.specs.Stream.{Rising, stream, encodeStream, maxOffered}
 use Rattle.scripthash_stream.proofs.LawsLent.{lent, putBack}
 use Rattle.scripthash_fields.specs.Page.{pageOf}
 use Rattle.scripthash_fields.specs.Fields.{done, afterSet}

@@ -1,5 +1,7 @@
 pub mod LawsEntries
 pub mod LawsAppend
 pub mod LawsAppended
+pub mod LawsHeld
 pub mod LawsWritten
 pub mod LawsPack
+pub mod LawsPacked

@@ -19,10 +19,10 @@ use scripthash_fields::SH_PAGE_OFF_EXTENT_CREATES;
 use scripthash_fields::SH_PAGE_OFF_EXTENT_N;
 use scripthash_fields::SH_PAGE_OFF_N_FKS;
 use scripthash_fields::SH_PAGE_OFF_PACKED;
+use scripthash_fields::SH_PAGE_OFF_VER;
 use scripthash_fields::check_extent;
 use scripthash_fields::check_link;
 use scripthash_fields::link_to;
-use scripthash_fields::set_version;
 use scripthash_layout::SH_PAGE_SIZE;
 use scripthash_stream::MAX_OFFERED;
 use scripthash_stream::StreamBytes;
@@ -50,7 +50,7 @@ fn put_header(page: &mut [u8], version: u8, n: u16, link: u64)
     requires { ⌜ length (now page) ≡ pageSize ⌝ }
     ensures { λ _. ⌜ now (page .exit) ≡ overwrite (now (page .entry)) 0 (bytesOf 1 version ++ (bytesOf 2 n ++ bytesOf 5 link)) ⌝ }
 {
-    set_version(page, version);
+    page[SH_PAGE_OFF_VER] = version;
     buffer::put_u16(page, SH_PAGE_OFF_N_FKS, n);
     buffer::put_u40(page, SH_PAGE_OFF_PACKED, link);
 }
@@ -97,7 +97,13 @@ pub fn sh_page_pack_fks(page: &mut [u8], fks: &[u64], next: u64) -> PageDone
 }
 
 // Packs a page that names an extent, with a next page; with none, at 0, it is LAST with the extent's base as first offset.
-pub fn sh_page_pack_extent_last_fks(page: &mut [u8], fks: &[u64], base: u64, n: u32, next: u64) -> PageDone
+pub fn sh_page_pack_extent_last_fks(
+    page: &mut [u8],
+    fks: &[u64],
+    base: u64,
+    n: u32,
+    next: u64,
+) -> PageDone
     ensures answer { λ r. ⌜ doneAnswer r ≡ done (packExtent (now (page .entry)) (now (fks .entry)) base n next) ⌝ }
     ensures page { λ r. ⌜ now (page .exit) ≡ afterSet (now (page .entry)) (packExtent (now (page .entry)) (now (fks .entry)) base n next) ⌝ }
 {

@@ -1,22 +1,17 @@
 -- `sh_page_write_stream` meets its contract: after the two tests the stream's encoder decides, on the lent part from the stream's start on;
 -- the count is written last. Assumes nothing.
-use Prim.Native.Nat.{ℕ, _+_, _-_, _≤_}
-use mathlib.Core.List.{List, _++_}
+use Prim.Native.Nat.{ℕ, _-_, _≤_}
+use mathlib.Core.List.{List}
 use mathlib.Core.Path.{_≡_, sym, ap, _∙_}
-use native.Mathlib.Nat.{add-zero}
 use native.Mathlib.Omega.{arith}
 use borrow.Author.Needs.{needs}
-use borrow.Rule.Slice.PartMut.{put-same}
-use lib.ListN.{length, take, drop, length-take, length-drop}
-use Rattle.error.specs.Refusal.{accepted, refused}
+use lib.ListN.{length}
 use Rattle.buffer.specs.Bytes.{overwrite}
 use Rattle.buffer.specs.LittleEndian.{bytesOf}
-use Rattle.buffer.proofs.LawsBytes.{overwrite-part}
 use Rattle.scripthash_layout.specs.Sizes.{pageSize}
-use Rattle.scripthash_stream.specs.Stream.{stream, streamLen, encodeStream}
+use Rattle.scripthash_stream.specs.Stream.{encodeStream}
 use Rattle.scripthash_stream.specs.Answers.{bytesAnswer}
-use Rattle.scripthash_stream.proofs.LawsStream.{length-stream}
-use Rattle.scripthash_stream.proofs.LawsEncode.{encode-accepted, after-encode-no, after-encode-yes}
+use Rattle.scripthash_stream.proofs.LawsLent.{length-lent, lent-no, lent-yes}
 use Rattle.scripthash_fields.specs.Page.{streamOff, streamCap}
 use Rattle.scripthash_fields.proofs.LawsFields.{stream-off-within}
 use Rattle.scripthash_pages.specs.Entries.{writeStream}
@@ -55,39 +50,18 @@ module _ (c : tie.After-encode-fk-delta-stream-into) where
   abbrev at : tie.After-stream-off
   at = c .before .before
 
-  abbrev room : ℕ
-  room = length (page at) - off at
+  abbrev out : List ℕ
+  out = c .encode-fk-delta-stream-into .last .0
 
-  abbrev lent : List ℕ
-  lent = take room (drop (off at) (page at))
+  cap : length (page at) - off at ≡ streamCap (page at)
+  cap = omega (arith, off-is at, whole at)
 
-  long : length lent ≡ streamCap (page at)
-  long = let e = off-is at in let f = whole at in simp (length-take, length-drop) (omega arith)
+  answer : encodeStream (length (page at) - off at) (fks at) ≡ bytesAnswer (c .encode-fk-delta-stream-into .result)
+  answer =
+      sym (c .encode-fk-delta-stream-into .ensures .0 ∙ ap (λ (r : ℕ). encodeStream r (fks at)) (length-lent (page at) (off at) (within at)))
 
-  answer : bytesAnswer (c .encode-fk-delta-stream-into .result) ≡ encodeStream (streamCap (page at)) (fks at)
-  answer = c .encode-fk-delta-stream-into .ensures .0 ∙ ap (λ (r : ℕ). encodeStream r (fks at)) long
-
--- and wrote the stream there
-module _ (c : tie.After-known-told) where
-  abbrev enc : tie.After-encode-fk-delta-stream-into
-  enc = c .before .before .before .before .before
-
-  is : encodeStream (streamCap (page (at enc))) (fks (at enc)) ≡ accepted (c .before .got .given .0 .0)
-  is = sym (answer enc) ∙ ap bytesAnswer (c .before .got .given .1)
-
-  written : take (off (at enc)) (page (at enc)) ++ (enc .encode-fk-delta-stream-into .last .0 ++ drop (room enc) (drop (off (at enc)) (page (at enc))))
-      ≡ overwrite (page (at enc)) (off (at enc)) (stream (fks (at enc)))
-  written =
-      let h = encode-accepted (streamCap (page (at enc))) (fks (at enc)) is in
-      let size = length-stream 0 (fks (at enc)) in
-      let inside = within (at enc) in
-      let e = off-is (at enc) in
-      let f = whole (at enc) in
-      ap (λ (m : List ℕ). take (off (at enc)) (page (at enc)) ++ (m ++ drop (room enc) (drop (off (at enc)) (page (at enc)))))
-      (enc .encode-fk-delta-stream-into .ensures .1
-      ∙ after-encode-yes (lent enc) (fks (at enc)) (encodeStream (length (lent enc)) (fks (at enc))) (ap (λ (r : ℕ). encodeStream r (fks (at enc))) (long enc) ∙ is))
-      ∙ overwrite-part (page (at enc)) (off (at enc)) (room enc) 0 (stream (fks (at enc))) (omega arith) (omega (arith, h .1, size))
-      ∙ ap (λ (o : ℕ). overwrite (page (at enc)) o (stream (fks (at enc)))) (add-zero (off (at enc)))
+  told : writeStream (page at) (fks at) ≡ bytesAnswer (c .encode-fk-delta-stream-into .result)
+  told = as-stream at ∙ ap (λ (r : ℕ). encodeStream r (fks at)) (sym cap) ∙ answer
 
 returns : tie.Need-returns
 returns c =
@@ -129,15 +103,10 @@ returns-3 : tie.Need-returns-3
 returns-3 c =
     let d = c .before .before .before .before in
     let o = at d in
-    let told = c .enum-told .given in
-    let stop : encodeStream (streamCap (page o)) (fks o) ≡ refused (told .0 .0) = sym (answer d) ∙ ap bytesAnswer (told .1) in
-    let refusal = as-stream o ∙ stop in
-    let same : d .encode-fk-delta-stream-into .last .0 ≡ lent d =
-    d .encode-fk-delta-stream-into .ensures .1
-    ∙ after-encode-no (lent d) (fks o) (encodeStream (length (lent d)) (fks o)) (ap (λ (r : ℕ). encodeStream r (fks o)) (long d) ∙ stop) in (
-      ap bytesAnswer (told .1) ∙ sym refusal,
-      ap (λ (m : List ℕ). take (off o) (page o) ++ (m ++ drop (room d) (drop (off o) (page o)))) same ∙ put-same (off o) (room d) (page o)
-          ∙ sym (after-written-no (page o) (fks o) (writeStream (page o) (fks o)) refusal),
+    let is = ap bytesAnswer (c .enum-told .given .1) in (
+      is ∙ sym (told d ∙ is),
+      lent-no (page o) (off o) (within o) (fks o) (out d) (d .encode-fk-delta-stream-into .ensures .1) (answer d ∙ is)
+          ∙ sym (after-written-no (page o) (fks o) (writeStream (page o) (fks o)) (told d ∙ is)),
     )
 
 cast-put-u16 : tie.Need-cast-put-u16
@@ -151,12 +120,15 @@ same-length-2 c = search needs
 
 returns-4 : tie.Need-returns-4
 returns-4 c =
-    let d = c .before .before .before .before in
-    let o = at (enc d) in
-    let answer-here = as-stream o ∙ is d in (
-      sym answer-here,
-      c .before .before .put-u16 .ensures ∙ ap (λ (b : List ℕ). overwrite b 1 (bytesOf 2 (length (fks o)))) (written d)
-          ∙ after-written-yes (page o) (fks o) (writeStream (page o) (fks o)) (off o) (off-is o) answer-here,
+    let k = c .before .before .before .before in
+    let d = k .before .before .before .before .before in
+    let o = at d in
+    let is = ap bytesAnswer (k .before .got .given .1) in (
+      sym (told d ∙ is),
+      c .before .before .put-u16 .ensures
+          ∙ ap (λ (b : List ℕ). overwrite b 1 (bytesOf 2 (length (fks o))))
+          (lent-yes (page o) (off o) (within o) (fks o) (out d) (d .encode-fk-delta-stream-into .ensures .1) (answer d ∙ is))
+          ∙ after-written-yes (page o) (fks o) (writeStream (page o) (fks o)) (off o) (off-is o) (told d ∙ is),
     )
 
 pub sh-page-write-stream-spec : {M : Type 1} → statement M

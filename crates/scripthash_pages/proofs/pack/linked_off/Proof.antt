@@ -1,6 +1,5 @@
 -- `linked_off` meets its contract: the next page's offset decides. Assumes nothing.
-use mathlib.Core.Path.{_≡_, sym, ap}
-use mathlib.Core.Bool.{Bool, cond}
+use mathlib.Core.Bool.{Bool}
 use borrow.Author.Tests.{eq-eqb, ne-eqb}
 use Rattle.scripthash_pages.proofs.pack.linked_off.Statement.{statement}
 use Rattle.scripthash_pages.proofs.pack.linked_off.Tie as tie

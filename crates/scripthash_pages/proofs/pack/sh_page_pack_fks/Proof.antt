@@ -6,14 +6,13 @@ use mathlib.Core.Path.{_≡_, refl, sym, ap, _∙_}
 use native.Mathlib.Omega.{arith}
 use borrow.Author.Needs.{needs}
 use lib.Dec.{eqb}
-use lib.ListN.{length, take}
-use Rattle.error.specs.Refusal.{accepted, refused}
+use lib.ListN.{length}
+use Rattle.error.specs.Refusal.{accepted}
 use Rattle.buffer.specs.Bytes.{overwrite}
 use Rattle.buffer.specs.LittleEndian.{bytesOf}
 use Rattle.scripthash_layout.specs.Sizes.{pageSize}
 use Rattle.scripthash_stream.specs.Stream.{stream, maxOffered}
-use Rattle.scripthash_fields.specs.Page.{linkTo, linkNamed, deltaHeader, pageOf}
-use Rattle.scripthash_fields.specs.Fields.{done}
+use Rattle.scripthash_fields.specs.Page.{linkTo, deltaHeader, pageOf}
 use Rattle.scripthash_fields.specs.Answers.{doneAnswer}
 use Rattle.scripthash_fields.proofs.LawsPage.{page-no, page-yes}
 use Rattle.scripthash_fields.proofs.LawsFields.{link-no, link-yes, set-no, set-yes}

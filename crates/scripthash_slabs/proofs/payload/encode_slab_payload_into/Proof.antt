@@ -1,22 +1,20 @@
 -- `encode_slab_payload_into` meets its contract: after the two tests the stream's encoder decides, on the lent part after two bytes; the
 -- count is written last. Assumes nothing.
 use Prim.Native.Nat.{ℕ, _+_, _-_, _≤_}
-use mathlib.Core.List.{List, _++_}
+use mathlib.Core.List.{List}
 use mathlib.Core.Path.{_≡_, sym, ap, _∙_}
 use native.Mathlib.Omega.{arith}
 use borrow.Author.Needs.{needs}
-use borrow.Rule.Slice.PartMut.{put-same}
-use lib.ListN.{length, take, drop, length-take, length-drop}
+use lib.ListN.{length}
 use Rattle.error.specs.Refusal.{accepted, refused, answered}
 use Rattle.error.proofs.LawsAnswer.{answered-yes, answered-no}
 use Rattle.buffer.specs.Bytes.{overwrite}
 use Rattle.buffer.specs.LittleEndian.{bytesOf}
-use Rattle.buffer.proofs.LawsBytes.{overwrite-part}
-use Rattle.scripthash_stream.specs.Stream.{stream, streamLen, encodeStream}
+use Rattle.scripthash_stream.specs.Stream.{encodeStream}
 use Rattle.scripthash_slabs.specs.Slab.{encodeSlab}
 use Rattle.scripthash_stream.specs.Answers.{bytesAnswer}
-use Rattle.scripthash_stream.proofs.LawsStream.{length-stream}
-use Rattle.scripthash_stream.proofs.LawsEncode.{encode-accepted, after-encode-no, after-encode-yes}
+use Rattle.scripthash_stream.proofs.LawsLent.{length-lent, lent-no, lent-yes}
+use Rattle.scripthash_stream.proofs.LawsEncode.{encode-accepted}
 use Rattle.scripthash_slabs.proofs.LawsSlab.{slab-many, slab-short, slab-as-stream, after-slab-no, after-slab-yes, payload-written}
 use Rattle.scripthash_slabs.proofs.payload.encode_slab_payload_into.Statement.{statement}
 use Rattle.scripthash_slabs.proofs.payload.encode_slab_payload_into.Tie as tie
@@ -35,14 +33,14 @@ module _ (c : tie.After-encode-fk-delta-stream-into) where
   abbrev room : ℕ
   room = length bytes - 2
 
-  abbrev lent : List ℕ
-  lent = take room (drop 2 bytes)
+  abbrev out : List ℕ
+  out = c .encode-fk-delta-stream-into .last .0
 
-  long : length lent ≡ room
-  long = simp (length-take, length-drop) (omega arith)
+  inside : 2 ≤ length bytes
+  inside = omega arith
 
   answer : bytesAnswer (c .encode-fk-delta-stream-into .result) ≡ encodeStream room fks
-  answer = c .encode-fk-delta-stream-into .ensures .0 ∙ ap (λ (r : ℕ). encodeStream r fks) long
+  answer = c .encode-fk-delta-stream-into .ensures .0 ∙ ap (λ (r : ℕ). encodeStream r fks) (length-lent bytes 2 inside)
 
   slab : encodeSlab (length bytes) fks ≡ answered (λ len. 2 + len) (encodeStream room fks)
   slab = slab-as-stream (length bytes) fks (omega arith) (omega arith)
@@ -57,15 +55,6 @@ module _ (c : tie.After-known-told) where
 
   within : c .before .got .given .0 .0 ≤ room enc
   within = let h = encode-accepted (room enc) (fks enc) is in omega arith
-
-  written : take 2 (bytes enc) ++ (enc .encode-fk-delta-stream-into .last .0 ++ drop (room enc) (drop 2 (bytes enc))) ≡ overwrite (bytes enc) 2 (stream (fks enc))
-  written =
-      let h = encode-accepted (room enc) (fks enc) is in
-      let count = length-stream 0 (fks enc) in
-      ap (λ (m : List ℕ). take 2 (bytes enc) ++ (m ++ drop (room enc) (drop 2 (bytes enc))))
-      (enc .encode-fk-delta-stream-into .ensures .1
-      ∙ after-encode-yes (lent enc) (fks enc) (encodeStream (length (lent enc)) (fks enc)) (ap (λ (r : ℕ). encodeStream r (fks enc)) (long enc) ∙ is))
-      ∙ overwrite-part (bytes enc) 2 (room enc) 0 (stream (fks enc)) (omega arith) (omega arith)
 
 returns : tie.Need-returns
 returns c =
@@ -106,12 +95,9 @@ returns-3 c =
     let told = c .enum-told .given in
     let stop : encodeStream (room d) (fks d) ≡ refused (told .0 .0) = sym (answer d) ∙ ap bytesAnswer (told .1) in
     let refusal = slab d ∙ answered-no (λ len. 2 + len) (encodeStream (room d) (fks d)) stop in
-    let same : d .encode-fk-delta-stream-into .last .0 ≡ lent d =
-    d .encode-fk-delta-stream-into .ensures .1
-    ∙ after-encode-no (lent d) (fks d) (encodeStream (length (lent d)) (fks d)) (ap (λ (r : ℕ). encodeStream r (fks d)) (long d) ∙ stop) in (
+    let same = lent-no (bytes d) 2 (inside d) (fks d) (out d) (d .encode-fk-delta-stream-into .ensures .1) stop in (
       ap bytesAnswer (told .1) ∙ sym refusal,
-      ap (λ (m : List ℕ). take 2 (bytes d) ++ (m ++ drop (room d) (drop 2 (bytes d)))) same ∙ put-same 2 (room d) (bytes d)
-          ∙ sym (after-slab-no (bytes d) (fks d) (encodeSlab (length (bytes d)) (fks d)) refusal),
+      same ∙ sym (after-slab-no (bytes d) (fks d) (encodeSlab (length (bytes d)) (fks d)) refusal),
     )
 
 cast-put-u16 : tie.Need-cast-put-u16
@@ -130,9 +116,10 @@ returns-4 : tie.Need-returns-4
 returns-4 c =
     let d = c .before .before .before .before in
     let e = enc d in
+    let written = lent-yes (bytes e) 2 (inside e) (fks e) (out e) (e .encode-fk-delta-stream-into .ensures .1) (is d) in
     let answer-here = slab e ∙ answered-yes (λ len. 2 + len) (encodeStream (room e) (fks e)) (is d) in (
       sym answer-here,
-      c .before .before .put-u16 .ensures ∙ ap (λ (b : List ℕ). overwrite b 0 (bytesOf 2 (length (fks e)))) (written d)
+      c .before .before .put-u16 .ensures ∙ ap (λ (b : List ℕ). overwrite b 0 (bytesOf 2 (length (fks e)))) written
           ∙ payload-written (bytes e) (fks e) (omega arith) ∙ sym (after-slab-yes (bytes e) (fks e) (encodeSlab (length (bytes e)) (fks e)) answer-here),
     )
 
