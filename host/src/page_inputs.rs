@@ -139,7 +139,7 @@ fn page_offsets() -> Vec<u64> {
 pub fn links(rng: &mut Rng, round: u64, each: Each) {
     let short: Vec<Vec<u64>> = page_offsets().iter().flat_map(|&off| [vec![0, off], vec![1, off]]).collect();
     with_numbers(rng, round, each, &short, &mut |rng| {
-        let off = rng.bits(53) * rng.pick(&[4096, 4096, 4096, 1]);
+        let off = rng.bits(52) * rng.pick(&[4096, 4096, 4096, 1]);
         vec![rng.below(2), off]
     });
 }

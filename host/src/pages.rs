@@ -283,3 +283,37 @@ fn stream_len(fks: &[u64]) -> u64 {
 fn fk_or_0(fk: Option<Fk>) -> u64 {
     fk.map_or(0, |fk| fk.0)
 }
+
+#[cfg(test)]
+mod tests {
+    use super::*;
+    use crate::rng::Rng;
+
+    /// The refusals that the first round of a function's inputs reaches, with 0 for acceptance.
+    fn reached(name: &str) -> Vec<u32> {
+        let function = FUNCTIONS.iter().find(|f| f.name == name).unwrap();
+        let mut out = std::collections::BTreeSet::new();
+        let mut theirs = Output::default();
+        (function.inputs)(&mut Rng(1), 0, &mut |input| {
+            theirs.start(input);
+            (function.theirs)(input, &mut theirs);
+            out.insert(theirs.refusal);
+        });
+        out.into_iter().collect()
+    }
+
+    #[test]
+    fn every_refusal_is_reached() {
+        assert_eq!(reached("sh_page_first_off"), [0, 4, 7]);
+        assert_eq!(reached("sh_page_write_packed"), [0, 4, 5, 6]);
+        assert_eq!(reached("sh_page_extent"), [0, 4, 8, 9]);
+        assert_eq!(reached("sh_page_set_extent"), [0, 4, 8, 9]);
+        assert_eq!(reached("sh_page_require_delta"), [0, 4, 15, 16]);
+        assert_eq!(reached("sh_page_stream_tail"), [0, 4, 15, 16, 17, 18, 20, 21, 22, 23]);
+        assert_eq!(reached("sh_page_entries_into"), [0, 4, 15, 16, 17, 18, 20, 21, 22, 23, 34]);
+        assert_eq!(reached("sh_page_try_append"), [0, 4, 12, 13, 15, 16, 17, 18, 20, 21, 22, 23, 32]);
+        assert_eq!(reached("sh_page_write_stream"), [0, 4, 10, 12, 13, 32, 33]);
+        assert_eq!(reached("sh_page_pack_fks"), [0, 4, 5, 6, 10, 12, 13, 32, 33]);
+        assert_eq!(reached("sh_page_pack_extent_last_fks"), [0, 4, 5, 6, 8, 9, 10, 12, 13, 32, 33]);
+    }
+}
