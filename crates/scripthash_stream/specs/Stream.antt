@@ -120,3 +120,7 @@ pub record OneByteForms (bs : List ℕ) (n : ℕ) : Type 0 where
 -- whose numbers the list holds.
 unfoldable pub Quick : ℕ → List ℕ → List ℕ → Answer Scan → Type 0
 Quick told before after a = ((told ≡ 0) × (after ≡ before)) ⊎ ((0 < told) × (answered (λ s. s .taken) a ≡ accepted told) × (after ≡ afterDecode before a))
+
+-- What a quick scan tells: nothing where it tells 0 bytes, else where the scan ends.
+unfoldable pub QuickEnd : ℕ → ℕ → Answer End → Type 0
+QuickEnd taken last a = (0 < taken) → a ≡ accepted (record { taken = taken; last = last })

@@ -1,11 +1,11 @@
-// Streams read in one pass: where each byte is a form, and else byte by byte through a list that holds the numbers until all are read.
+// Streams read or scanned in one pass: where each byte is a form, and else byte by byte through a list that holds the numbers until all are read.
 ghost use mathlib.Core.Path.{_≡_};
 ghost use mathlib.Core.Bool.{true};
 ghost use Prim.Native.Nat.{_/_, _≤_, _<_};
 ghost use lib.ListN.{length, take};
-ghost use Rattle.error.specs.Refusal.{accepted};
+ghost use Rattle.error.specs.Refusal.{accepted, answered};
 ghost use Rattle.buffer.specs.Bytes.{overwrite};
-ghost use Rattle.scripthash_stream.specs.Stream.{scan, decodeStream, OneByteForms, Quick};
+ghost use Rattle.scripthash_stream.specs.Stream.{scan, endFrom, decodeStream, OneByteForms, Quick, QuickEnd};
 use crate::stream::BIT_63;
 use crate::stream::MAX_OFFERED;
 use crate::stream::wide;
@@ -187,4 +187,80 @@ pub fn decode_quickly(buf: &[u8], n: usize, out: &mut [u64]) -> usize
         }
     }
     0
+}
+
+// Where a stream that was scanned quickly ends: the bytes that it takes, 0 where it wasn't, and its last number.
+pub struct StreamEnd {
+    pub taken: usize,
+    pub last: u64,
+}
+
+// Scans a stream of n numbers through a list that they are left in.
+fn end_through(buf: &[u8], n: usize, space: &mut [u64]) -> StreamEnd
+    requires { ⌜ n ≤ length (now space) ⌝ }
+    ensures { λ r. ⌜ QuickEnd (r .taken) (r .last) (answered (endFrom 0) (scan n (now (buf .entry)))) ⌝ }
+{
+    if n == 0 {
+        return StreamEnd { taken: 0, last: 0 };
+    }
+    let taken = sum_forms(buf, n, space);
+    StreamEnd {
+        taken,
+        last: space[n - 1],
+    }
+}
+
+// The same through a list of 64.
+fn end_64(buf: &[u8], n: usize) -> StreamEnd
+    requires { ⌜ n ≤ 64 ⌝ }
+    ensures { λ r. ⌜ QuickEnd (r .taken) (r .last) (answered (endFrom 0) (scan n (now (buf .entry)))) ⌝ }
+{
+    let mut space = [0u64; 64];
+    end_through(buf, n, &mut space)
+}
+
+// The same through a list of 512.
+fn end_512(buf: &[u8], n: usize) -> StreamEnd
+    requires { ⌜ n ≤ 512 ⌝ }
+    ensures { λ r. ⌜ QuickEnd (r .taken) (r .last) (answered (endFrom 0) (scan n (now (buf .entry)))) ⌝ }
+{
+    let mut space = [0u64; 512];
+    end_through(buf, n, &mut space)
+}
+
+// The same through a list of 2,048.
+fn end_2048(buf: &[u8], n: usize) -> StreamEnd
+    requires { ⌜ n ≤ 2048 ⌝ }
+    ensures { λ r. ⌜ QuickEnd (r .taken) (r .last) (answered (endFrom 0) (scan n (now (buf .entry)))) ⌝ }
+{
+    let mut space = [0u64; 2048];
+    end_through(buf, n, &mut space)
+}
+
+// The same through a list of 4,096.
+fn end_4096(buf: &[u8], n: usize) -> StreamEnd
+    requires { ⌜ n ≤ 4096 ⌝ }
+    ensures { λ r. ⌜ QuickEnd (r .taken) (r .last) (answered (endFrom 0) (scan n (now (buf .entry)))) ⌝ }
+{
+    let mut space = [0u64; 4096];
+    end_through(buf, n, &mut space)
+}
+
+// Scans a stream of n numbers in one pass: tells where it ends, or 0 bytes where it can't be scanned so.
+pub fn scan_quickly(buf: &[u8], n: usize) -> StreamEnd
+    ensures { λ r. ⌜ QuickEnd (r .taken) (r .last) (answered (endFrom 0) (scan n (now (buf .entry)))) ⌝ }
+{
+    if n <= 64 {
+        return end_64(buf, n);
+    }
+    if n <= 512 {
+        return end_512(buf, n);
+    }
+    if n <= 2048 {
+        return end_2048(buf, n);
+    }
+    if n <= 4096 {
+        return end_4096(buf, n);
+    }
+    StreamEnd { taken: 0, last: 0 }
 }

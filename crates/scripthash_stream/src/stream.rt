@@ -120,8 +120,8 @@ fn next_fk(buf: &[u8], off: usize, prev: u64) -> NextFk
     stored_number(prev, value, len)
 }
 
-// Scans a stream of n numbers at the start of buf: checks each, and tells where the stream ends.
-pub fn scan_fk_delta_stream(buf: &[u8], n: usize) -> ScanStream
+// Scans a stream of n numbers at the start of buf number by number: checks each, and tells where the stream ends.
+fn scan_by_number(buf: &[u8], n: usize) -> ScanStream
     ensures { λ r. ⌜ scanAnswer r ≡ answered (endFrom 0) (scan n (now (buf .entry))) ⌝ }
 {
     let mut prev: u64 = 0;
@@ -140,6 +140,20 @@ pub fn scan_fk_delta_stream(buf: &[u8], n: usize) -> ScanStream
         taken: off,
         last: prev,
     }
+}
+
+// Scans a stream of n numbers at the start of buf: quickly where that can be, else number by number, which tells a refusal.
+pub fn scan_fk_delta_stream(buf: &[u8], n: usize) -> ScanStream
+    ensures { λ r. ⌜ scanAnswer r ≡ answered (endFrom 0) (scan n (now (buf .entry))) ⌝ }
+{
+    let end = crate::quick::scan_quickly(buf, n);
+    if 0 < end.taken {
+        return ScanStream::Scanned {
+            taken: end.taken,
+            last: end.last,
+        };
+    }
+    scan_by_number(buf, n)
 }
 
 // Writes the n numbers of a stream to the start of out; where the stream doesn't scan, it stops at the first number that it can't read.
@@ -167,7 +181,7 @@ fn decode_in_two_passes(buf: &[u8], n: usize, out: &mut [u64]) -> StreamBytes
     ensures answer { λ r. ⌜ bytesAnswer r ≡ answered (λ s. s .taken) (decodeStream (length (now (out .entry))) n (now (buf .entry))) ⌝ }
     ensures list { λ r. ⌜ now (out .exit) ≡ afterDecode (now (out .entry)) (decodeStream (length (now (out .entry))) n (now (buf .entry))) ⌝ }
 {
-    let got = scan_fk_delta_stream(buf, n);
+    let got = scan_by_number(buf, n);
     let ScanStream::Scanned { taken, last: _ } = got else {
         return StreamBytes::Refused(got.refusal());
     };

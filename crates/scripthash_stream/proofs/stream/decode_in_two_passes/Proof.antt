@@ -19,10 +19,10 @@ module _ (c : tie.After-known-told) where
   args = c .before .before .before .before .before .before
 
   found : (s : Scan) × (scan (args .args .n) (args .args .buf .now) ≡ accepted s) × (endFrom 0 s ≡ record { taken = c .before .got .given .0 .0; last = c .before .got .given .0 .1 .0 })
-  found = was-accepted (endFrom 0) (scan (args .args .n) (args .args .buf .now)) (sym (c .before .before .before .scan-fk-delta-stream .ensures) ∙ ap scanAnswer (c .before .got .given .1))
+  found = was-accepted (endFrom 0) (scan (args .args .n) (args .args .buf .now)) (sym (c .before .before .before .scan-by-number .ensures) ∙ ap scanAnswer (c .before .got .given .1))
 
-scan-fk-delta-stream-requires : tie.Need-scan-fk-delta-stream-requires
-scan-fk-delta-stream-requires c κs = search needs
+scan-by-number-requires : tie.Need-scan-by-number-requires
+scan-by-number-requires c κs = search needs
 
 enum-known-got : tie.Need-enum-known-got
 enum-known-got c = search needs
@@ -37,7 +37,7 @@ returns : tie.Need-returns
 returns c =
     let told = c .before .enum-told .given in
     let a = c .before .before .before .before .before .before .args in
-    let stop = was-refused (endFrom 0) (scan (a .n) (a .buf .now)) (sym (c .before .before .before .scan-fk-delta-stream .ensures) ∙ ap scanAnswer (told .1)) in
+    let stop = was-refused (endFrom 0) (scan (a .n) (a .buf .now)) (sym (c .before .before .before .scan-by-number .ensures) ∙ ap scanAnswer (told .1)) in
     let answer = decode-refused (length (a .out .now)) (a .n) (a .buf .now) stop in (
       ap refused (c .refusal .ensures ∙ ap (λ (g : ScanStream). refusalOf (scanAnswer g)) (told .1)) ∙ sym (answered-no (λ s. s .taken) _ answer),
       sym (after-refused (a .out .now) _ answer),
@@ -68,7 +68,7 @@ pub decode-in-two-passes-spec : {M : Type 1} → statement M
 decode-in-two-passes-spec =
     tie.close
     (tie.spec
-    scan-fk-delta-stream-requires
+    scan-by-number-requires
     enum-known-got
     enum-told
     refusal-requires
