@@ -12,7 +12,8 @@ use lib.Seq.{length-take-le}
 use Rattle.error.specs.Refusal.{Answer, accepted, refused, answered, listTooShort}
 use Rattle.error.proofs.LawsAnswer.{went-on, passed, then-yes, then-no, refuse-yes, refuse-no, answered-yes}
 use Rattle.buffer.specs.Bytes.{overwrite}
-use Rattle.scripthash_stream.specs.Stream.{Scan, scan, decodeStream, afterDecode, Quick}
+use Rattle.scripthash_stream.specs.Stream.{Scan, scan, decodeStream, afterDecode}
+use Rattle.scripthash_stream.specs.Steps.{Quick}
 
 -- a stream that doesn't scan is refused
 pub decode-refused : (room n : ℕ) (bs : List ℕ) {number : ℕ} → scan n bs ≡ refused number → decodeStream room n bs ≡ refused number

@@ -7,7 +7,8 @@ use lib.ListN.{length, getD, take, drop}
 use Rattle.error.specs.Refusal.{Answer, accepted, refused, andThen, answered}
 use Rattle.error.proofs.LawsAnswer.{answered-then, answered-no, then-yes, then-no}
 use Rattle.compact.specs.Uleb128.{Reading}
-use Rattle.scripthash_stream.specs.Stream.{lastFrom, nextNumber, Scan, scanFrom, scan, End, endFrom, QuickEnd}
+use Rattle.scripthash_stream.specs.Stream.{lastFrom, nextNumber, Scan, scanFrom, scan, End, endFrom}
+use Rattle.scripthash_stream.specs.Steps.{QuickEnd}
 
 -- k numbers behind `prev` are left to scan, and those before took `off` bytes: where the whole scan ends.
 unfoldable pub endsFrom : ℕ → ℕ → ℕ → List ℕ → Answer End

@@ -1,12 +1,10 @@
 -- Streams of rising numbers: the first number, then the differences, each as a ULEB128 form. A number before the first counts as 0.
-use Prim.Native.Nat.{ℕ, zero, suc, _+_, _-_, _^_, _≤_, _<_}
-use mathlib.Core.Bool.{Bool, cond, _&&_}
+use Prim.Native.Nat.{ℕ, zero, suc, _+_, _-_, _^_, _<_}
+use mathlib.Core.Bool.{cond, _&&_}
 use mathlib.Core.List.{List, [], _∷_, _++_}
-use mathlib.Core.Logic.{_⊎_}
-use mathlib.Core.Path.{_≡_}
 use lib.Dec.{leb, ltb, eqb}
-use lib.ListN.{length, drop, getD}
-use Rattle.error.specs.Refusal.{Answer, accepted, refused, refuseIf, andThen, answered, offeredFirstZero, offeredBit63, offeredNotRising, doesNotFit, listTooShort}
+use lib.ListN.{length, drop}
+use Rattle.error.specs.Refusal.{Answer, accepted, refused, refuseIf, andThen, offeredFirstZero, offeredBit63, offeredNotRising, doesNotFit, listTooShort}
 use Rattle.error.specs.Refusal.{storedFirstZero, storedDifferenceZero, storedSumOverflow, storedBit63}
 use Rattle.buffer.specs.Bytes.{overwrite}
 use Rattle.compact.specs.Uleb128.{Reading, readUleb, ulebLen, shortest}
@@ -108,19 +106,3 @@ decodeStream room n bs = andThen (scan n bs) (λ s. refuseIf (ltb room n) listTo
 unfoldable pub afterDecode : List ℕ → Answer Scan → List ℕ
 afterDecode out (accepted s) = overwrite out 0 (s .numbers)
 afterDecode out (refused number) = out
-
--- The first n bytes, of some but no more than are ever offered, are forms of one byte each, and none is 0.
-pub record OneByteForms (bs : List ℕ) (n : ℕ) : Type 0 where
-  pub some : 0 < n
-  pub few : n ≤ maxOffered
-  pub within : n ≤ length bs
-  pub each : (i : ℕ) → i < n → (0 < getD bs i 0) × (getD bs i 0 < 128)
-
--- A try at reading a stream into a lent list, whose answer would be `a`: it tells 0 and leaves the list, or the bytes of an accepted stream,
--- whose numbers the list holds.
-unfoldable pub Quick : ℕ → List ℕ → List ℕ → Answer Scan → Type 0
-Quick told before after a = ((told ≡ 0) × (after ≡ before)) ⊎ ((0 < told) × (answered (λ s. s .taken) a ≡ accepted told) × (after ≡ afterDecode before a))
-
--- What a quick scan tells: nothing where it tells 0 bytes, else where the scan ends.
-unfoldable pub QuickEnd : ℕ → ℕ → Answer End → Type 0
-QuickEnd taken last a = (0 < taken) → a ≡ accepted (record { taken = taken; last = last })

@@ -6,7 +6,6 @@ mod stream;
 pub use encode::encode_fk_delta_stream_into;
 pub use encode::put_form;
 pub use stream::MAX_OFFERED;
-pub use stream::NextFk;
 pub use stream::ScanStream;
 pub use stream::StreamBytes;
 pub use stream::decode_fk_delta_stream_into;

@@ -6,7 +6,7 @@ use native.Mathlib.Omega.{arith}
 use borrow.Author.Needs.{needs}
 use lib.ListN.{length, take, drop, getD, set, length-set}
 use lib.Seq.{drop-set-lt, drop-drop}
-use Rattle.scripthash_stream.specs.Stream.{OneByteForms}
+use Rattle.scripthash_stream.specs.Steps.{OneByteForms}
 use Rattle.scripthash_stream.proofs.LawsDecode.{quick-all, written}
 use Rattle.scripthash_stream.proofs.LawsSums.{Summed, summed-start, summed-end, summed-turn}
 use Rattle.scripthash_stream.proofs.quick.sum_bytes.Statement.{statement}

@@ -1,0 +1,24 @@
+-- What the steps of reading a stream quickly promise each other: no answer of a public function is defined here.
+use Prim.Native.Nat.{ℕ, _≤_, _<_}
+use mathlib.Core.List.{List}
+use mathlib.Core.Logic.{_⊎_}
+use mathlib.Core.Path.{_≡_}
+use lib.ListN.{length, getD}
+use Rattle.error.specs.Refusal.{Answer, accepted, answered}
+use Rattle.scripthash_stream.specs.Stream.{maxOffered, Scan, End, afterDecode}
+
+-- The first n bytes, of some but no more than are ever offered, are forms of one byte each, and none is 0.
+pub record OneByteForms (bs : List ℕ) (n : ℕ) : Type 0 where
+  pub some : 0 < n
+  pub few : n ≤ maxOffered
+  pub within : n ≤ length bs
+  pub each : (i : ℕ) → i < n → (0 < getD bs i 0) × (getD bs i 0 < 128)
+
+-- A try at reading a stream into a lent list, whose answer would be `a`: it tells 0 and leaves the list, or the bytes of an accepted stream,
+-- whose numbers the list holds.
+unfoldable pub Quick : ℕ → List ℕ → List ℕ → Answer Scan → Type 0
+Quick told before after a = ((told ≡ 0) × (after ≡ before)) ⊎ ((0 < told) × (answered (λ s. s .taken) a ≡ accepted told) × (after ≡ afterDecode before a))
+
+-- What a quick scan tells: nothing where it tells 0 bytes, else where the scan ends.
+unfoldable pub QuickEnd : ℕ → ℕ → Answer End → Type 0
+QuickEnd taken last a = (0 < taken) → a ≡ accepted (record { taken = taken; last = last })
