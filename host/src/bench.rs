@@ -7,9 +7,9 @@ use std::hint::black_box;
 use std::time::Duration;
 
 /// Rounds of a case.
-const ROUNDS: usize = 101;
-/// What a round of one side takes at least.
-const ROUND_TIME: Duration = Duration::from_micros(400);
+const ROUNDS: usize = 301;
+/// What a round of one side takes at least: short, so that both sides of a round meet the machine in the same state.
+const ROUND_TIME: Duration = Duration::from_micros(100);
 /// Numbers or words in a batch of tiny calls.
 pub const BATCH: usize = 1024;
 
