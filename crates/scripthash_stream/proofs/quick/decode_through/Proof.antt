@@ -28,9 +28,9 @@ same-length-3 c = search needs
 
 returns-2 : tie.Need-returns-2
 returns-2 c =
-    let f = c .before .before .before .before .before .before .before .before in
+    let f = c .before .before .before .before .before .before .before .before .before in
     let a = f .before .before .before .before .before .args in
-    rw (c .before .before .copy-fks .ensures) (quick-all (a .n) (a .buf .now) (a .out .now) _ (f .sum-forms .ensures (omega arith)) (omega arith) (omega arith))
+    rw (c .before .before .copy-fks .ensures) (quick-all (a .n) (a .buf .now) (a .out .now) _ (f .sum-forms .ensures .numbers (omega arith) (omega arith)) (omega arith) (omega arith))
 
 pub decode-through-spec : {M : Type 1} → statement M
 decode-through-spec =
