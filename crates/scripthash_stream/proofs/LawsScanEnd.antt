@@ -6,10 +6,10 @@ use native.Mathlib.Nat.{sub-zero, zero-add, add-zero, add-assoc, not-suc-le-zero
 use native.Mathlib.Omega.{arith}
 use lib.ListN.{drop}
 use lib.Seq.{drop-drop}
-use Rattle.error.specs.Refusal.{Answer, accepted, refused, andThen, answered}
+use Rattle.error.specs.Refusal.{Answer, accepted, refused, answered}
 use Rattle.error.proofs.LawsAnswer.{answered-then, answered-no, then-yes, then-no}
 use Rattle.compact.specs.Uleb128.{Reading}
-use Rattle.scripthash_stream.specs.Stream.{lastFrom, nextNumber, Scan, scanFrom, scan, End, endFrom}
+use Rattle.scripthash_stream.specs.Stream.{lastFrom, nextNumber, scanFrom, scan, End, endFrom}
 use Rattle.scripthash_stream.specs.Steps.{QuickEnd}
 
 -- k numbers behind `prev` are left to scan, and those before took `off` bytes: where the whole scan ends.

@@ -1,7 +1,7 @@
--- Summing up the forms of a stream number by number: the number that a form gives, and what is known between two forms. Assumes nothing.
+-- QuickSum up the forms of a stream number by number: the number that a form gives, and what is known between two forms. Assumes nothing.
 use Prim.Native.Nat.{ℕ, suc, _+_, _-_, _*_, _^_, _≤_, _<_}
 use mathlib.Core.List.{List, [], _∷_, _++_, append-assoc, append-nil}
-use mathlib.Core.Path.{_≡_, refl, sym, ap, _∙_}
+use mathlib.Core.Path.{_≡_, sym, ap, _∙_}
 use native.Mathlib.Nat.{sub-zero, zero-add, add-zero, add-assoc, not-suc-le-zero}
 use native.Mathlib.Numerals.{add-one}
 use native.Mathlib.Omega.{arith}
@@ -11,17 +11,17 @@ use Rattle.error.specs.Refusal.{accepted, answered}
 use Rattle.compact.specs.Uleb128.{Reading}
 use Rattle.compact.proofs.LawsReadFrom.{read-byte-at}
 use Rattle.scripthash_stream.specs.Stream.{nextNumber, Scan, scanFrom, scan, endFrom}
-use Rattle.scripthash_stream.specs.Steps.{OneByteForms, FormRead, QuickEnd, Summing}
-use Rattle.scripthash_stream.proofs.LawsForms.{form-some}
+use Rattle.scripthash_stream.specs.Steps.{OneByteForms, QuickForm, QuickEnd, QuickSum}
+use Rattle.scripthash_stream.proofs.LawsForms.{quick-form}
 use Rattle.scripthash_stream.proofs.LawsScan.{stored-sum, next-is, scan-cons}
 use Rattle.scripthash_stream.proofs.LawsScanEnd.{endsFrom, ends-start, ends-next, ends-now, quick-end-none}
 
 -- ---- one number
 
 -- a form above 0 whose sum stays below 2 ^ 63 gives that sum
-pub next-sum : (sum value len : ℕ) (bs : List ℕ) → FormRead value len bs → 0 < value → sum + value < 2 ^ 63
+pub next-sum : (sum value len : ℕ) (bs : List ℕ) → QuickForm value len bs → 0 < value → sum + value < 2 ^ 63
     → nextNumber sum bs ≡ accepted (record { value = sum + value; len = len })
-unfolding FormRead
+unfolding QuickForm
 next-sum sum value len bs f h b =
     let d : Reading = record { value = value; len = len } in
     next-is sum bs d (f h) ∙ stored-sum sum d h b
@@ -33,13 +33,13 @@ next-byte buf n sum k o h s =
     let b = o .each k h in
     let few = o .few in
     next-sum sum (getD buf k 0) 1 (drop k buf)
-    (form-some (getD buf k 0) 1 (drop k buf) (read-byte-at buf k (omega (arith, o .within)) (b .1))) (b .0) (omega (arith, b .1))
+    (quick-form (getD buf k 0) 1 (drop k buf) (read-byte-at buf k (omega (arith, o .within)) (b .1))) (b .0) (omega (arith, b .1))
 
 -- ---- between two forms
 
 -- no bytes tell nothing
-pub summing-none : (n : ℕ) (bs space : List ℕ) → Summing 0 0 n bs space
-summing-none n bs space = record { ends = quick-end-none (answered (endFrom 0) (scan n bs)); numbers = λ l h. absurd (not-suc-le-zero h) }
+pub quick-sum-none : (n : ℕ) (bs space : List ℕ) → QuickSum 0 0 n bs space
+quick-sum-none n bs space = record { ends = quick-end-none (answered (endFrom 0) (scan n bs)); numbers = λ l h. absurd (not-suc-le-zero h) }
 
 -- k numbers are summed up to `sum`, and byte i is next: the scan of what is left ends where the whole scan does, and where it has numbers,
 -- they come behind the first k of `space` in the whole scan, if that has room for all.
@@ -72,7 +72,7 @@ module _ (buf : List ℕ) (n : ℕ) (space : List ℕ) (sum i k : ℕ) (m : Summ
       }
 
   -- behind the last
-  pub summed-end : n ≡ k → Summing i sum n buf space
+  pub summed-end : n ≡ k → QuickSum i sum n buf space
   unfolding scanFrom QuickEnd
   summed-end e =
       let none : n - k ≡ 0 = omega arith in

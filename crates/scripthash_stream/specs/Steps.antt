@@ -16,8 +16,8 @@ pub record OneByteForms (bs : List ℕ) (n : ℕ) : Type 0 where
   pub each : (i : ℕ) → i < n → (0 < getD bs i 0) × (getD bs i 0 < 128)
 
 -- What is told of the form at the start of some bytes: nothing where its value is told as 0, else its value and the bytes that it takes.
-unfoldable pub FormRead : ℕ → ℕ → List ℕ → Type 0
-FormRead value len bs = (0 < value) → readUleb bs ≡ accepted (record { value = value; len = len })
+unfoldable pub QuickForm : ℕ → ℕ → List ℕ → Type 0
+QuickForm value len bs = (0 < value) → readUleb bs ≡ accepted (record { value = value; len = len })
 
 -- A try at reading a stream into a lent list, whose answer would be `a`: it tells 0 and leaves the list, or the bytes of an accepted stream,
 -- whose numbers the list holds.
@@ -29,6 +29,6 @@ unfoldable pub QuickEnd : ℕ → ℕ → Answer End → Type 0
 QuickEnd taken last a = (0 < taken) → a ≡ accepted (record { taken = taken; last = last })
 
 -- What summing up the first n forms of some bytes tells: where their scan ends, and a list with room for its numbers has them at its start.
-pub record Summing (taken last n : ℕ) (bs space : List ℕ) : Type 0 where
+pub record QuickSum (taken last n : ℕ) (bs space : List ℕ) : Type 0 where
   pub ends : QuickEnd taken last (answered (endFrom 0) (scan n bs))
   pub numbers : n ≤ length space → 0 < taken → scan n bs ≡ accepted (record { numbers = take n space; taken = taken })

@@ -1,18 +1,19 @@
-// Streams read or scanned in one pass: where each byte is a form, and else form by form, through a list that holds the numbers until all are read.
+// Streams read or scanned in one pass: all bytes together where each is a form, else form by form. What is read goes through a list that holds the
+// numbers until the last is there.
 ghost use mathlib.Core.Path.{_≡_};
 ghost use mathlib.Core.Bool.{true};
 ghost use Prim.Native.Nat.{_+_, _-_, _*_, _^_, _≤_, _<_};
 ghost use lib.ListN.{length, take, drop, set};
-ghost use Rattle.error.specs.Refusal.{accepted, answered};
+ghost use Rattle.error.specs.Refusal.{answered};
 ghost use Rattle.buffer.specs.Bytes.{overwrite};
 ghost use Rattle.scripthash_stream.specs.Stream.{scan, endFrom, decodeStream};
-ghost use Rattle.scripthash_stream.specs.Steps.{OneByteForms, FormRead, Summing, Quick, QuickEnd};
+ghost use Rattle.scripthash_stream.specs.Steps.{OneByteForms, QuickForm, QuickSum, Quick, QuickEnd};
 use crate::stream::BIT_63;
 use crate::stream::MAX_OFFERED;
 use crate::stream::wide;
 use compact::ReadUleb128;
 
-// A form that was read: its value, and how many bytes it takes. The value 0 tells nothing.
+// What was read of a form: its value, 0 where that tells nothing, and how many bytes it takes.
 struct Form {
     value: u64,
     len: usize,
@@ -27,7 +28,7 @@ pub struct StreamEnd {
 // The form at an offset, of any length.
 fn any_form(buf: &[u8], i: usize) -> Form
     requires { ⌜ i ≤ length (now buf) ⌝ }
-    ensures { λ r. ⌜ FormRead (r .value) (r .len) (drop i (now (buf .entry))) ⌝ }
+    ensures { λ r. ⌜ QuickForm (r .value) (r .len) (drop i (now (buf .entry))) ⌝ }
 {
     let got = compact::read_uleb128(&buf[i..]);
     let ReadUleb128::Value { value, len } = got else {
@@ -36,7 +37,7 @@ fn any_form(buf: &[u8], i: usize) -> Form
     Form { value, len }
 }
 
-// The value of a form's bytes up to b, which goes on: that of those before it, and the piece of b, which has a weight.
+// The value of a form's bytes up to b, which goes on: that of the bytes before it, and its piece, which has a weight.
 fn with_more(value: u64, b: u8, weight: u64) -> u64
     requires { ⌜ (value < weight) × (weight ≤ 2 ^ 28) × (128 ≤ b) ⌝ }
     ensures { λ r. ⌜ (r ≡ value + (b - 128) * weight) × (r < 128 * weight) ⌝ }
@@ -44,60 +45,48 @@ fn with_more(value: u64, b: u8, weight: u64) -> u64
     value + (wide(b) - 128) * weight
 }
 
-// The same of a form's last byte.
-fn with_last(value: u64, b: u8, weight: u64) -> u64
+// The form of so many bytes whose last is b: the value of the bytes before it, and its piece, which has a weight.
+fn with_last(value: u64, b: u8, weight: u64, len: usize) -> Form
     requires { ⌜ (value < weight) × (weight ≤ 2 ^ 28) × (b < 128) ⌝ }
-    ensures { λ r. ⌜ r ≡ value + b * weight ⌝ }
+    ensures { λ r. ⌜ (r .value ≡ value + b * weight) × (r .len ≡ len) ⌝ }
 {
-    value + wide(b) * weight
+    Form {
+        value: value + wide(b) * weight,
+        len,
+    }
 }
 
-// The same, with short paths for forms of up to five bytes.
+// The form at an offset, with short paths for up to five bytes: each byte has 128 times the weight of the one before.
 fn short_form(buf: &[u8], i: usize) -> Form
     requires { ⌜ i ≤ length (now buf) ⌝ }
-    ensures { λ r. ⌜ FormRead (r .value) (r .len) (drop i (now (buf .entry))) ⌝ }
+    ensures { λ r. ⌜ QuickForm (r .value) (r .len) (drop i (now (buf .entry))) ⌝ }
 {
     if buf.len() - i < 5 {
         return any_form(buf, i);
     }
     let b0 = buf[i];
     if b0 < 128 {
-        return Form {
-            value: with_last(0, b0, 1),
-            len: 1,
-        };
+        return with_last(0, b0, 1, 1);
     }
     let v0 = with_more(0, b0, 1);
     let b1 = buf[i + 1];
     if b1 < 128 {
-        return Form {
-            value: with_last(v0, b1, 128),
-            len: 2,
-        };
+        return with_last(v0, b1, 128, 2);
     }
     let v1 = with_more(v0, b1, 128);
     let b2 = buf[i + 2];
     if b2 < 128 {
-        return Form {
-            value: with_last(v1, b2, 16384),
-            len: 3,
-        };
+        return with_last(v1, b2, 16384, 3);
     }
     let v2 = with_more(v1, b2, 16384);
     let b3 = buf[i + 3];
     if b3 < 128 {
-        return Form {
-            value: with_last(v2, b3, 2097152),
-            len: 4,
-        };
+        return with_last(v2, b3, 2097152, 4);
     }
     let v3 = with_more(v2, b3, 2097152);
     let b4 = buf[i + 4];
     if b4 < 128 {
-        return Form {
-            value: with_last(v3, b4, 268435456),
-            len: 5,
-        };
+        return with_last(v3, b4, 268435456, 5);
     }
     any_form(buf, i)
 }
@@ -111,10 +100,10 @@ fn keep(space: &mut [u64], k: usize, fk: u64)
     }
 }
 
-// Sums up the first n forms of buf, each read in one place, and keeps the numbers in space as far as it has room: tells their bytes and the
-// last of them, or 0 bytes where one of them is 0, as in a padded form, or can't be read.
+// Sums up the first n forms of buf and keeps the numbers in space as far as that has room: tells their bytes and the last number, or 0 bytes
+// where a form is 0 or can't be read, or a number would have bit 63. It alone calls short_form, which so becomes part of the loop.
 fn sum_forms(buf: &[u8], n: usize, space: &mut [u64]) -> StreamEnd
-    ensures { λ r. ⌜ Summing (r .taken) (r .last) n (now (buf .entry)) (now (space .exit)) ⌝ }
+    ensures { λ r. ⌜ QuickSum (r .taken) (r .last) n (now (buf .entry)) (now (space .exit)) ⌝ }
 {
     let mut sum: u64 = 0;
     let mut i: usize = 0;
@@ -301,7 +290,8 @@ fn sum_of_bytes(buf: &[u8], n: usize) -> u64
     sum
 }
 
-// Scans a stream of n numbers in one pass: tells where it ends, or 0 bytes where it can't be scanned so.
+// Scans a stream of n numbers in one pass, with room for one number, which nobody reads: tells where it ends, or 0 bytes where it can't be
+// scanned so.
 pub fn scan_quickly(buf: &[u8], n: usize) -> StreamEnd
     ensures { λ r. ⌜ QuickEnd (r .taken) (r .last) (answered (endFrom 0) (scan n (now (buf .entry)))) ⌝ }
 {

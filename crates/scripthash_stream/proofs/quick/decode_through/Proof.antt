@@ -1,9 +1,6 @@
 -- `decode_through` meets its contract: what the one pass tells, and the copy of its numbers. Assumes nothing.
-use mathlib.Core.Path.{_≡_, ap}
 use native.Mathlib.Omega.{arith}
 use borrow.Author.Needs.{needs}
-use lib.ListN.{length, take}
-use Rattle.scripthash_stream.specs.Stream.{decodeStream}
 use Rattle.scripthash_stream.proofs.LawsDecode.{quick-none, quick-all}
 use Rattle.scripthash_stream.proofs.quick.decode_through.Statement.{statement}
 use Rattle.scripthash_stream.proofs.quick.decode_through.Tie as tie

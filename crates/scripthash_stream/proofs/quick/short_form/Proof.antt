@@ -1,7 +1,6 @@
 -- `short_form` meets its contract: each byte that is read goes on or is the form's last, one law of `LawsForms` for each. Assumes nothing.
-use Prim.Native.Nat.{ℕ, _+_}
-use mathlib.Core.List.{List}
-use mathlib.Core.Path.{_≡_, refl}
+use Prim.Native.Nat.{_+_}
+use mathlib.Core.Path.{refl}
 use native.Mathlib.Nat.{add-zero}
 use native.Mathlib.Omega.{arith}
 use borrow.Author.Needs.{needs}
@@ -11,67 +10,43 @@ use Rattle.scripthash_stream.proofs.quick.short_form.Tie as tie
 
 -- one byte goes on
 module _ (c : tie.After-with-more) where
-  abbrev args1 : tie.Start
-  args1 = c .before .before .before .before .before
+  abbrev start-1 : tie.Start
+  start-1 = c .before .before .before .before .before
 
-  abbrev buf1 : List ℕ
-  buf1 = args1 .args .buf .now
-
-  abbrev off1 : ℕ
-  off1 = args1 .args .i
-
-  carried-1 : Carried buf1 off1 1 (c .with-more .result)
+  carried-1 : Carried (start-1 .args .buf .now) (start-1 .args .i) 1 (c .with-more .result)
   carried-1 =
-      form-more buf1 off1 0 0 off1 (form-start buf1 off1) (add-zero off1) (omega arith) (omega arith) (c .with-more .result) (omega arith)
-      (omega (arith, c .before .before .shared-slice-known2 .given off1)) (omega (arith, c .with-more .ensures .0))
+      form-more (form-start _ _) (add-zero (start-1 .args .i)) (omega arith) (omega arith) (c .with-more .result) (omega arith)
+      (omega (arith, c .before .before .shared-slice-known2 .given (start-1 .args .i))) (omega (arith, c .with-more .ensures .0))
 
 -- two bytes go on
 module _ (c : tie.After-with-more2) where
-  abbrev before2 : tie.After-with-more
-  before2 = c .before .before .before
+  abbrev start-2 : tie.Start
+  start-2 = start-1 (c .before .before .before)
 
-  abbrev buf2 : List ℕ
-  buf2 = buf1 before2
-
-  abbrev off2 : ℕ
-  off2 = off1 before2
-
-  carried-2 : Carried buf2 off2 2 (c .with-more2 .result)
+  carried-2 : Carried (start-2 .args .buf .now) (start-2 .args .i) 2 (c .with-more2 .result)
   carried-2 =
-      form-more buf2 off2 1 (before2 .with-more .result) (off2 + 1) (carried-1 before2) refl (omega arith) (omega arith) (c .with-more2 .result) (omega arith)
-      (omega (arith, c .before .before .shared-slice-known3 .given (off2 + 1))) (c .with-more2 .ensures .0)
+      form-more (carried-1 (c .before .before .before)) refl (omega arith) (omega arith) (c .with-more2 .result) (omega arith)
+      (omega (arith, c .before .before .shared-slice-known3 .given (start-2 .args .i + 1))) (c .with-more2 .ensures .0)
 
 -- three bytes go on
 module _ (c : tie.After-with-more3) where
-  abbrev before3 : tie.After-with-more2
-  before3 = c .before .before .before
+  abbrev start-3 : tie.Start
+  start-3 = start-2 (c .before .before .before)
 
-  abbrev buf3 : List ℕ
-  buf3 = buf2 before3
-
-  abbrev off3 : ℕ
-  off3 = off2 before3
-
-  carried-3 : Carried buf3 off3 3 (c .with-more3 .result)
+  carried-3 : Carried (start-3 .args .buf .now) (start-3 .args .i) 3 (c .with-more3 .result)
   carried-3 =
-      form-more buf3 off3 2 (before3 .with-more2 .result) (off3 + 2) (carried-2 before3) refl (omega arith) (omega arith) (c .with-more3 .result) (omega arith)
-      (omega (arith, c .before .before .shared-slice-known4 .given (off3 + 2))) (c .with-more3 .ensures .0)
+      form-more (carried-2 (c .before .before .before)) refl (omega arith) (omega arith) (c .with-more3 .result) (omega arith)
+      (omega (arith, c .before .before .shared-slice-known4 .given (start-3 .args .i + 2))) (c .with-more3 .ensures .0)
 
 -- four bytes go on
 module _ (c : tie.After-with-more4) where
-  abbrev before4 : tie.After-with-more3
-  before4 = c .before .before .before
+  abbrev start-4 : tie.Start
+  start-4 = start-3 (c .before .before .before)
 
-  abbrev buf4 : List ℕ
-  buf4 = buf3 before4
-
-  abbrev off4 : ℕ
-  off4 = off3 before4
-
-  carried-4 : Carried buf4 off4 4 (c .with-more4 .result)
+  carried-4 : Carried (start-4 .args .buf .now) (start-4 .args .i) 4 (c .with-more4 .result)
   carried-4 =
-      form-more buf4 off4 3 (before4 .with-more3 .result) (off4 + 3) (carried-3 before4) refl (omega arith) (omega arith) (c .with-more4 .result) (omega arith)
-      (omega (arith, c .before .before .shared-slice-known5 .given (off4 + 3))) (c .with-more4 .ensures .0)
+      form-more (carried-3 (c .before .before .before)) refl (omega arith) (omega arith) (c .with-more4 .result) (omega arith)
+      (omega (arith, c .before .before .shared-slice-known5 .given (start-4 .args .i + 3))) (c .with-more4 .ensures .0)
 
 sub-if1 : tie.Need-sub-if1
 sub-if1 c = search needs
@@ -91,7 +66,8 @@ with-last-requires c κs = search needs
 returns-2 : tie.Need-returns-2
 returns-2 c =
     let a = c .before .before .before .before .before .args in
-    form-last (a .buf .now) (a .i) 0 0 (a .i) (form-start (a .buf .now) (a .i)) (add-zero (a .i)) (omega arith) (omega arith) (c .with-last .result) (omega arith) (omega (arith, c .with-last .ensures))
+    form-last (form-start (a .buf .now) (a .i)) (add-zero (a .i)) (omega arith) (omega arith) (c .with-last .result .value) (c .with-last .result .len) (omega arith)
+    (omega (arith, c .with-last .ensures .0)) (c .with-last .ensures .1)
 
 with-more-requires : tie.Need-with-more-requires
 with-more-requires c κs = search needs
@@ -107,8 +83,8 @@ with-last-requires-2 c κs = search needs
 
 returns-3 : tie.Need-returns-3
 returns-3 c =
-    let d = c .before .before .before in
-    form-last (buf1 d) (off1 d) 1 (d .with-more .result) (off1 d + 1) (carried-1 d) refl (omega arith) (omega arith) (c .with-last2 .result) (omega arith) (c .with-last2 .ensures)
+    let r = c .with-last2 in
+    form-last (carried-1 (c .before .before .before)) refl (omega arith) (omega arith) (r .result .value) (r .result .len) (omega arith) (r .ensures .0) (r .ensures .1)
 
 with-more-requires-2 : tie.Need-with-more-requires-2
 with-more-requires-2 c κs = search needs
@@ -124,8 +100,8 @@ with-last-requires-3 c κs = search needs
 
 returns-4 : tie.Need-returns-4
 returns-4 c =
-    let d = c .before .before .before in
-    form-last (buf2 d) (off2 d) 2 (d .with-more2 .result) (off2 d + 2) (carried-2 d) refl (omega arith) (omega arith) (c .with-last3 .result) (omega arith) (c .with-last3 .ensures)
+    let r = c .with-last3 in
+    form-last (carried-2 (c .before .before .before)) refl (omega arith) (omega arith) (r .result .value) (r .result .len) (omega arith) (r .ensures .0) (r .ensures .1)
 
 with-more-requires-3 : tie.Need-with-more-requires-3
 with-more-requires-3 c κs = search needs
@@ -141,8 +117,8 @@ with-last-requires-4 c κs = search needs
 
 returns-5 : tie.Need-returns-5
 returns-5 c =
-    let d = c .before .before .before in
-    form-last (buf3 d) (off3 d) 3 (d .with-more3 .result) (off3 d + 3) (carried-3 d) refl (omega arith) (omega arith) (c .with-last4 .result) (omega arith) (c .with-last4 .ensures)
+    let r = c .with-last4 in
+    form-last (carried-3 (c .before .before .before)) refl (omega arith) (omega arith) (r .result .value) (r .result .len) (omega arith) (r .ensures .0) (r .ensures .1)
 
 with-more-requires-4 : tie.Need-with-more-requires-4
 with-more-requires-4 c κs = search needs
@@ -158,8 +134,8 @@ with-last-requires-5 c κs = search needs
 
 returns-6 : tie.Need-returns-6
 returns-6 c =
-    let d = c .before .before .before in
-    form-last (buf4 d) (off4 d) 4 (d .with-more4 .result) (off4 d + 4) (carried-4 d) refl (omega arith) (omega arith) (c .with-last5 .result) (omega arith) (c .with-last5 .ensures)
+    let r = c .with-last5 in
+    form-last (carried-4 (c .before .before .before)) refl (omega arith) (omega arith) (r .result .value) (r .result .len) (omega arith) (r .ensures .0) (r .ensures .1)
 
 any-form-requires-2 : tie.Need-any-form-requires-2
 any-form-requires-2 c κs = search needs

@@ -1,7 +1,7 @@
 -- `sum_forms` meets its contract. Invariant: `Summed` of `LawsSums`; the number of each form that is read is the next of the stream. Assumes nothing.
 use Prim.Native.Nat.{ℕ, _+_, _-_, _^_, _≤_, _<_}
 use mathlib.Core.List.{List}
-use mathlib.Core.Path.{_≡_, refl, sym, ap, _∙_}
+use mathlib.Core.Path.{_≡_, refl, ap, _∙_}
 use native.Mathlib.Omega.{arith}
 use borrow.Author.Needs.{needs}
 use lib.ListN.{length, drop, length-set, length-drop}
@@ -9,7 +9,7 @@ use Rattle.error.specs.Refusal.{accepted}
 use Rattle.compact.specs.Uleb128.{Reading}
 use Rattle.scripthash_stream.specs.Stream.{nextNumber}
 use Rattle.scripthash_stream.proofs.LawsScan.{Next, next-accepted}
-use Rattle.scripthash_stream.proofs.LawsSums.{next-sum, Summed, summed-start, summed-next, summed-end, summing-none}
+use Rattle.scripthash_stream.proofs.LawsSums.{next-sum, Summed, summed-start, summed-next, summed-end, quick-sum-none}
 use Rattle.scripthash_stream.proofs.quick.sum_forms.Statement.{statement}
 use Rattle.scripthash_stream.proofs.quick.sum_forms.Tie as tie
 
@@ -58,7 +58,7 @@ same-length : tie.Need-same-length Inv-loop μ-loop
 same-length c = search needs
 
 returns : tie.Need-returns Inv-loop μ-loop
-returns c = summing-none _ _ _
+returns c = quick-sum-none _ _ _
 
 sub-if2 : tie.Need-sub-if2 Inv-loop μ-loop
 sub-if2 c = search needs
@@ -67,7 +67,7 @@ same-length-2 : tie.Need-same-length-2 Inv-loop μ-loop
 same-length-2 c = search needs
 
 returns-2 : tie.Need-returns-2 Inv-loop μ-loop
-returns-2 c = summing-none _ _ _
+returns-2 c = quick-sum-none _ _ _
 
 add-sum : tie.Need-add-sum Inv-loop μ-loop
 add-sum c = search needs

@@ -1,9 +1,9 @@
 -- `sum_of_bytes` meets its contract. Invariant: the scan of what is left, from byte k on, ends where the whole scan does. Assumes nothing.
-use Prim.Native.Nat.{ℕ, _+_, _-_, _*_, _≤_, _<_}
-use mathlib.Core.Path.{_≡_, sym, ap, _∙_}
+use Prim.Native.Nat.{_+_, _-_, _*_, _≤_}
+use mathlib.Core.Path.{_≡_, sym, _∙_}
 use native.Mathlib.Omega.{arith}
 use borrow.Author.Needs.{needs}
-use lib.ListN.{drop, getD}
+use lib.ListN.{drop}
 use Rattle.error.specs.Refusal.{answered}
 use Rattle.scripthash_stream.specs.Stream.{scan, endFrom}
 use Rattle.scripthash_stream.specs.Steps.{OneByteForms, QuickEnd}

@@ -1,6 +1,6 @@
 -- `with_last` meets its contract: the piece is at most 127. Assumes nothing.
 use Prim.Native.Nat.{_*_, _≤_}
-use mathlib.Core.Path.{_≡_, ap}
+use mathlib.Core.Path.{refl}
 use native.Mathlib.Nat.{mul-le-mul-right}
 use native.Mathlib.Omega.{arith}
 use borrow.Author.Needs.{needs}
@@ -14,14 +14,14 @@ module _ (c : tie.After-wide) where
 wide-requires : tie.Need-wide-requires
 wide-requires c κs = search needs
 
-mul-result : tie.Need-mul-result
-mul-result c = omega (arith, most c)
+mul-t6 : tie.Need-mul-t6
+mul-t6 c = omega (arith, most c)
 
-add-result : tie.Need-add-result
-add-result c = omega (arith, most c)
+add-t7 : tie.Need-add-t7
+add-t7 c = omega (arith, most c)
 
 returns : tie.Need-returns
-returns c = rw (c .wide .ensures)
+returns c = (rw (c .wide .ensures), refl)
 
 pub with-last-spec : {M : Type 1} → statement M
-with-last-spec = tie.close (tie.spec wide-requires mul-result add-result returns)
+with-last-spec = tie.close (tie.spec wide-requires mul-t6 add-t7 returns)
