@@ -3,9 +3,10 @@ use Prim.Native.Nat.{ℕ, _≤_, _<_}
 use mathlib.Core.List.{List}
 use mathlib.Core.Logic.{_⊎_}
 use mathlib.Core.Path.{_≡_}
-use lib.ListN.{length, getD}
+use lib.ListN.{length, getD, take}
 use Rattle.error.specs.Refusal.{Answer, accepted, answered}
-use Rattle.scripthash_stream.specs.Stream.{maxOffered, Scan, End, afterDecode}
+use Rattle.compact.specs.Uleb128.{readUleb}
+use Rattle.scripthash_stream.specs.Stream.{maxOffered, Scan, scan, End, endFrom, afterDecode}
 
 -- The first n bytes, of some but no more than are ever offered, are forms of one byte each, and none is 0.
 pub record OneByteForms (bs : List ℕ) (n : ℕ) : Type 0 where
@@ -13,6 +14,10 @@ pub record OneByteForms (bs : List ℕ) (n : ℕ) : Type 0 where
   pub few : n ≤ maxOffered
   pub within : n ≤ length bs
   pub each : (i : ℕ) → i < n → (0 < getD bs i 0) × (getD bs i 0 < 128)
+
+-- What is told of the form at the start of some bytes: nothing where its value is told as 0, else its value and the bytes that it takes.
+unfoldable pub QuickForm : ℕ → ℕ → List ℕ → Type 0
+QuickForm value len bs = (0 < value) → readUleb bs ≡ accepted (record { value = value; len = len })
 
 -- A try at reading a stream into a lent list, whose answer would be `a`: it tells 0 and leaves the list, or the bytes of an accepted stream,
 -- whose numbers the list holds.
@@ -22,3 +27,8 @@ Quick told before after a = ((told ≡ 0) × (after ≡ before)) ⊎ ((0 < told)
 -- What a quick scan tells: nothing where it tells 0 bytes, else where the scan ends.
 unfoldable pub QuickEnd : ℕ → ℕ → Answer End → Type 0
 QuickEnd taken last a = (0 < taken) → a ≡ accepted (record { taken = taken; last = last })
+
+-- What summing up the first n forms of some bytes tells: where their scan ends, and a list with room for its numbers has them at its start.
+pub record QuickSum (taken last n : ℕ) (bs space : List ℕ) : Type 0 where
+  pub ends : QuickEnd taken last (answered (endFrom 0) (scan n bs))
+  pub numbers : n ≤ length space → 0 < taken → scan n bs ≡ accepted (record { numbers = take n space; taken = taken })

@@ -1,56 +1,130 @@
-// Streams read or scanned in one pass: where each byte is a form, and else byte by byte through a list that holds the numbers until all are read.
+// Streams read or scanned in one pass: all bytes together where each is a form, else form by form. What is read goes through a list that holds the
+// numbers until the last is there.
 ghost use mathlib.Core.Path.{_≡_};
 ghost use mathlib.Core.Bool.{true};
-ghost use Prim.Native.Nat.{_/_, _≤_, _<_};
-ghost use lib.ListN.{length, take};
-ghost use Rattle.error.specs.Refusal.{accepted, answered};
+ghost use Prim.Native.Nat.{_+_, _-_, _*_, _^_, _≤_, _<_};
+ghost use lib.ListN.{length, take, drop, set};
+ghost use Rattle.error.specs.Refusal.{answered};
 ghost use Rattle.buffer.specs.Bytes.{overwrite};
 ghost use Rattle.scripthash_stream.specs.Stream.{scan, endFrom, decodeStream};
-ghost use Rattle.scripthash_stream.specs.Steps.{OneByteForms, Quick, QuickEnd};
+ghost use Rattle.scripthash_stream.specs.Steps.{OneByteForms, QuickForm, QuickSum, Quick, QuickEnd};
 use crate::stream::BIT_63;
 use crate::stream::MAX_OFFERED;
 use crate::stream::wide;
+use compact::ReadUleb128;
 
-// Bit 7 of a byte as a number: 1 where its form goes on.
-fn bit_7(b: u8) -> usize
-    ensures { λ r. ⌜ r ≡ b / 128 ⌝ }
-{
-    (b / 128) as usize
+// What was read of a form: its value, 0 where that tells nothing, and how many bytes it takes.
+struct Form {
+    value: u64,
+    len: usize,
 }
 
-// Sums up the forms at the start of buf, byte by byte: no branch depends on where a form ends, so that mixed lengths cost no more than equal
-// ones. Tells the bytes that n numbers take and leaves the numbers at the start of space; tells 0 where a byte is 0, as in a padded form, or
-// a number can't be read.
-fn sum_forms(buf: &[u8], n: usize, space: &mut [u64]) -> usize
-    requires { ⌜ n ≤ length (now space) ⌝ }
-    ensures { λ r. ⌜ (0 < r → scan n (now (buf .entry)) ≡ accepted (record { numbers = take n (now (space .exit)); taken = r })) ⌝ }
+// Where a stream that was scanned quickly ends: the bytes that it takes, 0 where it wasn't, and its last number.
+pub struct StreamEnd {
+    pub taken: usize,
+    pub last: u64,
+}
+
+// The form at an offset, of any length.
+fn any_form(buf: &[u8], i: usize) -> Form
+    requires { ⌜ i ≤ length (now buf) ⌝ }
+    ensures { λ r. ⌜ QuickForm (r .value) (r .len) (drop i (now (buf .entry))) ⌝ }
+{
+    let got = compact::read_uleb128(&buf[i..]);
+    let ReadUleb128::Value { value, len } = got else {
+        return Form { value: 0, len: 0 };
+    };
+    Form { value, len }
+}
+
+// The value of a form's bytes up to b, which goes on: that of the bytes before it, and its piece, which has a weight.
+fn with_more(value: u64, b: u8, weight: u64) -> u64
+    requires { ⌜ (value < weight) × (weight ≤ 2 ^ 28) × (128 ≤ b) ⌝ }
+    ensures { λ r. ⌜ (r ≡ value + (b - 128) * weight) × (r < 128 * weight) ⌝ }
+{
+    value + (wide(b) - 128) * weight
+}
+
+// The form of so many bytes whose last is b: the value of the bytes before it, and its piece, which has a weight.
+fn with_last(value: u64, b: u8, weight: u64, len: usize) -> Form
+    requires { ⌜ (value < weight) × (weight ≤ 2 ^ 28) × (b < 128) ⌝ }
+    ensures { λ r. ⌜ (r .value ≡ value + b * weight) × (r .len ≡ len) ⌝ }
+{
+    Form {
+        value: value + wide(b) * weight,
+        len,
+    }
+}
+
+// The form at an offset, with short paths for up to five bytes: each byte has 128 times the weight of the one before.
+fn short_form(buf: &[u8], i: usize) -> Form
+    requires { ⌜ i ≤ length (now buf) ⌝ }
+    ensures { λ r. ⌜ QuickForm (r .value) (r .len) (drop i (now (buf .entry))) ⌝ }
+{
+    if buf.len() - i < 5 {
+        return any_form(buf, i);
+    }
+    let b0 = buf[i];
+    if b0 < 128 {
+        return with_last(0, b0, 1, 1);
+    }
+    let v0 = with_more(0, b0, 1);
+    let b1 = buf[i + 1];
+    if b1 < 128 {
+        return with_last(v0, b1, 128, 2);
+    }
+    let v1 = with_more(v0, b1, 128);
+    let b2 = buf[i + 2];
+    if b2 < 128 {
+        return with_last(v1, b2, 16384, 3);
+    }
+    let v2 = with_more(v1, b2, 16384);
+    let b3 = buf[i + 3];
+    if b3 < 128 {
+        return with_last(v2, b3, 2097152, 4);
+    }
+    let v3 = with_more(v2, b3, 2097152);
+    let b4 = buf[i + 4];
+    if b4 < 128 {
+        return with_last(v3, b4, 268435456, 5);
+    }
+    any_form(buf, i)
+}
+
+// Keeps a number at index k of a list, where the list has that index.
+fn keep(space: &mut [u64], k: usize, fk: u64)
+    ensures { λ _. ⌜ now (space .exit) ≡ set (now (space .entry)) k fk ⌝ }
+{
+    if k < space.len() {
+        space[k] = fk;
+    }
+}
+
+// Sums up the first n forms of buf and keeps the numbers in space as far as that has room: tells their bytes and the last number, or 0 bytes
+// where a form is 0 or can't be read, or a number would have bit 63. It alone calls short_form, which so becomes part of the loop.
+fn sum_forms(buf: &[u8], n: usize, space: &mut [u64]) -> StreamEnd
+    ensures { λ r. ⌜ QuickSum (r .taken) (r .last) n (now (buf .entry)) (now (space .exit)) ⌝ }
 {
     let mut sum: u64 = 0;
-    let mut shift: usize = 0;
     let mut i: usize = 0;
     let mut k: usize = 0;
     while k < n {
-        if buf.len() <= i {
-            return 0;
+        let form = short_form(buf, i);
+        if form.value == 0 {
+            return StreamEnd { taken: 0, last: 0 };
         }
-        let b = buf[i];
-        if b == 0 {
-            return 0;
+        if BIT_63 - sum <= form.value {
+            return StreamEnd { taken: 0, last: 0 };
         }
-        if 56 < shift {
-            return 0;
-        }
-        sum += wide(b % 128) << shift;
-        if BIT_63 <= sum {
-            return 0;
-        }
-        space[k] = sum;
-        let more = bit_7(b);
-        k += 1 - more;
-        shift = (shift + 7) * more;
-        i += 1;
+        sum += form.value;
+        keep(space, k, sum);
+        i += form.len;
+        k += 1;
     }
-    i
+    StreamEnd {
+        taken: i,
+        last: sum,
+    }
 }
 
 // Copies the first n numbers of a list to the start of another.
@@ -70,12 +144,12 @@ fn decode_through(buf: &[u8], n: usize, space: &mut [u64], out: &mut [u64]) -> u
     requires { ⌜ (n ≤ length (now space)) × (n ≤ length (now out)) ⌝ }
     ensures { λ r. ⌜ Quick r (now (out .entry)) (now (out .exit)) (decodeStream (length (now (out .entry))) n (now (buf .entry))) ⌝ }
 {
-    let taken = sum_forms(buf, n, space);
-    if taken == 0 {
+    let end = sum_forms(buf, n, space);
+    if end.taken == 0 {
         return 0;
     }
     copy_fks(space, n, out);
-    taken
+    end.taken
 }
 
 // The same through a list of 64.
@@ -87,12 +161,21 @@ fn decode_64(buf: &[u8], n: usize, out: &mut [u64]) -> usize
     decode_through(buf, n, &mut space, out)
 }
 
-// The same through a list of 512.
-fn decode_512(buf: &[u8], n: usize, out: &mut [u64]) -> usize
-    requires { ⌜ (n ≤ 512) × (n ≤ length (now out)) ⌝ }
+// The same through a list of 256.
+fn decode_256(buf: &[u8], n: usize, out: &mut [u64]) -> usize
+    requires { ⌜ (n ≤ 256) × (n ≤ length (now out)) ⌝ }
     ensures { λ r. ⌜ Quick r (now (out .entry)) (now (out .exit)) (decodeStream (length (now (out .entry))) n (now (buf .entry))) ⌝ }
 {
-    let mut space = [0u64; 512];
+    let mut space = [0u64; 256];
+    decode_through(buf, n, &mut space, out)
+}
+
+// The same through a list of 1,024.
+fn decode_1024(buf: &[u8], n: usize, out: &mut [u64]) -> usize
+    requires { ⌜ (n ≤ 1024) × (n ≤ length (now out)) ⌝ }
+    ensures { λ r. ⌜ Quick r (now (out .entry)) (now (out .exit)) (decodeStream (length (now (out .entry))) n (now (buf .entry))) ⌝ }
+{
+    let mut space = [0u64; 1024];
     decode_through(buf, n, &mut space, out)
 }
 
@@ -180,8 +263,11 @@ pub fn decode_quickly(buf: &[u8], n: usize, out: &mut [u64]) -> usize
         if n <= 64 {
             return decode_64(buf, n, out);
         }
-        if n <= 512 {
-            return decode_512(buf, n, out);
+        if n <= 256 {
+            return decode_256(buf, n, out);
+        }
+        if n <= 1024 {
+            return decode_1024(buf, n, out);
         }
         if n <= 4096 {
             return decode_4096(buf, n, out);
@@ -190,78 +276,31 @@ pub fn decode_quickly(buf: &[u8], n: usize, out: &mut [u64]) -> usize
     0
 }
 
-// Where a stream that was scanned quickly ends: the bytes that it takes, 0 where it wasn't, and its last number.
-pub struct StreamEnd {
-    pub taken: usize,
-    pub last: u64,
-}
-
-// Scans a stream of n numbers through a list that they are left in.
-fn end_through(buf: &[u8], n: usize, space: &mut [u64]) -> StreamEnd
-    requires { ⌜ n ≤ length (now space) ⌝ }
-    ensures { λ r. ⌜ QuickEnd (r .taken) (r .last) (answered (endFrom 0) (scan n (now (buf .entry)))) ⌝ }
+// The sum of n forms of one byte each: the last number of their stream.
+fn sum_of_bytes(buf: &[u8], n: usize) -> u64
+    requires { ⌜ OneByteForms (now buf) n ⌝ }
+    ensures { λ r. ⌜ QuickEnd n r (answered (endFrom 0) (scan n (now (buf .entry)))) ⌝ }
 {
-    if n == 0 {
-        return StreamEnd { taken: 0, last: 0 };
+    let mut sum: u64 = 0;
+    let mut k: usize = 0;
+    while k < n {
+        sum += wide(buf[k]);
+        k += 1;
     }
-    let taken = sum_forms(buf, n, space);
-    StreamEnd {
-        taken,
-        last: space[n - 1],
-    }
+    sum
 }
 
-// The same through a list of 64.
-fn end_64(buf: &[u8], n: usize) -> StreamEnd
-    requires { ⌜ n ≤ 64 ⌝ }
-    ensures { λ r. ⌜ QuickEnd (r .taken) (r .last) (answered (endFrom 0) (scan n (now (buf .entry)))) ⌝ }
-{
-    let mut space = [0u64; 64];
-    end_through(buf, n, &mut space)
-}
-
-// The same through a list of 512.
-fn end_512(buf: &[u8], n: usize) -> StreamEnd
-    requires { ⌜ n ≤ 512 ⌝ }
-    ensures { λ r. ⌜ QuickEnd (r .taken) (r .last) (answered (endFrom 0) (scan n (now (buf .entry)))) ⌝ }
-{
-    let mut space = [0u64; 512];
-    end_through(buf, n, &mut space)
-}
-
-// The same through a list of 2,048.
-fn end_2048(buf: &[u8], n: usize) -> StreamEnd
-    requires { ⌜ n ≤ 2048 ⌝ }
-    ensures { λ r. ⌜ QuickEnd (r .taken) (r .last) (answered (endFrom 0) (scan n (now (buf .entry)))) ⌝ }
-{
-    let mut space = [0u64; 2048];
-    end_through(buf, n, &mut space)
-}
-
-// The same through a list of 4,096.
-fn end_4096(buf: &[u8], n: usize) -> StreamEnd
-    requires { ⌜ n ≤ 4096 ⌝ }
-    ensures { λ r. ⌜ QuickEnd (r .taken) (r .last) (answered (endFrom 0) (scan n (now (buf .entry)))) ⌝ }
-{
-    let mut space = [0u64; 4096];
-    end_through(buf, n, &mut space)
-}
-
-// Scans a stream of n numbers in one pass: tells where it ends, or 0 bytes where it can't be scanned so.
+// Scans a stream of n numbers in one pass, with room for one number, which nobody reads: tells where it ends, or 0 bytes where it can't be
+// scanned so.
 pub fn scan_quickly(buf: &[u8], n: usize) -> StreamEnd
     ensures { λ r. ⌜ QuickEnd (r .taken) (r .last) (answered (endFrom 0) (scan n (now (buf .entry)))) ⌝ }
 {
-    if n <= 64 {
-        return end_64(buf, n);
+    if one_byte_forms(buf, n) {
+        return StreamEnd {
+            taken: n,
+            last: sum_of_bytes(buf, n),
+        };
     }
-    if n <= 512 {
-        return end_512(buf, n);
-    }
-    if n <= 2048 {
-        return end_2048(buf, n);
-    }
-    if n <= 4096 {
-        return end_4096(buf, n);
-    }
-    StreamEnd { taken: 0, last: 0 }
+    let mut space = [0u64; 1];
+    sum_forms(buf, n, &mut space)
 }

@@ -26,8 +26,8 @@ same-length-2 c = search needs
 returns-2 : tie.Need-returns-2
 returns-2 c = search needs
 
-decode-512-requires : tie.Need-decode-512-requires
-decode-512-requires c κs = search needs
+decode-256-requires : tie.Need-decode-256-requires
+decode-256-requires c κs = search needs
 
 same-length-3 : tie.Need-same-length-3
 same-length-3 c = search needs
@@ -35,8 +35,8 @@ same-length-3 c = search needs
 returns-3 : tie.Need-returns-3
 returns-3 c = search needs
 
-decode-4096-requires : tie.Need-decode-4096-requires
-decode-4096-requires c κs = search needs
+decode-1024-requires : tie.Need-decode-1024-requires
+decode-1024-requires c κs = search needs
 
 same-length-4 : tie.Need-same-length-4
 same-length-4 c = search needs
@@ -44,11 +44,20 @@ same-length-4 c = search needs
 returns-4 : tie.Need-returns-4
 returns-4 c = search needs
 
+decode-4096-requires : tie.Need-decode-4096-requires
+decode-4096-requires c κs = search needs
+
+same-length-5 : tie.Need-same-length-5
+same-length-5 c = search needs
+
 returns-5 : tie.Need-returns-5
-returns-5 c = quick-none _ _
+returns-5 c = search needs
 
 returns-6 : tie.Need-returns-6
 returns-6 c = quick-none _ _
+
+returns-7 : tie.Need-returns-7
+returns-7 c = quick-none _ _
 
 pub decode-quickly-spec : {M : Type 1} → statement M
 decode-quickly-spec =
@@ -61,11 +70,14 @@ decode-quickly-spec =
     decode-64-requires
     same-length-2
     returns-2
-    decode-512-requires
+    decode-256-requires
     same-length-3
     returns-3
-    decode-4096-requires
+    decode-1024-requires
     same-length-4
     returns-4
+    decode-4096-requires
+    same-length-5
     returns-5
-    returns-6)
+    returns-6
+    returns-7)

@@ -1,9 +1,6 @@
 -- `decode_through` meets its contract: what the one pass tells, and the copy of its numbers. Assumes nothing.
-use mathlib.Core.Path.{_≡_, ap}
 use native.Mathlib.Omega.{arith}
 use borrow.Author.Needs.{needs}
-use lib.ListN.{length, take}
-use Rattle.scripthash_stream.specs.Stream.{decodeStream}
 use Rattle.scripthash_stream.proofs.LawsDecode.{quick-none, quick-all}
 use Rattle.scripthash_stream.proofs.quick.decode_through.Statement.{statement}
 use Rattle.scripthash_stream.proofs.quick.decode_through.Tie as tie
@@ -28,9 +25,9 @@ same-length-3 c = search needs
 
 returns-2 : tie.Need-returns-2
 returns-2 c =
-    let f = c .before .before .before .before .before .before .before .before in
+    let f = c .before .before .before .before .before .before .before .before .before in
     let a = f .before .before .before .before .before .args in
-    rw (c .before .before .copy-fks .ensures) (quick-all (a .n) (a .buf .now) (a .out .now) _ (f .sum-forms .ensures (omega arith)) (omega arith) (omega arith))
+    rw (c .before .before .copy-fks .ensures) (quick-all (a .n) (a .buf .now) (a .out .now) _ (f .sum-forms .ensures .numbers (omega arith) (omega arith)) (omega arith) (omega arith))
 
 pub decode-through-spec : {M : Type 1} → statement M
 decode-through-spec =

@@ -1,25 +1,26 @@
--- `sum_bytes` meets its contract. Invariant: `Summed` of `LawsSums`, between two forms, and the list from k on is as it was. Assumes nothing.
-use Prim.Native.Nat.{ℕ, _+_, _-_, _*_, _%_, _^_, _≤_, _<_}
-use mathlib.Core.List.{List}
+-- `sum_bytes` meets its contract. Invariant: `Summed` of `LawsSums`, and the list from k on is as it was. Assumes nothing.
+use Prim.Native.Nat.{ℕ, _+_, _-_, _*_, _≤_}
 use mathlib.Core.Path.{_≡_, refl, sym, ap, _∙_}
 use native.Mathlib.Omega.{arith}
 use borrow.Author.Needs.{needs}
-use lib.ListN.{length, take, drop, getD, set, length-set}
+use lib.ListN.{length, drop, length-set}
 use lib.Seq.{drop-set-lt, drop-drop}
+use Rattle.error.specs.Refusal.{accepted}
+use Rattle.scripthash_stream.specs.Stream.{nextNumber}
 use Rattle.scripthash_stream.specs.Steps.{OneByteForms}
 use Rattle.scripthash_stream.proofs.LawsDecode.{quick-all, written}
-use Rattle.scripthash_stream.proofs.LawsSums.{Summed, summed-start, summed-end, summed-turn}
+use Rattle.scripthash_stream.proofs.LawsSums.{next-byte, Summed, summed-start, summed-next, summed-end}
 use Rattle.scripthash_stream.proofs.quick.sum_bytes.Statement.{statement}
 use Rattle.scripthash_stream.proofs.quick.sum_bytes.Tie as tie
 
 abbrev Inv-loop : tie.InvT-loop
 Inv-loop buf n out₀ sum₀ k₀ out sum k =
-    (k ≤ n) × OneByteForms buf n × (n ≤ length out₀) × (length out ≡ length out₀) × (sum ≤ 127 * k) × (drop k out ≡ drop k out₀) × Summed buf n out sum 0 k k
+    (k ≤ n) × OneByteForms buf n × (n ≤ length out₀) × (length out ≡ length out₀) × (sum ≤ 127 * k) × (drop k out ≡ drop k out₀) × Summed buf n out sum k k
 
 abbrev μ-loop : tie.MeasureT-loop
 μ-loop buf n out₀ sum₀ k₀ out sum k = n - k
 
--- the byte that is next, and its sum
+-- the sum with the byte that is next
 module _ (c : tie.After-wide Inv-loop μ-loop) where
   abbrev loc : tie.At-loop Inv-loop μ-loop
   loc = c .before .before .before
@@ -27,14 +28,8 @@ module _ (c : tie.After-wide Inv-loop μ-loop) where
   abbrev args : tie.Start Inv-loop μ-loop
   args = loc .before .before .before
 
-  abbrev byte : ℕ
-  byte = getD (args .args .buf .now) (loc .loop .k) 0
-
-  small : (0 < byte) × (byte < 128)
-  small = loc .loop .inv .1 .each (loc .loop .k) (omega arith)
-
   most : loc .loop .sum + c .wide .result ≤ 127 * (loc .loop .k + 1)
-  most = let s = small in omega (arith, c .wide .ensures)
+  most = omega (arith, c .wide .ensures, loc .loop .inv .1 .each (loc .loop .k) (omega arith) .1)
 
 loop-holds : tie.Need-loop-holds Inv-loop μ-loop
 loop-holds c =
@@ -66,17 +61,17 @@ loop-again : tie.Need-loop-again Inv-loop μ-loop
 loop-again c =
     let l = loc c .loop in
     let a = args c .args in
-    let s = small c in
     let x = l .sum + c .wide .result in
-    let is : x ≡ l .sum + byte c % 128 * 2 ^ 0 % 2 ^ 64 = omega (arith, c .wide .ensures) in (
+    let next : nextNumber (l .sum) (drop (l .k) (a .buf .now)) ≡ accepted (record { value = x; len = 1 }) =
+    next-byte (a .buf .now) (a .n) (l .sum) (l .k) (l .inv .1) (omega arith) (l .inv .4)
+    ∙ ap (λ (b : ℕ). accepted (record { value = l .sum + b; len = 1 })) (sym (c .wide .ensures)) in (
       search needs,
       l .inv .1,
       l .inv .2,
       simp length-set (l .inv .3),
       most c,
       drop-set-lt (l .k + 1) (l .out) (l .k) x (omega arith) ∙ sym (drop-drop 1 (l .k) (l .out)) ∙ ap (drop 1) (l .inv .5) ∙ drop-drop 1 (l .k) (a .out .now),
-      summed-turn (a .buf .now) (a .n) (l .out) (l .sum) 0 (l .k) (l .k) (l .inv .6) (omega (arith, l .inv .1 .within)) (omega arith) x 0 is (omega arith) (omega arith) (s .0)
-          (omega (arith, most c, l .inv .1 .few)) (omega arith) (omega arith),
+      summed-next (a .buf .now) (a .n) (l .out) (l .sum) (l .k) (l .k) (l .inv .6) _ next (omega arith),
     )
 
 same-length : tie.Need-same-length Inv-loop μ-loop
@@ -87,9 +82,9 @@ returns c =
     let l = c .before .loop in
     let a = c .before .before .before .before .args in
     let done : l .k ≡ a .n = omega arith in
-    let scans = rw done at (summed-end (a .buf .now) (a .n) (l .out) (l .sum) 0 (l .k) (l .k) (l .inv .6) (omega arith)) in
+    let sums = rw done at (summed-end (a .buf .now) (a .n) (l .out) (l .sum) (l .k) (l .k) (l .inv .6) (sym done)) in
     rw (written (a .out .now) (l .out) (a .n) (omega arith) (rw done at (l .inv .5)))
-    (quick-all (a .n) (a .buf .now) (a .out .now) _ scans (omega arith) (l .inv .1 .some))
+    (quick-all (a .n) (a .buf .now) (a .out .now) _ (sums .numbers (omega arith) (l .inv .1 .some)) (omega arith) (l .inv .1 .some))
 
 pub sum-bytes-spec : {M : Type 1} → statement M
 sum-bytes-spec =

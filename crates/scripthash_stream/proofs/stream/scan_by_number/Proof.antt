@@ -1,20 +1,18 @@
 -- `scan_by_number` meets its contract. Invariant: the scan of what is left, from where the loop is, ends where the whole scan
 -- does. Each way on is one law of `LawsScanEnd`. Assumes nothing.
-use Prim.Native.Nat.{ℕ, suc, _+_, _-_, _^_, _≤_, _<_}
+use Prim.Native.Nat.{ℕ, _+_, _-_, _^_, _≤_, _<_}
 use mathlib.Core.List.{List}
 use mathlib.Core.Path.{_≡_, sym, ap, _∙_}
-use native.Mathlib.Nat.{sub-zero}
 use native.Mathlib.Omega.{arith}
 use borrow.Author.Needs.{needs}
 use lib.ListN.{length, drop, length-drop}
-use lib.Seq.{drop-drop}
 use Rattle.error.specs.Refusal.{accepted, refused, answered, refusalOf}
 use Rattle.compact.specs.Uleb128.{Reading}
 use Rattle.scripthash_stream.specs.Stream.{nextNumber, scan, endFrom}
 use Rattle.scripthash_stream.specs.Answers.{nextAnswer}
 use Rattle.scripthash_stream.specs.declared.stream.NextFk.{NextFk}
 use Rattle.scripthash_stream.proofs.LawsScan.{Next, next-accepted}
-use Rattle.scripthash_stream.proofs.LawsScanEnd.{endsFrom, ends-start, ends-now, ends-more, ends-refused}
+use Rattle.scripthash_stream.proofs.LawsScanEnd.{endsFrom, ends-start, ends-now, ends-next, ends-refused}
 use Rattle.scripthash_stream.proofs.stream.scan_by_number.Statement.{statement}
 use Rattle.scripthash_stream.proofs.stream.scan_by_number.Tie as tie
 
@@ -46,7 +44,7 @@ module _ (c : tie.After-known-told Inv-loop μ-loop) where
   inside = let h = simp length-drop at (number .len-within) in omega arith
 
 loop-holds : tie.Need-loop-holds Inv-loop μ-loop
-loop-holds c = (search needs, search needs, search needs, ap (λ (m : ℕ). endsFrom 0 0 m (c .before .args .buf .now)) (sub-zero (c .before .args .n)) ∙ ends-start (c .before .args .n) (c .before .args .buf .now))
+loop-holds c = (search needs, search needs, search needs, ends-start (c .before .args .n) (c .before .args .buf .now))
 
 next-fk-requires : tie.Need-next-fk-requires Inv-loop μ-loop
 next-fk-requires c κs = search needs
@@ -62,12 +60,12 @@ refusal-requires c κs = search needs
 
 returns : tie.Need-returns Inv-loop μ-loop
 returns c =
-    let l = c .before .before .before .before .before in
+    let l = c .before .before .before .before .before .loop in
+    let a = c .before .before .before .before .before .before .before .args in
     let told = c .before .enum-told .given in
-    let left : l .before .before .args .n - l .loop .k ≡ suc (l .before .before .args .n - (l .loop .k + 1)) = omega arith in
     let stop = sym (c .before .before .before .next-fk .ensures) ∙ ap nextAnswer (told .1) in
     ap refused (c .refusal .ensures ∙ ap (λ (g : NextFk). refusalOf (nextAnswer g)) (told .1))
-    ∙ sym (ends-refused (l .loop .off) (l .loop .prev) _ (drop (l .loop .off) (l .before .before .args .buf .now)) stop) ∙ (rw left at (l .loop .inv .3))
+    ∙ sym (ends-refused (a .buf .now) (a .n) (l .off) (l .prev) (l .k) (omega arith) stop) ∙ l .inv .3
 
 add-off : tie.Need-add-off Inv-loop μ-loop
 add-off c = omega (arith, inside c)
@@ -81,21 +79,18 @@ loop-less c = search needs
 loop-again : tie.Need-loop-again Inv-loop μ-loop
 loop-again c =
     let l = loc c .loop in
-    let n = loc c .before .before .args .n in
-    let left : n - l .k ≡ suc (n - (l .k + 1)) = omega arith in (
+    let n = loc c .before .before .args .n in (
       search needs,
       inside c,
       number c .below,
-      ap (endsFrom (l .off + got c .len) (got c .value) (n - (l .k + 1))) (sym (drop-drop (got c .len) (l .off) (bytes c)))
-          ∙ sym (ends-more (l .off) (l .prev) (n - (l .k + 1)) (drop (l .off) (bytes c)) (got c) (is c)) ∙ (rw left at (l .inv .3)),
+      ends-next (bytes c) n (l .off) (l .prev) (l .k) (got c) (omega arith) (is c) ∙ l .inv .3,
     )
 
 returns-2 : tie.Need-returns-2 Inv-loop μ-loop
 returns-2 c =
     let l = c .before .loop in
-    let buf = c .before .before .before .args .buf .now in
-    let none : c .before .before .before .args .n - l .k ≡ 0 = omega arith in
-    sym (ends-now (l .off) (l .prev) (drop (l .off) buf)) ∙ (rw none at (l .inv .3))
+    let a = c .before .before .before .args in
+    sym (ends-now (a .n) (l .off) (l .prev) (l .k) (drop (l .off) (a .buf .now)) (omega arith)) ∙ l .inv .3
 
 pub scan-by-number-spec : {M : Type 1} → statement M
 scan-by-number-spec =
