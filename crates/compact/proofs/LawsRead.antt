@@ -10,8 +10,8 @@ use native.Mathlib.Omega.{arith}
 use borrow.Author.Tests.{lt-leb, le-leb, lt-ltb, le-ltb, ltb-false, not-false}
 use lib.Dec.{leb, ltb, lit<}
 use lib.ListN.{length, take, drop, getD, length-take}
-use Rattle.error.specs.Refusal.{Answer, accepted, refused, refuseIf}
-use Rattle.error.proofs.LawsAnswer.{passed, accepted-inj, neither}
+use Rattle.error.specs.Refusal.{Answer, accepted, refused, refuseIf, refusalOf, ulebCutShort, ulebOverflow}
+use Rattle.error.proofs.LawsAnswer.{passed, accepted-inj, refused≢accepted, neither}
 use Rattle.buffer.proofs.LawsOrder.{lt-or-ge}
 use Rattle.compact.specs.Uleb128.{Reading, piece, isForm, value, formAt, overflows, readForm, readUleb, ulebLen, shortest}
 use Rattle.compact.proofs.LawsLength.{len-at-most, length-shortest}
@@ -74,6 +74,18 @@ read-accepted bs r e =
       len-at-most = rw (ap (λ (x : Reading). x .len) same) at (limits .0);
       len-within = rw (ap (λ (x : Reading). x .len) same) at within;
     }
+
+-- a refusal has a number above 0
+refused-pos : (over short : Bool) (r : Reading) (number : ℕ)
+    → refuseIf over ulebOverflow (refuseIf short ulebCutShort (accepted r)) ≡ refused number → 0 < number
+unfolding refuseIf
+refused-pos true short r number e = omega (arith, ap refusalOf e)
+refused-pos false true r number e = omega (arith, ap refusalOf e)
+refused-pos false false r number e = absurd (refused≢accepted (sym e))
+
+pub read-refused : (bs : List ℕ) (number : ℕ) → readUleb bs ≡ refused number → 0 < number
+unfolding readUleb readForm
+read-refused bs number e = refused-pos (overflows (formAt bs)) (not (isForm (formAt bs))) _ number e
 
 -- a form that doesn't overflow reads as its value and length, whatever follows
 pub read-form : (f rest : List ℕ) → isForm f ≡ true → overflows f ≡ false → readUleb (f ++ rest) ≡ accepted (record { value = value f; len = length f })

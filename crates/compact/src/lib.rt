@@ -1,8 +1,10 @@
 // Unsigned LEB128, the part of the source's compact.rs that the posting lists use.
 ghost use mathlib.Core.Path.{_≡_};
+ghost use Prim.Native.Nat.{_≤_, _<_};
 ghost use lib.ListN.{length};
-ghost use Rattle.error.specs.Refusal.{refusalOf};
-ghost use Rattle.compact.specs.Uleb128.{piece, passes, readUleb, ulebLen, writeUleb, afterWrite};
+ghost use Rattle.error.specs.Refusal.{refusalOf, told};
+ghost use Rattle.buffer.specs.Bytes.{overwrite};
+ghost use Rattle.compact.specs.Uleb128.{piece, passes, readUleb, ulebLen, shortest, writeUleb, afterWrite};
 ghost use Rattle.compact.specs.Answers.{readAnswer, writeAnswer};
 use error::Refusal;
 
@@ -70,49 +72,56 @@ fn passes_64_bits(i: usize, b: u8) -> bool
     b % 128 > 1
 }
 
-// Reads the number at the start of buf, whose form may be padded; what follows the form doesn't matter.
+// Reads the number at the start of buf, whose form may be padded; what follows the form doesn't matter. Its value and the length of its form
+// go out where it is read, and the answer is then 0; both stay as they were where it is refused.
+pub fn read_form(buf: &[u8], value: &mut u64, len: &mut usize) -> Refusal
+    ensures number { λ r. ⌜ r ≡ refusalOf (readUleb (now (buf .entry))) ⌝ }
+    ensures value { λ r. ⌜ now (value .exit) ≡ told (λ x. x .value) (readUleb (now (buf .entry))) (now (value .entry)) ⌝ }
+    ensures len { λ r. ⌜ now (len .exit) ≡ told (λ x. x .len) (readUleb (now (buf .entry))) (now (len .entry)) ⌝ }
+{
+    let mut sum: u64 = 0;
+    let mut i: usize = 0;
+    while i < 10 {
+        if buf.len() <= i {
+            return error::ULEB_CUT_SHORT;
+        }
+        let b = buf[i];
+        if passes_64_bits(i, b) {
+            return error::ULEB_OVERFLOW;
+        }
+        sum += piece_of(b) << (7 * i);
+        i += 1;
+        if b < 128 {
+            *value = sum;
+            *len = i;
+            return 0;
+        }
+    }
+    if buf.len() == 10 {
+        return error::ULEB_CUT_SHORT;
+    }
+    error::ULEB_OVERFLOW
+}
+
+// The number at the start of buf and the length of its form, or a refusal.
 pub fn read_uleb128(buf: &[u8]) -> ReadUleb128
     ensures { λ r. ⌜ readAnswer r ≡ readUleb (now (buf .entry)) ⌝ }
 {
     let mut value: u64 = 0;
-    let mut i: usize = 0;
-    while i < 10 {
-        if buf.len() <= i {
-            return ReadUleb128::Refused(error::ULEB_CUT_SHORT);
-        }
-        let b = buf[i];
-        if passes_64_bits(i, b) {
-            return ReadUleb128::Refused(error::ULEB_OVERFLOW);
-        }
-        value += piece_of(b) << (7 * i);
-        i += 1;
-        if b < 128 {
-            return ReadUleb128::Value { value, len: i };
-        }
+    let mut len: usize = 0;
+    let number = read_form(buf, &mut value, &mut len);
+    if number == 0 {
+        return ReadUleb128::Value { value, len };
     }
-    if buf.len() == 10 {
-        return ReadUleb128::Refused(error::ULEB_CUT_SHORT);
-    }
-    ReadUleb128::Refused(error::ULEB_OVERFLOW)
+    ReadUleb128::Refused(number)
 }
 
-// Writes n's shortest form to the start of dst and leaves the rest, or leaves all of dst where the form doesn't fit. Ten bytes are room for
-// any form, so that its length is found for a shorter dst alone.
-pub fn write_uleb128_into(dst: &mut [u8], n: u64) -> WriteUleb128
-    ensures answer { λ r. ⌜ writeAnswer r ≡ writeUleb (length (now (dst .entry))) n ⌝ }
-    ensures bytes { λ r. ⌜ now (dst .exit) ≡ afterWrite (now (dst .entry)) n ⌝ }
+// Writes n's shortest form to the start of dst, where it has room, and tells its length.
+pub fn put_uleb128(dst: &mut [u8], n: u64) -> usize
+    requires { ⌜ ulebLen n ≤ length (now dst) ⌝ }
+    ensures len { λ r. ⌜ r ≡ ulebLen n ⌝ }
+    ensures bytes { λ r. ⌜ now (dst .exit) ≡ overwrite (now (dst .entry)) 0 (shortest n) ⌝ }
 {
-    if n < 128 {
-        if 0 < dst.len() {
-            dst[0] = n as u8;
-            return WriteUleb128::Written(1);
-        }
-    }
-    if dst.len() < 10 {
-        if dst.len() < uleb128_len(n) {
-            return WriteUleb128::Refused(error::DOES_NOT_FIT);
-        }
-    }
     let mut rest = n;
     let mut i: usize = 0;
     while rest >= 128 {
@@ -121,5 +130,93 @@ pub fn write_uleb128_into(dst: &mut [u8], n: u64) -> WriteUleb128
         i += 1;
     }
     dst[i] = rest as u8;
-    WriteUleb128::Written(i + 1)
+    i + 1
+}
+
+// The same in at most ten turns, which the compiler lays out one after the other.
+fn put_unrolled(dst: &mut [u8], n: u64) -> usize
+    requires { ⌜ ulebLen n ≤ length (now dst) ⌝ }
+    ensures len { λ r. ⌜ r ≡ ulebLen n ⌝ }
+    ensures bytes { λ r. ⌜ now (dst .exit) ≡ overwrite (now (dst .entry)) 0 (shortest n) ⌝ }
+{
+    let mut rest = n;
+    let mut i: usize = 0;
+    while i < 9 {
+        if rest < 128 {
+            dst[i] = rest as u8;
+            return i + 1;
+        }
+        dst[i] = (rest % 128) as u8 + 128;
+        rest /= 128;
+        i += 1;
+    }
+    dst[9] = rest as u8;
+    10
+}
+
+// Writes n's shortest form to a dst of one byte or none, or leaves it where the form doesn't fit.
+fn write_byte(dst: &mut [u8], n: u64) -> WriteUleb128
+    requires { ⌜ length (now dst) < 2 ⌝ }
+    ensures answer { λ r. ⌜ writeAnswer r ≡ writeUleb (length (now (dst .entry))) n ⌝ }
+    ensures bytes { λ r. ⌜ now (dst .exit) ≡ afterWrite (now (dst .entry)) n ⌝ }
+{
+    if dst.len() == 0 {
+        return WriteUleb128::Refused(error::DOES_NOT_FIT);
+    }
+    if 128 <= n {
+        return WriteUleb128::Refused(error::DOES_NOT_FIT);
+    }
+    dst[0] = n as u8;
+    WriteUleb128::Written(1)
+}
+
+// The same to any dst for a form of one byte or of two.
+fn write_two(dst: &mut [u8], n: u64) -> WriteUleb128
+    requires { ⌜ n < 16384 ⌝ }
+    ensures answer { λ r. ⌜ writeAnswer r ≡ writeUleb (length (now (dst .entry))) n ⌝ }
+    ensures bytes { λ r. ⌜ now (dst .exit) ≡ afterWrite (now (dst .entry)) n ⌝ }
+{
+    if dst.len() < 2 {
+        return write_byte(dst, n);
+    }
+    if n < 128 {
+        dst[0] = n as u8;
+        return WriteUleb128::Written(1);
+    }
+    dst[0] = (n % 128) as u8 + 128;
+    dst[1] = (n / 128) as u8;
+    WriteUleb128::Written(2)
+}
+
+// The same for a form of three bytes.
+fn write_three(dst: &mut [u8], n: u64) -> WriteUleb128
+    requires { ⌜ (16384 ≤ n) × (n < 2097152) ⌝ }
+    ensures answer { λ r. ⌜ writeAnswer r ≡ writeUleb (length (now (dst .entry))) n ⌝ }
+    ensures bytes { λ r. ⌜ now (dst .exit) ≡ afterWrite (now (dst .entry)) n ⌝ }
+{
+    if dst.len() < 3 {
+        return WriteUleb128::Refused(error::DOES_NOT_FIT);
+    }
+    dst[0] = (n % 128) as u8 + 128;
+    dst[1] = (n / 128 % 128) as u8 + 128;
+    dst[2] = (n / 16384) as u8;
+    WriteUleb128::Written(3)
+}
+
+// Writes n's shortest form to the start of dst and leaves the rest, or leaves all of dst where the form doesn't fit. The length is found
+// for forms of four bytes and more alone.
+pub fn write_uleb128_into(dst: &mut [u8], n: u64) -> WriteUleb128
+    ensures answer { λ r. ⌜ writeAnswer r ≡ writeUleb (length (now (dst .entry))) n ⌝ }
+    ensures bytes { λ r. ⌜ now (dst .exit) ≡ afterWrite (now (dst .entry)) n ⌝ }
+{
+    if n < 16384 {
+        return write_two(dst, n);
+    }
+    if n < 2097152 {
+        return write_three(dst, n);
+    }
+    if dst.len() < uleb128_len(n) {
+        return WriteUleb128::Refused(error::DOES_NOT_FIT);
+    }
+    WriteUleb128::Written(put_unrolled(dst, n))
 }

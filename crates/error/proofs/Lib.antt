@@ -1,1 +1,2 @@
 pub mod LawsAnswer
+pub mod LawsOut

@@ -26,6 +26,11 @@ abbrev pub refusalOf : {A : Type 0} → Answer A → ℕ
 refusalOf (accepted x) = 0
 refusalOf (refused number) = number
 
+-- What an out-parameter holds after an answer: a value of it where it is accepted, else what it held before.
+abbrev pub told : {A B : Type 0} → (A → B) → Answer A → B → B
+told f (accepted x) before = f x
+told f (refused number) before = before
+
 -- A page buffer isn't 4,096 bytes.
 abbrev pub pageLength : ℕ
 pageLength = 4

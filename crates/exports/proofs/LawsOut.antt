@@ -1,43 +1,10 @@
--- What goes out of an answer that is known: its number, and a value of it. Assumes nothing.
+-- The number that goes out of a call that sets. Assumes nothing.
 use Prim.Native.Nat.{ℕ}
 use mathlib.Core.List.{List}
 use mathlib.Core.Path.{_≡_, refl}
-use Rattle.error.specs.Refusal.{Answer, accepted, refused, answered, refusalOf}
+use Rattle.error.specs.Refusal.{Answer, accepted, refused, refusalOf}
 use Rattle.scripthash_fields.specs.Fields.{done}
-use Rattle.exports.specs.Out.{told}
 
-module _ {A : Type 0} {a : Answer A} where
-  -- the number of an accepted answer, and of a refused one
-  pub number-accepted : {x : A} → a ≡ accepted x → 0 ≡ refusalOf a
-  number-accepted e = rw e
-
-  pub number-refused : {number : ℕ} → a ≡ refused number → number ≡ refusalOf a
-  number-refused e = rw e
-
-  -- a value of an accepted answer
-  pub told-accepted : {B : Type 0} (f : A → B) (before : B) {x : A} → a ≡ accepted x → f x ≡ told f a before
-  told-accepted f before e = rw e
-
-  -- no value of a refused one
-  pub told-refused : {B : Type 0} (f : A → B) (before : B) {number : ℕ} → a ≡ refused number → before ≡ told f a before
-  told-refused f before e = rw e
-
-  -- a value of an answer that is another
-  pub told-same : {B : Type 0} (f : A → B) (before : B) {b : Answer A} → a ≡ b → told f a before ≡ told f b before
-  told-same f before e = rw e
-
--- what goes out of an answer in other words
-pub number-answered : {A B : Type 0} (f : A → B) (a : Answer A) → refusalOf (answered f a) ≡ refusalOf a
-unfolding answered
-number-answered f (accepted x) = refl
-number-answered f (refused number) = refl
-
-pub told-answered : {A B C : Type 0} (g : B → C) (f : A → B) (before : C) (a : Answer A) → told g (answered f a) before ≡ told (λ x. g (f x)) a before
-unfolding answered
-told-answered g f before (accepted x) = refl
-told-answered g f before (refused number) = refl
-
--- the number of a call that sets
 pub number-done : (a : Answer (List ℕ)) → refusalOf (done a) ≡ refusalOf a
 number-done (accepted page) = refl
 number-done (refused number) = refl

@@ -1,4 +1,3 @@
-pub mod Out
 pub mod OutClass
 pub mod OutHead
 pub mod OutPage

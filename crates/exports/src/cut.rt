@@ -1,10 +1,9 @@
 // Cutting a list into the parts that pages hold.
 ghost use mathlib.Core.Path.{_≡_};
 ghost use lib.ListN.{length};
-ghost use Rattle.error.specs.Refusal.{refusalOf};
+ghost use Rattle.error.specs.Refusal.{refusalOf, told};
 ghost use Rattle.scripthash_cutting.specs.Answers.{chunkAnswer};
 ghost use Rattle.scripthash_cutting.specs.Cutting.{chunkRanges, afterChunkRanges, splitLast, afterSplitLast};
-ghost use Rattle.exports.specs.Out.{told};
 use scripthash_cutting::ChunkRanges;
 
 // Hands out a count of parts.

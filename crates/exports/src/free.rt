@@ -1,9 +1,8 @@
 // Free lists: a lent body, and the free heads of the classes 0 to 8, each the offset of the class's first freed block, or 0.
 ghost use mathlib.Core.Path.{_≡_};
-ghost use Rattle.error.specs.Refusal.{refusalOf};
+ghost use Rattle.error.specs.Refusal.{refusalOf, told};
 ghost use Rattle.scripthash_free.specs.FreeList.{lists, pushFree, popFree, carveGap, relocClass, after, headsAfter};
 ghost use Rattle.scripthash_free.specs.Answers.{classAnswer, popAnswer};
-ghost use Rattle.exports.specs.Out.{told};
 ghost use Rattle.exports.specs.OutClass.{isSome, someOr};
 use scripthash_free::PopFree;
 use scripthash_free::RelocClass;

@@ -1,11 +1,10 @@
 // Head words. A head value crosses the boundary as four numbers: its kind (0 none, 1 an inline number, 2 a slab, 3 pages), class, used, and
 // place, which is the number itself, the slab's offset or the last page's; what a kind doesn't have is 0.
 ghost use mathlib.Core.Path.{_≡_};
-ghost use Rattle.error.specs.Refusal.{refusalOf};
+ghost use Rattle.error.specs.Refusal.{refusalOf, told};
 ghost use Rattle.buffer.specs.LittleEndian.{littleEndian};
 ghost use Rattle.scripthash_layout.specs.Head.{headBytes, packHead, unpackHead};
 ghost use Rattle.scripthash_layout.specs.AnswersHead.{packAnswer, unpackAnswer};
-ghost use Rattle.exports.specs.Out.{told};
 ghost use Rattle.exports.specs.OutHead.{kindOf, classOf, usedOf, placeOf};
 use scripthash_layout::Packed;
 use scripthash_layout::ShHeadValue;

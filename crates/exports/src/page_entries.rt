@@ -1,13 +1,12 @@
 // The stream of a page: read, appended to and written.
 ghost use mathlib.Core.Path.{_≡_};
 ghost use lib.ListN.{length};
-ghost use Rattle.error.specs.Refusal.{refusalOf};
+ghost use Rattle.error.specs.Refusal.{refusalOf, told};
 ghost use Rattle.scripthash_stream.specs.Stream.{afterDecode};
 ghost use Rattle.scripthash_stream.specs.Answers.{scanAnswer, bytesAnswer};
 ghost use Rattle.scripthash_fields.specs.Page.{nextOff};
 ghost use Rattle.scripthash_pages.specs.Entries.{pageScan, lastOf, pageEntries, readCount, appendSpot, hasSpot, afterAppend, writeStream, afterWriteStream};
 ghost use Rattle.scripthash_pages.specs.Answers.{tryAnswer};
-ghost use Rattle.exports.specs.Out.{told};
 use scripthash_pages::PageEntries;
 use scripthash_pages::PageLastFk;
 use scripthash_pages::PageSlice;

@@ -1,11 +1,10 @@
 // A page's fields. A buffer that isn't a page is refused with 4 by each.
 ghost use mathlib.Core.Path.{_≡_};
 ghost use mathlib.Core.Bool.{true, false};
-ghost use Rattle.error.specs.Refusal.{refusalOf};
+ghost use Rattle.error.specs.Refusal.{refusalOf, told};
 ghost use Rattle.scripthash_fields.specs.Fields.{readLink, isLast, firstOff, nextOffOf, extentOf, createsOf, nFks, requireDelta};
 ghost use Rattle.scripthash_fields.specs.Fields.{streamOffOf, streamCapOf, writeLink, setExtent, setCreates, setCount, initEmpty, afterSet};
 ghost use Rattle.scripthash_fields.specs.Answers.{linkAnswer, lastAnswer, offsetAnswer, extentAnswer, createsAnswer, countAnswer};
-ghost use Rattle.exports.specs.Out.{told};
 ghost use Rattle.exports.specs.OutPage.{baseOr0, countOr0};
 use scripthash_fields::PageCount;
 use scripthash_fields::PageCreates;

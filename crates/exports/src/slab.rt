@@ -2,10 +2,9 @@
 ghost use mathlib.Core.Path.{_≡_};
 ghost use Prim.Native.Nat.{_+_};
 ghost use lib.ListN.{length};
-ghost use Rattle.error.specs.Refusal.{refusalOf};
+ghost use Rattle.error.specs.Refusal.{refusalOf, told};
 ghost use Rattle.scripthash_stream.specs.Stream.{afterDecode};
 ghost use Rattle.scripthash_slabs.specs.Slab.{encodeSlab, afterEncodeSlab, decodeSlab};
-ghost use Rattle.exports.specs.Out.{told};
 use scripthash_slabs::SlabPayload;
 use scripthash_stream::StreamBytes;
 

@@ -1,9 +1,8 @@
 // Streams of rising numbers.
 ghost use mathlib.Core.Path.{_≡_};
 ghost use lib.ListN.{length};
-ghost use Rattle.error.specs.Refusal.{refusalOf};
+ghost use Rattle.error.specs.Refusal.{refusalOf, told};
 ghost use Rattle.scripthash_stream.specs.Stream.{encodeStream, afterEncode, decodeStream, afterDecode};
-ghost use Rattle.exports.specs.Out.{told};
 use scripthash_stream::StreamBytes;
 
 // Writes the stream of a rising list to the start of out, and tells its length. Refuses 12, 13, 32, 33.

@@ -1,10 +1,8 @@
 // ULEB128 forms.
 ghost use mathlib.Core.Path.{_≡_};
 ghost use lib.ListN.{length};
-ghost use Rattle.error.specs.Refusal.{refusalOf};
+ghost use Rattle.error.specs.Refusal.{refusalOf, told};
 ghost use Rattle.compact.specs.Uleb128.{readUleb, ulebLen, writeUleb, afterWrite};
-ghost use Rattle.exports.specs.Out.{told};
-use compact::ReadUleb128;
 use compact::WriteUleb128;
 
 // The length of the shortest form of n, in bytes.
@@ -22,13 +20,7 @@ pub extern "C" fn ouriscado_read_uleb128(buf: &[u8], value: &mut u64, len: &mut 
     ensures value { λ r. ⌜ now (value .exit) ≡ told (λ x. x .value) (readUleb (now (buf .entry))) (now (value .entry)) ⌝ }
     ensures len { λ r. ⌜ now (len .exit) ≡ told (λ x. x .len) (readUleb (now (buf .entry))) (now (len .entry)) ⌝ }
 {
-    let got = compact::read_uleb128(buf);
-    let ReadUleb128::Value { value: v, len: l } = got else {
-        return got.refusal();
-    };
-    *value = v;
-    *len = l;
-    0
+    compact::read_form(buf, value, len)
 }
 
 // Writes the shortest form of n to the start of dst, and tells its length. Refuses 33.

@@ -10,7 +10,6 @@ ghost use Rattle.scripthash_stream.specs.Stream.{Rising, stream, streamL
 ghost use Rattle.scripthash_stream.specs.Answers.{bytesAnswer};
 use crate::stream::BIT_63;
 use crate::stream::StreamBytes;
-use compact::WriteUleb128;
 
 // The length of the form that the number fk takes behind prev, or its refusal.
 fn offered_number(prev: u64, fk: u64) -> StreamBytes
@@ -64,11 +63,7 @@ pub fn put_form(out: &mut [u8], off: usize, d: u64) -> usize
         out[off + 1] = (d / 128) as u8;
         return 2;
     }
-    let put = compact::write_uleb128_into(&mut out[off..], d);
-    let WriteUleb128::Written(len) = put else {
-        return 0;
-    };
-    len
+    compact::put_uleb128(&mut out[off..], d)
 }
 
 // Writes the stream of a rising list that fits to the start of out.

@@ -1,7 +1,7 @@
 -- `ouriscado_split_last_chunk_for_extent` hands out what `split_last_chunk_for_extent` answers. Assumes nothing.
 use mathlib.Core.Path.{_∙_, ap}
 use Rattle.error.specs.Refusal.{refusalOf}
-use Rattle.exports.proofs.LawsOut.{told-same}
+use Rattle.error.proofs.LawsOut.{told-same}
 use borrow.Author.Needs.{needs}
 use Rattle.exports.proofs.cut.ouriscado_split_last_chunk_for_extent.Statement.{statement}
 use Rattle.exports.proofs.cut.ouriscado_split_last_chunk_for_extent.Tie as tie

@@ -1,8 +1,8 @@
 -- `ouriscado_carve_gap_into_freelist` hands out what `carve_lent` answers. Assumes nothing.
 use mathlib.Core.Path.{_∙_, ap}
 use Rattle.error.specs.Refusal.{refusalOf}
+use Rattle.error.proofs.LawsOut.{number-answered}
 use Rattle.scripthash_free.specs.Answers.{done}
-use Rattle.exports.proofs.LawsOut.{number-answered}
 use borrow.Author.Needs.{needs}
 use Rattle.exports.proofs.free.ouriscado_carve_gap_into_freelist.Statement.{statement}
 use Rattle.exports.proofs.free.ouriscado_carve_gap_into_freelist.Tie as tie

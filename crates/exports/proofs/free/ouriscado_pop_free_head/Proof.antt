@@ -1,9 +1,9 @@
 -- `ouriscado_pop_free_head` hands out what `pop_lent` answers. Assumes nothing.
 use mathlib.Core.Path.{_∙_, ap}
 use Rattle.error.specs.Refusal.{refusalOf}
+use Rattle.error.proofs.LawsOut.{number-answered, told-answered, told-same}
 use Rattle.scripthash_free.specs.FreeList.{Pop}
 use Rattle.exports.specs.OutClass.{someOr}
-use Rattle.exports.proofs.LawsOut.{number-answered, told-answered, told-same}
 use borrow.Author.Needs.{needs}
 use Rattle.exports.proofs.free.ouriscado_pop_free_head.Statement.{statement}
 use Rattle.exports.proofs.free.ouriscado_pop_free_head.Tie as tie

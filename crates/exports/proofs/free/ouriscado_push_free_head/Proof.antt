@@ -1,8 +1,8 @@
 -- `ouriscado_push_free_head` hands out what `push_lent` answers. Assumes nothing.
 use mathlib.Core.Path.{_∙_, ap}
 use Rattle.error.specs.Refusal.{refusalOf}
+use Rattle.error.proofs.LawsOut.{number-answered}
 use Rattle.scripthash_free.specs.Answers.{done}
-use Rattle.exports.proofs.LawsOut.{number-answered}
 use borrow.Author.Needs.{needs}
 use Rattle.exports.proofs.free.ouriscado_push_free_head.Statement.{statement}
 use Rattle.exports.proofs.free.ouriscado_push_free_head.Tie as tie

@@ -1,8 +1,8 @@
 -- `ouriscado_unpack8` hands out what `unpack8` answers. Assumes nothing.
 use mathlib.Core.Path.{_∙_, ap}
 use Rattle.error.specs.Refusal.{refusalOf}
+use Rattle.error.proofs.LawsOut.{told-same}
 use Rattle.exports.specs.OutHead.{kindOf, classOf, usedOf, placeOf}
-use Rattle.exports.proofs.LawsOut.{told-same}
 use borrow.Author.Needs.{needs}
 use Rattle.exports.proofs.head.ouriscado_unpack8.Statement.{statement}
 use Rattle.exports.proofs.head.ouriscado_unpack8.Tie as tie

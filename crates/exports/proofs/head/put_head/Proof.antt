@@ -2,9 +2,9 @@
 use mathlib.Core.Path.{_≡_, sym, _∙_, ap}
 use Rattle.error.specs.Refusal.{refusalOf}
 use Rattle.error.specs.Refusal.{accepted, refused}
+use Rattle.error.proofs.LawsOut.{number-accepted, number-refused, told-accepted, told-refused}
 use Rattle.scripthash_layout.specs.AnswersHead.{unpackAnswer}
 use Rattle.exports.specs.OutHead.{kindOf, classOf, usedOf, placeOf}
-use Rattle.exports.proofs.LawsOut.{number-accepted, number-refused, told-accepted, told-refused}
 use borrow.Author.Needs.{needs}
 use Rattle.exports.proofs.head.put_head.Statement.{statement}
 use Rattle.exports.proofs.head.put_head.Tie as tie

@@ -1,9 +1,9 @@
 -- `ouriscado_sh_page_stream_tail` hands out what `sh_page_stream_tail` answers. Assumes nothing.
 use mathlib.Core.Path.{_≡_, sym, _∙_, ap}
 use Rattle.error.specs.Refusal.{refusalOf}
+use Rattle.error.proofs.LawsOut.{number-accepted, number-answered, told-accepted, told-answered, told-refused}
 use Rattle.scripthash_stream.specs.Stream.{endFrom}
 use Rattle.scripthash_stream.specs.Answers.{scanAnswer}
-use Rattle.exports.proofs.LawsOut.{number-accepted, number-answered, told-accepted, told-answered, told-refused}
 use borrow.Author.Needs.{needs}
 use Rattle.exports.proofs.page_entries.ouriscado_sh_page_stream_tail.Statement.{statement}
 use Rattle.exports.proofs.page_entries.ouriscado_sh_page_stream_tail.Tie as tie

@@ -1,8 +1,8 @@
 -- `ouriscado_sh_page_try_append` hands out what `sh_page_try_append` answers. Assumes nothing.
 use mathlib.Core.Path.{_∙_, ap}
 use Rattle.error.specs.Refusal.{refusalOf}
+use Rattle.error.proofs.LawsOut.{number-answered, told-answered, told-same}
 use Rattle.scripthash_pages.specs.Entries.{hasSpot}
-use Rattle.exports.proofs.LawsOut.{number-answered, told-answered, told-same}
 use borrow.Author.Needs.{needs}
 use Rattle.exports.proofs.page_entries.ouriscado_sh_page_try_append.Statement.{statement}
 use Rattle.exports.proofs.page_entries.ouriscado_sh_page_try_append.Tie as tie

@@ -1,8 +1,8 @@
 -- `ouriscado_sh_page_write_stream` hands out what `sh_page_write_stream` answers. Assumes nothing.
 use mathlib.Core.Path.{_≡_, sym, _∙_, ap}
 use Rattle.error.specs.Refusal.{refusalOf}
+use Rattle.error.proofs.LawsOut.{number-accepted, told-accepted, told-refused}
 use Rattle.scripthash_stream.specs.Answers.{bytesAnswer}
-use Rattle.exports.proofs.LawsOut.{number-accepted, told-accepted, told-refused}
 use borrow.Author.Needs.{needs}
 use Rattle.exports.proofs.page_entries.ouriscado_sh_page_write_stream.Statement.{statement}
 use Rattle.exports.proofs.page_entries.ouriscado_sh_page_write_stream.Tie as tie

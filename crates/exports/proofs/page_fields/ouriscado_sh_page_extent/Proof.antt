@@ -1,8 +1,8 @@
 -- `ouriscado_sh_page_extent` hands out what `sh_page_extent` answers. Assumes nothing.
 use mathlib.Core.Path.{_∙_, ap}
 use Rattle.error.specs.Refusal.{refusalOf}
+use Rattle.error.proofs.LawsOut.{told-same}
 use Rattle.exports.specs.OutPage.{baseOr0, countOr0}
-use Rattle.exports.proofs.LawsOut.{told-same}
 use borrow.Author.Needs.{needs}
 use Rattle.exports.proofs.page_fields.ouriscado_sh_page_extent.Statement.{statement}
 use Rattle.exports.proofs.page_fields.ouriscado_sh_page_extent.Tie as tie

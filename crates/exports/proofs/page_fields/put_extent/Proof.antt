@@ -1,8 +1,8 @@
 -- `put_extent` hands out both numbers of an extent, zeros, or nothing but the refusal. Assumes nothing.
 use mathlib.Core.Path.{ap}
+use Rattle.error.proofs.LawsOut.{number-accepted, number-refused, told-accepted, told-refused}
 use Rattle.scripthash_fields.specs.Answers.{extentAnswer}
 use Rattle.exports.specs.OutPage.{baseOr0, countOr0}
-use Rattle.exports.proofs.LawsOut.{number-accepted, number-refused, told-accepted, told-refused}
 use borrow.Author.Needs.{needs}
 use Rattle.exports.proofs.page_fields.put_extent.Statement.{statement}
 use Rattle.exports.proofs.page_fields.put_extent.Tie as tie

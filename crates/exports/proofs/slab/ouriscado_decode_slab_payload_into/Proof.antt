@@ -3,10 +3,10 @@ use Prim.Native.Nat.{_+_}
 use mathlib.Core.Path.{_≡_, sym, _∙_, ap}
 use lib.ListN.{length}
 use Rattle.error.specs.Refusal.{refusalOf}
+use Rattle.error.proofs.LawsOut.{number-accepted, number-answered, told-accepted, told-answered, told-refused}
 use Rattle.scripthash_stream.specs.Stream.{Scan}
 use Rattle.scripthash_slabs.specs.Slab.{slabListOf}
 use Rattle.scripthash_slabs.specs.Answers.{slabAnswer}
-use Rattle.exports.proofs.LawsOut.{number-accepted, number-answered, told-accepted, told-answered, told-refused}
 use borrow.Author.Needs.{needs}
 use Rattle.exports.proofs.slab.ouriscado_decode_slab_payload_into.Statement.{statement}
 use Rattle.exports.proofs.slab.ouriscado_decode_slab_payload_into.Tie as tie

@@ -1,8 +1,8 @@
 -- `ouriscado_encode_slab_payload_into` hands out what `encode_slab_payload_into` answers. Assumes nothing.
 use mathlib.Core.Path.{_≡_, sym, _∙_, ap}
 use Rattle.error.specs.Refusal.{refusalOf}
+use Rattle.error.proofs.LawsOut.{number-accepted, told-accepted, told-refused}
 use Rattle.scripthash_stream.specs.Answers.{bytesAnswer}
-use Rattle.exports.proofs.LawsOut.{number-accepted, told-accepted, told-refused}
 use borrow.Author.Needs.{needs}
 use Rattle.exports.proofs.slab.ouriscado_encode_slab_payload_into.Statement.{statement}
 use Rattle.exports.proofs.slab.ouriscado_encode_slab_payload_into.Tie as tie

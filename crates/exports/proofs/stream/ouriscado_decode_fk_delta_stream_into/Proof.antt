@@ -1,8 +1,8 @@
 -- `ouriscado_decode_fk_delta_stream_into` hands out what `decode_fk_delta_stream_into` answers. Assumes nothing.
 use mathlib.Core.Path.{_≡_, sym, _∙_, ap}
 use Rattle.error.specs.Refusal.{refusalOf}
+use Rattle.error.proofs.LawsOut.{number-accepted, number-answered, told-accepted, told-answered, told-refused}
 use Rattle.scripthash_stream.specs.Answers.{bytesAnswer}
-use Rattle.exports.proofs.LawsOut.{number-accepted, number-answered, told-accepted, told-answered, told-refused}
 use borrow.Author.Needs.{needs}
 use Rattle.exports.proofs.stream.ouriscado_decode_fk_delta_stream_into.Statement.{statement}
 use Rattle.exports.proofs.stream.ouriscado_decode_fk_delta_stream_into.Tie as tie

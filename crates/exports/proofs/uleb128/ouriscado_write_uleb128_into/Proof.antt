@@ -1,8 +1,8 @@
 -- `ouriscado_write_uleb128_into` hands out what `write_uleb128_into` answers. Assumes nothing.
 use mathlib.Core.Path.{_≡_, sym, _∙_, ap}
 use Rattle.error.specs.Refusal.{refusalOf}
+use Rattle.error.proofs.LawsOut.{number-accepted, told-accepted, told-refused}
 use Rattle.compact.specs.Answers.{writeAnswer}
-use Rattle.exports.proofs.LawsOut.{number-accepted, told-accepted, told-refused}
 use borrow.Author.Needs.{needs}
 use Rattle.exports.proofs.uleb128.ouriscado_write_uleb128_into.Statement.{statement}
 use Rattle.exports.proofs.uleb128.ouriscado_write_uleb128_into.Tie as tie

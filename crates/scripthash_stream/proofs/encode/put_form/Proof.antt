@@ -7,22 +7,15 @@ use native.Mathlib.Nat.{add-zero}
 use native.Mathlib.Omega.{arith}
 use borrow.Author.Needs.{needs}
 use lib.ListN.{length, take, drop, set, length-set, length-take, length-drop}
-use Rattle.error.specs.Refusal.{accepted}
-use Rattle.error.proofs.LawsAnswer.{refused≢accepted, accepted-inj}
 use Rattle.buffer.specs.Bytes.{overwrite}
 use Rattle.buffer.proofs.LawsBytes.{overwrite-step, overwrite-one, overwrite-part}
 use Rattle.compact.specs.Uleb128.{ulebLen, shortest}
-use Rattle.compact.specs.Answers.{writeAnswer}
 use Rattle.compact.proofs.LawsLength.{len-pos, len-small, len-two, shortest-small, shortest-two, length-shortest}
-use Rattle.compact.proofs.LawsWrite.{write-fits, after-fits}
 use Rattle.scripthash_stream.proofs.encode.put_form.Statement.{statement}
 use Rattle.scripthash_stream.proofs.encode.put_form.Tie as tie
 
--- the form that was written into the lent part
-module _ (c : tie.After-write-uleb128-into) where
-  abbrev at : tie.Start
-  at = c .before .before .before .before .before
-
+-- the lent part, from the offset to the end
+module _ (at : tie.Start) where
   abbrev bytes : List ℕ
   bytes = at .args .out .now
 
@@ -35,14 +28,13 @@ module _ (c : tie.After-write-uleb128-into) where
   fits : ulebLen (at .args .d) ≤ length lent
   fits = let h = at .pre in simp (length-take, length-drop) (omega arith)
 
-  answer : writeAnswer (c .write-uleb128-into .result) ≡ accepted (ulebLen (at .args .d))
-  answer = c .write-uleb128-into .ensures .0 ∙ write-fits (length lent) (at .args .d) fits
-
-  written : take (at .args .off) bytes ++ (c .write-uleb128-into .last .0 ++ drop room (drop (at .args .off) bytes)) ≡ overwrite bytes (at .args .off) (shortest (at .args .d))
-  written =
+  -- the whole with the form in that part
+  written : {part : List ℕ} → part ≡ overwrite lent 0 (shortest (at .args .d))
+      → take (at .args .off) bytes ++ (part ++ drop room (drop (at .args .off) bytes)) ≡ overwrite bytes (at .args .off) (shortest (at .args .d))
+  written e =
       let h = at .pre in
       let long = length-shortest (at .args .d) in
-      ap (λ (m : List ℕ). take (at .args .off) bytes ++ (m ++ drop room (drop (at .args .off) bytes))) (c .write-uleb128-into .ensures .1 ∙ after-fits lent (at .args .d) fits)
+      ap (λ (m : List ℕ). take (at .args .off) bytes ++ (m ++ drop room (drop (at .args .off) bytes))) e
       ∙ overwrite-part bytes (at .args .off) room 0 (shortest (at .args .d)) (omega arith) (omega arith)
       ∙ ap (λ (o : ℕ). overwrite bytes o (shortest (at .args .d))) (add-zero (at .args .off))
 
@@ -94,35 +86,25 @@ returns-2 c =
           ∙ overwrite-one (set b (a .off) (a .d % 128 + 128)) (a .off + 1) (a .d / 128) inside),
     )
 
-sub-write-uleb128-into : tie.Need-sub-write-uleb128-into
-sub-write-uleb128-into c = search needs
+sub-put-uleb128 : tie.Need-sub-put-uleb128
+sub-put-uleb128 c = search needs
 
-part-write-uleb128-into-start : tie.Need-part-write-uleb128-into-start
-part-write-uleb128-into-start c = search needs
+part-put-uleb128-start : tie.Need-part-put-uleb128-start
+part-put-uleb128-start c = search needs
 
-part-write-uleb128-into-end : tie.Need-part-write-uleb128-into-end
-part-write-uleb128-into-end c = search needs
+part-put-uleb128-end : tie.Need-part-put-uleb128-end
+part-put-uleb128-end c = search needs
 
-write-uleb128-into-requires : tie.Need-write-uleb128-into-requires
-write-uleb128-into-requires c κs = search needs
-
-enum-known-put : tie.Need-enum-known-put
-enum-known-put c = search needs
-
-enum-told : tie.Need-enum-told
-enum-told c = search needs
+put-uleb128-requires : tie.Need-put-uleb128-requires
+put-uleb128-requires c κs = fits (c .before .before .before .before)
 
 same-length-3 : tie.Need-same-length-3
 same-length-3 c = search needs
 
 returns-3 : tie.Need-returns-3
-returns-3 c = absurd (refused≢accepted {number = c .enum-told .given .0 .0} (sym (ap writeAnswer (c .enum-told .given .1)) ∙ answer (c .before .before .before .before)))
-
-same-length-4 : tie.Need-same-length-4
-same-length-4 c = search needs
-
-returns-4 : tie.Need-returns-4
-returns-4 c = (accepted-inj (sym (ap writeAnswer (c .before .put .given .1)) ∙ answer (c .before .before .before .before .before)), written (c .before .before .before .before .before))
+returns-3 c =
+    let put = c .before .before .put-uleb128 .ensures in
+    (put .0, written (c .before .before .before .before .before .before .before) (put .1))
 
 pub put-form-spec : {M : Type 1} → statement M
 put-form-spec =
@@ -140,13 +122,9 @@ put-form-spec =
     slice-write-out-3
     same-length-2
     returns-2
-    sub-write-uleb128-into
-    part-write-uleb128-into-start
-    part-write-uleb128-into-end
-    write-uleb128-into-requires
-    enum-known-put
-    enum-told
+    sub-put-uleb128
+    part-put-uleb128-start
+    part-put-uleb128-end
+    put-uleb128-requires
     same-length-3
-    returns-3
-    same-length-4
-    returns-4)
+    returns-3)
