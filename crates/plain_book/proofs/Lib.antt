@@ -1,0 +1,4 @@
+pub mod Examples
+pub mod LawsRules
+pub mod LawsMoves
+pub mod LawsCeilings
