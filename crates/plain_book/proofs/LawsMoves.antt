@@ -16,7 +16,7 @@ use Rattle.scripthash_layout.specs.Sizes.{slabSlots, maxSlabClass, maxSlabCount
 use Rattle.scripthash_stream.specs.Stream.{streamLen}
 use Rattle.scripthash_cutting.specs.Cutting.{cutting}
 use Rattle.plain_book.specs.Space.{Space, Taken, take, takeRun}
-use Rattle.plain_book.specs.Key.{Place, empty, inline, slab, pages, Page, Placed, stays, movesTo, moved, joins, joinedTo, beginPage, appendPages, appendPlace, loadsTo, loadInto, loadPlace}
+use Rattle.plain_book.specs.Key.{Place, empty, inline, slab, pages, Page, Placed, onePage, stays, movesTo, moved, joins, joinedTo, beginPage, appendPages, appendPlace, loadsTo, loadInto, loadPlace}
 use Rattle.plain_book.specs.Moves.{Tally, noMoves, counted}
 use Rattle.plain_book.proofs.LawsRules.{slots-mono, slots-twice, stays-holds, Moves, moves-to, loads-to}
 
@@ -81,19 +81,19 @@ counted-none t = refl
 
 -- What a move gives: a slab of the class that was chosen, or a page; and the records held before are rewritten.
 module _ (end held : ℕ) (list : List ℕ) (old : Place) (s : Space) {p : Placed} where
-  moved-slab : (c : ℕ) → moved end (some c) held list old s ≡ accepted p → (off : ℕ) × (p .place ≡ slab c off) × (p .rewritten ≡ held)
+  pub moved-slab : (c : ℕ) → moved end (some c) held list old s ≡ accepted p → (off : ℕ) × (p .place ≡ slab c off) × (p .rewritten ≡ held)
   unfolding moved
   moved-slab c e =
       let (t, got, is) = went-on (take end c s) _ e in
       let same = accepted-inj is in
       (t .off, ap (λ (q : Placed). q .place) (sym same), ap (λ (q : Placed). q .rewritten) (sym same))
 
-  moved-page : moved end none held list old s ≡ accepted p → (ps : List Page) × (p .place ≡ pages ps) × (p .rewritten ≡ held)
+  pub moved-page : moved end none held list old s ≡ accepted p → (off : ℕ) × (p .place ≡ pages (onePage off list)) × (p .rewritten ≡ held)
   unfolding moved
   moved-page e =
       let (t, got, is) = went-on (take end pageClass s) _ e in
       let same = accepted-inj is in
-      (_, ap (λ (q : Placed). q .place) (sym same), ap (λ (q : Placed). q .rewritten) (sym same))
+      (t .off, ap (λ (q : Placed). q .place) (sym same), ap (λ (q : Placed). q .rewritten) (sym same))
 
 -- A list of held + 1 numbers moves to a slab of class c: out of one of class d, which it doesn't fit, or out of the head word.
 module _ (held bytes c : ℕ) (t : Tally) (m : Moves (held + 1) bytes c) where
@@ -154,11 +154,11 @@ moved-spent end held list old s {p} t (some c) l into out e =
     let (off, at, told) = moved-slab end held list old s c e in
     rw (at, told, l) (into c refl)
 moved-spent end held list old s {p} t none l into out e =
-    let (ps, at, told) = moved-page end held list old s e in
+    let (off, at, told) = moved-page end held list old s e in
     rw (at, told) out
 
 -- A choice by a test: one or the other.
-which : {A : Type 0} (b : Bool) (x y : A) {z : A} → cond b x y ≡ z → ((b ≡ true) × (x ≡ z)) ⊎ ((b ≡ false) × (y ≡ z))
+pub which : {A : Type 0} (b : Bool) (x y : A) {z : A} → cond b x y ≡ z → ((b ≡ true) × (x ≡ z)) ⊎ ((b ≡ false) × (y ≡ z))
 which true x y e = inl (refl, e)
 which false x y e = inr (refl, e)
 
@@ -211,7 +211,7 @@ append-spent end held list n (slab d off) s t l i e =
 
     stayed : stays d (length list) (streamLen list) ≡ true → InSlab d (length list) t
     stayed b =
-        let (few, holds) = stays-holds d (length list) (streamLen list) b in
+        let (few, holds, fits) = stays-holds d (length list) (streamLen list) b in
         record {
           class = i .class;
           few = few;
@@ -234,7 +234,7 @@ load-spent end (n ∷ k ∷ ns) s {p} t m r e = go (loadsTo (length (n ∷ k ∷
     go : (o : Option ℕ) → loadsTo (length (n ∷ k ∷ ns)) (streamLen (n ∷ k ∷ ns)) ≡ o → loadInto end o (n ∷ k ∷ ns) s ≡ accepted p
         → Spent (length (n ∷ k ∷ ns)) (p .place) t
     go (some c) q e =
-        let (few, class) = loads-to (length (n ∷ k ∷ ns)) (streamLen (n ∷ k ∷ ns)) q in
+        let (few, class, fits) = loads-to (length (n ∷ k ∷ ns)) (streamLen (n ∷ k ∷ ns)) q in
         let (t', got, is) = went-on (take end c s) _ e in
         rw (placed is) (record { class = class; few = few; so-far = inl (m, r) })
     go none q e =

@@ -25,12 +25,16 @@ slots-twice {c} {d} h =
     let twice : 2 ^ suc c ≡ 2 ^ c * 2 = pow-suc 2 c in
     omega arith
 
+-- and no fewer bytes
+pub bytes-mono : {c d : ℕ} → c ≤ d → slabBytes c ≤ slabBytes d
+bytes-mono h = mul-le-mul-left 16 (pow-mono h)
+
 -- fewer slots, or fewer bytes: a smaller class
 pub slots-less : {c d : ℕ} → slabSlots c < slabSlots d → c < d
 slots-less {c} {d} h = lt-of-not-le (λ (l : d ≤ c). let m = slots-mono l in omega arith)
 
 bytes-less : {c d : ℕ} → slabBytes c < slabBytes d → c < d
-bytes-less {c} {d} h = lt-of-not-le (λ (l : d ≤ c). let m : 16 * 2 ^ d ≤ 16 * 2 ^ c = mul-le-mul-left 16 (pow-mono l) in omega arith)
+bytes-less {c} {d} h = lt-of-not-le (λ (l : d ≤ c). let m = bytes-mono l in omega arith)
 
 -- a list of at most 256 numbers stays unless slots or bytes are too few
 stays-parts : (class count bytes : ℕ) → count ≤ maxSlabCount → stays class count bytes ≡ false
@@ -38,13 +42,14 @@ stays-parts : (class count bytes : ℕ) → count ≤ maxSlabCount → stays cla
 unfolding stays
 stays-parts class count bytes h s = rw (le-leb count maxSlabCount h) at s
 
--- a list that stays has at most 256 numbers, and slots for them
-pub stays-holds : (class count bytes : ℕ) → stays class count bytes ≡ true → (count ≤ maxSlabCount) × (count ≤ slabSlots class)
+-- a list that stays has at most 256 numbers, and slots and bytes for them
+pub stays-holds : (class count bytes : ℕ) → stays class count bytes ≡ true
+    → (count ≤ maxSlabCount) × (count ≤ slabSlots class) × (payloadLen bytes ≤ slabBytes class)
 unfolding stays
 stays-holds class count bytes s =
     let (few, rest) = both _ _ s in
     let (holds, fits) = both _ _ rest in
-    (leb-true count maxSlabCount few, leb-true count (slabSlots class) holds)
+    (leb-true count maxSlabCount few, leb-true count (slabSlots class) holds, leb-true (payloadLen bytes) (slabBytes class) fits)
 
 -- The classes that the larger one comes from.
 record From (x y : Option ℕ) (c : ℕ) : Type 0 where
@@ -66,6 +71,7 @@ pub record Moves (count bytes c : ℕ) : Type 0 where
   pub few : count ≤ maxSlabCount
   pub holds : count ≤ slabSlots c
   pub spare : (count ≡ maxSlabCount) ⊎ (count + 1 ≤ slabSlots c)
+  pub fits : payloadLen bytes ≤ slabBytes c
   pub grows : (d : ℕ) → stays d count bytes ≡ false → d < c
 
 pub moves-to : (count bytes : ℕ) {c : ℕ} → movesTo count bytes ≡ some c → Moves count bytes c
@@ -83,6 +89,7 @@ moves-to count bytes {c} e =
       few = few f;
       holds = le-trans held (slots-mono left);
       spare = spare f left;
+      fits = le-trans (chosen .holds) (bytes-mono right);
       grows = λ d s. grown f left right d s;
     }
   where
@@ -117,11 +124,12 @@ moves-to count bytes {c} e =
             lt-of-lt-of-le (bytes-less {c = d} {d = f .other} (omega arith)) right
         go true e true e' q = absurd (false≢true (sym q))
 
--- A load gives a list of at most 256 numbers a slab, of a class up to 7.
-pub loads-to : (count bytes : ℕ) {c : ℕ} → loadsTo count bytes ≡ some c → (count ≤ maxSlabCount) × (c ≤ maxSlabClass)
+-- A load gives a list of at most 256 numbers a slab, of a class up to 7 that has bytes for its payload.
+pub loads-to : (count bytes : ℕ) {c : ℕ} → loadsTo count bytes ≡ some c → (count ≤ maxSlabCount) × (c ≤ maxSlabClass) × (payloadLen bytes ≤ slabBytes c)
 unfolding loadsTo
 loads-to count bytes {c} e = go (leb count maxSlabCount) refl e
   where
-    go : (b : Bool) → leb count maxSlabCount ≡ b → cond b (classByBytes (payloadLen bytes)) none ≡ some c → (count ≤ maxSlabCount) × (c ≤ maxSlabClass)
-    go true q e = (leb-true count maxSlabCount q, class-is byBytes e .slab)
+    go : (b : Bool) → leb count maxSlabCount ≡ b → cond b (classByBytes (payloadLen bytes)) none ≡ some c
+        → (count ≤ maxSlabCount) × (c ≤ maxSlabClass) × (payloadLen bytes ≤ slabBytes c)
+    go true q e = (leb-true count maxSlabCount q, class-is byBytes e .slab, class-is byBytes e .holds)
     go false q e = let z : _≡_ {A = ℕ} 0 1 = cc in absurd (omega arith)

@@ -97,6 +97,10 @@ loadsTo count bytes = cond (leb count maxSlabCount) (classByBytes (payloadLen by
 
 -- ---- appending
 
+-- A list in one page.
+abbrev pub onePage : ℕ → List ℕ → List Page
+onePage off list = record { off = off; room = lastPageRoom; part = list } ∷ []
+
 -- A key after an append: its place, the space, and how many records were rewritten by a move.
 pub record Placed : Type 0 where
   pub place : Place
@@ -110,7 +114,7 @@ moved end (some class) held list old s =
     andThen (take end class s) (λ t. accepted (record { place = slab class (t .off); space = freedPlace old (t .space); rewritten = held }))
 moved end none held list old s =
     andThen (take end pageClass s)
-    (λ t. accepted (record { place = pages (record { off = t .off; room = lastPageRoom; part = list } ∷ []); space = freedPlace old (t .space); rewritten = held }))
+    (λ t. accepted (record { place = pages (onePage (t .off) list); space = freedPlace old (t .space); rewritten = held }))
 
 -- A page with one number more.
 abbrev pub longer : ℕ → Page → Page
@@ -126,7 +130,7 @@ joinedTo n ps = pages (replaceLast (λ p. longer n p ∷ []) ps)
 
 -- Some pages with one more that holds the number, as a place.
 abbrev pub begunAt : ℕ → ℕ → List Page → Place
-begunAt off n ps = pages (ps ++ (record { off = off; room = lastPageRoom; part = n ∷ [] } ∷ []))
+begunAt off n ps = pages (ps ++ onePage off (n ∷ []))
 
 -- A number begins a taken page.
 unfoldable pub beginPage : ℕ → List Page → ℕ → Space → Answer Placed
