@@ -1,0 +1,82 @@
+-- The ceilings of demand 3, over every list of calls on a fresh plain book: moves, records rewritten, and the pages of a load. Assumes nothing.
+use Prim.Native.Nat.{ℕ, suc, _+_, _^_, _≤_}
+use mathlib.Core.Bool.{true, false, false≢true}
+use mathlib.Core.List.{List, [], _∷_}
+use mathlib.Core.Option.{Option, none, some}
+use mathlib.Core.Path.{_≡_, refl, sym, ap}
+use native.Mathlib.Nat.{le-refl, le-trans}
+use native.Mathlib.Omega.{arith}
+use lib.ListN.{length, length-append}
+use Rattle.error.specs.Refusal.{accepted}
+use Rattle.error.proofs.LawsAnswer.{accepted-inj, passed, went-on}
+use Rattle.scripthash_layout.specs.Sizes.{pageSize}
+use Rattle.scripthash_stream.specs.Stream.{streamLen}
+use Rattle.scripthash_cutting.specs.Cutting.{cutting, AllowedCutting}
+use Rattle.scripthash_cutting.proofs.LawsPages.{pages-optimal}
+use Rattle.plain_book.specs.Space.{Space, take, takeRun}
+use Rattle.plain_book.specs.Key.{Place, empty, inline, slab, pages, Key, pagesOf, Placed, runPages, loadsTo, loadInto, loadPlace}
+use Rattle.plain_book.specs.Book.{Book, fresh, Call, Told, loaded, Outcome, keyOf, inUse, extended, loads, after}
+use Rattle.plain_book.specs.Moves.{Tally, noMoves, tallyAfter}
+use Rattle.plain_book.proofs.LawsMoves.{placed, mostMoves, mostRewritten, Spent, spent-most, append-spent, load-spent}
+use Rattle.plain_book.proofs.LawsHistory.{on-key, offered-all, Kept, kept-fresh}
+use Rattle.plain_book.proofs.LawsSound.{rising-below}
+
+-- A key that is not in use was never moved.
+unused : (n : ℕ) (place : Place) (t : Tally) → inUse place ≡ false → Spent n place t → (t .moves ≡ 0) × (t .rewritten ≡ 0)
+unused n empty t f (z, m, r) = (m, r)
+unused n inline t f (z, m, r) = (m, r)
+unused n (slab class off) t f s = absurd (false≢true (sym f))
+unused n (pages ps) t f s = absurd (false≢true (sym f))
+
+-- Calls keep a key's tally within what its place allows.
+spent-kept : Kept (λ k t. Spent (length (k .list)) (k .place) t)
+spent-kept =
+    record {
+      loads = λ end k ns s p t h f rises e. let (m, r) = unused (length (k .list)) (k .place) t f h in load-spent end ns s t m r e;
+      appends = λ end k n s p t h rises low e.
+          append-spent end (length (k .list)) (extended (k .list) n) n (k .place) s t (length-append (k .list) (n ∷ [])) h e;
+      drops = (refl, refl, refl);
+    }
+
+-- Take any fresh book and any list of calls: from empty to drop no key is moved more than 9 times, nor has more than 765 records rewritten by moves.
+pub ceilings : (size heads key : ℕ) (cs : List Call)
+    → (tallyAfter key (fresh size heads) cs noMoves .moves ≤ mostMoves) × (tallyAfter key (fresh size heads) cs noMoves .rewritten ≤ mostRewritten)
+ceilings size heads key cs =
+    spent-most _ (keyOf key (after (fresh size heads) cs) .place) _ (kept-fresh _ spent-kept size heads key cs)
+
+-- ---- the pages of a load
+
+-- A run has as many pages as the list was cut into.
+run-length : (off : ℕ) (parts : List (List ℕ)) → length (runPages off parts) ≡ length parts
+unfolding runPages
+run-length off [] = refl
+run-length off (p ∷ []) = refl
+run-length off (p ∷ q ∷ ps) = ap suc (run-length (off + pageSize) (q ∷ ps))
+
+-- The pages of a load: those of the cutting, or none.
+load-pages : (end : ℕ) (ns : List ℕ) (s : Space) {p : Placed} → loadPlace end ns s ≡ accepted p → pagesOf (p .place) ≤ length (cutting ns)
+unfolding loadPlace loadInto
+load-pages end [] s e = rw (placed e) (omega arith)
+load-pages end (n ∷ []) s e = rw (placed e) (omega arith)
+load-pages end (n ∷ k ∷ ns) s {p} e = go (loadsTo (length (n ∷ k ∷ ns)) (streamLen (n ∷ k ∷ ns))) e
+  where
+    go : (o : Option ℕ) → loadInto end o (n ∷ k ∷ ns) s ≡ accepted p → pagesOf (p .place) ≤ length (cutting (n ∷ k ∷ ns))
+    go (some c) e = let (t, got, is) = went-on (take end c s) _ e in rw (placed is) (omega arith)
+    go none e =
+        let (t, got, is) = went-on (takeRun end (length (cutting (n ∷ k ∷ ns))) s) _ e in
+        rw (placed is, run-length (t .off) (cutting (n ∷ k ∷ ns))) (le-refl (length (cutting (n ∷ k ∷ ns))))
+
+-- For every accepted load, every allowed cutting of its list has at least as many pages as the load reports.
+pub load-least : (b : Book) (key : ℕ) (ns : List ℕ) {o : Outcome} → loads b key ns ≡ accepted o
+    → (pages : ℕ) × (o .told ≡ loaded (record { pages = pages })) × ((parts : List (List ℕ)) → AllowedCutting ns parts → pages ≤ length parts)
+unfolding loads
+load-least b key ns e =
+    let (within, e1) = on-key b key _ e in
+    let (free, e2) = passed _ _ _ e1 in
+    let (few, e3) = passed _ _ _ e2 in
+    let (rises, e4) = offered-all true 0 ns _ e3 in
+    let (p, got, is) = went-on (loadPlace (b .size) ns (b .space)) _ e4 in (
+      pagesOf (p .place),
+      ap (λ (x : Outcome). x .told) (sym (accepted-inj is)),
+      λ parts ok. le-trans (load-pages (b .size) ns (b .space) got) (pages-optimal ns (rising-below (2 ^ 62) (2 ^ 63) 0 ns (omega arith) rises) parts ok),
+    )

@@ -1,0 +1,173 @@
+-- What holds of a key, and of the tally of its moves, through every list of calls: it is enough that loads, appends and drops keep it. Assumes nothing.
+use Prim.Native.Nat.{ℕ, zero, suc, _+_, _^_, _≤_, _<_}
+use mathlib.Core.Bool.{Bool, true, false, cond}
+use mathlib.Core.List.{List, [], _∷_, _++_}
+use mathlib.Core.Logic.{_≢_}
+use mathlib.Core.Path.{_≡_, refl, sym, ap, _∙_}
+use native.Mathlib.Omega.{arith}
+use lib.Dec.{eqb, leb}
+use lib.ListN.{length, getD, set, replicate}
+use lib.Seq.{getD-set-same, getD-set-other, set-getD}
+use borrow.Author.Tests.{leb-false, eqb-true, eqb-false}
+use Rattle.error.specs.Refusal.{Answer, accepted, refused, refuseIf, andThen}
+use Rattle.error.proofs.LawsAnswer.{accepted-inj, passed, went-on}
+use Rattle.scripthash_stream.specs.Stream.{Rising, lastFrom}
+use Rattle.plain_book.specs.Numbers.{shapeBad, keyBeyond}
+use Rattle.plain_book.specs.Space.{Space}
+use Rattle.plain_book.specs.Key.{Place, empty, Key, emptyKey, freedPlace, Placed, appendPlace, loadPlace}
+use Rattle.plain_book.specs.Book.{Book, fresh, Call, load, append, read, drop, Outcome, outOfShape, onKey, offeredNumber, offeredList, keyOf, withKey, inUse, extended, loads, appends, reads, drops, does, bookAfter, answerOf, after}
+use Rattle.plain_book.specs.Moves.{Tally, noMoves, counted, talliedBy, keyOfCall, tallied, tallyAfter}
+
+-- A call that is accepted is on a key of the book.
+pub on-key : {A : Type 0} (b : Book) (key : ℕ) (after : Answer A) {x : A} → onKey b key after ≡ accepted x → (key < length (b .keys)) × (after ≡ accepted x)
+unfolding onKey
+on-key b key after e =
+    let (shape, e') = passed (outOfShape (b .size) (length (b .keys))) shapeBad _ e in
+    let (beyond, is) = passed (leb (length (b .keys)) key) keyBeyond after e' in
+    (leb-false (length (b .keys)) key beyond, is)
+
+-- A number that was offered and is accepted is above the one before it, and below 2^62.
+offered-on : {A : Type 0} (first : Bool) (prev n : ℕ) (after : Answer A) {x : A} → offeredNumber first prev n after ≡ accepted x
+    → (prev < n) × (n < 2 ^ 62) × (after ≡ accepted x)
+unfolding offeredNumber
+offered-on first prev n after e =
+    let (some, e1) = passed _ _ _ e in
+    let (bit, e2) = passed _ _ _ e1 in
+    let (low, e3) = passed (leb (2 ^ 62) n) _ _ e2 in
+    let (rises, is) = passed (leb n prev) _ after e3 in
+    (leb-false n prev rises, leb-false (2 ^ 62) n low, is)
+
+-- A list that was offered and is accepted rises, below 2^62.
+pub offered-all : {A : Type 0} (first : Bool) (prev : ℕ) (ns : List ℕ) (after : Answer A) {x : A} → offeredList first prev ns after ≡ accepted x
+    → Rising (2 ^ 62) prev ns × (after ≡ accepted x)
+unfolding offeredList Rising
+offered-all first prev [] after e = (tt, e)
+offered-all first prev (n ∷ ns) after e =
+    let (rises, low, e') = offered-on first prev n (offeredList false n ns after) e in
+    let (more, is) = offered-all false n ns after e' in
+    ((rises, low, more), is)
+
+-- Something about a key and its tally that loads, appends and drops keep.
+pub record Kept (P : Key → Tally → Type 0) : Type 0 where
+  pub loads : (end : ℕ) (k : Key) (ns : List ℕ) (s : Space) (p : Placed) (t : Tally) → P k t → inUse (k .place) ≡ false → Rising (2 ^ 62) 0 ns
+      → loadPlace end ns s ≡ accepted p → P (record { list = ns; place = p .place }) t
+  pub appends : (end : ℕ) (k : Key) (n : ℕ) (s : Space) (p : Placed) (t : Tally) → P k t → lastFrom 0 (k .list) < n → n < 2 ^ 62
+      → appendPlace end (length (k .list)) (extended (k .list) n) n (k .place) s ≡ accepted p
+      → P (record { list = extended (k .list) n; place = p .place }) (counted (p .rewritten) t)
+  pub drops : P emptyKey noMoves
+
+module _ (P : Key → Tally → Type 0) (kept : Kept P) where
+  -- What an accepted call changes: its key, and the space; and it keeps what holds of its key.
+  record Changed (b : Book) (key : ℕ) (o : Outcome) : Type 0 where
+    within : key < length (b .keys)
+    list : List ℕ
+    place : Place
+    space : Space
+    book : o .book ≡ withKey key list place space b
+    keeps : (t : Tally) → P (keyOf key b) t → P (record { list = list; place = place }) (talliedBy (o .told) t)
+
+  load-changed : (b : Book) (key : ℕ) (ns : List ℕ) {o : Outcome} → loads b key ns ≡ accepted o → Changed b key o
+  unfolding loads talliedBy
+  load-changed b key ns e =
+      let (within, e1) = on-key b key _ e in
+      let (free, e2) = passed _ _ _ e1 in
+      let (few, e3) = passed _ _ _ e2 in
+      let (rises, e4) = offered-all true 0 ns _ e3 in
+      let (p, got, is) = went-on (loadPlace (b .size) ns (b .space)) _ e4 in
+      let same = accepted-inj is in
+      record {
+        within = within;
+        list = ns;
+        place = p .place;
+        space = p .space;
+        book = ap (λ (x : Outcome). x .book) (sym same);
+        keeps = λ t h. rw (ap (λ (x : Outcome). talliedBy (x .told) t) (sym same)) (kept .loads (b .size) (keyOf key b) ns (b .space) p t h free rises got);
+      }
+
+  append-changed : (b : Book) (key n : ℕ) {o : Outcome} → appends b key n ≡ accepted o → Changed b key o
+  unfolding appends talliedBy
+  append-changed b key n e =
+      let (within, e1) = on-key b key _ e in
+      let (rises, low, e2) = offered-on true _ n _ e1 in
+      let now = extended (keyOf key b .list) n in
+      let (p, got, is) = went-on (appendPlace (b .size) (length (keyOf key b .list)) now n (keyOf key b .place) (b .space)) _ e2 in
+      let same = accepted-inj is in
+      record {
+        within = within;
+        list = now;
+        place = p .place;
+        space = p .space;
+        book = ap (λ (x : Outcome). x .book) (sym same);
+        keeps = λ t h. rw (ap (λ (x : Outcome). talliedBy (x .told) t) (sym same)) (kept .appends (b .size) (keyOf key b) n (b .space) p t h rises low got);
+      }
+
+  read-changed : (b : Book) (key room : ℕ) {o : Outcome} → reads b key room ≡ accepted o → Changed b key o
+  unfolding reads talliedBy
+  read-changed b key room e =
+      let (within, e1) = on-key b key _ e in
+      let (long, is) = passed _ _ _ e1 in
+      let same = accepted-inj is in
+      record {
+        within = within;
+        list = keyOf key b .list;
+        place = keyOf key b .place;
+        space = b .space;
+        book = ap (λ (x : Outcome). x .book) (sym same) ∙ ap (λ (ks : List Key). record { size = b .size; keys = ks; space = b .space }) (sym (set-getD (b .keys) key emptyKey));
+        keeps = λ t h. rw (ap (λ (x : Outcome). talliedBy (x .told) t) (sym same)) h;
+      }
+
+  drop-changed : (b : Book) (key : ℕ) {o : Outcome} → drops b key ≡ accepted o → Changed b key o
+  unfolding drops talliedBy
+  drop-changed b key e =
+      let (within, is) = on-key b key _ e in
+      let same = accepted-inj is in
+      record {
+        within = within;
+        list = [];
+        place = empty;
+        space = freedPlace (keyOf key b .place) (b .space);
+        book = ap (λ (x : Outcome). x .book) (sym same);
+        keeps = λ t h. rw (ap (λ (x : Outcome). talliedBy (x .told) t) (sym same)) (kept .drops);
+      }
+
+  call-changed : (b : Book) (c : Call) {o : Outcome} → does b c ≡ accepted o → Changed b (keyOfCall c) o
+  unfolding does
+  call-changed b (load key ns) e = load-changed b key ns e
+  call-changed b (append key n) e = append-changed b key n e
+  call-changed b (read key room) e = read-changed b key room e
+  call-changed b (drop key) e = drop-changed b key e
+
+  -- One call keeps what holds of any key: a call that is turned back, or on another key, changes neither the key nor its tally.
+  kept-call : (key : ℕ) (b : Book) (c : Call) (t : Tally) (a : Answer Outcome) → does b c ≡ a → P (keyOf key b) t
+      → P (keyOf key (bookAfter b a)) (tallied key c (answerOf a) t)
+  unfolding bookAfter answerOf tallied
+  kept-call key b c t (refused number) e h = h
+  kept-call key b c t (accepted o) e h = go (call-changed b c e) (eqb (keyOfCall c) key) refl
+    where
+      go : (ch : Changed b (keyOfCall c) o) (x : Bool) → eqb (keyOfCall c) key ≡ x → P (keyOf key (o .book)) (cond x (talliedBy (o .told) t) t)
+      go ch true q =
+          let is : keyOfCall c ≡ key = eqb-true (keyOfCall c) key q in
+          let h' : P (keyOf (keyOfCall c) b) t = rw is h in
+          let new : keyOf (keyOfCall c) (o .book) ≡ record { list = ch .list; place = ch .place } =
+          ap (λ (x : Book). keyOf (keyOfCall c) x) (ch .book) ∙ getD-set-same (b .keys) (keyOfCall c) _ emptyKey (ch .within) in
+          let done : P (keyOf (keyOfCall c) (o .book)) (talliedBy (o .told) t) = rw new (ch .keeps t h') in
+          rw (← is) done
+      go ch false q =
+          let other : key ≢ keyOfCall c = λ (e : key ≡ keyOfCall c). eqb-false (keyOfCall c) key q (sym e) in
+          let old : keyOf key (o .book) ≡ keyOf key b = ap (λ (x : Book). keyOf key x) (ch .book) ∙ getD-set-other (b .keys) (keyOfCall c) key _ emptyKey other in
+          rw old h
+
+  -- So does every list of calls.
+  pub kept-calls : (key : ℕ) (b : Book) (cs : List Call) (t : Tally) → P (keyOf key b) t → P (keyOf key (after b cs)) (tallyAfter key b cs t)
+  unfolding after tallyAfter
+  kept-calls key b [] t h = h
+  kept-calls key b (c ∷ cs) t h = kept-calls key (bookAfter b (does b c)) cs _ (kept-call key b c t (does b c) refl h)
+
+  -- It holds of every key after any list of calls on a fresh book.
+  pub kept-fresh : (size heads key : ℕ) (cs : List Call) → P (keyOf key (after (fresh size heads) cs)) (tallyAfter key (fresh size heads) cs noMoves)
+  kept-fresh size heads key cs = kept-calls key (fresh size heads) cs noMoves (rw (go heads key) (kept .drops))
+    where
+      go : (n i : ℕ) → getD (replicate n emptyKey) i emptyKey ≡ emptyKey
+      go zero i = refl
+      go (suc n) zero = refl
+      go (suc n) (suc i) = go n i

@@ -1,0 +1,205 @@
+-- After every list of calls on a fresh plain book, each key is sound. Assumes nothing.
+use Prim.Native.Nat.{ℕ, zero, suc, _+_, _-_, _^_, _≤_, _<_}
+use mathlib.Core.Bool.{Bool, true, false, cond}
+use mathlib.Core.List.{List, [], _∷_, _++_, append-assoc, append-nil}
+use mathlib.Core.Logic.{_⊎_, inl, inr, ⊎-elim}
+use mathlib.Core.Option.{Option, none, some}
+use mathlib.Core.Path.{_≡_, refl, sym, ap, _∙_}
+use native.Mathlib.Nat.{le-trans, le-refl, lt-of-lt-of-le, add-assoc}
+use native.Mathlib.Omega.{arith}
+use lib.ListN.{length, length-append}
+use borrow.Author.Tests.{leb-true, leb-false}
+use Rattle.error.specs.Refusal.{Answer, accepted, refused}
+use Rattle.error.proofs.LawsAnswer.{accepted-inj, went-on}
+use Rattle.compact.specs.Uleb128.{divided, ulebLen}
+use Rattle.compact.proofs.LawsLength.{len-mono}
+use Rattle.scripthash_layout.specs.Sizes.{slabBytes, maxSlabClass, maxSlabCount, pageClass}
+use Rattle.scripthash_stream.specs.Stream.{Rising, lastFrom, streamLen, streamLenFrom}
+use Rattle.scripthash_stream.proofs.LawsStream.{rising-append, stream-len-append}
+use Rattle.scripthash_cutting.specs.Cutting.{pageRoom, lastPageRoom, cutting, replaceLast, joined, Fit, AllowedCutting}
+use Rattle.scripthash_cutting.proofs.LawsPages.{pages-allowed}
+use Rattle.scripthash_cutting.proofs.LawsRising.{rising-words}
+use Rattle.plain_book.specs.Space.{Space, take, takeRun}
+use Rattle.plain_book.specs.Key.{Page, Place, empty, inline, slab, pages, Key, emptyKey, payloadLen, lastPage, noPage, onePage, longer, joins, joinedTo, beginPage, begunAt, Placed, movesTo, stays, moved, appendPages, appendPlace, runPages, loadsTo, loadInto, loadPlace}
+use Rattle.plain_book.proofs.LawsRules.{bytes-mono, stays-holds, Moves, moves-to, loads-to}
+use Rattle.plain_book.proofs.LawsMoves.{placed, which, moved-slab, moved-page}
+use Rattle.plain_book.specs.Book.{fresh, Call, keyOf, after}
+use Rattle.plain_book.proofs.LawsHistory.{Kept, kept-fresh}
+use Rattle.plain_book.specs.Sound.{held, FitsPage, FitPages, Fits, SoundKey}
+
+-- ---- a list with one number more
+
+-- its stream has the bytes of the difference more
+len-snoc : (prev : ℕ) (ns : List ℕ) (n : ℕ) → streamLenFrom prev (ns ++ (n ∷ [])) ≡ streamLenFrom prev ns + ulebLen (n - lastFrom prev ns)
+unfolding streamLenFrom
+len-snoc prev ns n = omega (arith, stream-len-append prev ns (n ∷ []))
+
+-- of a number below 2^62, at most 9
+len-below : (n prev : ℕ) → n < 2 ^ 62 → ulebLen (n - prev) ≤ 9
+unfolding divided ulebLen
+len-below n prev h = len-mono (n - prev) 4611686018427387903 (omega arith)
+
+-- it rises, where the number is above the last
+rises-snoc : (top : ℕ) (ns : List ℕ) (n : ℕ) → Rising top 0 ns → lastFrom 0 ns < n → n < top → Rising top 0 (ns ++ (n ∷ []))
+unfolding Rising
+rises-snoc top ns n r h t = rising-append top 0 ns (n ∷ []) r (h, t, tt)
+
+-- and rises below a higher limit too
+pub rising-below : (top higher prev : ℕ) (ns : List ℕ) → top ≤ higher → Rising top prev ns → Rising higher prev ns
+unfolding Rising
+rising-below top higher prev [] h r = tt
+rising-below top higher prev (n ∷ ns) h (a, b, r) = (a, omega arith, rising-below top higher n ns h r)
+
+-- ---- pages
+
+-- the last page of a run has the room of a last page, the others that of a page
+run-fits : (off : ℕ) (parts : List (List ℕ)) → 0 < length parts → Fit lastPageRoom pageRoom parts → FitPages (runPages off parts)
+unfolding runPages Fit FitPages
+run-fits off [] h f = absurd (omega arith)
+run-fits off (p ∷ []) h (some', fits) = ((some', fits, omega arith), refl)
+run-fits off (p ∷ q ∷ []) h (some', fits, f) = ((some', fits, le-refl pageRoom), run-fits (off + 4096) (q ∷ []) (omega arith) f)
+run-fits off (p ∷ q ∷ r ∷ ps) h (some', fits, f) = ((some', fits, le-refl pageRoom), run-fits (off + 4096) (q ∷ r ∷ ps) (omega arith) f)
+
+run-held : (off : ℕ) (parts : List (List ℕ)) → held (runPages off parts) ≡ joined parts
+unfolding runPages held joined
+run-held off [] = refl
+run-held off (p ∷ []) = refl
+run-held off (p ∷ q ∷ ps) = ap (λ (l : List ℕ). p ++ l) (run-held (off + 4096) (q ∷ ps))
+
+-- a number that joins the last page
+join-held : (n : ℕ) (ps : List Page) → FitPages ps → held (replaceLast (λ p. longer n p ∷ []) ps) ≡ held ps ++ (n ∷ [])
+unfolding held replaceLast FitPages
+join-held n [] f = absurd f
+join-held n (p ∷ []) f = append-nil (p .part ++ (n ∷ [])) ∙ ap (λ (l : List ℕ). l ++ (n ∷ [])) (sym (append-nil (p .part)))
+join-held n (p ∷ q ∷ ps) (f, fs) =
+    ap (λ (l : List ℕ). p .part ++ l) (join-held n (q ∷ ps) fs) ∙ sym (append-assoc (p .part) (held (q ∷ ps)) (n ∷ []))
+
+join-fits : (n : ℕ) (page : Page) (ps : List Page) → FitPages ps → streamLen (longer n (lastPage page ps) .part) ≤ lastPage page ps .room
+    → FitPages (replaceLast (λ p. longer n p ∷ []) ps)
+unfolding FitPages replaceLast lastPage
+join-fits n page [] f h = f
+join-fits n page (p ∷ []) ((a, b, c), r) h = ((rw (length-append (p .part) (n ∷ [])) (omega arith), h, c), r)
+join-fits n page (p ∷ q ∷ []) (f, fs) h = (f, join-fits n p (q ∷ []) fs h)
+join-fits n page (p ∷ q ∷ r ∷ ps) (f, fs) h = (f, join-fits n p (q ∷ r ∷ ps) fs h)
+
+-- one that begins a page
+begin-held : (n off : ℕ) (ps : List Page) → held (ps ++ onePage off (n ∷ [])) ≡ held ps ++ (n ∷ [])
+unfolding held
+begin-held n off [] = refl
+begin-held n off (p ∷ ps) = ap (λ (l : List ℕ). p .part ++ l) (begin-held n off ps) ∙ sym (append-assoc (p .part) (held ps) (n ∷ []))
+
+begin-fits : (n off : ℕ) (ps : List Page) → FitPages ps → ulebLen (n - 0) ≤ lastPageRoom → FitPages (ps ++ onePage off (n ∷ []))
+unfolding FitPages streamLenFrom
+begin-fits n off [] f h = absurd f
+begin-fits n off (p ∷ []) (f, r) h = (f, ((omega arith, omega arith, omega arith), refl))
+begin-fits n off (p ∷ q ∷ ps) (f, fs) h = (f, begin-fits n off (q ∷ ps) fs h)
+
+-- ---- places
+
+-- a list in the head word has at most 9 bytes, and one in a slab few
+one-bytes : (list : List ℕ) → Rising (2 ^ 62) 0 list → length list ≡ 1 → streamLen list ≤ 9
+unfolding Rising streamLenFrom
+one-bytes [] r e = absurd (omega arith)
+one-bytes (n ∷ []) (a, b, r) e = omega (arith, len-below n 0 b)
+one-bytes (n ∷ m ∷ ns) r e = absurd (omega arith)
+
+slab-bytes : (class bytes : ℕ) → class ≤ maxSlabClass → payloadLen bytes ≤ slabBytes class → bytes ≤ 2046
+slab-bytes class bytes c h = let m = bytes-mono {c = class} {d = 7} c in omega arith
+
+-- a list that moves fits the slab or the page that it moves to
+moved-fits : (end count : ℕ) (list : List ℕ) (old : Place) (s : Space) {p : Placed} → 2 ≤ length list → streamLen list ≤ lastPageRoom
+    → moved end (movesTo (length list) (streamLen list)) count list old s ≡ accepted p → Fits list (p .place)
+unfolding Fits FitPages held
+moved-fits end count list old s {p} two small e = go (movesTo (length list) (streamLen list)) refl e
+  where
+    go : (o : Option ℕ) → movesTo (length list) (streamLen list) ≡ o → moved end o count list old s ≡ accepted p → Fits list (p .place)
+    go (some c) q e =
+        let m = moves-to (length list) (streamLen list) q in
+        let (off, at, told) = moved-slab end count list old s c e in
+        rw at (m .slab, two, m .few, m .fits)
+    go none q e =
+        let (off, at, told) = moved-page end count list old s e in
+        rw at (append-nil list, ((omega arith, small, omega arith), refl))
+
+-- a number that joins pages, or begins one
+pages-fit : (end : ℕ) (ps : List Page) (ns : List ℕ) (n : ℕ) (s : Space) {p : Placed} → n < 2 ^ 62 → held ps ≡ ns → FitPages ps
+    → appendPages end ps n s ≡ accepted p → Fits (ns ++ (n ∷ [])) (p .place)
+unfolding appendPages beginPage joins Fits
+pages-fit end ps ns n s l is-held fit e =
+    ⊎-elim
+    (λ (t, is).
+    let room = leb-true (streamLen (longer n (lastPage noPage ps) .part)) (lastPage noPage ps .room) t in
+    rw (placed is) (join-held n ps fit ∙ ap (λ (l : List ℕ). l ++ (n ∷ [])) is-held, join-fits n noPage ps fit room))
+    (λ (t, is).
+    let (got, took, is') = went-on (take end pageClass s) _ is in
+    let nine = len-below n 0 l in
+    rw (placed is') (begin-held n (got .off) ps ∙ ap (λ (l : List ℕ). l ++ (n ∷ [])) is-held, begin-fits n (got .off) ps fit (omega arith)))
+    (which (joins n ps) (accepted (record { place = joinedTo n ps; space = s; rewritten = 0 })) (beginPage end ps n s) e)
+
+-- an append keeps a list fitting, where the new number is below 2^62
+append-fits : (end count : ℕ) (ns : List ℕ) (n : ℕ) (old : Place) (s : Space) {p : Placed} → Rising (2 ^ 62) 0 ns → n < 2 ^ 62 → Fits ns old
+    → appendPlace end count (ns ++ (n ∷ [])) n old s ≡ accepted p → Fits (ns ++ (n ∷ [])) (p .place)
+unfolding appendPlace Fits
+append-fits end count ns n empty s r l f e = rw (placed e) (omega (arith, length-append ns (n ∷ [])))
+append-fits end count ns n inline s r l f e =
+    let a = len-snoc 0 ns n in
+    let b = len-below n (lastFrom 0 ns) l in
+    let c = one-bytes ns r f in
+    let d = length-append ns (n ∷ []) in
+    moved-fits end count (ns ++ (n ∷ [])) inline s (omega arith) (omega arith) e
+append-fits end count ns n (slab class off) s r l (c, two, few, bytes) e =
+    let a = len-snoc 0 ns n in
+    let b = len-below n (lastFrom 0 ns) l in
+    let m = slab-bytes class (streamLen ns) c bytes in
+    let d = length-append ns (n ∷ []) in
+    ⊎-elim
+    (λ (t, is).
+    let (few', slots, fits) = stays-holds class (length (ns ++ (n ∷ []))) (streamLen (ns ++ (n ∷ []))) t in
+    rw (placed is) (c, omega arith, few', fits))
+    (λ (t, is). moved-fits end count (ns ++ (n ∷ [])) (slab class off) s (omega arith) (omega arith) is)
+    (which (stays class (length (ns ++ (n ∷ []))) (streamLen (ns ++ (n ∷ [])))) _ _ e)
+append-fits end count ns n (pages ps) s r l (is-held, fit) e = pages-fit end ps ns n s l is-held fit e
+
+-- parts that make up some numbers are some
+some-parts : (n : ℕ) (ns : List ℕ) (parts : List (List ℕ)) → joined parts ≡ n ∷ ns → 0 < length parts
+unfolding joined
+some-parts n ns [] e = let z : 0 ≡ suc (length ns) = ap length e in absurd (omega arith)
+some-parts n ns (p ∷ ps) e = omega arith
+
+-- a load gives a list a place that it fits
+load-fits : (end : ℕ) (ns : List ℕ) (s : Space) {p : Placed} → Rising (2 ^ 62) 0 ns → loadPlace end ns s ≡ accepted p → Fits ns (p .place)
+unfolding loadPlace loadInto Fits
+load-fits end [] s r e = rw (placed e) refl
+load-fits end (n ∷ []) s r e = rw (placed e) refl
+load-fits end (n ∷ m ∷ ns) s {p} r e = go (loadsTo (length (n ∷ m ∷ ns)) (streamLen (n ∷ m ∷ ns))) refl e
+  where
+    go : (o : Option ℕ) → loadsTo (length (n ∷ m ∷ ns)) (streamLen (n ∷ m ∷ ns)) ≡ o → loadInto end o (n ∷ m ∷ ns) s ≡ accepted p → Fits (n ∷ m ∷ ns) (p .place)
+    go (some c) q e =
+        let (few, class, fits) = loads-to (length (n ∷ m ∷ ns)) (streamLen (n ∷ m ∷ ns)) q in
+        let (t, got, is) = went-on (take end c s) _ e in
+        rw (placed is) (class, omega arith, few, fits)
+    go none q e =
+        let (t, got, is) = went-on (takeRun end (length (cutting (n ∷ m ∷ ns))) s) _ e in
+        let ok = pages-allowed (n ∷ m ∷ ns) (rising-words 0 (n ∷ m ∷ ns) (rising-below (2 ^ 62) (2 ^ 63) 0 (n ∷ m ∷ ns) (omega arith) r)) in
+        rw (placed is) (run-held (t .off) (cutting (n ∷ m ∷ ns)) ∙ ok .consecutive, run-fits (t .off) (cutting (n ∷ m ∷ ns)) (some-parts n (m ∷ ns) (cutting (n ∷ m ∷ ns)) (ok .consecutive)) (ok .fit))
+
+-- ---- every list of calls
+
+-- A key that holds nothing is sound.
+empty-sound : SoundKey emptyKey
+unfolding Rising Fits
+empty-sound = record { rises = tt; fits = refl }
+
+-- Calls keep a key sound.
+sound-kept : Kept (λ k t. SoundKey k)
+sound-kept =
+    record {
+      loads = λ end k ns s p t h f rises e. record { rises = rises; fits = load-fits end ns s rises e };
+      appends = λ end k n s p t h rises low e.
+          record { rises = rises-snoc (2 ^ 62) (k .list) n (h .rises) rises low; fits = append-fits end (length (k .list)) (k .list) n (k .place) s (h .rises) low (h .fits) e };
+      drops = empty-sound;
+    }
+
+-- After any list of calls on a fresh book, each key is sound.
+pub sound : (size heads key : ℕ) (cs : List Call) → SoundKey (keyOf key (after (fresh size heads) cs))
+sound size heads key cs = kept-fresh _ sound-kept size heads key cs

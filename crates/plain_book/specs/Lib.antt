@@ -1,0 +1,6 @@
+pub mod Numbers
+pub mod Space
+pub mod Key
+pub mod Book
+pub mod Moves
+pub mod Sound

@@ -1,0 +1,36 @@
+-- What every key of a plain book is, whatever calls led there: its list rises, and fits where it stands.
+use Prim.Native.Nat.{ℕ, _+_, _^_, _≤_, _<_}
+use mathlib.Core.List.{List, [], _∷_, _++_}
+use mathlib.Core.Path.{_≡_}
+use lib.ListN.{length}
+use Rattle.scripthash_layout.specs.Sizes.{slabBytes, maxSlabClass, maxSlabCount}
+use Rattle.scripthash_stream.specs.Stream.{Rising, streamLen}
+use Rattle.scripthash_cutting.specs.Cutting.{pageRoom, lastPageRoom}
+use Rattle.plain_book.specs.Key.{Page, Place, empty, inline, slab, pages, Key, payloadLen}
+
+-- The numbers that pages hold, in order.
+unfoldable pub held : List Page → List ℕ
+held [] = []
+held (p ∷ ps) = p .part ++ held ps
+
+-- A page holds a number, its stream fits its room, and that is no more than a page has.
+abbrev pub FitsPage : Page → Type 0
+FitsPage p = (0 < length (p .part)) × (streamLen (p .part) ≤ p .room) × (p .room ≤ pageRoom)
+
+-- Pages that fit: there is one, and the last has the room of a last page.
+unfoldable pub FitPages : List Page → Type 0
+FitPages [] = ⊥
+FitPages (p ∷ []) = FitsPage p × (p .room ≡ lastPageRoom)
+FitPages (p ∷ q ∷ ps) = FitsPage p × FitPages (q ∷ ps)
+
+-- A list fits its place: a slab has 2 to 256 numbers and bytes for their payload, and pages hold the list in order.
+unfoldable pub Fits : List ℕ → Place → Type 0
+Fits list empty = length list ≡ 0
+Fits list inline = length list ≡ 1
+Fits list (slab class off) = (class ≤ maxSlabClass) × (2 ≤ length list) × (length list ≤ maxSlabCount) × (payloadLen (streamLen list) ≤ slabBytes class)
+Fits list (pages ps) = (held ps ≡ list) × FitPages ps
+
+-- A sound key: its list rises, below 2^62, and fits its place.
+pub record SoundKey (k : Key) : Type 0 where
+  pub rises : Rising (2 ^ 62) 0 (k .list)
+  pub fits : Fits (k .list) (k .place)

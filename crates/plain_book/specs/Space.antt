@@ -1,0 +1,65 @@
+-- The space of a plain book (01 coins the term): a mark, up to which blocks were ever taken, and a stack of freed blocks for each class. No byte
+-- is read.
+use Prim.Native.Nat.{ℕ, _+_, _*_, _-_, _/_}
+use mathlib.Core.Bool.{cond}
+use mathlib.Core.List.{List, [], _∷_}
+use lib.Dec.{ltb, eqb}
+use lib.ListN.{getD, set}
+use Rattle.error.specs.Refusal.{Answer, accepted, refused, refuseIf}
+use Rattle.plain_book.specs.Numbers.{noRoom}
+use Rattle.scripthash_layout.specs.Sizes.{slabBytes, pageClass, pageSize}
+use Rattle.scripthash_free.specs.FreeList.{Block, gapBlocks}
+
+-- The mark, and the freed blocks' offsets of classes 0 to 8, the last freed first.
+pub record Space : Type 0 where
+  pub mark : ℕ
+  pub stacks : List (List ℕ)
+
+-- The freed blocks of a class.
+abbrev pub stackOf : ℕ → Space → List ℕ
+stackOf class s = getD (s .stacks) class []
+
+-- A block is freed: it goes onto its class's stack.
+abbrev pub freed : ℕ → ℕ → Space → Space
+freed class off s = record { mark = s .mark; stacks = set (s .stacks) class (off ∷ stackOf class s) }
+
+-- Blocks freed one after the other.
+unfoldable pub freedAll : List Block → Space → Space
+freedAll [] s = s
+freedAll (b ∷ bs) s = freedAll bs (freed (b .class) (b .off) s)
+
+-- What a take gives: where the block or run begins, and the space afterwards.
+pub record Taken : Type 0 where
+  pub off : ℕ
+  pub space : Space
+
+-- An offset rounded up to the next multiple of a page.
+abbrev pub pageAfter : ℕ → ℕ
+pageAfter off = (off + (pageSize - 1)) / pageSize * pageSize
+
+-- Some bytes taken at the mark, which then passes them; refused where they would pass the body's end.
+unfoldable pub takeMark : ℕ → ℕ → Space → Answer Taken
+takeMark end bytes s =
+    refuseIf (ltb end (s .mark + bytes)) noRoom
+    (accepted (record { off = s .mark; space = record { mark = s .mark + bytes; stacks = s .stacks } }))
+
+-- The mark rounded up to a page, and the blocks of the gap freed.
+unfoldable pub rounded : Space → Space
+rounded s = record { mark = pageAfter (s .mark); stacks = freedAll (gapBlocks (s .mark) (pageAfter (s .mark))) s .stacks }
+
+-- A run of pages taken: always at the mark, rounded up.
+unfoldable pub takeRun : ℕ → ℕ → Space → Answer Taken
+takeRun end pages s = takeMark end (pages * pageSize) (rounded s)
+
+-- A block of a class taken where none of it is freed: a page is a run of one.
+unfoldable pub takeFresh : ℕ → ℕ → Space → Answer Taken
+takeFresh end class s = cond (eqb class pageClass) (takeRun end 1 s) (takeMark end (slabBytes class) s)
+
+-- A block taken from a stack, which holds some offsets, or else from the mark.
+unfoldable pub takeFrom : ℕ → ℕ → List ℕ → Space → Answer Taken
+takeFrom end class [] s = takeFresh end class s
+takeFrom end class (o ∷ os) s = accepted (record { off = o; space = record { mark = s .mark; stacks = set (s .stacks) class os } })
+
+-- A block of a class taken: the top of its stack, or else from the mark.
+abbrev pub take : ℕ → ℕ → Space → Answer Taken
+take end class s = takeFrom end class (stackOf class s) s
