@@ -31,6 +31,18 @@ abbrev pub told : {A B : Type 0} → (A → B) → Answer A → B → B
 told f (accepted x) before = f x
 told f (refused number) before = before
 
+-- The book's shape breaks its limits.
+abbrev pub shapeBad : ℕ
+shapeBad = 1
+
+-- The key is beyond the heads.
+abbrev pub keyBeyond : ℕ
+keyBeyond = 2
+
+-- A load meets a key in use.
+abbrev pub keyInUse : ℕ
+keyInUse = 3
+
 -- A page buffer isn't 4,096 bytes.
 abbrev pub pageLength : ℕ
 pageLength = 4
@@ -70,6 +82,10 @@ offeredFirstZero = 12
 -- A number offered has bit 63 set.
 abbrev pub offeredBit63 : ℕ
 offeredBit63 = 13
+
+-- A book is offered 2^62 or more.
+abbrev pub offeredTooLarge : ℕ
+offeredTooLarge = 14
 
 -- A page's count exceeds its capacity.
 abbrev pub countAboveCapacity : ℕ
@@ -150,3 +166,7 @@ listTooShort = 34
 -- A free head to be popped isn't a multiple of 16 (page: 4,096), or its block leaves 4,096 to the mark.
 abbrev pub freeHeadBad : ℕ
 freeHeadBad = 35
+
+-- No room: the block or run would pass the body's end.
+abbrev pub noRoom : ℕ
+noRoom = 36

@@ -9,10 +9,9 @@ use lib.Dec.{eqb, leb}
 use lib.ListN.{length, getD, set, replicate}
 use lib.Seq.{getD-set-same, getD-set-other, set-getD}
 use borrow.Author.Tests.{leb-false, eqb-true, eqb-false}
-use Rattle.error.specs.Refusal.{Answer, accepted, refused, refuseIf, andThen}
+use Rattle.error.specs.Refusal.{Answer, accepted, refused, refuseIf, andThen, shapeBad, keyBeyond}
 use Rattle.error.proofs.LawsAnswer.{accepted-inj, passed, went-on}
 use Rattle.scripthash_stream.specs.Stream.{Rising, lastFrom}
-use Rattle.plain_book.specs.Numbers.{shapeBad, keyBeyond}
 use Rattle.plain_book.specs.Space.{Space}
 use Rattle.plain_book.specs.Key.{Place, empty, Key, emptyKey, freedPlace, Placed, appendPlace, loadPlace}
 use Rattle.plain_book.specs.Book.{Book, fresh, Call, load, append, read, drop, Outcome, outOfShape, onKey, offeredNumber, offeredList, keyOf, withKey, inUse, extended, loads, appends, reads, drops, does, bookAfter, answerOf, after}

@@ -4,8 +4,8 @@ use mathlib.Core.Bool.{Bool, true, false, cond, not, _&&_, _||_}
 use mathlib.Core.List.{List, [], _∷_, _++_}
 use lib.Dec.{leb, ltb, eqb}
 use lib.ListN.{length, getD, set, replicate}
-use Rattle.error.specs.Refusal.{Answer, accepted, refused, refuseIf, andThen, tooManyOffered, offeredFirstZero, offeredBit63, offeredNotRising, listTooShort}
-use Rattle.plain_book.specs.Numbers.{shapeBad, keyBeyond, keyInUse, offeredTooLarge}
+use Rattle.error.specs.Refusal.{Answer, accepted, refused, refuseIf, andThen, listTooShort}
+use Rattle.error.specs.Refusal.{shapeBad, keyBeyond, keyInUse, tooManyOffered, offeredFirstZero, offeredBit63, offeredTooLarge, offeredNotRising}
 use Rattle.scripthash_layout.specs.Sizes.{pageClass, pageSize}
 use Rattle.scripthash_layout.specs.Head.{payloadStart}
 use Rattle.scripthash_layout.specs.declared.head.ShHeadValue.{ShHeadValue}

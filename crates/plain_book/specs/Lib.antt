@@ -1,4 +1,3 @@
-pub mod Numbers
 pub mod Space
 pub mod Key
 pub mod Book

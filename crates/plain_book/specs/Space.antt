@@ -5,8 +5,7 @@ use mathlib.Core.Bool.{cond}
 use mathlib.Core.List.{List, [], _∷_}
 use lib.Dec.{ltb, eqb}
 use lib.ListN.{getD, set}
-use Rattle.error.specs.Refusal.{Answer, accepted, refused, refuseIf}
-use Rattle.plain_book.specs.Numbers.{noRoom}
+use Rattle.error.specs.Refusal.{Answer, accepted, refused, refuseIf, noRoom}
 use Rattle.scripthash_layout.specs.Sizes.{slabBytes, pageClass, pageSize}
 use Rattle.scripthash_free.specs.FreeList.{Block, gapBlocks}
 
