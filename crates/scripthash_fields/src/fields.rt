@@ -5,13 +5,18 @@ ghost use mathlib.Core.Bool.{true, false, _&&_, _||_};
 ghost use Prim.Native.Nat.{_<_, _^_};
 ghost use lib.Dec.{eqb};
 ghost use lib.ListN.{length, replicate};
-ghost use Rattle.error.specs.Refusal.{refusalOf};
 ghost use Rattle.scripthash_layout.specs.Sizes.{pageSize};
 ghost use Rattle.scripthash_fields.specs.Page.{setField, versionOf, linkOf, streamOff, linkTo, linkNamed, extentNamed};
 ghost use Rattle.scripthash_fields.specs.Fields.{readLink, isLast, firstOff, nextOffOf, extentOf, createsOf, nFks, requireDelta};
 ghost use Rattle.scripthash_fields.specs.Fields.{streamOffOf, streamCapOf, writeLink, setExtent, setCreates, setCount, initEmpty, done, afterSet};
-ghost use Rattle.scripthash_fields.specs.Answers.{linkAnswer, lastAnswer, offsetAnswer, extentAnswer, createsAnswer, countAnswer, doneAnswer};
-use error::Refusal;
+ghost use Rattle.scripthash_answers.specs.FieldAnswers.{linkAnswer, lastAnswer, offsetAnswer, extentAnswer, createsAnswer, countAnswer, doneAnswer};
+use scripthash_answers::PageCount;
+use scripthash_answers::PageCreates;
+use scripthash_answers::PageDone;
+use scripthash_answers::PageExtent;
+use scripthash_answers::PageLast;
+use scripthash_answers::PageLink;
+use scripthash_answers::PageOffset;
 use scripthash_layout::SH_PAGE_SIZE;
 
 // The bytes of a page, as an offset counts them.
@@ -38,134 +43,6 @@ pub const SH_PAGE_HEADER_LEN: usize = 8;
 pub const SH_PAGE_EXTENT_HEADER_LEN: usize = 24;
 // A link has 39 bits for a page's index.
 const SH_PAGE_INDEX_RANGE: u64 = 1 << 39;
-
-// What a page's link says: LAST or not, and the offset of the page that it names; or a refusal.
-pub enum PageLink {
-    Link { last: bool, off: u64 },
-    Refused(Refusal),
-}
-
-impl PageLink {
-    // The refusal's number, and 0 of a link.
-    pub fn refusal(self) -> Refusal
-        ensures { λ r. ⌜ r ≡ refusalOf (linkAnswer self) ⌝ }
-    {
-        match self {
-            PageLink::Link { last: _, off: _ } => 0,
-            PageLink::Refused(number) => number,
-        }
-    }
-}
-
-// Whether a page is LAST, or a refusal.
-pub enum PageLast {
-    Last(bool),
-    Refused(Refusal),
-}
-
-impl PageLast {
-    // The refusal's number, and 0 of another answer.
-    pub fn refusal(self) -> Refusal
-        ensures { λ r. ⌜ r ≡ refusalOf (lastAnswer self) ⌝ }
-    {
-        match self {
-            PageLast::Last(_) => 0,
-            PageLast::Refused(number) => number,
-        }
-    }
-}
-
-// The offset of a page, or a refusal.
-pub enum PageOffset {
-    Offset(u64),
-    Refused(Refusal),
-}
-
-impl PageOffset {
-    // The refusal's number, and 0 of an offset.
-    pub fn refusal(self) -> Refusal
-        ensures { λ r. ⌜ r ≡ refusalOf (offsetAnswer self) ⌝ }
-    {
-        match self {
-            PageOffset::Offset(_) => 0,
-            PageOffset::Refused(number) => number,
-        }
-    }
-}
-
-// The extent that a page names, nothing where it names none, or a refusal.
-pub enum PageExtent {
-    Extent { base: u64, n: u32 },
-    Nothing,
-    Refused(Refusal),
-}
-
-impl PageExtent {
-    // The refusal's number, and 0 of another answer.
-    pub fn refusal(self) -> Refusal
-        ensures { λ r. ⌜ r ≡ refusalOf (extentAnswer self) ⌝ }
-    {
-        match self {
-            PageExtent::Extent { base: _, n: _ } => 0,
-            PageExtent::Nothing => 0,
-            PageExtent::Refused(number) => number,
-        }
-    }
-}
-
-// A page's creates, or a refusal.
-pub enum PageCreates {
-    Creates(u32),
-    Refused(Refusal),
-}
-
-impl PageCreates {
-    // The refusal's number, and 0 of creates.
-    pub fn refusal(self) -> Refusal
-        ensures { λ r. ⌜ r ≡ refusalOf (createsAnswer self) ⌝ }
-    {
-        match self {
-            PageCreates::Creates(_) => 0,
-            PageCreates::Refused(number) => number,
-        }
-    }
-}
-
-// A count of numbers or of bytes, or a refusal.
-pub enum PageCount {
-    Count(usize),
-    Refused(Refusal),
-}
-
-impl PageCount {
-    // The refusal's number, and 0 of a count.
-    pub fn refusal(self) -> Refusal
-        ensures { λ r. ⌜ r ≡ refusalOf (countAnswer self) ⌝ }
-    {
-        match self {
-            PageCount::Count(_) => 0,
-            PageCount::Refused(number) => number,
-        }
-    }
-}
-
-// That a page passed or was set, or a refusal.
-pub enum PageDone {
-    Done,
-    Refused(Refusal),
-}
-
-impl PageDone {
-    // The refusal's number, and 0 where it was done.
-    pub fn refusal(self) -> Refusal
-        ensures { λ r. ⌜ r ≡ refusalOf (doneAnswer self) ⌝ }
-    {
-        match self {
-            PageDone::Done => 0,
-            PageDone::Refused(number) => number,
-        }
-    }
-}
 
 // A page's version.
 fn version_of(page: &[u8]) -> u8

@@ -1,6 +1,6 @@
 -- `put_extent` hands out both numbers of an extent, zeros, or nothing but the refusal. Assumes nothing.
 use mathlib.Core.Path.{ap}
-use Rattle.scripthash_fields.specs.Answers.{extentAnswer}
+use Rattle.scripthash_answers.specs.FieldAnswers.{extentAnswer}
 use Rattle.exports.specs.OutPage.{baseOr0, countOr0}
 use Rattle.exports.proofs.LawsOut.{number-accepted, number-refused, told-accepted, told-refused}
 use borrow.Author.Needs.{needs}

@@ -1,6 +1,6 @@
 -- `put_link` hands out both values of a link, or nothing but the refusal. Assumes nothing.
 use mathlib.Core.Path.{ap}
-use Rattle.scripthash_fields.specs.Answers.{linkAnswer}
+use Rattle.scripthash_answers.specs.FieldAnswers.{linkAnswer}
 use Rattle.exports.proofs.LawsOut.{number-accepted, number-refused, told-accepted, told-refused}
 use borrow.Author.Needs.{needs}
 use Rattle.exports.proofs.page_fields.put_link.Statement.{statement}
