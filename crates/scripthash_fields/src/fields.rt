@@ -43,6 +43,10 @@ pub const SH_PAGE_HEADER_LEN: usize = 8;
 pub const SH_PAGE_EXTENT_HEADER_LEN: usize = 24;
 // A link has 39 bits for a page's index.
 const SH_PAGE_INDEX_RANGE: u64 = 1 << 39;
+// What the link counts for in the number that the first eight bytes hold: it is the upper five of them.
+const SH_PAGE_LINK_UNIT: u64 = 1 << 24;
+// What an offset's remainder counts for once its bits are turned by twelve, so that it stands above the index.
+const SH_PAGE_TURN: u64 = 1 << 52;
 
 // A page's version.
 fn version_of(page: &[u8]) -> u8
@@ -60,23 +64,20 @@ fn set_version(page: &mut [u8], version: u8)
     page[SH_PAGE_OFF_VER] = version;
 }
 
-// A page's link, as it stands: less than 2^40.
+// A page's link, as it stands: less than 2^40. One load has it with the version and the count.
 fn link_of(page: &[u8]) -> u64
     requires { ⌜ length (now page) ≡ pageSize ⌝ }
     ensures link { λ r. ⌜ r ≡ linkOf (now (page .entry)) ⌝ }
     ensures small { λ r. ⌜ r < 2 ^ 40 ⌝ }
 {
-    buffer::get_u40(page, SH_PAGE_OFF_PACKED)
+    buffer::get_u64(page, SH_PAGE_OFF_VER) / SH_PAGE_LINK_UNIT
 }
 
 // The link that names the page at an offset, LAST or not.
 pub fn link_to(last: bool, off: u64) -> u64
     ensures { λ r. ⌜ r ≡ linkTo last off ⌝ }
 {
-    if last {
-        return off / SH_PAGE_BYTES * 2 + 1;
-    }
-    off / SH_PAGE_BYTES * 2
+    off / SH_PAGE_BYTES * 2 + last as u64
 }
 
 // Where the stream of a page starts.
@@ -90,17 +91,19 @@ pub fn stream_off(page: &[u8]) -> usize
     SH_PAGE_HEADER_LEN
 }
 
-// Passes an offset that a link can name.
+// Passes an offset that a link can name. With its bits turned by twelve a remainder stands above the index: one test passes what has none and an
+// index that is small enough.
 pub fn check_link(off: u64) -> PageDone
     ensures { λ r. ⌜ doneAnswer r ≡ linkNamed off ⌝ }
 {
+    let turned = off % SH_PAGE_BYTES * SH_PAGE_TURN + off / SH_PAGE_BYTES;
+    if turned < SH_PAGE_INDEX_RANGE {
+        return PageDone::Done;
+    }
     if off % SH_PAGE_BYTES != 0 {
         return PageDone::Refused(error::LINK_UNALIGNED);
     }
-    if off / SH_PAGE_BYTES >= SH_PAGE_INDEX_RANGE {
-        return PageDone::Refused(error::LINK_TOO_LARGE);
-    }
-    PageDone::Done
+    PageDone::Refused(error::LINK_TOO_LARGE)
 }
 
 // Passes an extent that a page can name.
@@ -353,10 +356,17 @@ pub fn sh_page_require_delta(page: &[u8]) -> PageDone
         return PageDone::Refused(error::PAGE_LENGTH);
     }
     let n = buffer::get_u16(page, SH_PAGE_OFF_N_FKS);
-    if SH_PAGE_SIZE - stream_off(page) < n as usize {
+    let version = version_of(page);
+    if version == SH_PAGE_EXTENT_VER {
+        if SH_PAGE_SIZE - SH_PAGE_EXTENT_HEADER_LEN < n as usize {
+            return PageDone::Refused(error::COUNT_ABOVE_CAPACITY);
+        }
+        return PageDone::Done;
+    }
+    if SH_PAGE_SIZE - SH_PAGE_HEADER_LEN < n as usize {
         return PageDone::Refused(error::COUNT_ABOVE_CAPACITY);
     }
-    if version_known(version_of(page), n) {
+    if version_known(version, n) {
         return PageDone::Done;
     }
     PageDone::Refused(error::VERSION_BAD)
