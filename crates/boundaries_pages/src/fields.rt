@@ -1,5 +1,5 @@
 // Fields of pages: every version with counts around its capacity, links and extents, and buffers that are no page.
-use scripthash_fields::PageDone;
+use scripthash_answers::PageDone;
 
 // Shows every answer about the fields of a page.
 fn show(page: &[u8]) {

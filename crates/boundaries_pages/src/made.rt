@@ -1,5 +1,5 @@
 // Pages as the cases need them: a header, and a stream of ones or of some bytes.
-use scripthash_fields::PageDone;
+use scripthash_answers::PageDone;
 
 // What a page function that sets something answers in every case here: it is done, or the case shows it.
 pub fn quiet(got: PageDone) {

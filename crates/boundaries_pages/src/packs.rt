@@ -1,5 +1,5 @@
 // Whole pages packed: lists around the room of a page with and without an extent, links and extents that are refused.
-use scripthash_fields::PageDone;
+use scripthash_answers::PageDone;
 
 // Shows a packed page: the answer, what it reads as, and its bytes.
 fn show(page: &[u8], got: PageDone) {

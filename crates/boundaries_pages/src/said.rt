@@ -1,15 +1,15 @@
 // What calls on pages answered, as words.
-use scripthash_fields::PageCount;
-use scripthash_fields::PageCreates;
-use scripthash_fields::PageDone;
-use scripthash_fields::PageExtent;
-use scripthash_fields::PageLast;
-use scripthash_fields::PageLink;
-use scripthash_fields::PageOffset;
-use scripthash_pages::PageEntries;
-use scripthash_pages::PageLastFk;
-use scripthash_pages::PageSlice;
-use scripthash_pages::TryAppend;
+use scripthash_answers::PageCount;
+use scripthash_answers::PageCreates;
+use scripthash_answers::PageDone;
+use scripthash_answers::PageEntries;
+use scripthash_answers::PageExtent;
+use scripthash_answers::PageLast;
+use scripthash_answers::PageLastFk;
+use scripthash_answers::PageLink;
+use scripthash_answers::PageOffset;
+use scripthash_answers::PageSlice;
+use scripthash_answers::TryAppend;
 use scripthash_stream::ScanStream;
 use scripthash_stream::StreamBytes;
 

@@ -3,14 +3,14 @@
 use mathlib.Core.Path.{_≡_, refl, ap, sym, _∙_}
 use mathlib.Core.List.{List, [], _∷_, _++_}
 use Prim.Native.Nat.{ℕ, zero, suc, _+_, _*_, _/_, _%_, _^_, _<_, _≤_}
-use native.Mathlib.Nat.{zero-add, suc-add, pow-suc, pow-succ', mul-assoc, div-div-eq-div-mul, one-le-pow}
+use native.Mathlib.Nat.{zero-add, suc-add, pow-suc, pow-succ', mul-assoc, div-div-eq-div-mul, add-mul-div-left, div-eq-of-lt, one-le-pow}
 use native.Mathlib.Omega.{arith}
 use lib.Arith.{mod-mul}
 use lib.ListN.{length, drop}
 use lib.Seq.{take-add, drop-drop}
 use Rattle.buffer.specs.Bytes.{part, overwrite}
-use Rattle.buffer.specs.LittleEndian.{littleEndian, bytesOf}
-use Rattle.buffer.proofs.LawsLittleEndian.{length-bytesOf}
+use Rattle.buffer.specs.LittleEndian.{littleEndian, bytesOf, AreBytes}
+use Rattle.buffer.proofs.LawsLittleEndian.{length-bytesOf, littleEndian-below, part-bytes}
 use Rattle.buffer.proofs.LawsOverwrite.{length-part, overwrite-adjoin}
 
 -- A part is its first j elements and the k behind them.
@@ -32,6 +32,17 @@ pub littleEndian-halves : (b : List ℕ) (o j k : ℕ) → o + j ≤ length b
 littleEndian-halves b o j k h =
     ap littleEndian (part-add b o j k) ∙ littleEndian-append (part b o j) (part b (o + j) k)
     ∙ ap (λ (n : ℕ). littleEndian (part b o j) + 256 ^ n * littleEndian (part b (o + j) k)) (length-part b o j h)
+
+-- The number in the k bytes behind the first j is the number in them all, divided by 256 ^ j.
+pub littleEndian-upper : (b : List ℕ) (o j k : ℕ) → AreBytes b → o + j ≤ length b
+    → littleEndian (part b o (j + k)) / 256 ^ j ≡ littleEndian (part b (o + j) k)
+littleEndian-upper b o j k bytes h =
+    let low = littleEndian (part b o j) in
+    let high = littleEndian (part b (o + j) k) in
+    let pos : 0 < 256 ^ j = one-le-pow j 256 (omega arith) in
+    let below : low < 256 ^ j = rw (length-part b o j h) at (littleEndian-below (part b o j) (part-bytes b o j bytes)) in
+    ap (λ (n : ℕ). n / 256 ^ j) (littleEndian-halves b o j k h) ∙ add-mul-div-left low high pos
+    ∙ ap (λ (n : ℕ). n + high) (div-eq-of-lt below) ∙ zero-add high
 
 -- A number's j + k lowest bytes are its j lowest, and the k behind them.
 pub bytesOf-add : (j k n : ℕ) → bytesOf (j + k) n ≡ bytesOf j n ++ bytesOf k (n / 256 ^ j)

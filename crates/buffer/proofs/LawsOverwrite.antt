@@ -6,9 +6,10 @@ use Prim.Native.Nat.{ℕ, zero, suc, _+_, _-_, _<_, _≤_}
 use native.Mathlib.Nat.{add-zero, add-assoc}
 use native.Mathlib.Numerals.{add-one}
 use native.Mathlib.Omega.{arith}
-use lib.ListN.{length, getD, take, drop, length-append, length-take, length-drop, take-append-drop}
+use lib.ListN.{length, getD, take, drop, set, length-append, length-take, length-drop, take-append-drop}
 use lib.Seq.{length-take-le, take-length, take-append-le, drop-append-le, drop-append-add, take-at, drop-cons, drop-drop}
 use Rattle.buffer.specs.Bytes.{part, overwrite}
+use Rattle.buffer.proofs.LawsBytes.{overwrite-one, length-overwrite}
 
 -- A part that lies in the buffer is as long as asked.
 pub length-part : (b : List ℕ) (o n : ℕ) → o + n ≤ length b → length (part b o n) ≡ n
@@ -122,3 +123,20 @@ overwrite-adjoin b o ys zs h =
     ∙ drop-drop (length zs) (o + length ys) b
     ∙ ap (λ (k : ℕ). drop k b) count in
     rw (before, after) (simp append-assoc)
+
+-- A write that goes on by one element.
+pub overwrite-next : (b : List ℕ) (o : ℕ) (ys : List ℕ) (x : ℕ) → o + length ys < length b
+    → set (overwrite b o ys) (o + length ys) x ≡ overwrite b o (ys ++ (x ∷ []))
+overwrite-next b o ys x h =
+    let inside : o + length ys < length (overwrite b o ys) = omega (arith, length-overwrite b o ys (omega arith)) in
+    sym (overwrite-one (overwrite b o ys) (o + length ys) x inside) ∙ overwrite-adjoin b o ys (x ∷ []) (omega arith)
+
+-- Five elements, written one by one.
+pub overwrite-five : (b : List ℕ) (o x₀ x₁ x₂ x₃ x₄ : ℕ) → o + 5 ≤ length b
+    → set (set (set (set (set b o x₀) (o + 1) x₁) (o + 2) x₂) (o + 3) x₃) (o + 4) x₄ ≡ overwrite b o (x₀ ∷ x₁ ∷ x₂ ∷ x₃ ∷ x₄ ∷ [])
+overwrite-five b o x₀ x₁ x₂ x₃ x₄ h =
+    ap (λ (l : List ℕ). set (set (set (set l (o + 1) x₁) (o + 2) x₂) (o + 3) x₃) (o + 4) x₄) (sym (overwrite-one b o x₀ (omega arith)))
+    ∙ ap (λ (l : List ℕ). set (set (set l (o + 2) x₂) (o + 3) x₃) (o + 4) x₄) (overwrite-next b o (x₀ ∷ []) x₁ (omega arith))
+    ∙ ap (λ (l : List ℕ). set (set l (o + 3) x₃) (o + 4) x₄) (overwrite-next b o (x₀ ∷ x₁ ∷ []) x₂ (omega arith))
+    ∙ ap (λ (l : List ℕ). set l (o + 4) x₄) (overwrite-next b o (x₀ ∷ x₁ ∷ x₂ ∷ []) x₃ (omega arith))
+    ∙ overwrite-next b o (x₀ ∷ x₁ ∷ x₂ ∷ x₃ ∷ []) x₄ (omega arith)

@@ -1,4 +1,4 @@
-// Numbers at an offset of a buffer, the lowest byte first: each is one load or one store.
+// Numbers at an offset of a buffer, the lowest byte first: each is one load or one store, that of five bytes two.
 ghost use mathlib.Core.Path.{_≡_};
 ghost use Prim.Native.Nat.{_+_, _≤_};
 ghost use lib.ListN.{length};
@@ -67,8 +67,12 @@ pub fn put_u40(b: &mut [u8], at: usize, n: u64)
     requires { ⌜ at + 5 ≤ length (now b) ⌝ }
     ensures { λ _. ⌜ now (b .exit) ≡ overwrite (now (b .entry)) at (bytesOf 5 n) ⌝ }
 {
-    put_u32(b, at, (n % 0x1_0000_0000) as u32);
-    b[at + 4] = (n / 0x1_0000_0000 % 0x100) as u8;
+    let bytes = crate::u40_bytes(n);
+    b[at] = bytes[0];
+    b[at + 1] = bytes[1];
+    b[at + 2] = bytes[2];
+    b[at + 3] = bytes[3];
+    b[at + 4] = bytes[4];
 }
 
 // Writes a number over the eight bytes from an offset on.

@@ -6,11 +6,11 @@ ghost use Rattle.scripthash_stream.specs.Stream.{afterDecode};
 ghost use Rattle.scripthash_stream.specs.Answers.{scanAnswer, bytesAnswer};
 ghost use Rattle.scripthash_fields.specs.Page.{nextOff};
 ghost use Rattle.scripthash_pages.specs.Entries.{pageScan, lastOf, pageEntries, readCount, appendSpot, hasSpot, afterAppend, writeStream, afterWriteStream};
-ghost use Rattle.scripthash_pages.specs.Answers.{tryAnswer};
-use scripthash_pages::PageEntries;
-use scripthash_pages::PageLastFk;
-use scripthash_pages::PageSlice;
-use scripthash_pages::TryAppend;
+ghost use Rattle.scripthash_answers.specs.EntryAnswers.{tryAnswer};
+use scripthash_answers::PageEntries;
+use scripthash_answers::PageLastFk;
+use scripthash_answers::PageSlice;
+use scripthash_answers::TryAppend;
 use scripthash_stream::ScanStream;
 use scripthash_stream::StreamBytes;
 

@@ -4,14 +4,14 @@ ghost use mathlib.Core.Bool.{true, false};
 ghost use Rattle.error.specs.Refusal.{refusalOf, told};
 ghost use Rattle.scripthash_fields.specs.Fields.{readLink, isLast, firstOff, nextOffOf, extentOf, createsOf, nFks, requireDelta};
 ghost use Rattle.scripthash_fields.specs.Fields.{streamOffOf, streamCapOf, writeLink, setExtent, setCreates, setCount, initEmpty, afterSet};
-ghost use Rattle.scripthash_fields.specs.Answers.{linkAnswer, lastAnswer, offsetAnswer, extentAnswer, createsAnswer, countAnswer};
+ghost use Rattle.scripthash_answers.specs.FieldAnswers.{linkAnswer, lastAnswer, offsetAnswer, extentAnswer, createsAnswer, countAnswer};
 ghost use Rattle.exports.specs.OutPage.{baseOr0, countOr0};
-use scripthash_fields::PageCount;
-use scripthash_fields::PageCreates;
-use scripthash_fields::PageExtent;
-use scripthash_fields::PageLast;
-use scripthash_fields::PageLink;
-use scripthash_fields::PageOffset;
+use scripthash_answers::PageCount;
+use scripthash_answers::PageCreates;
+use scripthash_answers::PageExtent;
+use scripthash_answers::PageLast;
+use scripthash_answers::PageLink;
+use scripthash_answers::PageOffset;
 
 // Hands out what a link says.
 fn put_link(got: PageLink, last: &mut bool, off: &mut u64) -> u32

@@ -1,5 +1,5 @@
 -- What the calls on a page's fields answer, case by case, from what the code found. Assumes nothing.
-use Prim.Native.Nat.{ℕ, _+_, _-_, _/_, _%_, _^_, _≤_, _<_}
+use Prim.Native.Nat.{ℕ, _+_, _-_, _*_, _/_, _%_, _^_, _≤_, _<_}
 use mathlib.Core.Bool.{Bool, true, false, cond, not, _&&_, _||_}
 use mathlib.Core.List.{List, [], _∷_, _++_}
 use mathlib.Core.Option.{none, some}
@@ -34,6 +34,18 @@ module _ {A : Type 0} (off : ℕ) (after : Answer A) where
   pub link-good : off % pageSize ≡ 0 → off / pageSize < 2 ^ 39 → onLink off after ≡ after
   unfolding refuseIf
   link-good h l = rw (eq-eqb (off % pageSize) 0 h, lt-leb (2 ^ 39) (off / pageSize) l)
+
+-- an offset's remainder r and index q, turned so that the remainder stands above the index: they fit 64 bits, and are below 2^39 where there is no
+-- remainder and the index is
+module _ (r q : ℕ) where
+  pub turned-fits : r < pageSize → q < 2 ^ 52 → r * 2 ^ 52 + q < 2 ^ 64
+  turned-fits h l = omega arith
+
+  pub turned-named : r * 2 ^ 52 + q < 2 ^ 39 → (r ≡ 0) × (q < 2 ^ 39)
+  turned-named h = (omega arith, omega arith)
+
+  pub turned-large : r ≡ 0 → 2 ^ 39 ≤ r * 2 ^ 52 + q → 2 ^ 39 ≤ q
+  turned-large h l = omega arith
 
 module _ {A : Type 0} (base count : ℕ) (after : Answer A) where
   pub extent-zero : count ≡ 0 → onExtent base count after ≡ refused extentCountZero

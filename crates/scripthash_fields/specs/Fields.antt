@@ -5,15 +5,11 @@ use mathlib.Core.List.{List, []}
 use mathlib.Core.Option.{Option, none, some}
 use lib.Dec.{ltb}
 use Rattle.error.specs.Refusal.{Answer, accepted, refused, refuseIf, notLast, countAboveCapacity}
+use Rattle.scripthash_answers.specs.FieldAnswers.{Link, Extent}
 use Rattle.scripthash_fields.specs.Page.{setField, countOf, linkOf, extentBaseOf, extentCountOf, createsFieldOf, extentVersion, namesExtent}
 use Rattle.scripthash_fields.specs.Page.{streamOff, streamCap, isLastLink, linkOffset, nextOff, linkTo, onPage, onLink, onExtent, onDelta, deltaHeader, pageOf}
 
 -- ---- asking
-
--- What a link says: LAST or not, and the offset of the page that it names.
-pub record Link : Type 0 where
-  pub last : Bool
-  pub off : ℕ
 
 -- The link of a page.
 unfoldable pub readLink : List ℕ → Answer Link
@@ -30,11 +26,6 @@ firstOff page = onPage page (refuseIf (not (isLastLink (linkOf page))) notLast (
 -- The next page's offset, 0 where the page is LAST.
 unfoldable pub nextOffOf : List ℕ → Answer ℕ
 nextOffOf page = onPage page (accepted (nextOff page))
-
--- An extent: its base, and how many pages it has.
-pub record Extent : Type 0 where
-  pub base : ℕ
-  pub count : ℕ
 
 -- The extent that a page names, none outside version 2.
 unfoldable pub extentOf : List ℕ → Answer (Option Extent)

@@ -5,13 +5,18 @@ ghost use mathlib.Core.Bool.{true, false, _&&_, _||_};
 ghost use Prim.Native.Nat.{_<_, _^_};
 ghost use lib.Dec.{eqb};
 ghost use lib.ListN.{length, replicate};
-ghost use Rattle.error.specs.Refusal.{refusalOf};
 ghost use Rattle.scripthash_layout.specs.Sizes.{pageSize};
 ghost use Rattle.scripthash_fields.specs.Page.{setField, versionOf, linkOf, streamOff, linkTo, linkNamed, extentNamed};
 ghost use Rattle.scripthash_fields.specs.Fields.{readLink, isLast, firstOff, nextOffOf, extentOf, createsOf, nFks, requireDelta};
 ghost use Rattle.scripthash_fields.specs.Fields.{streamOffOf, streamCapOf, writeLink, setExtent, setCreates, setCount, initEmpty, done, afterSet};
-ghost use Rattle.scripthash_fields.specs.Answers.{linkAnswer, lastAnswer, offsetAnswer, extentAnswer, createsAnswer, countAnswer, doneAnswer};
-use error::Refusal;
+ghost use Rattle.scripthash_answers.specs.FieldAnswers.{linkAnswer, lastAnswer, offsetAnswer, extentAnswer, createsAnswer, countAnswer, doneAnswer};
+use scripthash_answers::PageCount;
+use scripthash_answers::PageCreates;
+use scripthash_answers::PageDone;
+use scripthash_answers::PageExtent;
+use scripthash_answers::PageLast;
+use scripthash_answers::PageLink;
+use scripthash_answers::PageOffset;
 use scripthash_layout::SH_PAGE_SIZE;
 
 // The bytes of a page, as an offset counts them.
@@ -38,134 +43,10 @@ pub const SH_PAGE_HEADER_LEN: usize = 8;
 pub const SH_PAGE_EXTENT_HEADER_LEN: usize = 24;
 // A link has 39 bits for a page's index.
 const SH_PAGE_INDEX_RANGE: u64 = 1 << 39;
-
-// What a page's link says: LAST or not, and the offset of the page that it names; or a refusal.
-pub enum PageLink {
-    Link { last: bool, off: u64 },
-    Refused(Refusal),
-}
-
-impl PageLink {
-    // The refusal's number, and 0 of a link.
-    pub fn refusal(self) -> Refusal
-        ensures { λ r. ⌜ r ≡ refusalOf (linkAnswer self) ⌝ }
-    {
-        match self {
-            PageLink::Link { last: _, off: _ } => 0,
-            PageLink::Refused(number) => number,
-        }
-    }
-}
-
-// Whether a page is LAST, or a refusal.
-pub enum PageLast {
-    Last(bool),
-    Refused(Refusal),
-}
-
-impl PageLast {
-    // The refusal's number, and 0 of another answer.
-    pub fn refusal(self) -> Refusal
-        ensures { λ r. ⌜ r ≡ refusalOf (lastAnswer self) ⌝ }
-    {
-        match self {
-            PageLast::Last(_) => 0,
-            PageLast::Refused(number) => number,
-        }
-    }
-}
-
-// The offset of a page, or a refusal.
-pub enum PageOffset {
-    Offset(u64),
-    Refused(Refusal),
-}
-
-impl PageOffset {
-    // The refusal's number, and 0 of an offset.
-    pub fn refusal(self) -> Refusal
-        ensures { λ r. ⌜ r ≡ refusalOf (offsetAnswer self) ⌝ }
-    {
-        match self {
-            PageOffset::Offset(_) => 0,
-            PageOffset::Refused(number) => number,
-        }
-    }
-}
-
-// The extent that a page names, nothing where it names none, or a refusal.
-pub enum PageExtent {
-    Extent { base: u64, n: u32 },
-    Nothing,
-    Refused(Refusal),
-}
-
-impl PageExtent {
-    // The refusal's number, and 0 of another answer.
-    pub fn refusal(self) -> Refusal
-        ensures { λ r. ⌜ r ≡ refusalOf (extentAnswer self) ⌝ }
-    {
-        match self {
-            PageExtent::Extent { base: _, n: _ } => 0,
-            PageExtent::Nothing => 0,
-            PageExtent::Refused(number) => number,
-        }
-    }
-}
-
-// A page's creates, or a refusal.
-pub enum PageCreates {
-    Creates(u32),
-    Refused(Refusal),
-}
-
-impl PageCreates {
-    // The refusal's number, and 0 of creates.
-    pub fn refusal(self) -> Refusal
-        ensures { λ r. ⌜ r ≡ refusalOf (createsAnswer self) ⌝ }
-    {
-        match self {
-            PageCreates::Creates(_) => 0,
-            PageCreates::Refused(number) => number,
-        }
-    }
-}
-
-// A count of numbers or of bytes, or a refusal.
-pub enum PageCount {
-    Count(usize),
-    Refused(Refusal),
-}
-
-impl PageCount {
-    // The refusal's number, and 0 of a count.
-    pub fn refusal(self) -> Refusal
-        ensures { λ r. ⌜ r ≡ refusalOf (countAnswer self) ⌝ }
-    {
-        match self {
-            PageCount::Count(_) => 0,
-            PageCount::Refused(number) => number,
-        }
-    }
-}
-
-// That a page passed or was set, or a refusal.
-pub enum PageDone {
-    Done,
-    Refused(Refusal),
-}
-
-impl PageDone {
-    // The refusal's number, and 0 where it was done.
-    pub fn refusal(self) -> Refusal
-        ensures { λ r. ⌜ r ≡ refusalOf (doneAnswer self) ⌝ }
-    {
-        match self {
-            PageDone::Done => 0,
-            PageDone::Refused(number) => number,
-        }
-    }
-}
+// What the link counts for in the number that the first eight bytes hold: it is the upper five of them.
+const SH_PAGE_LINK_UNIT: u64 = 1 << 24;
+// What an offset's remainder counts for once its bits are turned by twelve, so that it stands above the index.
+const SH_PAGE_TURN: u64 = 1 << 52;
 
 // A page's version.
 fn version_of(page: &[u8]) -> u8
@@ -183,23 +64,20 @@ fn set_version(page: &mut [u8], version: u8)
     page[SH_PAGE_OFF_VER] = version;
 }
 
-// A page's link, as it stands: less than 2^40.
+// A page's link, as it stands: less than 2^40. One load has it with the version and the count.
 fn link_of(page: &[u8]) -> u64
     requires { ⌜ length (now page) ≡ pageSize ⌝ }
     ensures link { λ r. ⌜ r ≡ linkOf (now (page .entry)) ⌝ }
     ensures small { λ r. ⌜ r < 2 ^ 40 ⌝ }
 {
-    buffer::get_u40(page, SH_PAGE_OFF_PACKED)
+    buffer::get_u64(page, SH_PAGE_OFF_VER) / SH_PAGE_LINK_UNIT
 }
 
 // The link that names the page at an offset, LAST or not.
 pub fn link_to(last: bool, off: u64) -> u64
     ensures { λ r. ⌜ r ≡ linkTo last off ⌝ }
 {
-    if last {
-        return off / SH_PAGE_BYTES * 2 + 1;
-    }
-    off / SH_PAGE_BYTES * 2
+    off / SH_PAGE_BYTES * 2 + last as u64
 }
 
 // Where the stream of a page starts.
@@ -213,17 +91,19 @@ pub fn stream_off(page: &[u8]) -> usize
     SH_PAGE_HEADER_LEN
 }
 
-// Passes an offset that a link can name.
+// Passes an offset that a link can name. With its bits turned by twelve a remainder stands above the index: one test passes what has none and an
+// index that is small enough.
 pub fn check_link(off: u64) -> PageDone
     ensures { λ r. ⌜ doneAnswer r ≡ linkNamed off ⌝ }
 {
+    let turned = off % SH_PAGE_BYTES * SH_PAGE_TURN + off / SH_PAGE_BYTES;
+    if turned < SH_PAGE_INDEX_RANGE {
+        return PageDone::Done;
+    }
     if off % SH_PAGE_BYTES != 0 {
         return PageDone::Refused(error::LINK_UNALIGNED);
     }
-    if off / SH_PAGE_BYTES >= SH_PAGE_INDEX_RANGE {
-        return PageDone::Refused(error::LINK_TOO_LARGE);
-    }
-    PageDone::Done
+    PageDone::Refused(error::LINK_TOO_LARGE)
 }
 
 // Passes an extent that a page can name.
@@ -476,10 +356,17 @@ pub fn sh_page_require_delta(page: &[u8]) -> PageDone
         return PageDone::Refused(error::PAGE_LENGTH);
     }
     let n = buffer::get_u16(page, SH_PAGE_OFF_N_FKS);
-    if SH_PAGE_SIZE - stream_off(page) < n as usize {
+    let version = version_of(page);
+    if version == SH_PAGE_EXTENT_VER {
+        if SH_PAGE_SIZE - SH_PAGE_EXTENT_HEADER_LEN < n as usize {
+            return PageDone::Refused(error::COUNT_ABOVE_CAPACITY);
+        }
+        return PageDone::Done;
+    }
+    if SH_PAGE_SIZE - SH_PAGE_HEADER_LEN < n as usize {
         return PageDone::Refused(error::COUNT_ABOVE_CAPACITY);
     }
-    if version_known(version_of(page), n) {
+    if version_known(version, n) {
         return PageDone::Done;
     }
     PageDone::Refused(error::VERSION_BAD)

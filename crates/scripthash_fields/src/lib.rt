@@ -1,13 +1,6 @@
 // The fields of a page's header: from the source's scripthash_pages.rs.
 mod fields;
 
-pub use fields::PageCount;
-pub use fields::PageCreates;
-pub use fields::PageDone;
-pub use fields::PageExtent;
-pub use fields::PageLast;
-pub use fields::PageLink;
-pub use fields::PageOffset;
 pub use fields::SH_PAGE_BYTES;
 pub use fields::SH_PAGE_DELTA_VER;
 pub use fields::SH_PAGE_EXTENT_HEADER_LEN;

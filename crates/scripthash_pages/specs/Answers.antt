@@ -1,50 +1,19 @@
--- What the answers about a page's stream mean: 01's number and values for each of their cases.
-use Prim.Native.Nat.{ℕ}
-use mathlib.Core.Bool.{Bool, true, false}
+-- What the answers inside the calls on a page's stream mean.
 use mathlib.Core.Option.{Option, none, some}
 use Rattle.error.specs.Refusal.{Answer, accepted, refused}
-use Rattle.scripthash_pages.specs.Entries.{Place, PageRead, Spot}
+use Rattle.scripthash_pages.specs.Entries.{Place, Spot}
 use Rattle.scripthash_pages.specs.declared.entries.StreamPlace.{StreamPlace}
 use Rattle.scripthash_pages.specs.declared.entries.StreamPlace.the-variants.{At, Refused as NoPlace}
-use Rattle.scripthash_pages.specs.declared.entries.PageLastFk.{PageLastFk}
-use Rattle.scripthash_pages.specs.declared.entries.PageLastFk.the-variants.{Last, Refused as NoLast}
-use Rattle.scripthash_pages.specs.declared.entries.PageEntries.{PageEntries}
-use Rattle.scripthash_pages.specs.declared.entries.PageEntries.the-variants.{Entries, Refused as NoEntries}
-use Rattle.scripthash_pages.specs.declared.entries.PageSlice.{PageSlice}
-use Rattle.scripthash_pages.specs.declared.entries.PageSlice.the-variants.{Decoded, Refused as NotDecoded}
 use Rattle.scripthash_pages.specs.declared.entries.AppendSpot.{AppendSpot}
 use Rattle.scripthash_pages.specs.declared.entries.AppendSpot.the-variants.{Behind, Nowhere, Refused as NoSpot}
-use Rattle.scripthash_pages.specs.declared.entries.TryAppend.{TryAppend}
-use Rattle.scripthash_pages.specs.declared.entries.TryAppend.the-variants.{Appended, Full, Refused as NotTried}
 
 -- The place of a page's stream.
 abbrev pub placeAnswer : StreamPlace → Answer Place
 placeAnswer (At off count) = accepted (record { off = off; count = count })
 placeAnswer (NoPlace number) = refused number
 
--- The answer of `sh_page_last_fk`.
-abbrev pub lastAnswer : PageLastFk → Answer ℕ
-lastAnswer (Last fk) = accepted fk
-lastAnswer (NoLast number) = refused number
-
--- The answer of `sh_page_entries_into`.
-abbrev pub entriesAnswer : PageEntries → Answer ℕ
-entriesAnswer (Entries count) = accepted count
-entriesAnswer (NoEntries number) = refused number
-
--- The answer of `sh_page_decode_slice_into`.
-abbrev pub sliceAnswer : PageSlice → Answer PageRead
-sliceAnswer (Decoded count next) = accepted (record { count = count; next = next })
-sliceAnswer (NotDecoded number) = refused number
-
 -- Where an offered number goes in a page.
 abbrev pub spotAnswer : AppendSpot → Answer (Option Spot)
 spotAnswer (Behind at difference) = accepted (some (record { at = at; difference = difference }))
 spotAnswer Nowhere = accepted none
 spotAnswer (NoSpot number) = refused number
-
--- The answer of `sh_page_try_append`: whether the number was appended.
-abbrev pub tryAnswer : TryAppend → Answer Bool
-tryAnswer Appended = accepted true
-tryAnswer Full = accepted false
-tryAnswer (NotTried number) = refused number

@@ -11,6 +11,7 @@ use Rattle.compact.specs.Uleb128.{ulebLen, shortest}
 use Rattle.scripthash_layout.specs.Sizes.{pageSize}
 use Rattle.scripthash_stream.specs.Stream.{Scan, scan, lastFrom, stream, encodeStream}
 use Rattle.scripthash_stream.specs.Stream.{maxOffered}
+use Rattle.scripthash_answers.specs.EntryAnswers.{PageRead}
 use Rattle.scripthash_fields.specs.Page.{setField, countOf, nextOff, deltaVersion, extentVersion, namesExtent, streamOff, streamCap, onPage, onDelta}
 
 -- Where the stream of a page starts, and how many numbers it has.
@@ -40,12 +41,7 @@ pageEntries room page = andThen (pageScan page) (λ s. refuseIf (ltb room (lengt
 abbrev pub readCount : Scan → ℕ
 readCount s = length (s .numbers)
 
--- What reading a page tells besides its numbers: how many, and the offset of the page behind it.
-pub record PageRead : Type 0 where
-  pub count : ℕ
-  pub next : ℕ
-
--- The same of a page that was scanned.
+-- What reading a page tells besides its numbers, of a page that was scanned.
 unfoldable pub pageReadOf : List ℕ → Scan → PageRead
 pageReadOf page s = record { count = length (s .numbers); next = nextOff page }
 

@@ -8,12 +8,17 @@ ghost use Rattle.error.specs.Refusal.{answered, refusalOf};
 ghost use Rattle.compact.specs.Uleb128.{ulebLen};
 ghost use Rattle.scripthash_stream.specs.Stream.{endFrom, afterDecode};
 ghost use Rattle.scripthash_stream.specs.Answers.{scanAnswer, bytesAnswer};
+ghost use Rattle.scripthash_answers.specs.EntryAnswers.{lastAnswer, entriesAnswer, sliceAnswer, tryAnswer};
 ghost use Rattle.scripthash_fields.specs.Page.{countOf};
 ghost use Rattle.scripthash_pages.specs.Entries.{streamPlace, pageScan, lastOf, pageEntries, readCount, pageReadOf};
 ghost use Rattle.scripthash_pages.specs.Entries.{appendSpot, hasSpot, oneMore, withAppended, afterAppend, writeStream, afterWriteStream};
-ghost use Rattle.scripthash_pages.specs.Answers.{placeAnswer, lastAnswer, entriesAnswer, sliceAnswer, spotAnswer, tryAnswer};
+ghost use Rattle.scripthash_pages.specs.Answers.{placeAnswer, spotAnswer};
 use compact::uleb128_len;
 use error::Refusal;
+use scripthash_answers::PageEntries;
+use scripthash_answers::PageLastFk;
+use scripthash_answers::PageSlice;
+use scripthash_answers::TryAppend;
 use scripthash_fields::SH_PAGE_BYTES;
 use scripthash_fields::SH_PAGE_DELTA_VER;
 use scripthash_fields::SH_PAGE_EXTENT_HEADER_LEN;
@@ -36,35 +41,10 @@ pub enum StreamPlace {
     Refused(Refusal),
 }
 
-// The last number of a page, 0 where it has none, or a refusal.
-pub enum PageLastFk {
-    Last(u64),
-    Refused(Refusal),
-}
-
-// What reading a page's numbers answers: how many, or a refusal.
-pub enum PageEntries {
-    Entries(usize),
-    Refused(Refusal),
-}
-
-// What reading a page answers: how many numbers and the offset of the page behind it, 0 where it is the last; or a refusal.
-pub enum PageSlice {
-    Decoded { count: usize, next: u64 },
-    Refused(Refusal),
-}
-
 // Where an offered number goes in a page, and its difference; nowhere where the page is full; or a refusal.
 pub enum AppendSpot {
     Behind { at: usize, difference: u64 },
     Nowhere,
-    Refused(Refusal),
-}
-
-// What appending a number answers: it was appended, the page is full, or a refusal.
-pub enum TryAppend {
-    Appended,
-    Full,
     Refused(Refusal),
 }
 
@@ -76,55 +56,6 @@ impl StreamPlace {
         match self {
             StreamPlace::At { off: _, count: _ } => 0,
             StreamPlace::Refused(number) => number,
-        }
-    }
-}
-
-impl PageLastFk {
-    // The refusal's number, and 0 of another answer.
-    pub fn refusal(self) -> Refusal
-        ensures { λ r. ⌜ r ≡ refusalOf (lastAnswer self) ⌝ }
-    {
-        match self {
-            PageLastFk::Last(_) => 0,
-            PageLastFk::Refused(number) => number,
-        }
-    }
-}
-
-impl PageEntries {
-    // The refusal's number, and 0 of another answer.
-    pub fn refusal(self) -> Refusal
-        ensures { λ r. ⌜ r ≡ refusalOf (entriesAnswer self) ⌝ }
-    {
-        match self {
-            PageEntries::Entries(_) => 0,
-            PageEntries::Refused(number) => number,
-        }
-    }
-}
-
-impl PageSlice {
-    // The refusal's number, and 0 of another answer.
-    pub fn refusal(self) -> Refusal
-        ensures { λ r. ⌜ r ≡ refusalOf (sliceAnswer self) ⌝ }
-    {
-        match self {
-            PageSlice::Decoded { count: _, next: _ } => 0,
-            PageSlice::Refused(number) => number,
-        }
-    }
-}
-
-impl TryAppend {
-    // The refusal's number, and 0 of another answer.
-    pub fn refusal(self) -> Refusal
-        ensures { λ r. ⌜ r ≡ refusalOf (tryAnswer self) ⌝ }
-    {
-        match self {
-            TryAppend::Appended => 0,
-            TryAppend::Full => 0,
-            TryAppend::Refused(number) => number,
         }
     }
 }

@@ -2,10 +2,6 @@
 mod entries;
 mod pack;
 
-pub use entries::PageEntries;
-pub use entries::PageLastFk;
-pub use entries::PageSlice;
-pub use entries::TryAppend;
 pub use entries::sh_page_decode_slice_into;
 pub use entries::sh_page_entries_into;
 pub use entries::sh_page_last_fk;

@@ -6,9 +6,9 @@ use mathlib.Core.Path.{_≡_, sym, ap, _∙_}
 use borrow.Author.Needs.{needs}
 use Rattle.error.specs.Refusal.{Answer, accepted, refused, refusalOf}
 use Rattle.scripthash_fields.specs.Page.{field, onExtent}
-use Rattle.scripthash_fields.specs.Fields.{Extent, extentOf}
-use Rattle.scripthash_fields.specs.Answers.{doneAnswer}
-use Rattle.scripthash_fields.specs.declared.fields.PageDone.{PageDone}
+use Rattle.scripthash_fields.specs.Fields.{extentOf}
+use Rattle.scripthash_answers.specs.FieldAnswers.{Extent, doneAnswer}
+use Rattle.scripthash_answers.specs.declared.fields.PageDone.{PageDone}
 use Rattle.scripthash_fields.proofs.LawsPage.{page-no}
 use Rattle.scripthash_fields.proofs.LawsFields.{extent-no, extent-yes, extent-none, extent-is}
 use Rattle.scripthash_fields.proofs.fields.sh_page_extent.Statement.{statement}

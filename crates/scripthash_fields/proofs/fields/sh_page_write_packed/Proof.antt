@@ -6,7 +6,7 @@ use Rattle.buffer.specs.Bytes.{overwrite}
 use Rattle.buffer.specs.LittleEndian.{bytesOf}
 use Rattle.scripthash_fields.specs.Page.{setField}
 use Rattle.scripthash_fields.specs.Fields.{writeLink}
-use Rattle.scripthash_fields.specs.Answers.{doneAnswer}
+use Rattle.scripthash_answers.specs.FieldAnswers.{doneAnswer}
 use Rattle.scripthash_fields.proofs.LawsPage.{page-no, page-yes}
 use Rattle.scripthash_fields.proofs.LawsFields.{link-no, link-written, set-no, set-yes}
 use Rattle.scripthash_fields.proofs.fields.sh_page_write_packed.Statement.{statement}

@@ -3,21 +3,25 @@ use Prim.Native.Nat.{ℕ}
 use mathlib.Core.Bool.{Bool}
 use mathlib.Core.Option.{Option, none, some}
 use Rattle.error.specs.Refusal.{Answer, accepted, refused}
-use Rattle.scripthash_fields.specs.Fields.{Link, Extent}
-use Rattle.scripthash_fields.specs.declared.fields.PageLink.{PageLink}
-use Rattle.scripthash_fields.specs.declared.fields.PageLink.the-variants.{Link as LinkIs, Refused as NoLink}
-use Rattle.scripthash_fields.specs.declared.fields.PageLast.{PageLast}
-use Rattle.scripthash_fields.specs.declared.fields.PageLast.the-variants.{Last, Refused as NoLast}
-use Rattle.scripthash_fields.specs.declared.fields.PageOffset.{PageOffset}
-use Rattle.scripthash_fields.specs.declared.fields.PageOffset.the-variants.{Offset, Refused as NoOffset}
-use Rattle.scripthash_fields.specs.declared.fields.PageExtent.{PageExtent}
-use Rattle.scripthash_fields.specs.declared.fields.PageExtent.the-variants.{Extent as ExtentIs, Nothing, Refused as NoExtent}
-use Rattle.scripthash_fields.specs.declared.fields.PageCreates.{PageCreates}
-use Rattle.scripthash_fields.specs.declared.fields.PageCreates.the-variants.{Creates, Refused as NoCreates}
-use Rattle.scripthash_fields.specs.declared.fields.PageCount.{PageCount}
-use Rattle.scripthash_fields.specs.declared.fields.PageCount.the-variants.{Count, Refused as NoCount}
-use Rattle.scripthash_fields.specs.declared.fields.PageDone.{PageDone}
-use Rattle.scripthash_fields.specs.declared.fields.PageDone.the-variants.{Done, Refused as NotDone}
+use Rattle.scripthash_answers.specs.declared.fields.PageLink.{PageLink}
+use Rattle.scripthash_answers.specs.declared.fields.PageLink.the-variants.{Link as LinkIs, Refused as NoLink}
+use Rattle.scripthash_answers.specs.declared.fields.PageLast.{PageLast}
+use Rattle.scripthash_answers.specs.declared.fields.PageLast.the-variants.{Last, Refused as NoLast}
+use Rattle.scripthash_answers.specs.declared.fields.PageOffset.{PageOffset}
+use Rattle.scripthash_answers.specs.declared.fields.PageOffset.the-variants.{Offset, Refused as NoOffset}
+use Rattle.scripthash_answers.specs.declared.fields.PageExtent.{PageExtent}
+use Rattle.scripthash_answers.specs.declared.fields.PageExtent.the-variants.{Extent as ExtentIs, Nothing, Refused as NoExtent}
+use Rattle.scripthash_answers.specs.declared.fields.PageCreates.{PageCreates}
+use Rattle.scripthash_answers.specs.declared.fields.PageCreates.the-variants.{Creates, Refused as NoCreates}
+use Rattle.scripthash_answers.specs.declared.fields.PageCount.{PageCount}
+use Rattle.scripthash_answers.specs.declared.fields.PageCount.the-variants.{Count, Refused as NoCount}
+use Rattle.scripthash_answers.specs.declared.fields.PageDone.{PageDone}
+use Rattle.scripthash_answers.specs.declared.fields.PageDone.the-variants.{Done, Refused as NotDone}
+
+-- What a link says: LAST or not, and the offset of the page that it names.
+pub record Link : Type 0 where
+  pub last : Bool
+  pub off : ℕ
 
 -- The answer of `sh_page_read_packed`.
 abbrev pub linkAnswer : PageLink → Answer Link
@@ -33,6 +37,11 @@ lastAnswer (NoLast number) = refused number
 abbrev pub offsetAnswer : PageOffset → Answer ℕ
 offsetAnswer (Offset off) = accepted off
 offsetAnswer (NoOffset number) = refused number
+
+-- An extent: its base, and how many pages it has.
+pub record Extent : Type 0 where
+  pub base : ℕ
+  pub count : ℕ
 
 -- The answer of `sh_page_extent`.
 abbrev pub extentAnswer : PageExtent → Answer (Option Extent)

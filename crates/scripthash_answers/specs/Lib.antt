@@ -1,0 +1,2 @@
+pub mod FieldAnswers
+pub mod EntryAnswers
