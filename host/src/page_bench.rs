@@ -85,21 +85,26 @@ fn whole(cases: &mut Vec<Case>, name: &str, list: &[u64]) {
 /// A side of a call on a page's fields, with a number to set.
 type Field = fn(&mut Page, u64) -> u64;
 
+/// A place for what a call hands out, apart from what its caller keeps on the stack: a load that covers both would wait for the store.
+#[derive(Default)]
+#[repr(align(64))]
+struct Out<T>(T);
+
 /// What a call on a page's fields hands out, in one number.
 macro_rules! told {
     ($call:path, $page:expr $(, $told:ident: $kind:ty)*) => {{
-        $(let mut $told: $kind = Default::default();)*
-        let number = $call($page $(, &mut $told)*) as u64;
-        number $(+ $told as u64)*
+        $(let mut $told = Out::<$kind>::default();)*
+        let number = $call($page $(, &mut $told.0)*) as u64;
+        number $(+ $told.0 as u64)*
     }};
 }
 
 /// The same behind their boundary.
 macro_rules! told_theirs {
     ($call:path, $page:expr $(, $told:ident: $kind:ty)*) => {{
-        $(let mut $told: $kind = Default::default();)*
-        let number = unsafe { $call($page.as_ptr(), SH_PAGE_SIZE $(, &mut $told)*) } as u64;
-        number $(+ $told as u64)*
+        $(let mut $told = Out::<$kind>::default();)*
+        let number = unsafe { $call($page.as_ptr(), SH_PAGE_SIZE $(, &mut $told.0)*) } as u64;
+        number $(+ $told.0 as u64)*
     }};
 }
 
