@@ -4,11 +4,11 @@ use mathlib.Core.Bool.{Bool, true, false, cond, _&&_, true≢false}
 use mathlib.Core.Logic.{_⊎_, ⊎-elim}
 use mathlib.Core.Option.{Option, none, some, Option·some-injective}
 use Prim.Native.Nat.{ℕ, zero, suc, _+_, _-_, _/_, _%_, _^_, _≤_, _<_, zero-le}
-use native.Mathlib.Nat.{eq-or-lt-of-le, le-of-suc-le-suc, lt-of-lt-of-le, pow-suc}
+use native.Mathlib.Nat.{eq-or-lt-of-le, le-of-suc-le-suc, lt-of-lt-of-le, div-lt-iff-lt-mul, le-div-iff-mul-le, pow-suc}
 use native.Mathlib.Omega.{arith}
 use lib.Count.{leadingZeros, leading-top}
 use lib.Dec.{leb}
-use lib.Pow.{pow-mono}
+use lib.Pow.{pow-mono, pow-pos}
 use borrow.Author.Tests.{leb-true, eqb-true, le-leb, lt-leb, eq-eqb, ne-eqb}
 use Rattle.buffer.proofs.LawsOrder.{lt-or-ge}
 use Rattle.scripthash_layout.specs.Sizes.{slabBytes, whereBelow}
@@ -19,10 +19,6 @@ use Rattle.scripthash_free.specs.FreeList.{isBlock, isGap, unitOf, large
 pub bytes-from-16 : (class : ℕ) → 16 ≤ slabBytes class
 bytes-from-16 class = size-mono 4 {c = 0} {d = class} zero-le
 
--- A slab has at most 2,048 bytes.
-pub bytes-to-2048 : (class : ℕ) → class ≤ 7 → slabBytes class ≤ 2048
-bytes-to-2048 class h = size-mono 4 h
-
 -- A block has twice the bytes of one of the class before.
 pub bytes-twice : (class : ℕ) → slabBytes (suc class) ≡ slabBytes class + slabBytes class
 bytes-twice class = omega (arith, pow-suc 2 class)
@@ -30,6 +26,14 @@ bytes-twice class = omega (arith, pow-suc 2 class)
 -- The bytes of a block of class 0 to 8 fit 64 bits.
 pub bytes-fit : (class : ℕ) → class ≤ 8 → whereBelow 64 (slabBytes class) ≡ slabBytes class
 bytes-fit class h = where-below 64 (slabBytes class) (size-below 4 class 64 (omega arith))
+
+-- Bytes with fewer than 16 parts of 2 ^ class are fewer than a block's.
+pub parts-short : (class n : ℕ) → n / 2 ^ class < 16 → n < slabBytes class
+parts-short class n h = div-lt-iff-lt-mul (pow-pos class) .0 h
+
+-- Bytes with 16 parts of 2 ^ class are at least a block's.
+pub parts-fit : (class n : ℕ) → 16 ≤ n / 2 ^ class → slabBytes class ≤ n
+parts-fit class n h = le-div-iff-mul-le (pow-pos class) .0 h
 
 -- Two tests that both hold.
 pub both : (a b : Bool) → a && b ≡ true → (a ≡ true) × (b ≡ true)

@@ -115,24 +115,22 @@ fn is_page(off: u64, end: u64) -> bool
     true
 }
 
-// Tells whether a slab of a class 0 to 7 can stand at an offset and end at or below an end. Where the bytes of the largest are left, each fits.
+// Tells whether a slab of a class 0 to 7 can stand at an offset and end at or below an end: what is left there has 16 or more parts of
+// 2 ^ class bytes.
 fn is_slab(class: u8, off: u64, end: u64) -> bool
     requires { ⌜ class ≤ maxSlabClass ⌝ }
     ensures { λ r. ⌜ r ≡ isBlock class off end ⌝ }
 {
-    if off % 16 != 0 {
-        return false;
-    }
     if off < PAYLOAD_START {
         return false;
     }
     if end < off {
         return false;
     }
-    if end - off >= LARGEST_BYTES {
-        return true;
+    if off % 16 != 0 {
+        return false;
     }
-    if end - off < scripthash_layout::slab_bytes(class) {
+    if ((end - off) >> class) < SH_SLAB_BASE_BYTES {
         return false;
     }
     true

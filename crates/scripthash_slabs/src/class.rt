@@ -6,7 +6,6 @@ ghost use Rattle.scripthash_slabs.specs.Answers.{chosen};
 mod table;
 
 use scripthash_layout::SH_MAX_SLAB_BYTES;
-use table::NO_CLASS;
 
 // The class that was chosen, or none.
 pub enum SlabClass {
@@ -32,18 +31,17 @@ pub fn slab_class_for_packed_len(len: usize) -> SlabClass
     SlabClass::Class((64 - zeros) as u8)
 }
 
-// The smallest class whose slots hold n numbers: none for 0, 1 or from 257 on.
+// The smallest class whose slots hold n numbers, which the table has: none for 0, 1 or from 257 on.
 pub fn slab_class_for_n_fks(n: u32) -> SlabClass
     ensures { λ r. ⌜ chosen r ≡ classByCount n ⌝ }
 {
+    if n < 2 {
+        return SlabClass::Nothing;
+    }
     if n >= SH_MEGAKEY_MIN_FKS {
         return SlabClass::Nothing;
     }
-    let class = table::entry(n);
-    if class == NO_CLASS {
-        return SlabClass::Nothing;
-    }
-    SlabClass::Class(class as u8)
+    SlabClass::Class(table::entry(n) as u8)
 }
 
 // The count whose class is looked up with slack: one number more than n, and n where no slab takes more.

@@ -3,10 +3,7 @@ ghost use mathlib.Core.Path.{_≡_};
 ghost use Prim.Native.Nat.{ℕ, _+_, _*_, _/_, _%_, _^_, _≤_, _<_};
 ghost use Rattle.scripthash_slabs.specs.Class.{classByCount, entryOf};
 
-// The entry for a count that no slab takes.
-pub const NO_CLASS: u64 = 15;
-
-// The class by count, for counts from 0 to 256: 257 entries of 4 bits, 16 to a word, the lowest first.
+// The class by count, for counts from 0 to 256: 257 entries of 4 bits, 16 to a word, the lowest first; 15 for a count that no slab takes.
 const CLASS_BY_COUNT: [u64; 17] = [
     0x2222_2221_1110_00ff, // 0 and 1: none; 2 to 4: class 0; 5 to 8: class 1; 9 to 16: class 2
     0x3333_3333_3333_3332, // 17 to 32: class 3
