@@ -8,7 +8,7 @@ use native.Mathlib.Nat.{le-refl, le-trans}
 use native.Mathlib.Omega.{arith}
 use lib.ListN.{length, length-append}
 use Rattle.error.specs.Refusal.{accepted}
-use Rattle.error.proofs.LawsAnswer.{accepted-inj, passed, went-on}
+use Rattle.error.proofs.LawsAnswer.{went-on}
 use Rattle.scripthash_layout.specs.Sizes.{pageSize}
 use Rattle.scripthash_stream.specs.Stream.{streamLen}
 use Rattle.scripthash_cutting.specs.Cutting.{cutting, AllowedCutting}
@@ -18,7 +18,7 @@ use Rattle.plain_book.specs.Key.{Place, empty, inline, slab, pages, Key,
 use Rattle.plain_book.specs.Book.{Book, fresh, Call, Told, loaded, Outcome, keyOf, inUse, extended, loads, after}
 use Rattle.plain_book.specs.Moves.{Tally, noMoves, tallyAfter}
 use Rattle.plain_book.proofs.LawsMoves.{placed, mostMoves, mostRewritten, Spent, spent-most, append-spent, load-spent}
-use Rattle.plain_book.proofs.LawsHistory.{on-key, offered-all, Kept, kept-fresh}
+use Rattle.plain_book.proofs.LawsHistory.{load-did, Kept, kept-fresh}
 use Rattle.plain_book.proofs.LawsSound.{rising-below}
 
 -- A key that is not in use was never moved.
@@ -69,14 +69,9 @@ load-pages end (n ∷ k ∷ ns) s {p} e = go (loadsTo (length (n ∷ k ∷ ns)) 
 -- For every accepted load, every allowed cutting of its list has at least as many pages as the load reports.
 pub load-least : (b : Book) (key : ℕ) (ns : List ℕ) {o : Outcome} → loads b key ns ≡ accepted o
     → (pages : ℕ) × (o .told ≡ loaded (record { pages = pages })) × ((parts : List (List ℕ)) → AllowedCutting ns parts → pages ≤ length parts)
-unfolding loads
 load-least b key ns e =
-    let (within, e1) = on-key b key _ e in
-    let (free, e2) = passed _ _ _ e1 in
-    let (few, e3) = passed _ _ _ e2 in
-    let (rises, e4) = offered-all true 0 ns _ e3 in
-    let (p, got, is) = went-on (loadPlace (b .size) ns (b .space)) _ e4 in (
+    let (p, within, free, rises, got, is) = load-did b key ns e in (
       pagesOf (p .place),
-      ap (λ (x : Outcome). x .told) (sym (accepted-inj is)),
+      ap (λ (x : Outcome). x .told) is,
       λ parts ok. le-trans (load-pages (b .size) ns (b .space) got) (pages-optimal ns (rising-below (2 ^ 62) (2 ^ 63) 0 ns (omega arith) rises) parts ok),
     )

@@ -13,12 +13,12 @@ use Rattle.error.specs.Refusal.{Answer, accepted, refused, refuseIf, andThen, s
 use Rattle.error.proofs.LawsAnswer.{accepted-inj, passed, went-on}
 use Rattle.scripthash_stream.specs.Stream.{Rising, lastFrom}
 use Rattle.plain_book.specs.Space.{Space}
-use Rattle.plain_book.specs.Key.{Place, empty, Key, emptyKey, freedPlace, Placed, appendPlace, loadPlace}
-use Rattle.plain_book.specs.Book.{Book, fresh, Call, load, append, read, drop, Outcome, outOfShape, onKey, offeredNumber, offeredList, keyOf, withKey, inUse, extended, loads, appends, reads, drops, does, bookAfter, answerOf, after}
+use Rattle.plain_book.specs.Key.{Place, empty, Key, emptyKey, headOf, pagesOf, freedPlace, Placed, appendPlace, loadPlace}
+use Rattle.plain_book.specs.Book.{Book, fresh, Call, load, append, read, drop, Told, loaded, appended, listed, dropped, Outcome, outOfShape, onKey, offeredNumber, offeredList, keyOf, withKey, inUse, extended, loads, appends, reads, drops, does, bookAfter, answerOf, after}
 use Rattle.plain_book.specs.Moves.{Tally, noMoves, counted, talliedBy, keyOfCall, tallied, tallyAfter}
 
 -- A call that is accepted is on a key of the book.
-pub on-key : {A : Type 0} (b : Book) (key : ℕ) (after : Answer A) {x : A} → onKey b key after ≡ accepted x → (key < length (b .keys)) × (after ≡ accepted x)
+on-key : {A : Type 0} (b : Book) (key : ℕ) (after : Answer A) {x : A} → onKey b key after ≡ accepted x → (key < length (b .keys)) × (after ≡ accepted x)
 unfolding onKey
 on-key b key after e =
     let (shape, e') = passed (outOfShape (b .size) (length (b .keys))) shapeBad _ e in
@@ -37,7 +37,7 @@ offered-on first prev n after e =
     (leb-false n prev rises, leb-false (2 ^ 62) n low, is)
 
 -- A list that was offered and is accepted rises, below 2^62.
-pub offered-all : {A : Type 0} (first : Bool) (prev : ℕ) (ns : List ℕ) (after : Answer A) {x : A} → offeredList first prev ns after ≡ accepted x
+offered-all : {A : Type 0} (first : Bool) (prev : ℕ) (ns : List ℕ) (after : Answer A) {x : A} → offeredList first prev ns after ≡ accepted x
     → Rising (2 ^ 62) prev ns × (after ≡ accepted x)
 unfolding offeredList Rising
 offered-all first prev [] after e = (tt, e)
@@ -45,6 +45,62 @@ offered-all first prev (n ∷ ns) after e =
     let (rises, low, e') = offered-on first prev n (offeredList false n ns after) e in
     let (more, is) = offered-all false n ns after e' in
     ((rises, low, more), is)
+
+-- ---- what an accepted call did
+
+pub load-did : (b : Book) (key : ℕ) (ns : List ℕ) {o : Outcome} → loads b key ns ≡ accepted o
+    → (p : Placed) × (key < length (b .keys)) × (inUse (keyOf key b .place) ≡ false) × Rising (2 ^ 62) 0 ns × (loadPlace (b .size) ns (b .space) ≡ accepted p)
+    × (o ≡ record { told = loaded (record { pages = pagesOf (p .place) }); book = withKey key ns (p .place) (p .space) b })
+unfolding loads
+load-did b key ns e =
+    let (within, e1) = on-key b key _ e in
+    let (free, e2) = passed _ _ _ e1 in
+    let (few, e3) = passed _ _ _ e2 in
+    let (rises, e4) = offered-all true 0 ns _ e3 in
+    let (p, got, is) = went-on (loadPlace (b .size) ns (b .space)) _ e4 in
+    (p, within, free, rises, got, sym (accepted-inj is))
+
+pub append-did : (b : Book) (key n : ℕ) {o : Outcome} → appends b key n ≡ accepted o
+    → (p : Placed) × (key < length (b .keys)) × (lastFrom 0 (keyOf key b .list) < n) × (n < 2 ^ 62)
+    × (appendPlace (b .size) (length (keyOf key b .list)) (extended (keyOf key b .list) n) n (keyOf key b .place) (b .space) ≡ accepted p)
+    × (o ≡ record {
+      told = appended (record { place = headOf (extended (keyOf key b .list) n) (p .place); rewritten = p .rewritten });
+      book = withKey key (extended (keyOf key b .list) n) (p .place) (p .space) b;
+    })
+unfolding appends
+append-did b key n e =
+    let (within, e1) = on-key b key _ e in
+    let (rises, low, e2) = offered-on true _ n _ e1 in
+    let (p, got, is) = went-on (appendPlace (b .size) (length (keyOf key b .list)) (extended (keyOf key b .list) n) n (keyOf key b .place) (b .space)) _ e2 in
+    (p, within, rises, low, got, sym (accepted-inj is))
+
+pub read-did : (b : Book) (key room : ℕ) {o : Outcome} → reads b key room ≡ accepted o
+    → (key < length (b .keys)) × (o ≡ record { told = listed (record { numbers = keyOf key b .list; pages = pagesOf (keyOf key b .place) }); book = b })
+unfolding reads
+read-did b key room e =
+    let (within, e1) = on-key b key _ e in
+    let (long, is) = passed _ _ _ e1 in
+    (within, sym (accepted-inj is))
+
+pub drop-did : (b : Book) (key : ℕ) {o : Outcome} → drops b key ≡ accepted o
+    → (key < length (b .keys))
+    × (o ≡ record {
+      told = dropped (record { length = length (keyOf key b .list) });
+      book = withKey key [] empty (freedPlace (keyOf key b .place) (b .space)) b;
+    })
+unfolding drops
+drop-did b key e = let (within, is) = on-key b key _ e in (within, sym (accepted-inj is))
+
+-- A key of a fresh book holds nothing.
+pub fresh-key : (size heads key : ℕ) → keyOf key (fresh size heads) ≡ emptyKey
+fresh-key size heads key = go heads key
+  where
+    go : (n i : ℕ) → getD (replicate n emptyKey) i emptyKey ≡ emptyKey
+    go zero i = refl
+    go (suc n) zero = refl
+    go (suc n) (suc i) = go n i
+
+-- ---- what calls keep
 
 -- Something about a key and its tally that loads, appends and drops keep.
 pub record Kept (P : Key → Tally → Type 0) : Type 0 where
@@ -66,67 +122,55 @@ module _ (P : Key → Tally → Type 0) (kept : Kept P) where
     keeps : (t : Tally) → P (keyOf key b) t → P (record { list = list; place = place }) (talliedBy (o .told) t)
 
   load-changed : (b : Book) (key : ℕ) (ns : List ℕ) {o : Outcome} → loads b key ns ≡ accepted o → Changed b key o
-  unfolding loads talliedBy
+  unfolding talliedBy
   load-changed b key ns e =
-      let (within, e1) = on-key b key _ e in
-      let (free, e2) = passed _ _ _ e1 in
-      let (few, e3) = passed _ _ _ e2 in
-      let (rises, e4) = offered-all true 0 ns _ e3 in
-      let (p, got, is) = went-on (loadPlace (b .size) ns (b .space)) _ e4 in
-      let same = accepted-inj is in
+      let (p, within, free, rises, got, is) = load-did b key ns e in
       record {
         within = within;
         list = ns;
         place = p .place;
         space = p .space;
-        book = ap (λ (x : Outcome). x .book) (sym same);
-        keeps = λ t h. rw (ap (λ (x : Outcome). talliedBy (x .told) t) (sym same)) (kept .loads (b .size) (keyOf key b) ns (b .space) p t h free rises got);
+        book = ap (λ (x : Outcome). x .book) is;
+        keeps = λ t h. rw (ap (λ (x : Outcome). talliedBy (x .told) t) is) (kept .loads (b .size) (keyOf key b) ns (b .space) p t h free rises got);
       }
 
   append-changed : (b : Book) (key n : ℕ) {o : Outcome} → appends b key n ≡ accepted o → Changed b key o
-  unfolding appends talliedBy
+  unfolding talliedBy
   append-changed b key n e =
-      let (within, e1) = on-key b key _ e in
-      let (rises, low, e2) = offered-on true _ n _ e1 in
-      let now = extended (keyOf key b .list) n in
-      let (p, got, is) = went-on (appendPlace (b .size) (length (keyOf key b .list)) now n (keyOf key b .place) (b .space)) _ e2 in
-      let same = accepted-inj is in
+      let (p, within, rises, low, got, is) = append-did b key n e in
       record {
         within = within;
-        list = now;
+        list = extended (keyOf key b .list) n;
         place = p .place;
         space = p .space;
-        book = ap (λ (x : Outcome). x .book) (sym same);
-        keeps = λ t h. rw (ap (λ (x : Outcome). talliedBy (x .told) t) (sym same)) (kept .appends (b .size) (keyOf key b) n (b .space) p t h rises low got);
+        book = ap (λ (x : Outcome). x .book) is;
+        keeps = λ t h. rw (ap (λ (x : Outcome). talliedBy (x .told) t) is) (kept .appends (b .size) (keyOf key b) n (b .space) p t h rises low got);
       }
 
   read-changed : (b : Book) (key room : ℕ) {o : Outcome} → reads b key room ≡ accepted o → Changed b key o
-  unfolding reads talliedBy
+  unfolding talliedBy
   read-changed b key room e =
-      let (within, e1) = on-key b key _ e in
-      let (long, is) = passed _ _ _ e1 in
-      let same = accepted-inj is in
+      let (within, is) = read-did b key room e in
       record {
         within = within;
         list = keyOf key b .list;
         place = keyOf key b .place;
         space = b .space;
-        book = ap (λ (x : Outcome). x .book) (sym same) ∙ ap (λ (ks : List Key). record { size = b .size; keys = ks; space = b .space }) (sym (set-getD (b .keys) key emptyKey));
-        keeps = λ t h. rw (ap (λ (x : Outcome). talliedBy (x .told) t) (sym same)) h;
+        book = ap (λ (x : Outcome). x .book) is ∙ ap (λ (ks : List Key). record { size = b .size; keys = ks; space = b .space }) (sym (set-getD (b .keys) key emptyKey));
+        keeps = λ t h. rw (ap (λ (x : Outcome). talliedBy (x .told) t) is) h;
       }
 
   drop-changed : (b : Book) (key : ℕ) {o : Outcome} → drops b key ≡ accepted o → Changed b key o
-  unfolding drops talliedBy
+  unfolding talliedBy
   drop-changed b key e =
-      let (within, is) = on-key b key _ e in
-      let same = accepted-inj is in
+      let (within, is) = drop-did b key e in
       record {
         within = within;
         list = [];
         place = empty;
         space = freedPlace (keyOf key b .place) (b .space);
-        book = ap (λ (x : Outcome). x .book) (sym same);
-        keeps = λ t h. rw (ap (λ (x : Outcome). talliedBy (x .told) t) (sym same)) (kept .drops);
+        book = ap (λ (x : Outcome). x .book) is;
+        keeps = λ t h. rw (ap (λ (x : Outcome). talliedBy (x .told) t) is) (kept .drops);
       }
 
   call-changed : (b : Book) (c : Call) {o : Outcome} → does b c ≡ accepted o → Changed b (keyOfCall c) o
@@ -164,9 +208,4 @@ module _ (P : Key → Tally → Type 0) (kept : Kept P) where
 
   -- It holds of every key after any list of calls on a fresh book.
   pub kept-fresh : (size heads key : ℕ) (cs : List Call) → P (keyOf key (after (fresh size heads) cs)) (tallyAfter key (fresh size heads) cs noMoves)
-  kept-fresh size heads key cs = kept-calls key (fresh size heads) cs noMoves (rw (go heads key) (kept .drops))
-    where
-      go : (n i : ℕ) → getD (replicate n emptyKey) i emptyKey ≡ emptyKey
-      go zero i = refl
-      go (suc n) zero = refl
-      go (suc n) (suc i) = go n i
+  kept-fresh size heads key cs = kept-calls key (fresh size heads) cs noMoves (rw (fresh-key size heads key) (kept .drops))

@@ -4,3 +4,6 @@ pub mod LawsMoves
 pub mod LawsHistory
 pub mod LawsSound
 pub mod LawsCeilings
+pub mod LawsApart
+pub mod LawsOwners
+pub mod LawsBlocks

@@ -3,3 +3,4 @@ pub mod Key
 pub mod Book
 pub mod Moves
 pub mod Sound
+pub mod Owners
