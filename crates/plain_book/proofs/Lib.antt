@@ -7,3 +7,4 @@ pub mod LawsCeilings
 pub mod LawsApart
 pub mod LawsOwners
 pub mod LawsBlocks
+pub mod LawsMark
