@@ -8,3 +8,4 @@ pub mod LawsApart
 pub mod LawsOwners
 pub mod LawsBlocks
 pub mod LawsMark
+pub mod LawsHeads

@@ -1,0 +1,105 @@
+-- After any list of calls on a fresh plain book, with a body in shape, each key's place packs into a head word, which unpacks to it. Assumes nothing.
+use Prim.Native.Nat.{ℕ, zero, suc, _+_, _^_, _≤_, _<_}
+use mathlib.Core.Bool.{true, false, cond, not, _||_}
+use mathlib.Core.List.{List, [], _∷_}
+use mathlib.Core.Option.{none, some}
+use mathlib.Core.Path.{_≡_, refl, sym, ap, _∙_}
+use native.Mathlib.Omega.{arith}
+use lib.Dec.{leb, eqb}
+use lib.ListN.{length}
+use borrow.Author.Tests.{lt-leb, ne-eqb}
+use Rattle.error.specs.Refusal.{accepted, refuseIf}
+use Rattle.scripthash_layout.specs.Sizes.{slabBytes, maxSlabClass, maxSlabCount, pageClass}
+use Rattle.scripthash_layout.specs.Head.{slabWord, extentWord, packHead, unpackHead, readBack}
+use Rattle.scripthash_layout.specs.declared.head.ShHeadValue.{ShHeadValue}
+use Rattle.scripthash_layout.specs.declared.head.ShHeadValue.the-variants.{Empty, Inline, Slab, Extent}
+use Rattle.scripthash_layout.proofs.LawsHead.{unpack-packed}
+use Rattle.scripthash_stream.specs.Stream.{Rising, lastFrom}
+use Rattle.scripthash_free.specs.FreeList.{Block}
+use Rattle.scripthash_free.proofs.LawsBlock.{bytes-from-16, block-stands}
+use Rattle.plain_book.specs.Key.{Page, Place, empty, inline, slab, pages, Key, lastPage, noPage, headOf}
+use Rattle.plain_book.specs.Book.{Book, fresh, Call, keyOf, after}
+use Rattle.plain_book.specs.Sound.{FitPages, Fits, SoundKey}
+use Rattle.plain_book.specs.Owners.{Owner, slabOf, pageOf, pageAt, slabAt, pageIn, has, Apart, places}
+use Rattle.plain_book.proofs.LawsSound.{sound}
+use Rattle.plain_book.proofs.LawsBlocks.{blocks-apart}
+use Rattle.plain_book.proofs.LawsMark.{mark-within}
+
+-- A head value has a word: it packs into the word, and the word unpacks to it.
+pub record Told (v : ShHeadValue) : Type 0 where
+  pub word : ℕ
+  pub packs : packHead v ≡ accepted word
+  pub unpacks : unpackHead word ≡ accepted v
+
+told-empty : Told Empty
+unfolding packHead
+told-empty = record { word = 0; packs = refl; unpacks = unpack-packed Empty 0 tt refl }
+
+told-inline : (n : ℕ) → 0 < n → n < 2 ^ 62 → Told (Inline n 1)
+unfolding packHead refuseIf
+told-inline n some' low =
+    let packs : packHead (Inline n 1) ≡ accepted n = rw (lt-leb (2 ^ 62) n low) in
+    record {
+      word = n;
+      packs = packs;
+      unpacks = unpack-packed (Inline n 1) n (omega arith, omega arith) packs ∙ rw (ne-eqb n 0 (λ (z : n ≡ 0). omega arith));
+    }
+
+told-slab : (class used off : ℕ) → class ≤ maxSlabClass → 2 ≤ used → used ≤ maxSlabCount → off < 2 ^ 30 → Told (Slab class used off)
+unfolding packHead refuseIf
+told-slab class used off c two few low =
+    let packs : packHead (Slab class used off) ≡ accepted (slabWord class used off) = simp (lt-leb (2 ^ 40) off (omega arith), lt-leb (2 ^ 6) class (omega arith)) in
+    record {
+      word = slabWord class used off;
+      packs = packs;
+      unpacks = unpack-packed (Slab class used off) _ (omega arith, (omega arith, omega arith)) packs ∙ simp (lt-leb used 1 (omega arith));
+    }
+
+told-extent : (last : ℕ) → 0 < last → last < 2 ^ 30 → Told (Extent last)
+unfolding packHead refuseIf
+told-extent last some' low =
+    let packs : packHead (Extent last) ≡ accepted (extentWord last) = simp (ne-eqb last 0 (λ (z : last ≡ 0). omega arith), lt-leb (2 ^ 62) last (omega arith)) in
+    record { word = extentWord last; packs = packs; unpacks = unpack-packed (Extent last) _ (omega arith) packs }
+
+-- The last page of some is at an index.
+last-at : (page : Page) (ps : List Page) → FitPages ps → (i : ℕ) × (pageAt i ps ≡ some (record { class = pageClass; off = lastPage page ps .off }))
+unfolding FitPages pageAt lastPage
+last-at page [] f = absurd f
+last-at page (p ∷ []) f = (0, refl)
+last-at page (p ∷ q ∷ ps) f = let (i, e) = last-at p (q ∷ ps) (f .1) in (suc i, e)
+
+-- The last number of a rising list that has one is above 0, and below the limit.
+last-within : (top prev : ℕ) (ns : List ℕ) → Rising top prev ns → 0 < length ns → (prev < lastFrom prev ns) × (lastFrom prev ns < top)
+unfolding Rising lastFrom
+last-within top prev [] r l = absurd (omega arith)
+last-within top prev (n ∷ []) (a, b, r) l = (a, b)
+last-within top prev (n ∷ m ∷ ns) (a, b, r) l = let (x, y) = last-within top n (m ∷ ns) r (omega arith) in (omega arith, y)
+
+-- After any list of calls on a fresh book of at most 2^30 bytes, each key's place has a head word.
+pub heads-told : (size heads key : ℕ) (cs : List Call) → 4096 ≤ size → size ≤ 2 ^ 30
+    → let k = keyOf key (after (fresh size heads) cs) in Told (headOf (k .list) (k .place))
+unfolding headOf Fits has
+heads-told size heads key cs low high = go (keyOf key b .list) (keyOf key b .place) refl (sound size heads key cs .rises) (sound size heads key cs .fits)
+  where
+    b : Book
+    b = after (fresh size heads) cs
+
+    stands : (w : Owner) (x : Block) → has (b .space) (places b) none w ≡ some x → (0 < x .off) × (x .off < 2 ^ 30)
+    stands w x e =
+        let s = block-stands (x .class) (x .off) (b .space .mark) (blocks-apart size heads cs .stands w x e) in
+        let m = mark-within size heads cs low in
+        (omega (arith, s .begins), below (x .class) (x .off) (s .ends) m)
+      where
+        below : (class off : ℕ) → off + slabBytes class ≤ b .space .mark → b .space .mark ≤ size → off < 2 ^ 30
+        below class off ends m = let p = bytes-from-16 class in omega arith
+
+    go : (list : List ℕ) (place : Place) → keyOf key b .place ≡ place → Rising (2 ^ 62) 0 list → Fits list place → Told (headOf list place)
+    go list empty is r f = told-empty
+    go list inline is r f = let (a, c) = last-within (2 ^ 62) 0 list r (omega arith) in told-inline (lastFrom 0 list) a c
+    go list (slab class off) is r (c, two, few, bytes) =
+        let (a, l) = stands (slabOf key) (record { class = class; off = off }) (ap slabAt is) in
+        told-slab class (length list) off c two few l
+    go list (pages ps) is r (held-is, fit) =
+        let (i, at) = last-at noPage ps fit in
+        let (a, l) = stands (pageOf key i) _ (ap (pageIn i) is ∙ at) in
+        told-extent (lastPage noPage ps .off) a l
