@@ -5,14 +5,14 @@ use mathlib.Core.Path.{_≡_, refl}
 use Rattle.error.specs.Refusal.{Answer, accepted, refused, refuseIf, andThen}
 use Rattle.compact.specs.Uleb128.{divided, shortest, ulebLen}
 use Rattle.scripthash_layout.specs.declared.head.ShHeadValue.{ShHeadValue}
-use Rattle.scripthash_layout.specs.declared.head.ShHeadValue.the-variants.{Empty, Inline, Slab, Extent}
+use Rattle.scripthash_layout.specs.declared.head.ShHeadValue.the-variants.{Inline, Slab, Extent}
 use Rattle.scripthash_stream.specs.Stream.{lastFrom, streamLenFrom}
 use Rattle.scripthash_slabs.specs.Class.{firstClass, classFor, classWithSlack}
 use Rattle.scripthash_cutting.specs.Cutting.{fitting, firstPart, greedyParts, replaceLast}
 use Rattle.scripthash_free.specs.FreeList.{largestUpTo, blockThen, carve}
-use Rattle.plain_book.specs.Space.{Space, freedAll, takeMark, rounded, takeRun, takeFresh, takeFrom}
+use Rattle.plain_book.specs.Space.{freedAll, takeMark, rounded, takeRun, takeFresh, takeFrom}
 use Rattle.plain_book.specs.Key.{lastPage, headOf, freedPages, freedPlace, stays, larger, movesTo, loadsTo, moved, joins, beginPage, appendPages, appendPlace, runPages, loadInto, loadPlace}
-use Rattle.plain_book.specs.Book.{Book, fresh, Call, load, append, read, drop, Told, loaded, appended, listed, dropped, outOfShape, onKey, offeredNumber, offeredList, loads, appends, reads, drops, does, bookAfter, answerOf, after, answers}
+use Rattle.plain_book.specs.Book.{fresh, load, append, read, drop, Told, loaded, appended, listed, dropped, outOfShape, onKey, offeredNumber, offeredList, loads, appends, reads, drops, does, bookAfter, answerOf, answers}
 
 -- An append that is accepted: the key's new place, and the records rewritten.
 abbrev at : ShHeadValue → ℕ → Answer Told

@@ -1,8 +1,8 @@
 -- After any list of calls on a fresh plain book the blocks of its keys and stacks stand apart, below the mark. Assumes nothing.
-use Prim.Native.Nat.{ℕ, zero, suc, _+_, _*_, _%_, _≤_, _<_}
+use Prim.Native.Nat.{ℕ, zero, suc, _*_, _≤_, _<_}
 use mathlib.Core.Bool.{Bool, true, false, cond}
-use mathlib.Core.List.{List, [], _∷_, _++_}
-use mathlib.Core.Logic.{_⊎_, inl, inr, ⊎-elim, _≢_}
+use mathlib.Core.List.{List, [], _∷_}
+use mathlib.Core.Logic.{_⊎_, ⊎-elim}
 use mathlib.Core.Option.{Option, none, some}
 use mathlib.Core.Path.{_≡_, refl, sym, ap, subst, _∙_}
 use native.Mathlib.Omega.{arith}
@@ -16,14 +16,15 @@ use Rattle.scripthash_layout.specs.Sizes.{pageClass, pageSize}
 use Rattle.scripthash_stream.specs.Stream.{streamLen}
 use Rattle.scripthash_cutting.specs.Cutting.{cutting, replaceLast}
 use Rattle.scripthash_free.specs.FreeList.{Block}
-use Rattle.plain_book.specs.Space.{Space, Taken, take, takeRun, takeMark, rounded}
-use Rattle.plain_book.specs.Key.{Key, emptyKey, Page, Place, empty, inline, slab, pages, onePage, freedPlace, Placed, stays, movesTo, moved, longer, joins, joinedTo, begunAt, beginPage, appendPages, appendPlace, runPages, loadsTo, loadInto, loadPlace}
+use Rattle.plain_book.specs.Space.{Space, Taken, take, takeRun, rounded}
+use Rattle.plain_book.specs.Key.{Key, emptyKey, Page, Place, empty, inline, slab, pages, onePage, freedPlace, Placed, stays, movesTo, moved, longer, joins, joinedTo, beginPage, appendPages, appendPlace, runPages, loadsTo, loadInto, loadPlace}
 use Rattle.plain_book.specs.Book.{Book, fresh, Call, load, append, read, drop, Outcome, keyOf, withKey, extended, does, bookAfter, after}
 use Rattle.plain_book.specs.Owners.{Owner, hand, stack, slabOf, pageOf, atDepth, pageAt, slabAt, pageIn, has, Apart, places}
-use Rattle.plain_book.proofs.LawsRules.{Moves, moves-to, loads-to}
+use Rattle.plain_book.proofs.LawsRules.{moves-to, loads-to}
 use Rattle.plain_book.proofs.LawsMoves.{which}
 use Rattle.plain_book.proofs.LawsHistory.{load-did, append-did, read-did, drop-did, fresh-key}
-use Rattle.plain_book.proofs.LawsOwners.{Good, InHand, atKey, none-some, good-slab, good-page, good-kept, good-freed-place, good-taken, good-run, good-rounded, good-twice, good-fewer, took-mark, rounded-mark}
+use Rattle.plain_book.proofs.LawsOwners.{none-some, Good, atKey, good-slab, good-page, good-fewer, good-twice, good-kept, good-freed-place}
+use Rattle.plain_book.proofs.LawsTaking.{InHand, good-rounded, took-mark, rounded-mark, good-taken, good-run}
 
 -- What an append or a load of a key leaves is good.
 abbrev Leaves : (ℕ → Place) → ℕ → Placed → Type 0

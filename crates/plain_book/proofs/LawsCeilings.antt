@@ -14,8 +14,8 @@ use Rattle.scripthash_stream.specs.Stream.{streamLen}
 use Rattle.scripthash_cutting.specs.Cutting.{cutting, AllowedCutting}
 use Rattle.scripthash_cutting.proofs.LawsPages.{pages-optimal}
 use Rattle.plain_book.specs.Space.{Space, take, takeRun}
-use Rattle.plain_book.specs.Key.{Place, empty, inline, slab, pages, Key, pagesOf, Placed, runPages, loadsTo, loadInto, loadPlace}
-use Rattle.plain_book.specs.Book.{Book, fresh, Call, Told, loaded, Outcome, keyOf, inUse, extended, loads, after}
+use Rattle.plain_book.specs.Key.{Place, empty, inline, slab, pages, pagesOf, Placed, runPages, loadsTo, loadInto, loadPlace}
+use Rattle.plain_book.specs.Book.{Book, fresh, Call, loaded, Outcome, keyOf, inUse, extended, loads, after}
 use Rattle.plain_book.specs.Moves.{Tally, noMoves, tallyAfter}
 use Rattle.plain_book.proofs.LawsMoves.{placed, mostMoves, mostRewritten, Spent, spent-most, append-spent, load-spent}
 use Rattle.plain_book.proofs.LawsHistory.{load-did, Kept, kept-fresh}

@@ -1,26 +1,24 @@
 -- After any list of calls on a fresh plain book, with a body in shape, each key's place packs into a head word, which unpacks to it. Assumes nothing.
-use Prim.Native.Nat.{ℕ, zero, suc, _+_, _^_, _≤_, _<_}
-use mathlib.Core.Bool.{true, false, cond, not, _||_}
+use Prim.Native.Nat.{ℕ, suc, _+_, _^_, _≤_, _<_}
 use mathlib.Core.List.{List, [], _∷_}
 use mathlib.Core.Option.{none, some}
-use mathlib.Core.Path.{_≡_, refl, sym, ap, _∙_}
+use mathlib.Core.Path.{_≡_, refl, ap, _∙_}
 use native.Mathlib.Omega.{arith}
-use lib.Dec.{leb, eqb}
 use lib.ListN.{length}
 use borrow.Author.Tests.{lt-leb, ne-eqb}
 use Rattle.error.specs.Refusal.{accepted, refuseIf}
 use Rattle.scripthash_layout.specs.Sizes.{slabBytes, maxSlabClass, maxSlabCount, pageClass}
-use Rattle.scripthash_layout.specs.Head.{slabWord, extentWord, packHead, unpackHead, readBack}
+use Rattle.scripthash_layout.specs.Head.{slabWord, extentWord, packHead, unpackHead}
 use Rattle.scripthash_layout.specs.declared.head.ShHeadValue.{ShHeadValue}
 use Rattle.scripthash_layout.specs.declared.head.ShHeadValue.the-variants.{Empty, Inline, Slab, Extent}
 use Rattle.scripthash_layout.proofs.LawsHead.{unpack-packed}
 use Rattle.scripthash_stream.specs.Stream.{Rising, lastFrom}
 use Rattle.scripthash_free.specs.FreeList.{Block}
 use Rattle.scripthash_free.proofs.LawsBlock.{bytes-from-16, block-stands}
-use Rattle.plain_book.specs.Key.{Page, Place, empty, inline, slab, pages, Key, lastPage, noPage, headOf}
+use Rattle.plain_book.specs.Key.{Page, Place, empty, inline, slab, pages, lastPage, noPage, headOf}
 use Rattle.plain_book.specs.Book.{Book, fresh, Call, keyOf, after}
-use Rattle.plain_book.specs.Sound.{FitPages, Fits, SoundKey}
-use Rattle.plain_book.specs.Owners.{Owner, slabOf, pageOf, pageAt, slabAt, pageIn, has, Apart, places}
+use Rattle.plain_book.specs.Sound.{FitPages, Fits}
+use Rattle.plain_book.specs.Owners.{Owner, slabOf, pageOf, pageAt, slabAt, pageIn, has, places}
 use Rattle.plain_book.proofs.LawsSound.{sound}
 use Rattle.plain_book.proofs.LawsBlocks.{blocks-apart}
 use Rattle.plain_book.proofs.LawsMark.{mark-within}

@@ -1,20 +1,19 @@
 -- What holds of a key, and of the tally of its moves, through every list of calls: it is enough that loads, appends and drops keep it. Assumes nothing.
-use Prim.Native.Nat.{ℕ, zero, suc, _+_, _^_, _≤_, _<_}
+use Prim.Native.Nat.{ℕ, zero, suc, _^_, _<_}
 use mathlib.Core.Bool.{Bool, true, false, cond}
-use mathlib.Core.List.{List, [], _∷_, _++_}
+use mathlib.Core.List.{List, [], _∷_}
 use mathlib.Core.Logic.{_≢_}
 use mathlib.Core.Path.{_≡_, refl, sym, ap, _∙_}
-use native.Mathlib.Omega.{arith}
 use lib.Dec.{eqb, leb}
-use lib.ListN.{length, getD, set, replicate}
+use lib.ListN.{length, getD, replicate}
 use lib.Seq.{getD-set-same, getD-set-other, set-getD}
 use borrow.Author.Tests.{leb-false, eqb-true, eqb-false}
-use Rattle.error.specs.Refusal.{Answer, accepted, refused, refuseIf, andThen, shapeBad, keyBeyond}
+use Rattle.error.specs.Refusal.{Answer, accepted, refused, shapeBad, keyBeyond}
 use Rattle.error.proofs.LawsAnswer.{accepted-inj, passed, went-on}
 use Rattle.scripthash_stream.specs.Stream.{Rising, lastFrom}
 use Rattle.plain_book.specs.Space.{Space}
 use Rattle.plain_book.specs.Key.{Place, empty, Key, emptyKey, headOf, pagesOf, freedPlace, Placed, appendPlace, loadPlace}
-use Rattle.plain_book.specs.Book.{Book, fresh, Call, load, append, read, drop, Told, loaded, appended, listed, dropped, Outcome, outOfShape, onKey, offeredNumber, offeredList, keyOf, withKey, inUse, extended, loads, appends, reads, drops, does, bookAfter, answerOf, after}
+use Rattle.plain_book.specs.Book.{Book, fresh, Call, load, append, read, drop, loaded, appended, listed, dropped, Outcome, outOfShape, onKey, offeredNumber, offeredList, keyOf, withKey, inUse, extended, loads, appends, reads, drops, does, bookAfter, answerOf, after}
 use Rattle.plain_book.specs.Moves.{Tally, noMoves, counted, talliedBy, keyOfCall, tallied, tallyAfter}
 
 -- A call that is accepted is on a key of the book.

@@ -1,23 +1,22 @@
 -- From empty to drop no key is moved more than 9 times, nor has more than 765 records rewritten by moves. Assumes nothing.
-use Prim.Native.Nat.{ℕ, zero, suc, _+_, _*_, _^_, _≤_, _<_}
+use Prim.Native.Nat.{ℕ, zero, suc, _+_, _≤_, _<_}
 use mathlib.Core.Bool.{Bool, true, false, cond}
-use mathlib.Core.List.{List, [], _∷_, _++_}
+use mathlib.Core.List.{List, [], _∷_}
 use mathlib.Core.Logic.{_⊎_, inl, inr, ⊎-elim}
 use mathlib.Core.Option.{Option, none, some}
-use mathlib.Core.Path.{_≡_, refl, sym, ap, subst, _∙_}
-use native.Mathlib.Nat.{le-trans, le-refl, add-zero}
+use mathlib.Core.Path.{_≡_, refl, sym, ap}
+use native.Mathlib.Nat.{le-refl, add-zero}
 use native.Mathlib.Omega.{arith}
-use lib.Dec.{eqb}
 use lib.ListN.{length}
 use borrow.Author.Tests.{ne-eqb}
-use Rattle.error.specs.Refusal.{Answer, accepted, refused, andThen}
+use Rattle.error.specs.Refusal.{accepted}
 use Rattle.error.proofs.LawsAnswer.{accepted-inj, went-on}
 use Rattle.scripthash_layout.specs.Sizes.{slabSlots, maxSlabClass, maxSlabCount, pageClass}
 use Rattle.scripthash_stream.specs.Stream.{streamLen}
 use Rattle.scripthash_cutting.specs.Cutting.{cutting}
-use Rattle.plain_book.specs.Space.{Space, Taken, take, takeRun}
+use Rattle.plain_book.specs.Space.{Space, take, takeRun}
 use Rattle.plain_book.specs.Key.{Place, empty, inline, slab, pages, Page, Placed, onePage, stays, movesTo, moved, joins, joinedTo, beginPage, appendPages, appendPlace, loadsTo, loadInto, loadPlace}
-use Rattle.plain_book.specs.Moves.{Tally, noMoves, counted}
+use Rattle.plain_book.specs.Moves.{Tally, counted}
 use Rattle.plain_book.proofs.LawsRules.{slots-mono, slots-twice, stays-holds, Moves, moves-to, loads-to}
 
 -- ---- what a tally may be, by the place

@@ -1,43 +1,40 @@
--- Who has which block, after each step of a call: taking, freeing, carving, and placing what was taken. Assumes nothing.
-use Prim.Native.Nat.{ℕ, zero, suc, _+_, _-_, _*_, _/_, _%_, _≤_, _<_}
+-- Who has which block, after each step of a call that changes a stack or a key's place: popping, freeing, and placing what is in hand. Assumes nothing.
+use Prim.Native.Nat.{ℕ, zero, suc, _+_, _-_, _%_, _≤_, _<_}
 use mathlib.Core.Bool.{Bool, true, false, cond}
 use mathlib.Core.List.{List, [], _∷_, _++_}
 use mathlib.Core.Logic.{_⊎_, inl, inr, ⊎-elim, _≢_}
 use mathlib.Core.Option.{Option, none, some}
 use mathlib.Core.Path.{_≡_, refl, sym, ap, subst, _∙_}
-use native.Mathlib.Nat.{eq-or-lt-of-le}
 use native.Mathlib.Omega.{arith}
 use lib.Dec.{eqb}
-use lib.ListN.{length, getD, set, length-set}
+use lib.ListN.{length, set, length-set}
 use lib.Seq.{getD-set-same, getD-set-other}
 use borrow.Author.Tests.{eqb-true, eqb-false, eq-eqb, ne-eqb}
-use Rattle.error.specs.Refusal.{Answer, accepted, refused}
-use Rattle.error.proofs.LawsAnswer.{accepted-inj, passed, went-on}
-use Rattle.scripthash_layout.specs.Sizes.{slabBytes, pageClass, pageSize}
-use Rattle.scripthash_free.specs.FreeList.{Block, isBlock, Adjoin, Each, IsSlab, gapBlocks}
-use Rattle.scripthash_free.proofs.LawsBlock.{block-stands, stands-block, slab-stands}
-use Rattle.scripthash_free.proofs.LawsGap.{gap-filled, gap-slabs}
-use Rattle.plain_book.specs.Space.{Space, stackOf, freed, freedAll, Taken, pageAfter, takeMark, rounded, takeRun, takeFresh, takeFrom, take}
-use Rattle.plain_book.specs.Key.{Page, Place, empty, inline, slab, pages, onePage, freedPages, freedPlace, runPages}
+use Rattle.scripthash_layout.specs.Sizes.{slabBytes, pageClass}
+use Rattle.scripthash_free.specs.FreeList.{Block, isBlock}
+use Rattle.scripthash_free.proofs.LawsBlock.{block-stands}
+use Rattle.plain_book.specs.Space.{Space, stackOf, freed}
+use Rattle.plain_book.specs.Key.{Page, Place, empty, inline, slab, pages, onePage, freedPages, freedPlace}
 use Rattle.plain_book.specs.Owners.{Owner, hand, stack, slabOf, pageOf, atDepth, pageAt, slabAt, pageIn, has, Apart}
-use Rattle.plain_book.proofs.LawsApart.{apart-moved, apart-renamed, apart-fewer, apart-added, apart-run}
+use Rattle.plain_book.proofs.LawsApart.{apart-moved, apart-renamed, apart-fewer, apart-added}
 
 -- ---- owners
 
 -- Constructors are one-to-one, and differ.
-some-inj : {A : Type 0} {x y : A} → _≡_ {A = Option A} (some x) (some y) → x ≡ y
+pub some-inj : {A : Type 0} {x y : A} → _≡_ {A = Option A} (some x) (some y) → x ≡ y
 some-inj e = cc
 
 pub none-some : {A : Type 0} {x : A} → _≡_ {A = Option A} none (some x) → ⊥
 none-some e = let z : _≡_ {A = ℕ} 0 1 = cc in omega arith
 
--- The class of a stack, and whether an owner is one.
+-- The class of a stack; other owners have none.
 abbrev classOf : Owner → ℕ
 classOf hand = 0
 classOf (stack c d) = c
 classOf (slabOf k) = 0
 classOf (pageOf k i) = 0
 
+-- The depth of a stack, the key of a slab, and the index of a page.
 abbrev depthOf : Owner → ℕ
 depthOf hand = 0
 depthOf (stack c d) = d
@@ -75,7 +72,7 @@ top-is : (class o : ℕ) (os : List ℕ) → atDepth class (length os) (o ∷ os
 unfolding atDepth
 top-is class o os = rw (eq-eqb (length os) (length os) refl)
 
-below-top : (class depth o : ℕ) (os : List ℕ) (x : Block) → atDepth class depth (o ∷ os) ≡ some x
+pub below-top : (class depth o : ℕ) (os : List ℕ) (x : Block) → atDepth class depth (o ∷ os) ≡ some x
     → ((depth ≡ length os) × (x ≡ record { class = class; off = o })) ⊎ ((depth ≢ length os) × (atDepth class depth os ≡ some x))
 unfolding atDepth
 below-top class depth o os x e = go (eqb depth (length os)) refl e
@@ -106,7 +103,7 @@ module _ (s : Space) (class : ℕ) (os : List ℕ) (nine : class < length (s .st
   stack-other c n = getD-set-other (s .stacks) class c os [] n
 
   -- who has what then: in the changed stack, or as before
-  changed-has : (at : ℕ → Place) (held : Option Block) (w : Owner) (x : Block) → has (withStack class os s) at held w ≡ some x
+  pub changed-has : (at : ℕ → Place) (held : Option Block) (w : Owner) (x : Block) → has (withStack class os s) at held w ≡ some x
       → ((depth : ℕ) × (w ≡ stack class depth) × (atDepth class depth os ≡ some x)) ⊎ (((depth : ℕ) → w ≢ stack class depth) × (has s at held w ≡ some x))
   unfolding has
   changed-has at held hand x e = inr (λ d q. (let z = ap kindOf q in omega arith), e)
@@ -172,7 +169,7 @@ module _ (s : Space) (class : ℕ) (nine : class < length (s .stacks)) where
       stack-has at held depth w is x e = subst (λ (v : Owner). has s at held v ≡ some x) (sym is) e
 
 -- Behind a block of a class an offset stays a multiple of 16.
-bytes-aligned : (off class : ℕ) → off % 16 ≡ 0 → (off + slabBytes class) % 16 ≡ 0
+pub bytes-aligned : (off class : ℕ) → off % 16 ≡ 0 → (off + slabBytes class) % 16 ≡ 0
 bytes-aligned off class e = omega arith
 
 -- ---- a good space: nine stacks, a mark at a multiple of 16 from 4,096 on, and blocks apart
@@ -184,7 +181,7 @@ pub record Good (s : Space) (at : ℕ → Place) (held : Option Block) : Type 0 
   pub apart : Apart (s .mark) (has s at held)
 
 -- The top of a stack comes to hand.
-good-popped : (s : Space) (at : ℕ → Place) (class o : ℕ) (os : List ℕ) → class ≤ 8 → stackOf class s ≡ o ∷ os → Good s at none
+pub good-popped : (s : Space) (at : ℕ → Place) (class o : ℕ) (os : List ℕ) → class ≤ 8 → stackOf class s ≡ o ∷ os → Good s at none
     → Good (withStack class os s) at (some (record { class = class; off = o }))
 good-popped s at class o os c e g =
     let n = g .nine in
@@ -196,7 +193,7 @@ good-popped s at class o os c e g =
     }
 
 -- A block that lies at the mark comes to hand, and the mark passes it.
-good-marked : (s : Space) (at : ℕ → Place) (class : ℕ) → isBlock class (s .mark) (s .mark + slabBytes class) ≡ true → Good s at none
+pub good-marked : (s : Space) (at : ℕ → Place) (class : ℕ) → isBlock class (s .mark) (s .mark + slabBytes class) ≡ true → Good s at none
     → Good (record { mark = s .mark + slabBytes class; stacks = s .stacks }) at (some (record { class = class; off = s .mark }))
 unfolding has
 good-marked s at class b g =
@@ -416,163 +413,6 @@ good-pages-freed s at held key [] e g =
 good-pages-freed s at held key (p ∷ ps) e g =
     good-twice (freedPages ps (freed pageClass (p .off) s)) at held key (pages ps) empty
     (good-pages-freed (freed pageClass (p .off) s) (atKey key (pages ps) at) held key ps (rw (eq-eqb key key refl)) (good-first-freed s at held key p ps e g))
-
--- ---- carving the gap before a page
-
--- A block at the mark goes onto its stack, and the mark passes it.
-good-carved-one : (s : Space) (at : ℕ → Place) (held : Option Block) (class off : ℕ) → off ≡ s .mark → class ≤ 7 → Good s at held
-    → Good (record { mark = s .mark + slabBytes class; stacks = freed class off s .stacks }) at held
-unfolding has
-good-carved-one s at held class off is c g =
-    let n = g .nine in
-    record {
-      nine = length-set (s .stacks) class (off ∷ stackOf class s) ∙ g .nine;
-      aligned = bytes-aligned (s .mark) class (g .aligned);
-      from = omega (arith, g .from);
-      apart = apart-added _ _ (s .mark) (s .mark + slabBytes class) (stack class (length (stackOf class s))) (record { class = class; off = off }) (omega arith) (omega arith)
-          (slab-stands class off (s .mark + slabBytes class) c (rw is (g .aligned)) (omega (arith, g .from)) (omega arith)) to (g .apart);
-    }
-  where
-    in-nine : class < length (s .stacks)
-    in-nine = let n = g .nine in omega arith
-
-    to : (w : Owner) (x : Block) → has (record { mark = s .mark + slabBytes class; stacks = freed class off s .stacks }) at held w ≡ some x
-        → ((w ≡ stack class (length (stackOf class s))) × (x ≡ record { class = class; off = off })) ⊎ (has s at held w ≡ some x)
-    to hand x e = inr e
-    to (slabOf k) x e = inr e
-    to (pageOf k i) x e = inr e
-    to (stack c' d) x e =
-        ⊎-elim
-        (λ (depth, q, found).
-        ⊎-elim
-        (λ (top, block). inl (q ∙ ap (stack class) top, block))
-        (λ (n, under). inr (subst (λ (v : Owner). has s at held v ≡ some x) (sym q) under))
-        (below-top class depth off (stackOf class s) x found))
-        (λ (n, found). inr found)
-        (changed-has s class (off ∷ stackOf class s) in-nine at held (stack c' d) x e)
-
--- What is freed doesn't depend on the mark.
-freed-stacks : (bs : List Block) (m m' : ℕ) (st : List (List ℕ))
-    → freedAll bs (record { mark = m; stacks = st }) .stacks ≡ freedAll bs (record { mark = m'; stacks = st }) .stacks
-unfolding freedAll
-freed-stacks [] m m' st = refl
-freed-stacks (b ∷ bs) m m' st = freed-stacks bs m m' _
-
--- Blocks side by side from the mark on are freed, and the mark passes them.
-good-carved : (bs : List Block) (s : Space) (at : ℕ → Place) (held : Option Block) (end : ℕ) → Adjoin (s .mark) bs end → Each (IsSlab end) bs → Good s at held
-    → Good (record { mark = end; stacks = freedAll bs s .stacks }) at held
-unfolding Adjoin Each freedAll
-good-carved [] s at held end a e g = subst (λ (m : ℕ). Good (record { mark = m; stacks = s .stacks }) at held) a g
-good-carved (b ∷ bs) s at held end (is, a) (b7, e) g =
-    let one = good-carved-one s at held (b .class) (b .off) is (b7 .0) g in
-    let all = good-carved bs (record { mark = s .mark + slabBytes (b .class); stacks = freed (b .class) (b .off) s .stacks }) at held end a e one in
-    subst (λ (st : List (List ℕ)). Good (record { mark = end; stacks = st }) at held)
-    (freed-stacks bs (s .mark + slabBytes (b .class)) (s .mark) (freed (b .class) (b .off) s .stacks))
-    all
-
--- The mark rounded up to a page.
-pub good-rounded : (s : Space) (at : ℕ → Place) (held : Option Block) → Good s at held → Good (rounded s) at held
-unfolding rounded
-good-rounded s at held g =
-    let up : s .mark ≤ pageAfter (s .mark) = omega arith in
-    let gap : (pageAfter (s .mark) - s .mark) % 16 ≡ 0 = omega (arith, g .aligned) in
-    good-carved (gapBlocks (s .mark) (pageAfter (s .mark))) s at held (pageAfter (s .mark)) (gap-filled (s .mark) (pageAfter (s .mark)) up gap)
-    (gap-slabs (s .mark) (pageAfter (s .mark)) (pageAfter (s .mark)) up (record { aligned = g .aligned; begins = g .from; ends = omega arith }))
-    g
-
--- A page at a multiple of 4,096 can stand there.
-page-stands : (off end : ℕ) → off % 4096 ≡ 0 → 4096 ≤ off → off + 4096 ≤ end → isBlock pageClass off end ≡ true
-page-stands off end a b e = stands-block pageClass off end (record { class-to-8 = omega arith; aligned = a; begins = b; ends = e })
-
--- ---- a block is taken
-
--- What a take gave, from a stack and from the mark.
-took-stack : (end class o : ℕ) (os : List ℕ) (s : Space) {t : Taken} → takeFrom end class (o ∷ os) s ≡ accepted t
-    → t ≡ record { off = o; space = withStack class os s }
-unfolding takeFrom
-took-stack end class o os s e = sym (accepted-inj e)
-
-pub took-mark : (end bytes : ℕ) (s : Space) {t : Taken} → takeMark end bytes s ≡ accepted t
-    → t ≡ record { off = s .mark; space = record { mark = s .mark + bytes; stacks = s .stacks } }
-unfolding takeMark
-took-mark end bytes s e = sym (accepted-inj (passed _ _ _ e .1))
-
--- What is in hand after a take.
-abbrev pub InHand : (ℕ → Place) → ℕ → Taken → Type 0
-InHand at class t = Good (t .space) at (some (record { class = class; off = t .off }))
-
--- The mark rounded up lies at a multiple of a page.
-pub rounded-mark : (s : Space) → rounded s .mark % 4096 ≡ 0
-unfolding rounded
-rounded-mark s = omega arith
-
--- A page from the mark, and a slab.
-good-fresh-page : (end : ℕ) (s : Space) (at : ℕ → Place) {t : Taken} → takeRun end 1 s ≡ accepted t → Good s at none → InHand at pageClass t
-unfolding takeRun
-good-fresh-page end s at e g =
-    let r = good-rounded s at none g in
-    let b : isBlock pageClass (rounded s .mark) (rounded s .mark + slabBytes pageClass) ≡ true =
-    page-stands (rounded s .mark) (rounded s .mark + slabBytes pageClass) (rounded-mark s) (r .from) (omega arith) in
-    subst (InHand at pageClass) (sym (took-mark end (1 * pageSize) (rounded s) e)) (good-marked (rounded s) at pageClass b r)
-
-good-fresh-slab : (end class : ℕ) (s : Space) (at : ℕ → Place) {t : Taken} → class ≤ 7 → takeMark end (slabBytes class) s ≡ accepted t → Good s at none → InHand at class t
-good-fresh-slab end class s at c e g =
-    subst (InHand at class) (sym (took-mark end (slabBytes class) s e))
-    (good-marked s at class (slab-stands class (s .mark) (s .mark + slabBytes class) c (g .aligned) (g .from) (omega arith)) g)
-
--- A class that is no page's is a slab's.
-slab-class : (class : ℕ) → class ≤ 8 → class ≢ 8 → class ≤ 7
-slab-class class c n = ⊎-elim (λ e. absurd (n e)) (λ l. omega arith) (eq-or-lt-of-le c)
-
--- A block of a class is taken.
-pub good-taken : (end class : ℕ) (s : Space) (at : ℕ → Place) {t : Taken} → class ≤ 8 → take end class s ≡ accepted t → Good s at none → InHand at class t
-unfolding takeFrom takeFresh
-good-taken end class s at {t} c e g = from-stack (stackOf class s) refl e
-  where
-    fresh : (b : Bool) → eqb class pageClass ≡ b → cond b (takeRun end 1 s) (takeMark end (slabBytes class) s) ≡ accepted t → InHand at class t
-    fresh true q e = subst (λ (k : ℕ). InHand at k t) (sym (eqb-true class pageClass q)) (good-fresh-page end s at e g)
-    fresh false q e = let n = eqb-false class pageClass q in good-fresh-slab end class s at (slab-class class c n) e g
-
-    from-stack : (os : List ℕ) → stackOf class s ≡ os → takeFrom end class os s ≡ accepted t → InHand at class t
-    from-stack (o ∷ os) q e = subst (InHand at class) (sym (took-stack end class o os s e)) (good-popped s at class o os c q g)
-    from-stack [] q e = fresh (eqb class pageClass) refl e
-
--- ---- a run of pages is taken for a key
-
-run-at : (i off : ℕ) (parts : List (List ℕ)) (x : Block) → pageAt i (runPages off parts) ≡ some x
-    → (x ≡ record { class = pageClass; off = off + i * pageSize }) × (i < length parts)
-unfolding pageAt runPages
-run-at i off [] x e = absurd (none-some e)
-run-at zero off (p ∷ []) x e = (sym (some-inj e) ∙ ap (λ (o : ℕ). record { class = pageClass; off = o }) (omega arith), omega arith)
-run-at (suc i) off (p ∷ []) x e = absurd (none-some e)
-run-at zero off (p ∷ q ∷ ps) x e = (sym (some-inj e) ∙ ap (λ (o : ℕ). record { class = pageClass; off = o }) (omega arith), omega arith)
-run-at (suc i) off (p ∷ q ∷ ps) x e =
-    let (is, l) = run-at i (off + pageSize) (q ∷ ps) x e in
-    (is ∙ ap (λ (o : ℕ). record { class = pageClass; off = o }) (omega arith), omega arith)
-
-pub good-run : (s : Space) (at : ℕ → Place) (key : ℕ) (parts : List (List ℕ)) → s .mark % 4096 ≡ 0 → Good s at none
-    → Good (record { mark = s .mark + length parts * pageSize; stacks = s .stacks }) (atKey key (pages (runPages (s .mark) parts)) at) none
-unfolding has
-good-run s at key parts a g =
-    record {
-      nine = g .nine;
-      aligned = omega arith;
-      from = omega (arith, g .from);
-      apart = apart-run _ _ (s .mark) (s .mark + length parts * pageSize) (length parts) pageSize pageClass (pageOf key) refl (omega arith)
-          (λ i l. page-stands (s .mark + i * pageSize) (s .mark + length parts * pageSize) (omega arith) (omega (arith, g .from)) (omega arith)) to (g .apart);
-    }
-  where
-    to : (w : Owner) (x : Block)
-        → has (record { mark = s .mark + length parts * pageSize; stacks = s .stacks }) (atKey key (pages (runPages (s .mark) parts)) at) none w ≡ some x
-        → ((i : ℕ) × (w ≡ pageOf key i) × (x ≡ record { class = pageClass; off = s .mark + i * pageSize }) × (i < length parts)) ⊎ (has s at none w ≡ some x)
-    to hand x e = inr e
-    to (stack c d) x e = inr e
-    to (slabOf j) x e = ⊎-elim (λ (is, f). absurd (none-some f)) (λ (n, f). inr f) (key-slab key (pages (runPages (s .mark) parts)) at j x e)
-    to (pageOf j i) x e =
-        ⊎-elim
-        (λ (is, f). let (block, l) = run-at i (s .mark) parts x f in inl (i, ap (λ (k : ℕ). pageOf k i) is, block, l))
-        (λ (n, f). inr f)
-        (key-page key (pages (runPages (s .mark) parts)) at j i x e)
 
 -- ---- places given up, and changed
 

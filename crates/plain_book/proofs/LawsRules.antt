@@ -1,15 +1,15 @@
 -- What the rules of a plain book promise: the class that a list moves to is larger than the one it leaves, and has slots for it. Assumes nothing.
-use Prim.Native.Nat.{ℕ, zero, suc, _+_, _*_, _^_, _≤_, _<_, max}
+use Prim.Native.Nat.{ℕ, suc, _+_, _*_, _^_, _≤_, _<_, max}
 use mathlib.Core.Bool.{Bool, true, false, cond, _&&_, false≢true}
-use mathlib.Core.Logic.{_⊎_, inl, inr, ⊎-elim}
+use mathlib.Core.Logic.{_⊎_, inl, inr}
 use mathlib.Core.Option.{Option, none, some}
-use mathlib.Core.Path.{_≡_, refl, sym, ap, _∙_}
+use mathlib.Core.Path.{_≡_, refl, sym}
 use native.Mathlib.Nat.{le-trans, lt-of-lt-of-le, le-max-left, le-max-right, max-le, mul-le-mul-left, lt-of-not-le, le-of-suc-le-suc, pow-suc, eq-or-lt-of-le}
 use native.Mathlib.Omega.{arith}
 use lib.Dec.{leb}
 use lib.Pow.{pow-mono}
 use borrow.Author.Tests.{le-leb, leb-true, leb-false}
-use Rattle.scripthash_layout.specs.Sizes.{slabBytes, slabSlots, maxSlabClass, maxSlabCount, maxSlabBytes}
+use Rattle.scripthash_layout.specs.Sizes.{slabBytes, slabSlots, maxSlabClass, maxSlabCount}
 use Rattle.scripthash_slabs.specs.Class.{byBytes, classByBytes, classWithSlack}
 use Rattle.scripthash_slabs.proofs.LawsClass.{class-is, slack-holds, slack-spare, slack-most, slack-none}
 use Rattle.scripthash_free.proofs.LawsBlock.{both}

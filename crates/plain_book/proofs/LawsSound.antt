@@ -1,31 +1,30 @@
 -- After every list of calls on a fresh plain book, each key is sound. Assumes nothing.
-use Prim.Native.Nat.{ℕ, zero, suc, _+_, _-_, _^_, _≤_, _<_}
-use mathlib.Core.Bool.{Bool, true, false, cond}
+use Prim.Native.Nat.{ℕ, suc, _+_, _-_, _^_, _≤_, _<_}
 use mathlib.Core.List.{List, [], _∷_, _++_, append-assoc, append-nil}
-use mathlib.Core.Logic.{_⊎_, inl, inr, ⊎-elim}
+use mathlib.Core.Logic.{_⊎_, ⊎-elim}
 use mathlib.Core.Option.{Option, none, some}
 use mathlib.Core.Path.{_≡_, refl, sym, ap, _∙_}
-use native.Mathlib.Nat.{le-trans, le-refl, lt-of-lt-of-le, add-assoc}
+use native.Mathlib.Nat.{le-refl}
 use native.Mathlib.Omega.{arith}
 use lib.ListN.{length, length-append}
-use borrow.Author.Tests.{leb-true, leb-false}
-use Rattle.error.specs.Refusal.{Answer, accepted, refused}
-use Rattle.error.proofs.LawsAnswer.{accepted-inj, went-on}
+use borrow.Author.Tests.{leb-true}
+use Rattle.error.specs.Refusal.{accepted}
+use Rattle.error.proofs.LawsAnswer.{went-on}
 use Rattle.compact.specs.Uleb128.{divided, ulebLen}
 use Rattle.compact.proofs.LawsLength.{len-mono}
-use Rattle.scripthash_layout.specs.Sizes.{slabBytes, maxSlabClass, maxSlabCount, pageClass}
+use Rattle.scripthash_layout.specs.Sizes.{slabBytes, maxSlabClass, pageClass}
 use Rattle.scripthash_stream.specs.Stream.{Rising, lastFrom, streamLen, streamLenFrom}
 use Rattle.scripthash_stream.proofs.LawsStream.{rising-append, stream-len-append}
-use Rattle.scripthash_cutting.specs.Cutting.{pageRoom, lastPageRoom, cutting, replaceLast, joined, Fit, AllowedCutting}
+use Rattle.scripthash_cutting.specs.Cutting.{pageRoom, lastPageRoom, cutting, replaceLast, joined, Fit}
 use Rattle.scripthash_cutting.proofs.LawsPages.{pages-allowed}
 use Rattle.scripthash_cutting.proofs.LawsRising.{rising-words}
 use Rattle.plain_book.specs.Space.{Space, take, takeRun}
-use Rattle.plain_book.specs.Key.{Page, Place, empty, inline, slab, pages, Key, emptyKey, payloadLen, lastPage, noPage, onePage, longer, joins, joinedTo, beginPage, begunAt, Placed, movesTo, stays, moved, appendPages, appendPlace, runPages, loadsTo, loadInto, loadPlace}
-use Rattle.plain_book.proofs.LawsRules.{bytes-mono, stays-holds, Moves, moves-to, loads-to}
+use Rattle.plain_book.specs.Key.{Page, Place, empty, inline, slab, pages, emptyKey, payloadLen, lastPage, noPage, onePage, longer, joins, joinedTo, beginPage, Placed, movesTo, stays, moved, appendPages, appendPlace, runPages, loadsTo, loadInto, loadPlace}
+use Rattle.plain_book.proofs.LawsRules.{bytes-mono, stays-holds, moves-to, loads-to}
 use Rattle.plain_book.proofs.LawsMoves.{placed, which, moved-slab, moved-page}
 use Rattle.plain_book.specs.Book.{fresh, Call, keyOf, after}
 use Rattle.plain_book.proofs.LawsHistory.{Kept, kept-fresh}
-use Rattle.plain_book.specs.Sound.{held, FitsPage, FitPages, Fits, SoundKey}
+use Rattle.plain_book.specs.Sound.{held, FitPages, Fits, SoundKey}
 
 -- ---- a list with one number more
 

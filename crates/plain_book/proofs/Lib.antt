@@ -6,6 +6,7 @@ pub mod LawsSound
 pub mod LawsCeilings
 pub mod LawsApart
 pub mod LawsOwners
+pub mod LawsTaking
 pub mod LawsBlocks
 pub mod LawsMark
 pub mod LawsHeads

@@ -1,6 +1,6 @@
 -- The plain book (01 coins the term): what an account book answers to a list of calls, told with no bytes.
 use Prim.Native.Nat.{ℕ, _+_, _%_, _^_}
-use mathlib.Core.Bool.{Bool, true, false, cond, not, _&&_, _||_}
+use mathlib.Core.Bool.{Bool, true, false, not, _&&_, _||_}
 use mathlib.Core.List.{List, [], _∷_, _++_}
 use lib.Dec.{leb, ltb, eqb}
 use lib.ListN.{length, getD, set, replicate}
@@ -11,7 +11,7 @@ use Rattle.scripthash_layout.specs.Head.{payloadStart}
 use Rattle.scripthash_layout.specs.declared.head.ShHeadValue.{ShHeadValue}
 use Rattle.scripthash_stream.specs.Stream.{maxOffered, lastFrom}
 use Rattle.plain_book.specs.Space.{Space}
-use Rattle.plain_book.specs.Key.{Place, empty, inline, slab, pages, Key, emptyKey, headOf, pagesOf, freedPlace, Placed, appendPlace, loadPlace}
+use Rattle.plain_book.specs.Key.{Place, empty, inline, slab, pages, Key, emptyKey, headOf, pagesOf, freedPlace, appendPlace, loadPlace}
 
 -- A plain book: the length of the body that it stands for, its keys, and its space.
 pub record Book : Type 0 where

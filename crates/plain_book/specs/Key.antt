@@ -12,7 +12,7 @@ use Rattle.scripthash_layout.specs.declared.head.ShHeadValue.the-variants.{Empt
 use Rattle.scripthash_stream.specs.Stream.{lastFrom, streamLen}
 use Rattle.scripthash_slabs.specs.Class.{classByBytes, classWithSlack}
 use Rattle.scripthash_cutting.specs.Cutting.{pageRoom, lastPageRoom, cutting, replaceLast}
-use Rattle.plain_book.specs.Space.{Space, freed, Taken, take, takeRun}
+use Rattle.plain_book.specs.Space.{Space, freed, take, takeRun}
 
 -- A page: its offset, how many bytes of a stream it has room for, and the part of the list that it holds.
 pub record Page : Type 0 where

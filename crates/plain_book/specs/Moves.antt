@@ -1,10 +1,10 @@
 -- How often a key is moved, and how many of its records moves rewrite, from empty to drop.
 use Prim.Native.Nat.{ℕ, suc, _+_}
-use mathlib.Core.Bool.{Bool, cond}
+use mathlib.Core.Bool.{cond}
 use mathlib.Core.List.{List, [], _∷_}
 use lib.Dec.{eqb}
 use Rattle.error.specs.Refusal.{Answer, accepted, refused}
-use Rattle.plain_book.specs.Book.{Book, Call, load, append, read, drop, Told, loaded, appended, listed, dropped, Outcome, does, answerOf, bookAfter}
+use Rattle.plain_book.specs.Book.{Book, Call, load, append, read, drop, Told, loaded, appended, listed, dropped, does, answerOf, bookAfter}
 
 -- The moves of a key since it was last empty, and the records that they rewrote.
 pub record Tally : Type 0 where

@@ -1,0 +1,180 @@
+-- Who has which block after a take: the gap before a page carved, a block in hand, and a run of pages for a key. Assumes nothing.
+use Prim.Native.Nat.{ℕ, zero, suc, _+_, _-_, _*_, _%_, _≤_, _<_}
+use mathlib.Core.Bool.{Bool, true, false, cond}
+use mathlib.Core.List.{List, [], _∷_}
+use mathlib.Core.Logic.{_⊎_, inl, inr, ⊎-elim, _≢_}
+use mathlib.Core.Option.{Option, none, some}
+use mathlib.Core.Path.{_≡_, refl, sym, ap, subst, _∙_}
+use native.Mathlib.Nat.{eq-or-lt-of-le}
+use native.Mathlib.Omega.{arith}
+use lib.Dec.{eqb}
+use lib.ListN.{length, length-set}
+use borrow.Author.Tests.{eqb-true, eqb-false}
+use Rattle.error.specs.Refusal.{accepted}
+use Rattle.error.proofs.LawsAnswer.{accepted-inj, passed}
+use Rattle.scripthash_layout.specs.Sizes.{slabBytes, pageClass, pageSize}
+use Rattle.scripthash_free.specs.FreeList.{Block, isBlock, Adjoin, Each, IsSlab, gapBlocks}
+use Rattle.scripthash_free.proofs.LawsBlock.{stands-block, slab-stands}
+use Rattle.scripthash_free.proofs.LawsGap.{gap-filled, gap-slabs}
+use Rattle.plain_book.specs.Space.{Space, stackOf, freed, freedAll, Taken, pageAfter, takeMark, rounded, takeRun, takeFresh, takeFrom, take}
+use Rattle.plain_book.specs.Key.{Place, pages, runPages}
+use Rattle.plain_book.specs.Owners.{Owner, hand, stack, slabOf, pageOf, pageAt, has}
+use Rattle.plain_book.proofs.LawsApart.{apart-added, apart-run}
+use Rattle.plain_book.proofs.LawsOwners.{some-inj, none-some, below-top, withStack, changed-has, bytes-aligned, Good, good-popped, good-marked, atKey, key-slab, key-page}
+
+-- ---- carving the gap before a page
+
+-- A block at the mark goes onto its stack, and the mark passes it.
+good-carved-one : (s : Space) (at : ℕ → Place) (held : Option Block) (class off : ℕ) → off ≡ s .mark → class ≤ 7 → Good s at held
+    → Good (record { mark = s .mark + slabBytes class; stacks = freed class off s .stacks }) at held
+unfolding has
+good-carved-one s at held class off is c g =
+    let n = g .nine in
+    record {
+      nine = length-set (s .stacks) class (off ∷ stackOf class s) ∙ g .nine;
+      aligned = bytes-aligned (s .mark) class (g .aligned);
+      from = omega (arith, g .from);
+      apart = apart-added _ _ (s .mark) (s .mark + slabBytes class) (stack class (length (stackOf class s))) (record { class = class; off = off }) (omega arith) (omega arith)
+          (slab-stands class off (s .mark + slabBytes class) c (rw is (g .aligned)) (omega (arith, g .from)) (omega arith)) to (g .apart);
+    }
+  where
+    in-nine : class < length (s .stacks)
+    in-nine = let n = g .nine in omega arith
+
+    to : (w : Owner) (x : Block) → has (record { mark = s .mark + slabBytes class; stacks = freed class off s .stacks }) at held w ≡ some x
+        → ((w ≡ stack class (length (stackOf class s))) × (x ≡ record { class = class; off = off })) ⊎ (has s at held w ≡ some x)
+    to hand x e = inr e
+    to (slabOf k) x e = inr e
+    to (pageOf k i) x e = inr e
+    to (stack c' d) x e =
+        ⊎-elim
+        (λ (depth, q, found).
+        ⊎-elim
+        (λ (top, block). inl (q ∙ ap (stack class) top, block))
+        (λ (n, under). inr (subst (λ (v : Owner). has s at held v ≡ some x) (sym q) under))
+        (below-top class depth off (stackOf class s) x found))
+        (λ (n, found). inr found)
+        (changed-has s class (off ∷ stackOf class s) in-nine at held (stack c' d) x e)
+
+-- What is freed doesn't depend on the mark.
+freed-stacks : (bs : List Block) (m m' : ℕ) (st : List (List ℕ))
+    → freedAll bs (record { mark = m; stacks = st }) .stacks ≡ freedAll bs (record { mark = m'; stacks = st }) .stacks
+unfolding freedAll
+freed-stacks [] m m' st = refl
+freed-stacks (b ∷ bs) m m' st = freed-stacks bs m m' _
+
+-- Blocks side by side from the mark on are freed, and the mark passes them.
+good-carved : (bs : List Block) (s : Space) (at : ℕ → Place) (held : Option Block) (end : ℕ) → Adjoin (s .mark) bs end → Each (IsSlab end) bs → Good s at held
+    → Good (record { mark = end; stacks = freedAll bs s .stacks }) at held
+unfolding Adjoin Each freedAll
+good-carved [] s at held end a e g = subst (λ (m : ℕ). Good (record { mark = m; stacks = s .stacks }) at held) a g
+good-carved (b ∷ bs) s at held end (is, a) (b7, e) g =
+    let one = good-carved-one s at held (b .class) (b .off) is (b7 .0) g in
+    let all = good-carved bs (record { mark = s .mark + slabBytes (b .class); stacks = freed (b .class) (b .off) s .stacks }) at held end a e one in
+    subst (λ (st : List (List ℕ)). Good (record { mark = end; stacks = st }) at held)
+    (freed-stacks bs (s .mark + slabBytes (b .class)) (s .mark) (freed (b .class) (b .off) s .stacks))
+    all
+
+-- The mark rounded up to a page.
+pub good-rounded : (s : Space) (at : ℕ → Place) (held : Option Block) → Good s at held → Good (rounded s) at held
+unfolding rounded
+good-rounded s at held g =
+    let up : s .mark ≤ pageAfter (s .mark) = omega arith in
+    let gap : (pageAfter (s .mark) - s .mark) % 16 ≡ 0 = omega (arith, g .aligned) in
+    good-carved (gapBlocks (s .mark) (pageAfter (s .mark))) s at held (pageAfter (s .mark)) (gap-filled (s .mark) (pageAfter (s .mark)) up gap)
+    (gap-slabs (s .mark) (pageAfter (s .mark)) (pageAfter (s .mark)) up (record { aligned = g .aligned; begins = g .from; ends = omega arith }))
+    g
+
+-- A page at a multiple of 4,096 can stand there.
+page-stands : (off end : ℕ) → off % 4096 ≡ 0 → 4096 ≤ off → off + 4096 ≤ end → isBlock pageClass off end ≡ true
+page-stands off end a b e = stands-block pageClass off end (record { class-to-8 = omega arith; aligned = a; begins = b; ends = e })
+
+-- ---- a block is taken
+
+-- What a take gave, from a stack and from the mark.
+took-stack : (end class o : ℕ) (os : List ℕ) (s : Space) {t : Taken} → takeFrom end class (o ∷ os) s ≡ accepted t
+    → t ≡ record { off = o; space = withStack class os s }
+unfolding takeFrom
+took-stack end class o os s e = sym (accepted-inj e)
+
+pub took-mark : (end bytes : ℕ) (s : Space) {t : Taken} → takeMark end bytes s ≡ accepted t
+    → t ≡ record { off = s .mark; space = record { mark = s .mark + bytes; stacks = s .stacks } }
+unfolding takeMark
+took-mark end bytes s e = sym (accepted-inj (passed _ _ _ e .1))
+
+-- What is in hand after a take.
+abbrev pub InHand : (ℕ → Place) → ℕ → Taken → Type 0
+InHand at class t = Good (t .space) at (some (record { class = class; off = t .off }))
+
+-- The mark rounded up lies at a multiple of a page.
+pub rounded-mark : (s : Space) → rounded s .mark % 4096 ≡ 0
+unfolding rounded
+rounded-mark s = omega arith
+
+-- A page from the mark, and a slab.
+good-fresh-page : (end : ℕ) (s : Space) (at : ℕ → Place) {t : Taken} → takeRun end 1 s ≡ accepted t → Good s at none → InHand at pageClass t
+unfolding takeRun
+good-fresh-page end s at e g =
+    let r = good-rounded s at none g in
+    let b : isBlock pageClass (rounded s .mark) (rounded s .mark + slabBytes pageClass) ≡ true =
+    page-stands (rounded s .mark) (rounded s .mark + slabBytes pageClass) (rounded-mark s) (r .from) (omega arith) in
+    subst (InHand at pageClass) (sym (took-mark end (1 * pageSize) (rounded s) e)) (good-marked (rounded s) at pageClass b r)
+
+good-fresh-slab : (end class : ℕ) (s : Space) (at : ℕ → Place) {t : Taken} → class ≤ 7 → takeMark end (slabBytes class) s ≡ accepted t → Good s at none → InHand at class t
+good-fresh-slab end class s at c e g =
+    subst (InHand at class) (sym (took-mark end (slabBytes class) s e))
+    (good-marked s at class (slab-stands class (s .mark) (s .mark + slabBytes class) c (g .aligned) (g .from) (omega arith)) g)
+
+-- A class that is no page's is a slab's.
+slab-class : (class : ℕ) → class ≤ 8 → class ≢ 8 → class ≤ 7
+slab-class class c n = ⊎-elim (λ e. absurd (n e)) (λ l. omega arith) (eq-or-lt-of-le c)
+
+-- A block of a class is taken.
+pub good-taken : (end class : ℕ) (s : Space) (at : ℕ → Place) {t : Taken} → class ≤ 8 → take end class s ≡ accepted t → Good s at none → InHand at class t
+unfolding takeFrom takeFresh
+good-taken end class s at {t} c e g = from-stack (stackOf class s) refl e
+  where
+    fresh : (b : Bool) → eqb class pageClass ≡ b → cond b (takeRun end 1 s) (takeMark end (slabBytes class) s) ≡ accepted t → InHand at class t
+    fresh true q e = subst (λ (k : ℕ). InHand at k t) (sym (eqb-true class pageClass q)) (good-fresh-page end s at e g)
+    fresh false q e = let n = eqb-false class pageClass q in good-fresh-slab end class s at (slab-class class c n) e g
+
+    from-stack : (os : List ℕ) → stackOf class s ≡ os → takeFrom end class os s ≡ accepted t → InHand at class t
+    from-stack (o ∷ os) q e = subst (InHand at class) (sym (took-stack end class o os s e)) (good-popped s at class o os c q g)
+    from-stack [] q e = fresh (eqb class pageClass) refl e
+
+-- ---- a run of pages is taken for a key
+
+run-at : (i off : ℕ) (parts : List (List ℕ)) (x : Block) → pageAt i (runPages off parts) ≡ some x
+    → (x ≡ record { class = pageClass; off = off + i * pageSize }) × (i < length parts)
+unfolding pageAt runPages
+run-at i off [] x e = absurd (none-some e)
+run-at zero off (p ∷ []) x e = (sym (some-inj e) ∙ ap (λ (o : ℕ). record { class = pageClass; off = o }) (omega arith), omega arith)
+run-at (suc i) off (p ∷ []) x e = absurd (none-some e)
+run-at zero off (p ∷ q ∷ ps) x e = (sym (some-inj e) ∙ ap (λ (o : ℕ). record { class = pageClass; off = o }) (omega arith), omega arith)
+run-at (suc i) off (p ∷ q ∷ ps) x e =
+    let (is, l) = run-at i (off + pageSize) (q ∷ ps) x e in
+    (is ∙ ap (λ (o : ℕ). record { class = pageClass; off = o }) (omega arith), omega arith)
+
+pub good-run : (s : Space) (at : ℕ → Place) (key : ℕ) (parts : List (List ℕ)) → s .mark % 4096 ≡ 0 → Good s at none
+    → Good (record { mark = s .mark + length parts * pageSize; stacks = s .stacks }) (atKey key (pages (runPages (s .mark) parts)) at) none
+unfolding has
+good-run s at key parts a g =
+    record {
+      nine = g .nine;
+      aligned = omega arith;
+      from = omega (arith, g .from);
+      apart = apart-run _ _ (s .mark) (s .mark + length parts * pageSize) (length parts) pageSize pageClass (pageOf key) refl (omega arith)
+          (λ i l. page-stands (s .mark + i * pageSize) (s .mark + length parts * pageSize) (omega arith) (omega (arith, g .from)) (omega arith)) to (g .apart);
+    }
+  where
+    to : (w : Owner) (x : Block)
+        → has (record { mark = s .mark + length parts * pageSize; stacks = s .stacks }) (atKey key (pages (runPages (s .mark) parts)) at) none w ≡ some x
+        → ((i : ℕ) × (w ≡ pageOf key i) × (x ≡ record { class = pageClass; off = s .mark + i * pageSize }) × (i < length parts)) ⊎ (has s at none w ≡ some x)
+    to hand x e = inr e
+    to (stack c d) x e = inr e
+    to (slabOf j) x e = ⊎-elim (λ (is, f). absurd (none-some f)) (λ (n, f). inr f) (key-slab key (pages (runPages (s .mark) parts)) at j x e)
+    to (pageOf j i) x e =
+        ⊎-elim
+        (λ (is, f). let (block, l) = run-at i (s .mark) parts x f in inl (i, ap (λ (k : ℕ). pageOf k i) is, block, l))
+        (λ (n, f). inr f)
+        (key-page key (pages (runPages (s .mark) parts)) at j i x e)
