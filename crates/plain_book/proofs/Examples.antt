@@ -1,6 +1,6 @@
 -- Small histories on the plain book, with the run case of document 01: each answer is computed. Assumes nothing.
 use Prim.Native.Nat.{ℕ, zero, suc, _+_, _^_}
-use mathlib.Core.List.{List, [], _∷_}
+use mathlib.Core.List.{List, [], _∷_, _++_}
 use mathlib.Core.Path.{_≡_, refl}
 use Rattle.error.specs.Refusal.{Answer, accepted, refused, refuseIf, andThen}
 use Rattle.compact.specs.Uleb128.{divided, shortest, ulebLen}
@@ -12,7 +12,8 @@ use Rattle.scripthash_cutting.specs.Cutting.{fitting, firstPart, greedyParts, r
 use Rattle.scripthash_free.specs.FreeList.{largestUpTo, blockThen, carve}
 use Rattle.plain_book.specs.Space.{freedAll, takeMark, rounded, takeRun, takeFresh, takeFrom}
 use Rattle.plain_book.specs.Key.{lastPage, headOf, freedPages, freedPlace, stays, larger, movesTo, loadsTo, moved, joins, beginPage, appendPages, appendPlace, runPages, loadInto, loadPlace}
-use Rattle.plain_book.specs.Book.{fresh, load, append, read, drop, Told, loaded, appended, listed, dropped, outOfShape, onKey, offeredNumber, offeredList, loads, appends, reads, drops, does, bookAfter, answerOf, answers}
+use Rattle.plain_book.specs.Moves.{noMoves, counted, talliedBy, tallied, tallyAfter}
+use Rattle.plain_book.specs.Book.{Call, fresh, load, append, read, drop, Told, loaded, appended, listed, dropped, outOfShape, onKey, offeredNumber, offeredList, loads, appends, reads, drops, does, bookAfter, answerOf, answers}
 
 -- An append that is accepted: the key's new place, and the records rewritten.
 abbrev at : ShHeadValue → ℕ → Answer Told
@@ -66,3 +67,13 @@ pub full-page : answers (fresh 16384 2) (load 0 (inARow 1 4072) ∷ append 0 407
     ∷ loads-in 0 ∷ at (Extent 8192) 256 ∷ []
 unfolding refuseIf andThen divided shortest ulebLen lastFrom streamLenFrom firstClass classFor classWithSlack fitting firstPart greedyParts replaceLast largestUpTo blockThen carve freedAll takeMark rounded takeRun takeFresh takeFrom lastPage headOf freedPages freedPlace stays larger movesTo loadsTo moved joins beginPage appendPages appendPlace runPages loadInto loadPlace outOfShape onKey offeredNumber offeredList loads appends reads drops does bookAfter answerOf answers inARow
 full-page = refl
+
+-- k numbers from n on, each larger by a step than the one before, appended to key 0.
+unfoldable pub appendSteps : ℕ → ℕ → ℕ → List Call
+appendSteps n step zero = []
+appendSteps n step (suc k) = append 0 n ∷ appendSteps (n + step) step k
+
+-- The ceiling of 765 records is reached: 6 numbers that are loaded move at 7, 9, 17, 33, 65 and 129 for their slots, at 256 for their bytes, and at 257 to a page.
+pub ceiling-reached : tallyAfter 0 (fresh 65536 1) (load 0 (inARow 1 6) ∷ (appendSteps 7 1 122 ++ appendSteps (128 + 2 ^ 42) (2 ^ 42) 129)) noMoves ≡ record { moves = 8; rewritten = 765 }
+unfolding refuseIf andThen divided shortest ulebLen lastFrom streamLenFrom firstClass classFor classWithSlack fitting firstPart greedyParts replaceLast largestUpTo blockThen carve freedAll takeMark rounded takeRun takeFresh takeFrom lastPage headOf freedPages freedPlace stays larger movesTo loadsTo moved joins beginPage appendPages appendPlace runPages loadInto loadPlace outOfShape onKey offeredNumber offeredList loads appends reads drops does bookAfter answerOf answers inARow appendSteps counted talliedBy tallied tallyAfter
+ceiling-reached = refl
