@@ -22,7 +22,7 @@ use Rattle.plain_book.specs.Book.{Book, fresh, Call, load, append, read,
 use Rattle.plain_book.specs.Owners.{Owner, hand, stack, slabOf, pageOf, atDepth, pageAt, slabAt, pageIn, has, Apart, places}
 use Rattle.plain_book.proofs.LawsRules.{moves-to, loads-to}
 use Rattle.plain_book.proofs.LawsMoves.{which}
-use Rattle.plain_book.proofs.LawsHistory.{load-did, append-did, read-did, drop-did, fresh-key}
+use Rattle.plain_book.proofs.LawsHistory.{all-same, load-did, append-did, read-did, drop-did, fresh-key}
 use Rattle.plain_book.proofs.LawsOwners.{none-some, Good, atKey, good-slab, good-page, good-fewer, good-twice, good-kept, good-freed-place}
 use Rattle.plain_book.proofs.LawsTaking.{InHand, good-rounded, took-mark, rounded-mark, good-taken, good-run}
 
@@ -181,14 +181,9 @@ fresh-good size heads =
       apart = record { stands = λ w x e. absurd (nobody w x e); apart = λ v w x y n e e'. absurd (nobody v x e) };
     }
   where
-    no-stack : (n c : ℕ) → _≡_ {A = List ℕ} (getD (replicate n []) c []) []
-    no-stack zero c = refl
-    no-stack (suc n) zero = refl
-    no-stack (suc n) (suc c) = no-stack n c
-
     nobody : (w : Owner) (x : Block) → has (fresh size heads .space) (places (fresh size heads)) none w ≡ some x → ⊥
     nobody hand x e = none-some e
-    nobody (stack c d) x e = none-some (ap (atDepth c d) (sym (no-stack 9 c)) ∙ e)
+    nobody (stack c d) x e = none-some (ap (atDepth c d) (sym (all-same {A = List ℕ} [] 9 c)) ∙ e)
     nobody (slabOf k) x e = none-some (ap (λ (y : Key). slabAt (y .place)) (sym (fresh-key size heads k)) ∙ e)
     nobody (pageOf k i) x e = none-some (ap (λ (y : Key). pageIn i (y .place)) (sym (fresh-key size heads k)) ∙ e)
 

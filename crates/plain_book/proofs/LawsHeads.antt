@@ -13,6 +13,7 @@ use Rattle.scripthash_layout.specs.declared.head.ShHeadValue.{ShHeadValue}
 use Rattle.scripthash_layout.specs.declared.head.ShHeadValue.the-variants.{Empty, Inline, Slab, Extent}
 use Rattle.scripthash_layout.proofs.LawsHead.{unpack-packed}
 use Rattle.scripthash_stream.specs.Stream.{Rising, lastFrom}
+use Rattle.scripthash_stream.proofs.LawsStream.{last-below}
 use Rattle.scripthash_free.specs.FreeList.{Block}
 use Rattle.scripthash_free.proofs.LawsBlock.{bytes-from-16, block-stands}
 use Rattle.plain_book.specs.Key.{Page, Place, empty, inline, slab, pages, lastPage, noPage, headOf}
@@ -66,12 +67,12 @@ last-at page [] f = absurd f
 last-at page (p ∷ []) f = (0, refl)
 last-at page (p ∷ q ∷ ps) f = let (i, e) = last-at p (q ∷ ps) (f .1) in (suc i, e)
 
--- The last number of a rising list that has one is above 0, and below the limit.
-last-within : (top prev : ℕ) (ns : List ℕ) → Rising top prev ns → 0 < length ns → (prev < lastFrom prev ns) × (lastFrom prev ns < top)
+-- The last number of a rising list that has one is above the one before the list.
+last-above : (top prev : ℕ) (ns : List ℕ) → Rising top prev ns → 0 < length ns → prev < lastFrom prev ns
 unfolding Rising lastFrom
-last-within top prev [] r l = absurd (omega arith)
-last-within top prev (n ∷ []) (a, b, r) l = (a, b)
-last-within top prev (n ∷ m ∷ ns) (a, b, r) l = let (x, y) = last-within top n (m ∷ ns) r (omega arith) in (omega arith, y)
+last-above top prev [] r l = absurd (omega arith)
+last-above top prev (n ∷ []) (a, b, r) l = a
+last-above top prev (n ∷ m ∷ ns) (a, b, r) l = let x = last-above top n (m ∷ ns) r (omega arith) in omega arith
 
 -- After any list of calls on a fresh book of at most 2^30 bytes, each key's place has a head word.
 pub heads-told : (size heads key : ℕ) (cs : List Call) → 4096 ≤ size → size ≤ 2 ^ 30
@@ -93,7 +94,7 @@ heads-told size heads key cs low high = go (keyOf key b .list) (keyOf key b .pla
 
     go : (list : List ℕ) (place : Place) → keyOf key b .place ≡ place → Rising (2 ^ 62) 0 list → Fits list place → Told (headOf list place)
     go list empty is r f = told-empty
-    go list inline is r f = let (a, c) = last-within (2 ^ 62) 0 list r (omega arith) in told-inline (lastFrom 0 list) a c
+    go list inline is r f = told-inline (lastFrom 0 list) (last-above (2 ^ 62) 0 list r (omega arith)) (last-below (2 ^ 62) 0 list (omega arith) r)
     go list (slab class off) is r (c, two, few, bytes) =
         let (a, l) = stands (slabOf key) (record { class = class; off = off }) (ap slabAt is) in
         told-slab class (length list) off c two few l

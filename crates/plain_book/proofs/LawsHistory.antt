@@ -8,7 +8,7 @@ use lib.Dec.{eqb, leb}
 use lib.ListN.{length, getD, replicate}
 use lib.Seq.{getD-set-same, getD-set-other, set-getD}
 use borrow.Author.Tests.{leb-false, eqb-true, eqb-false}
-use Rattle.error.specs.Refusal.{Answer, accepted, refused, shapeBad, keyBeyond}
+use Rattle.error.specs.Refusal.{Answer, accepted, refused, answered, shapeBad, keyBeyond}
 use Rattle.error.proofs.LawsAnswer.{accepted-inj, passed, went-on}
 use Rattle.scripthash_stream.specs.Stream.{Rising, lastFrom}
 use Rattle.plain_book.specs.Space.{Space}
@@ -90,14 +90,15 @@ pub drop-did : (b : Book) (key : ℕ) {o : Outcome} → drops b key ≡ accepted
 unfolding drops
 drop-did b key e = let (within, is) = on-key b key _ e in (within, sym (accepted-inj is))
 
+-- Copies of an element, and that element behind them.
+pub all-same : {A : Type 0} (a : A) (n i : ℕ) → getD (replicate n a) i a ≡ a
+all-same a zero i = refl
+all-same a (suc n) zero = refl
+all-same a (suc n) (suc i) = all-same a n i
+
 -- A key of a fresh book holds nothing.
 pub fresh-key : (size heads key : ℕ) → keyOf key (fresh size heads) ≡ emptyKey
-fresh-key size heads key = go heads key
-  where
-    go : (n i : ℕ) → getD (replicate n emptyKey) i emptyKey ≡ emptyKey
-    go zero i = refl
-    go (suc n) zero = refl
-    go (suc n) (suc i) = go n i
+fresh-key size heads key = all-same emptyKey heads key
 
 -- ---- what calls keep
 
@@ -182,7 +183,7 @@ module _ (P : Key → Tally → Type 0) (kept : Kept P) where
   -- One call keeps what holds of any key: a call that is turned back, or on another key, changes neither the key nor its tally.
   kept-call : (key : ℕ) (b : Book) (c : Call) (t : Tally) (a : Answer Outcome) → does b c ≡ a → P (keyOf key b) t
       → P (keyOf key (bookAfter b a)) (tallied key c (answerOf a) t)
-  unfolding bookAfter answerOf tallied
+  unfolding bookAfter answered tallied
   kept-call key b c t (refused number) e h = h
   kept-call key b c t (accepted o) e h = go (call-changed b c e) (eqb (keyOfCall c) key) refl
     where

@@ -59,7 +59,7 @@ stack-depth e = ap depthOf e
 -- Nothing is as deep as the stack is high, or deeper.
 deep-none : (class depth : ℕ) (os : List ℕ) (x : Block) → atDepth class depth os ≡ some x → depth < length os
 unfolding atDepth
-deep-none class depth [] x e = let z : _≡_ {A = ℕ} 0 1 = cc in absurd (omega arith)
+deep-none class depth [] x e = absurd (none-some e)
 deep-none class depth (o ∷ os) x e = go (eqb depth (length os)) refl e (deep-none class depth os x)
   where
     go : (b : Bool) → eqb depth (length os) ≡ b → cond b (some (record { class = class; off = o })) (atDepth class depth os) ≡ some x
@@ -218,21 +218,22 @@ good-marked s at class b g =
 abbrev pub atKey : ℕ → Place → (ℕ → Place) → ℕ → Place
 atKey key place at j = cond (eqb j key) place (at j)
 
--- A key's slab or page, after the place of a key changed: it is that key's, or another's and as before.
+-- What is told of a key's place, after the place of a key changed: it is that key's, or another's and as before.
 module _ (key : ℕ) (place : Place) (at : ℕ → Place) where
-  pub key-slab : (j : ℕ) (x : Block) → slabAt (atKey key place at j) ≡ some x → ((j ≡ key) × (slabAt place ≡ some x)) ⊎ ((j ≢ key) × (slabAt (at j) ≡ some x))
-  key-slab j x e = go (eqb j key) refl e
+  key-told : (tell : Place → Option Block) (j : ℕ) (x : Block) → tell (atKey key place at j) ≡ some x
+      → ((j ≡ key) × (tell place ≡ some x)) ⊎ ((j ≢ key) × (tell (at j) ≡ some x))
+  key-told tell j x e = go (eqb j key) refl e
     where
-      go : (b : Bool) → eqb j key ≡ b → slabAt (cond b place (at j)) ≡ some x → ((j ≡ key) × (slabAt place ≡ some x)) ⊎ ((j ≢ key) × (slabAt (at j) ≡ some x))
+      go : (b : Bool) → eqb j key ≡ b → tell (cond b place (at j)) ≡ some x → ((j ≡ key) × (tell place ≡ some x)) ⊎ ((j ≢ key) × (tell (at j) ≡ some x))
       go true q e = inl (eqb-true j key q, e)
       go false q e = inr (eqb-false j key q, e)
 
+  -- its slab, and its page at an index
+  pub key-slab : (j : ℕ) (x : Block) → slabAt (atKey key place at j) ≡ some x → ((j ≡ key) × (slabAt place ≡ some x)) ⊎ ((j ≢ key) × (slabAt (at j) ≡ some x))
+  key-slab = key-told slabAt
+
   pub key-page : (j i : ℕ) (x : Block) → pageIn i (atKey key place at j) ≡ some x → ((j ≡ key) × (pageIn i place ≡ some x)) ⊎ ((j ≢ key) × (pageIn i (at j) ≡ some x))
-  key-page j i x e = go (eqb j key) refl e
-    where
-      go : (b : Bool) → eqb j key ≡ b → pageIn i (cond b place (at j)) ≡ some x → ((j ≡ key) × (pageIn i place ≡ some x)) ⊎ ((j ≢ key) × (pageIn i (at j) ≡ some x))
-      go true q e = inl (eqb-true j key q, e)
-      go false q e = inr (eqb-false j key q, e)
+  key-page j i = key-told (pageIn i) j
 
 -- What is in hand becomes a key's slab.
 pub good-slab : (s : Space) (at : ℕ → Place) (key class off : ℕ) → Good s at (some (record { class = class; off = off })) → Good s (atKey key (slab class off) at) none
@@ -391,15 +392,11 @@ good-first-freed s at held key p ps e g =
 pub good-twice : (s : Space) (at : ℕ → Place) (held : Option Block) (key : ℕ) (first second : Place) → Good s (atKey key second (atKey key first at)) held
     → Good s (atKey key second at) held
 good-twice s at held key first second g =
-    good-fewer s (atKey key second (atKey key first at)) (atKey key second at) held (λ j x h. slabs (eqb j key) j x h) (λ j i x h. pgs (eqb j key) j i x h) g
+    good-fewer s (atKey key second (atKey key first at)) (atKey key second at) held (λ j x h. once slabAt (eqb j key) j x h) (λ j i x h. once (pageIn i) (eqb j key) j x h) g
   where
-    slabs : (b : Bool) (j : ℕ) (x : Block) → slabAt (cond b second (at j)) ≡ some x → slabAt (cond b second (cond b first (at j))) ≡ some x
-    slabs true j x h = h
-    slabs false j x h = h
-
-    pgs : (b : Bool) (j i : ℕ) (x : Block) → pageIn i (cond b second (at j)) ≡ some x → pageIn i (cond b second (cond b first (at j))) ≡ some x
-    pgs true j i x h = h
-    pgs false j i x h = h
+    once : (tell : Place → Option Block) (b : Bool) (j : ℕ) (x : Block) → tell (cond b second (at j)) ≡ some x → tell (cond b second (cond b first (at j))) ≡ some x
+    once tell true j x h = h
+    once tell false j x h = h
 
 -- All pages of a key are freed, the first first.
 good-pages-freed : (s : Space) (at : ℕ → Place) (held : Option Block) (key : ℕ) (ps : List Page) → at key ≡ pages ps → Good s at held

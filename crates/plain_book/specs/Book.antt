@@ -4,7 +4,7 @@ use mathlib.Core.Bool.{Bool, true, false, not, _&&_, _||_}
 use mathlib.Core.List.{List, [], _∷_, _++_}
 use lib.Dec.{leb, ltb, eqb}
 use lib.ListN.{length, getD, set, replicate}
-use Rattle.error.specs.Refusal.{Answer, accepted, refused, refuseIf, andThen, listTooShort}
+use Rattle.error.specs.Refusal.{Answer, accepted, refused, refuseIf, andThen, answered, listTooShort}
 use Rattle.error.specs.Refusal.{shapeBad, keyBeyond, keyInUse, tooManyOffered, offeredFirstZero, offeredBit63, offeredTooLarge, offeredNotRising}
 use Rattle.scripthash_layout.specs.Sizes.{pageClass, pageSize}
 use Rattle.scripthash_layout.specs.Head.{payloadStart}
@@ -63,13 +63,15 @@ pub record Outcome : Type 0 where
 
 -- ---- what is turned back
 
--- The least and the greatest length of a body, and the most heads.
+-- The least length of a body.
 abbrev pub leastBody : ℕ
 leastBody = 8192
 
+-- The greatest length of a body.
 abbrev pub mostBody : ℕ
 mostBody = 2 ^ 30
 
+-- The most heads, one for each key.
 abbrev pub mostHeads : ℕ
 mostHeads = 65536
 
@@ -167,9 +169,8 @@ bookAfter b (accepted o) = o .book
 bookAfter b (refused number) = b
 
 -- What a call tells, or its refusal.
-unfoldable pub answerOf : Answer Outcome → Answer Told
-answerOf (accepted o) = accepted (o .told)
-answerOf (refused number) = refused number
+abbrev pub answerOf : Answer Outcome → Answer Told
+answerOf a = answered (λ o. o .told) a
 
 -- The book after a list of calls.
 unfoldable pub after : Book → List Call → Book
