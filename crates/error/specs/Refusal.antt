@@ -151,6 +151,10 @@ modeTwo = 29
 abbrev pub extentPayloadZero : ℕ
 extentPayloadZero = 30
 
+-- A book key isn't sound.
+abbrev pub keyUnsound : ℕ
+keyUnsound = 31
+
 -- A number offered isn't above the one before.
 abbrev pub offeredNotRising : ℕ
 offeredNotRising = 32

@@ -4,6 +4,12 @@
 // A refusal is its number.
 pub type Refusal = u32;
 
+// The book's shape breaks its limits.
+pub const SHAPE_BAD: Refusal = 1;
+// The key is beyond the heads.
+pub const KEY_BEYOND: Refusal = 2;
+// A load meets a key in use.
+pub const KEY_IN_USE: Refusal = 3;
 // A page buffer isn't 4,096 bytes.
 pub const PAGE_LENGTH: Refusal = 4;
 // A link offset isn't a multiple of 4,096.
@@ -24,6 +30,8 @@ pub const SLAB_TOO_SHORT: Refusal = 11;
 pub const OFFERED_FIRST_ZERO: Refusal = 12;
 // A number offered has bit 63 set.
 pub const OFFERED_BIT_63: Refusal = 13;
+// A book is offered 2^62 or more.
+pub const OFFERED_TOO_LARGE: Refusal = 14;
 // A page's count exceeds its capacity.
 pub const COUNT_ABOVE_CAPACITY: Refusal = 15;
 // The version is another, or 0 with a count.
@@ -56,6 +64,8 @@ pub const SLAB_USED_TOO_SMALL: Refusal = 28;
 pub const MODE_TWO: Refusal = 29;
 // Mode 3 has payload 0.
 pub const EXTENT_PAYLOAD_ZERO: Refusal = 30;
+// A book key isn't sound.
+pub const KEY_UNSOUND: Refusal = 31;
 // A number offered isn't above the one before.
 pub const OFFERED_NOT_RISING: Refusal = 32;
 // What is to be written doesn't fit its destination.
@@ -64,3 +74,5 @@ pub const DOES_NOT_FIT: Refusal = 33;
 pub const LIST_TOO_SHORT: Refusal = 34;
 // A free head to be popped isn't a multiple of 16 (page: 4,096), or its block leaves 4,096 to the mark.
 pub const FREE_HEAD_BAD: Refusal = 35;
+// No room: the block or run would pass the body's end.
+pub const NO_ROOM: Refusal = 36;
