@@ -1,2 +1,3 @@
 pub mod LawsSizes
 pub mod LawsHead
+pub mod LawsWords
