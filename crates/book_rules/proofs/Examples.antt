@@ -1,0 +1,58 @@
+-- The rules at their boundaries: each value is computed. Assumes nothing.
+use Prim.Native.Nat.{ℕ, _-_, _^_}
+use mathlib.Core.Bool.{true, false}
+use mathlib.Core.List.{List, [], _∷_}
+use mathlib.Core.Option.{none, some}
+use mathlib.Core.Path.{_≡_, refl}
+use Rattle.error.specs.Refusal.{accepted, refused, refuseIf, refusalOf}
+use Rattle.scripthash_layout.specs.declared.head.ShHeadValue.the-variants.{Inline, Slab}
+use Rattle.scripthash_slabs.specs.Class.{firstClass, classFor, classWithSlack}
+use Rattle.book_rules.specs.Calls.{load, append, read, drop, loaded, appended, listed, dropped}
+use Rattle.book_rules.specs.Recorded.{recordedBy, recordedAfter, recorded}
+use Rattle.book_rules.specs.Limits.{outOfShape, offeredNumber, offeredList}
+use Rattle.book_rules.specs.Places.{stays, larger, movesTo, loadsTo, pageAfter}
+
+-- A list moves to the larger of its slack class and its class by bytes: five numbers of a byte, four of 9 bytes, 256 and 257 numbers, 2,046 and 2,047 bytes.
+pub moves-at : (movesTo 5 5 ≡ some 1) × (movesTo 4 36 ≡ some 2) × (movesTo 256 256 ≡ some 6) × (movesTo 257 257 ≡ none)
+    × (movesTo 250 2046 ≡ some 7) × (movesTo 250 2047 ≡ none)
+unfolding movesTo larger classWithSlack classFor firstClass
+moves-at = (refl, refl, refl, refl, refl, refl)
+
+-- A load goes by bytes alone: 14 and 15 numbers of a byte, 256 and 257.
+pub loads-at : (loadsTo 14 14 ≡ some 0) × (loadsTo 15 15 ≡ some 1) × (loadsTo 256 256 ≡ some 5) × (loadsTo 257 257 ≡ none)
+unfolding loadsTo classFor firstClass
+loads-at = (refl, refl, refl, refl)
+
+-- Four numbers stay in a slab of class 0, five have no slots there, and 15 bytes don't fit.
+pub stays-at : (stays 0 4 14 ≡ true) × (stays 0 5 5 ≡ false) × (stays 0 4 15 ≡ false) × (stays 6 256 1022 ≡ true) × (stays 7 257 257 ≡ false)
+unfolding stays
+stays-at = (refl, refl, refl, refl, refl)
+
+-- Bodies and heads at their limits.
+pub shapes-at : (outOfShape 8192 1 ≡ false) × (outOfShape 4096 1 ≡ true) × (outOfShape 8200 1 ≡ true) × (outOfShape (2 ^ 30) 65536 ≡ false)
+    × (outOfShape (2 ^ 30) 65537 ≡ true) × (outOfShape 8192 0 ≡ true)
+unfolding outOfShape
+shapes-at = (refl, refl, refl, refl, refl, refl)
+
+-- The refusal of a list that is offered, 0 where it isn't refused.
+abbrev pub offering : List ℕ → ℕ
+offering ns = refusalOf (offeredList {A = Unit {0}} true 0 ns (accepted tt))
+
+-- Numbers are judged one by one, each by the first test that it fails.
+pub offered-at : (offering (0 ∷ []) ≡ 12) × (offering (2 ^ 63 ∷ []) ≡ 13) × (offering (2 ^ 62 ∷ []) ≡ 14) × (offering (5 ∷ 3 ∷ 2 ^ 63 ∷ []) ≡ 32)
+    × (offering (5 ∷ 0 ∷ []) ≡ 32) × (offering (5 ∷ (2 ^ 62 - 1) ∷ []) ≡ 0)
+unfolding offeredList offeredNumber refuseIf
+offered-at = (refl, refl, refl, refl, refl, refl)
+
+-- A mark is rounded up to a page, or stays.
+pub rounded-at : (pageAfter 4096 ≡ 4096) × (pageAfter 4112 ≡ 8192) × (pageAfter 8192 ≡ 8192)
+rounded-at = (refl, refl, refl)
+
+-- What is recorded for key 0: a drop ends it, a load and an append record, and a call that is turned back or on another key doesn't.
+pub recorded-at : recorded 0 (append 0 4 ∷ drop 0 ∷ load 0 (5 ∷ 9 ∷ []) ∷ append 0 3 ∷ append 1 7 ∷ append 0 12 ∷ read 0 3 ∷ [])
+    (accepted (appended (record { place = Inline 4 1; rewritten = 0 })) ∷ accepted (dropped (record { length = 1 })) ∷ accepted (loaded (record { pages = 0 })) ∷ refused 32
+    ∷ accepted (appended (record { place = Inline 7 1; rewritten = 0 })) ∷ accepted (appended (record { place = Slab 0 3 4096; rewritten = 0 }))
+    ∷ accepted (listed (record { numbers = 5 ∷ 9 ∷ 12 ∷ []; pages = 0 })) ∷ []) []
+    ≡ 5 ∷ 9 ∷ 12 ∷ []
+unfolding recorded recordedAfter recordedBy
+recorded-at = refl

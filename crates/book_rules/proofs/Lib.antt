@@ -1,0 +1,5 @@
+pub mod LawsRules
+pub mod LawsLimits
+pub mod LawsOffered
+pub mod LawsCalls
+pub mod Examples
