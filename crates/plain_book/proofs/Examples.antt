@@ -11,9 +11,12 @@ use Rattle.scripthash_slabs.specs.Class.{firstClass, classFor, classWithSlack}
 use Rattle.scripthash_cutting.specs.Cutting.{fitting, firstPart, greedyParts, replaceLast}
 use Rattle.scripthash_free.specs.FreeList.{largestUpTo, blockThen, carve}
 use Rattle.plain_book.specs.Space.{freedAll, takeMark, rounded, takeRun, takeFresh, takeFrom}
-use Rattle.plain_book.specs.Key.{lastPage, headOf, freedPages, freedPlace, stays, larger, movesTo, loadsTo, moved, joins, beginPage, appendPages, appendPlace, runPages, loadInto, loadPlace}
-use Rattle.plain_book.specs.Moves.{noMoves, counted, talliedBy, tallied, tallyAfter}
-use Rattle.plain_book.specs.Book.{Call, fresh, load, append, read, drop, Told, loaded, appended, listed, dropped, outOfShape, onKey, offeredNumber, offeredList, loads, appends, reads, drops, does, bookAfter, answers}
+use Rattle.book_rules.specs.Places.{stays, larger, movesTo, loadsTo}
+use Rattle.plain_book.specs.Key.{written, longer, lastPage, headOf, freedPages, freedPlace, moved, joins, beginPage, appendPages, appendPlace, runPages, loadInto, loadPlace}
+use Rattle.book_rules.specs.Moves.{Tally, noMoves, counted, talliedBy, tallied, tallyOf}
+use Rattle.book_rules.specs.Calls.{Call, load, append, read, drop, Told, loaded, appended, listed, dropped, bookAfter, answersTo}
+use Rattle.book_rules.specs.Limits.{outOfShape, offeredNumber, offeredList}
+use Rattle.plain_book.specs.Book.{fresh, onKey, loads, appends, reads, drops, does, answers}
 
 -- An append that is accepted: the key's new place, and the records rewritten.
 abbrev at : ShHeadValue → ℕ → Answer Told
@@ -31,33 +34,33 @@ inARow n (suc k) = n ∷ inARow (n + 1) k
 -- 5, 300, 301, 302, 303 to key 0 move at 300 and at 303; 9, 10 to key 1 take the block that was freed.
 pub run-case : answers (fresh 8192 2) (append 0 5 ∷ append 0 300 ∷ append 0 301 ∷ append 0 302 ∷ append 0 303 ∷ append 1 9 ∷ append 1 10 ∷ [])
     ≡ at (Inline 5 1) 0 ∷ at (Slab 0 2 4096) 1 ∷ at (Slab 0 3 4096) 0 ∷ at (Slab 0 4 4096) 0 ∷ at (Slab 1 5 4112) 4 ∷ at (Inline 9 1) 0 ∷ at (Slab 0 2 4096) 1 ∷ []
-unfolding refuseIf andThen divided shortest ulebLen lastFrom streamLenFrom firstClass classFor classWithSlack takeMark takeFresh takeFrom headOf freedPlace stays larger movesTo moved appendPlace outOfShape onKey offeredNumber appends does bookAfter answered answers
+unfolding refuseIf andThen divided shortest ulebLen lastFrom streamLenFrom firstClass classFor classWithSlack takeMark takeFresh takeFrom headOf freedPlace stays larger movesTo moved written longer appendPlace outOfShape onKey offeredNumber appends does bookAfter answered answersTo
 run-case = refl
 
 -- What is turned back: the shape, a key beyond the heads, a key in use, and numbers that can't be offered.
 pub turned-back : (answers (fresh 4096 1) (read 0 0 ∷ []) ≡ refused 1 ∷ [])
     × (answers (fresh 8192 1) (append 1 5 ∷ append 0 0 ∷ append 0 (2 ^ 63) ∷ append 0 (2 ^ 62) ∷ append 0 5 ∷ append 0 5 ∷ load 0 [] ∷ read 0 0 ∷ [])
     ≡ refused 2 ∷ refused 12 ∷ refused 13 ∷ refused 14 ∷ at (Inline 5 1) 0 ∷ refused 32 ∷ refused 3 ∷ refused 34 ∷ [])
-unfolding refuseIf andThen headOf appendPlace outOfShape onKey offeredNumber appends reads loads does bookAfter answered answers lastFrom
+unfolding refuseIf andThen headOf written longer appendPlace outOfShape onKey offeredNumber appends reads loads does bookAfter answered answersTo lastFrom
 turned-back = (refl, refl)
 
 -- A list by bytes goes to a slab that has fewer slots than numbers, and moves with the next; a drop frees its block for another key.
 pub loaded-slab : answers (fresh 8192 2) (load 0 (inARow 1 14) ∷ append 0 15 ∷ read 0 15 ∷ drop 0 ∷ read 0 0 ∷ load 1 (inARow 1 40) ∷ [])
     ≡ loads-in 0 ∷ at (Slab 2 15 4112) 14 ∷ accepted (listed (record { numbers = inARow 1 15; pages = 0 })) ∷ accepted (dropped (record { length = 15 }))
     ∷ accepted (listed (record { numbers = []; pages = 0 })) ∷ loads-in 0 ∷ []
-unfolding refuseIf andThen divided shortest ulebLen lastFrom streamLenFrom firstClass classFor classWithSlack takeMark takeFresh takeFrom headOf freedPlace stays larger movesTo loadsTo moved appendPlace loadInto loadPlace outOfShape onKey offeredNumber offeredList loads appends reads drops does bookAfter answered answers inARow
+unfolding refuseIf andThen divided shortest ulebLen lastFrom streamLenFrom firstClass classFor classWithSlack takeMark takeFresh takeFrom headOf freedPlace stays larger movesTo loadsTo moved written longer appendPlace loadInto loadPlace outOfShape onKey offeredNumber offeredList loads appends reads drops does bookAfter answered answersTo inARow
 loaded-slab = refl
 
 -- A load's class is by bytes: 15 numbers of a byte each need 17, and four of 9 bytes each need 38.
 pub loaded-by-bytes : answers (fresh 8192 3) (load 0 (inARow 1 15) ∷ load 1 (2 ^ 56 ∷ 2 ^ 57 ∷ 2 ^ 58 ∷ 2 ^ 59 ∷ []) ∷ append 2 5 ∷ append 2 6 ∷ [])
     ≡ loads-in 0 ∷ loads-in 0 ∷ at (Inline 5 1) 0 ∷ at (Slab 0 2 4192) 1 ∷ []
-unfolding refuseIf andThen divided shortest ulebLen lastFrom streamLenFrom firstClass classFor classWithSlack takeMark takeFresh takeFrom headOf freedPlace stays larger movesTo loadsTo moved appendPlace loadInto loadPlace outOfShape onKey offeredNumber offeredList loads appends reads drops does bookAfter answered answers inARow
+unfolding refuseIf andThen divided shortest ulebLen lastFrom streamLenFrom firstClass classFor classWithSlack takeMark takeFresh takeFrom headOf freedPlace stays larger movesTo loadsTo moved written longer appendPlace loadInto loadPlace outOfShape onKey offeredNumber offeredList loads appends reads drops does bookAfter answered answersTo inARow
 loaded-by-bytes = refl
 
 -- A list of 4,073 goes to a run of two pages, behind the mark rounded up; the body is full then, but the gap before the run was carved.
 pub loaded-run : answers (fresh 16384 3) (append 0 1 ∷ append 0 2 ∷ load 1 (inARow 1 4073) ∷ append 1 4074 ∷ load 2 (inARow 1 300) ∷ load 2 (inARow 1 256) ∷ [])
     ≡ at (Inline 1 1) 0 ∷ at (Slab 0 2 4096) 1 ∷ loads-in 2 ∷ at (Extent 12288) 0 ∷ refused 36 ∷ loads-in 0 ∷ []
-unfolding refuseIf andThen divided shortest ulebLen lastFrom streamLenFrom firstClass classFor classWithSlack fitting firstPart greedyParts replaceLast largestUpTo blockThen carve freedAll takeMark rounded takeRun takeFresh takeFrom lastPage headOf freedPages freedPlace stays larger movesTo loadsTo moved joins beginPage appendPages appendPlace runPages loadInto loadPlace outOfShape onKey offeredNumber offeredList loads appends reads drops does bookAfter answered answers inARow
+unfolding refuseIf andThen divided shortest ulebLen lastFrom streamLenFrom firstClass classFor classWithSlack fitting firstPart greedyParts replaceLast largestUpTo blockThen carve freedAll takeMark rounded takeRun takeFresh takeFrom lastPage headOf freedPages freedPlace stays larger movesTo loadsTo moved joins beginPage appendPages written longer appendPlace runPages loadInto loadPlace outOfShape onKey offeredNumber offeredList loads appends reads drops does bookAfter answered answersTo inARow
 loaded-run = refl
 
 -- A page of 4,072 bytes is full, so that the next number begins another. A drop frees the first page first, so that the last one is taken again,
@@ -65,7 +68,7 @@ loaded-run = refl
 pub full-page : answers (fresh 16384 2) (load 0 (inARow 1 4072) ∷ append 0 4073 ∷ read 0 4073 ∷ drop 0 ∷ load 1 (inARow 1 256) ∷ append 1 257 ∷ [])
     ≡ loads-in 1 ∷ at (Extent 8192) 0 ∷ accepted (listed (record { numbers = inARow 1 4073; pages = 2 })) ∷ accepted (dropped (record { length = 4073 }))
     ∷ loads-in 0 ∷ at (Extent 8192) 256 ∷ []
-unfolding refuseIf andThen divided shortest ulebLen lastFrom streamLenFrom firstClass classFor classWithSlack fitting firstPart greedyParts replaceLast largestUpTo blockThen carve freedAll takeMark rounded takeRun takeFresh takeFrom lastPage headOf freedPages freedPlace stays larger movesTo loadsTo moved joins beginPage appendPages appendPlace runPages loadInto loadPlace outOfShape onKey offeredNumber offeredList loads appends reads drops does bookAfter answered answers inARow
+unfolding refuseIf andThen divided shortest ulebLen lastFrom streamLenFrom firstClass classFor classWithSlack fitting firstPart greedyParts replaceLast largestUpTo blockThen carve freedAll takeMark rounded takeRun takeFresh takeFrom lastPage headOf freedPages freedPlace stays larger movesTo loadsTo moved joins beginPage appendPages written longer appendPlace runPages loadInto loadPlace outOfShape onKey offeredNumber offeredList loads appends reads drops does bookAfter answered answersTo inARow
 full-page = refl
 
 -- k numbers from n on, each larger by a step than the one before, appended to key 0.
@@ -73,7 +76,16 @@ unfoldable pub appendSteps : ℕ → ℕ → ℕ → List Call
 appendSteps n step zero = []
 appendSteps n step (suc k) = append 0 n ∷ appendSteps (n + step) step k
 
+-- The tally of key 0 after some calls on a fresh book with one key.
+unfoldable pub tallyAfter : List Call → Tally
+tallyAfter cs = tallyOf 0 cs (answers (fresh 65536 1) cs) noMoves
+
 -- The ceiling of 765 records is reached: 6 numbers that are loaded move at 7, 9, 17, 33, 65 and 129 for their slots, at 256 for their bytes, and at 257 to a page.
-pub ceiling-reached : tallyAfter 0 (fresh 65536 1) (load 0 (inARow 1 6) ∷ (appendSteps 7 1 122 ++ appendSteps (128 + 2 ^ 42) (2 ^ 42) 129)) noMoves ≡ record { moves = 8; rewritten = 765 }
-unfolding refuseIf andThen divided shortest ulebLen lastFrom streamLenFrom firstClass classFor classWithSlack fitting firstPart greedyParts replaceLast largestUpTo blockThen carve freedAll takeMark rounded takeRun takeFresh takeFrom lastPage headOf freedPages freedPlace stays larger movesTo loadsTo moved joins beginPage appendPages appendPlace runPages loadInto loadPlace outOfShape onKey offeredNumber offeredList loads appends reads drops does bookAfter answered answers inARow appendSteps counted talliedBy tallied tallyAfter
-ceiling-reached = refl
+pub records-reached : tallyAfter (load 0 (inARow 1 6) ∷ (appendSteps 7 1 122 ++ appendSteps (128 + 2 ^ 42) (2 ^ 42) 129)) ≡ record { moves = 8; rewritten = 765 }
+unfolding refuseIf andThen divided shortest ulebLen lastFrom streamLenFrom firstClass classFor classWithSlack fitting firstPart greedyParts replaceLast largestUpTo blockThen carve freedAll takeMark rounded takeRun takeFresh takeFrom lastPage headOf freedPages freedPlace stays larger movesTo loadsTo moved joins beginPage appendPages written longer appendPlace runPages loadInto loadPlace outOfShape onKey offeredNumber offeredList loads appends reads drops does bookAfter answered answersTo inARow appendSteps counted talliedBy tallied tallyOf tallyAfter
+records-reached = refl
+
+-- The ceiling of 9 moves is reached: 1 to 146 are appended, and 111 more in steps of 2^50.
+pub moves-reached : tallyAfter (appendSteps 1 1 146 ++ appendSteps (146 + 2 ^ 50) (2 ^ 50) 111) ≡ record { moves = 9; rewritten = 764 }
+unfolding refuseIf andThen divided shortest ulebLen lastFrom streamLenFrom firstClass classFor classWithSlack fitting firstPart greedyParts replaceLast largestUpTo blockThen carve freedAll takeMark rounded takeRun takeFresh takeFrom lastPage headOf freedPages freedPlace stays larger movesTo loadsTo moved joins beginPage appendPages written longer appendPlace runPages loadInto loadPlace outOfShape onKey offeredNumber offeredList loads appends reads drops does bookAfter answered answersTo inARow appendSteps counted talliedBy tallied tallyOf tallyAfter
+moves-reached = refl

@@ -2,12 +2,12 @@
 use Prim.Native.Nat.{ℕ, zero, suc, _*_, _≤_, _<_}
 use mathlib.Core.Bool.{Bool, true, false, cond}
 use mathlib.Core.List.{List, [], _∷_}
-use mathlib.Core.Logic.{_⊎_, ⊎-elim}
+use mathlib.Core.Logic.{⊎-elim}
 use mathlib.Core.Option.{Option, none, some}
 use mathlib.Core.Path.{_≡_, refl, sym, ap, subst, _∙_}
 use native.Mathlib.Omega.{arith}
 use lib.Dec.{eqb}
-use lib.ListN.{length, getD, set, replicate}
+use lib.ListN.{length, getD, set}
 use lib.Seq.{getD-set-same, getD-set-other}
 use borrow.Author.Tests.{eqb-true, eqb-false}
 use Rattle.error.specs.Refusal.{Answer, accepted, refused}
@@ -16,18 +16,22 @@ use Rattle.scripthash_layout.specs.Sizes.{pageClass, pageSize}
 use Rattle.scripthash_stream.specs.Stream.{streamLen}
 use Rattle.scripthash_cutting.specs.Cutting.{cutting, replaceLast}
 use Rattle.scripthash_free.specs.FreeList.{Block}
-use Rattle.plain_book.specs.Space.{Space, Taken, take, takeRun, rounded}
-use Rattle.plain_book.specs.Key.{Key, emptyKey, Page, Place, empty, inline, slab, pages, onePage, freedPlace, Placed, stays, movesTo, moved, longer, joins, joinedTo, beginPage, appendPages, appendPlace, runPages, loadsTo, loadInto, loadPlace}
-use Rattle.plain_book.specs.Book.{Book, fresh, Call, load, append, read, drop, Outcome, keyOf, withKey, extended, does, bookAfter, after}
+use Rattle.plain_book.specs.Space.{Space, Taken, takeBlock, takeRun, rounded}
+use Rattle.book_rules.specs.Places.{stays, movesTo, loadsTo}
+use Rattle.plain_book.specs.Key.{Key, emptyKey, Page, Place, empty, inline, slab, pages, onePage, freedPlace, Placed, written, longer, longerPage, moved, joins, joinedTo, beginPage, appendPages, appendPlace, runPages, loadInto, loadPlace}
+use Rattle.book_rules.specs.Calls.{Call, load, append, read, drop, bookAfter}
+use Rattle.plain_book.specs.Book.{Book, fresh, Outcome, keyOf, withKey, extended, does, after}
 use Rattle.plain_book.specs.Owners.{Owner, hand, stack, slabOf, pageOf, atDepth, pageAt, slabAt, pageIn, has, Apart, places}
-use Rattle.plain_book.proofs.LawsRules.{moves-to, loads-to}
+use Rattle.plain_book.specs.Good.{Good}
+use Rattle.book_rules.proofs.LawsRules.{moves-to, loads-to}
+use Rattle.book_rules.proofs.LawsCalls.{calls-keep}
 use Rattle.plain_book.proofs.LawsMoves.{which}
 use Rattle.plain_book.proofs.LawsHistory.{all-same, load-did, append-did, read-did, drop-did, fresh-key}
-use Rattle.plain_book.proofs.LawsOwners.{none-some, Good, atKey, good-slab, good-page, good-fewer, good-twice, good-kept, good-freed-place}
+use Rattle.plain_book.proofs.LawsOwners.{none-some, atKey, good-slab, good-page, good-fewer, good-twice, good-kept, good-freed-place}
 use Rattle.plain_book.proofs.LawsTaking.{InHand, good-rounded, took-mark, rounded-mark, good-taken, good-run}
 
 -- What an append or a load of a key leaves is good.
-abbrev Leaves : (ℕ → Place) → ℕ → Placed → Type 0
+abbrev pub Leaves : (ℕ → Place) → ℕ → Placed → Type 0
 Leaves at key p = Good (p .space) (atKey key (p .place) at) none
 
 -- From what an answer is, to what it leaves.
@@ -46,12 +50,13 @@ moved-good : (end held : ℕ) (list : List ℕ) (s : Space) (at : ℕ → Place)
     → ((c : ℕ) → o ≡ some c → c ≤ 8) → at key ≡ old → moved end o held list old s ≡ accepted p → Good s at none → Leaves at key p
 unfolding moved
 moved-good end held list s at key old (some c) few is e g =
-    let (t, got, q) = went-on (take end c s) _ e in
+    let (t, got, q) = went-on (takeBlock end c s) _ e in
     let h : InHand at c t = good-taken end c s at (few c refl) got g in
     let f = good-freed-place (t .space) at (some (record { class = c; off = t .off })) key old is h in
-    leaves at key q (good-twice (freedPlace old (t .space)) at none key empty (slab c (t .off)) (good-slab (freedPlace old (t .space)) (atKey key empty at) key c (t .off) f))
+    leaves at key q (good-twice (freedPlace old (t .space)) at none key empty (slab c (t .off) (written list))
+    (good-slab (freedPlace old (t .space)) (atKey key empty at) key c (t .off) (written list) f))
 moved-good end held list s at key old none few is e g =
-    let (t, got, q) = went-on (take end pageClass s) _ e in
+    let (t, got, q) = went-on (takeBlock end pageClass s) _ e in
     let h : InHand at pageClass t = good-taken end pageClass s at (omega arith) got g in
     let f = good-freed-place (t .space) at (some (record { class = pageClass; off = t .off })) key old is h in
     leaves at key q
@@ -61,7 +66,7 @@ moved-good end held list s at key old none few is e g =
 -- ---- pages
 
 -- The pages of a list whose last one has a number more stand where they stood.
-joined-at : (i n : ℕ) (ps : List Page) → pageAt i (replaceLast (λ p. longer n p ∷ []) ps) ≡ pageAt i ps
+pub joined-at : (i n : ℕ) (ps : List Page) → pageAt i (replaceLast (λ p. longerPage n p ∷ []) ps) ≡ pageAt i ps
 unfolding pageAt replaceLast
 joined-at i n [] = refl
 joined-at zero n (p ∷ []) = refl
@@ -78,7 +83,7 @@ pages-good end ps n s at key is e g =
     leaves at key q
     (good-kept s at none key (joinedTo n ps) (λ x h. absurd (none-some h)) (λ i x h. ap (pageIn i) is ∙ sym (joined-at i n ps) ∙ h) g))
     (λ (b, q).
-    let (t, got, q') = went-on (take end pageClass s) _ q in
+    let (t, got, q') = went-on (takeBlock end pageClass s) _ q in
     let h : InHand at pageClass t = good-taken end pageClass s at (omega arith) got g in
     leaves at key q' (good-page (t .space) at key (t .off) ps (n ∷ []) (λ i x z. ap (pageIn i) is ∙ z) h))
     (which (joins n ps) (accepted (record { place = joinedTo n ps; space = s; rewritten = 0 })) (beginPage end ps n s) e)
@@ -92,12 +97,12 @@ append-good end held list n s at key empty is e g =
     leaves at key e (good-kept s at none key inline (λ x h. absurd (none-some h)) (λ i x h. absurd (none-some h)) g)
 append-good end held list n s at key inline is e g =
     moved-good end held list s at key inline (movesTo (length list) (streamLen list)) (λ c q. let m = moves-to (length list) (streamLen list) q in omega (arith, m .slab)) is e g
-append-good end held list n s at key (slab class off) is e g =
+append-good end held list n s at key (slab class off kept) is e g =
     ⊎-elim
-    (λ (b, q). leaves at key q (good-kept s at none key (slab class off) (λ x h. ap slabAt is ∙ h) (λ i x h. absurd (none-some h)) g))
+    (λ (b, q). leaves at key q (good-kept s at none key (slab class off (longer n kept)) (λ x h. ap slabAt is ∙ h) (λ i x h. absurd (none-some h)) g))
     (λ (b, q).
-    moved-good end held list s at key (slab class off) (movesTo (length list) (streamLen list)) (λ c z. let m = moves-to (length list) (streamLen list) z in omega (arith, m .slab)) is q g)
-    (which (stays class (length list) (streamLen list)) _ _ e)
+    moved-good end held list s at key (slab class off kept) (movesTo (length list) (streamLen list)) (λ c z. let m = moves-to (length list) (streamLen list) z in omega (arith, m .slab)) is q g)
+    (which (stays class (length list) (longer n kept .bytes)) _ _ e)
 append-good end held list n s at key (pages ps) is e g = pages-good end ps n s at key is e g
 
 load-good : (end : ℕ) (ns : List ℕ) (s : Space) (at : ℕ → Place) (key : ℕ) {p : Placed} → loadPlace end ns s ≡ accepted p → Good s at none → Leaves at key p
@@ -108,9 +113,9 @@ load-good end (n ∷ m ∷ ns) s at key {p} e g = go (loadsTo (length (n ∷ m �
   where
     go : (o : Option ℕ) → loadsTo (length (n ∷ m ∷ ns)) (streamLen (n ∷ m ∷ ns)) ≡ o → loadInto end o (n ∷ m ∷ ns) s ≡ accepted p → Leaves at key p
     go (some c) q e =
-        let (t, got, q') = went-on (take end c s) _ e in
+        let (t, got, q') = went-on (takeBlock end c s) _ e in
         let (few, class, fits) = loads-to (length (n ∷ m ∷ ns)) (streamLen (n ∷ m ∷ ns)) q in
-        leaves at key q' (good-slab (t .space) at key c (t .off) (good-taken end c s at (omega arith) got g))
+        leaves at key q' (good-slab (t .space) at key c (t .off) (written (n ∷ m ∷ ns)) (good-taken end c s at (omega arith) got g))
     go none q e =
         let parts = cutting (n ∷ m ∷ ns) in
         let (t, got, q') = went-on (takeRun end (length parts) s) _ e in
@@ -121,12 +126,12 @@ load-good end (n ∷ m ∷ ns) s at key {p} e g = go (loadsTo (length (n ∷ m �
 
 -- ---- books
 
--- A good book: its space is good, with its keys' places and nothing in hand.
-abbrev GoodBook : Book → Type 0
-GoodBook b = Good (b .space) (places b) none
+-- A book's space is good, with its keys' places and nothing in hand.
+abbrev pub GoodSpace : Book → Type 0
+GoodSpace b = Good (b .space) (places b) none
 
 -- The places of a book with a key changed.
-key-place : (b : Book) (key : ℕ) (list : List ℕ) (place : Place) (space : Space) → key < length (b .keys) → (j : ℕ)
+pub key-place : (b : Book) (key : ℕ) (list : List ℕ) (place : Place) (space : Space) → key < length (b .keys) → (j : ℕ)
     → places (withKey key list place space b) j ≡ atKey key place (places b) j
 key-place b key list place space l j = go (eqb j key) refl
   where
@@ -137,43 +142,38 @@ key-place b key list place space l j = go (eqb j key) refl
         ∙ ap (λ (k : Key). k .place) (getD-set-same (b .keys) key _ emptyKey l)
     go false q = ap (λ (k : Key). k .place) (getD-set-other (b .keys) key j _ emptyKey (eqb-false j key q))
 
-good-with : (b : Book) (key : ℕ) (list : List ℕ) (place : Place) (space : Space) → key < length (b .keys) → Good space (atKey key place (places b)) none
-    → GoodBook (withKey key list place space b)
+pub good-with : (b : Book) (key : ℕ) (list : List ℕ) (place : Place) (space : Space) → key < length (b .keys) → Good space (atKey key place (places b)) none
+    → GoodSpace (withKey key list place space b)
 good-with b key list place space l g =
     good-fewer space (atKey key place (places b)) (places (withKey key list place space b)) none
     (λ j x h. ap slabAt (sym (key-place b key list place space l j)) ∙ h)
     (λ j i x h. ap (pageIn i) (sym (key-place b key list place space l j)) ∙ h)
     g
 
--- A call keeps a book good.
-call-good : (b : Book) (c : Call) (a : Answer Outcome) → does b c ≡ a → GoodBook b → GoodBook (bookAfter b a)
+-- A call keeps a book's space good.
+pub call-space : (b : Book) (c : Call) (a : Answer Outcome) → does b c ≡ a → GoodSpace b → GoodSpace (bookAfter b a)
 unfolding does bookAfter
-call-good b c (refused number) e g = g
-call-good b (load key ns) (accepted o) e g =
+call-space b c (refused number) e g = g
+call-space b (load key ns) (accepted o) e g =
     let (p, within, free, rises, got, is) = load-did b key ns e in
     rw (ap (λ (x : Outcome). x .book) is) (good-with b key ns (p .place) (p .space) within (load-good (b .size) ns (b .space) (places b) key got g))
-call-good b (append key n) (accepted o) e g =
+call-space b (append key n) (accepted o) e g =
     let (p, within, rises, low, got, is) = append-did b key n e in
     rw (ap (λ (x : Outcome). x .book) is)
     (good-with b key (extended (keyOf key b .list) n) (p .place) (p .space) within
     (append-good (b .size) (length (keyOf key b .list)) (extended (keyOf key b .list) n) n (b .space) (places b) key (keyOf key b .place) refl got g))
-call-good b (read key room) (accepted o) e g =
+call-space b (read key room) (accepted o) e g =
     let (within, is) = read-did b key room e in
     rw (ap (λ (x : Outcome). x .book) is) g
-call-good b (drop key) (accepted o) e g =
+call-space b (drop key) (accepted o) e g =
     let (within, is) = drop-did b key e in
     rw (ap (λ (x : Outcome). x .book) is)
     (good-with b key [] empty (freedPlace (keyOf key b .place) (b .space)) within (good-freed-place (b .space) (places b) none key (keyOf key b .place) refl g))
 
-calls-good : (b : Book) (cs : List Call) → GoodBook b → GoodBook (after b cs)
-unfolding after
-calls-good b [] g = g
-calls-good b (c ∷ cs) g = calls-good (bookAfter b (does b c)) cs (call-good b c (does b c) refl g)
-
--- A fresh book is good: nobody has a block.
-fresh-good : (size heads : ℕ) → GoodBook (fresh size heads)
+-- So is a fresh one's: nobody has a block.
+pub fresh-space : (size heads : ℕ) → GoodSpace (fresh size heads)
 unfolding has atDepth
-fresh-good size heads =
+fresh-space size heads =
     record {
       nine = refl;
       aligned = refl;
@@ -189,4 +189,5 @@ fresh-good size heads =
 
 -- After any list of calls on a fresh book no two blocks, held or freed, share a byte, and each lies where a block of its class may, below the mark.
 pub blocks-apart : (size heads : ℕ) (cs : List Call) → let b = after (fresh size heads) cs in Apart (b .space .mark) (has (b .space) (places b) none)
-blocks-apart size heads cs = calls-good (fresh size heads) cs (fresh-good size heads) .apart
+blocks-apart size heads cs =
+    calls-keep does GoodSpace (λ b c g. call-space b c (does b c) refl g) (fresh size heads) cs (fresh-space size heads) .apart

@@ -1,53 +1,65 @@
 -- The ceilings of demand 3, over every list of calls on a fresh plain book: moves, records rewritten, and the pages of a load. Assumes nothing.
 use Prim.Native.Nat.{ℕ, suc, _+_, _^_, _≤_}
-use mathlib.Core.Bool.{true, false, false≢true}
+use mathlib.Core.Bool.{false, false≢true}
 use mathlib.Core.List.{List, [], _∷_}
 use mathlib.Core.Option.{Option, none, some}
 use mathlib.Core.Path.{_≡_, refl, sym, ap}
 use native.Mathlib.Nat.{le-refl, le-trans}
 use native.Mathlib.Omega.{arith}
 use lib.ListN.{length, length-append}
-use Rattle.error.specs.Refusal.{accepted}
+use Rattle.error.specs.Refusal.{Answer, accepted, refused, answered}
 use Rattle.error.proofs.LawsAnswer.{went-on}
 use Rattle.scripthash_layout.specs.Sizes.{pageSize}
 use Rattle.scripthash_stream.specs.Stream.{streamLen}
 use Rattle.scripthash_cutting.specs.Cutting.{cutting, AllowedCutting}
 use Rattle.scripthash_cutting.proofs.LawsPages.{pages-optimal}
-use Rattle.plain_book.specs.Space.{Space, take, takeRun}
-use Rattle.plain_book.specs.Key.{Place, empty, inline, slab, pages, pagesOf, Placed, runPages, loadsTo, loadInto, loadPlace}
-use Rattle.plain_book.specs.Book.{Book, fresh, Call, loaded, Outcome, keyOf, inUse, extended, loads, after}
-use Rattle.plain_book.specs.Moves.{Tally, noMoves, tallyAfter}
-use Rattle.plain_book.proofs.LawsMoves.{placed, mostMoves, mostRewritten, Spent, spent-most, append-spent, load-spent}
-use Rattle.plain_book.proofs.LawsHistory.{load-did, Kept, kept-fresh}
-use Rattle.plain_book.proofs.LawsSound.{rising-below}
+use Rattle.plain_book.specs.Space.{Space, takeBlock, takeRun}
+use Rattle.book_rules.specs.Places.{loadsTo}
+use Rattle.plain_book.specs.Key.{Place, empty, inline, slab, pages, emptyKey, pagesOf, Placed, runPages, loadInto, loadPlace}
+use Rattle.book_rules.specs.Calls.{Call, load, append, read, drop, loaded, bookAfter, answerOf, answersTo}
+use Rattle.plain_book.specs.Book.{Book, fresh, Outcome, keyOf, inUse, extended, loads, does, after, answers}
+use Rattle.book_rules.specs.Moves.{Tally, noMoves, tallyOf}
+use Rattle.plain_book.specs.Sound.{SoundKey}
+use Rattle.plain_book.specs.Ceilings.{mostMoves, mostRewritten, FewestPages, EachFewest}
+use Rattle.plain_book.proofs.LawsMoves.{placed, Spent, spent-most, append-spent, load-spent}
+use Rattle.plain_book.proofs.LawsHistory.{load-did, fresh-key, KeptByCalls, kept-calls}
+use Rattle.plain_book.proofs.LawsSound.{rising-below, sound-longer, sound-kept}
 
 -- A key that is not in use was never moved.
 unused : (n : ℕ) (place : Place) (t : Tally) → inUse place ≡ false → Spent n place t → (t .moves ≡ 0) × (t .rewritten ≡ 0)
 unused n empty t f (z, m, r) = (m, r)
 unused n inline t f (z, m, r) = (m, r)
-unused n (slab class off) t f s = absurd (false≢true (sym f))
+unused n (slab class off kept) t f s = absurd (false≢true (sym f))
 unused n (pages ps) t f s = absurd (false≢true (sym f))
 
--- Calls keep a key's tally within what its place allows.
-spent-kept : Kept (λ k t. Spent (length (k .list)) (k .place) t)
+-- Calls keep a key sound, and its tally within what its place allows.
+spent-kept : KeptByCalls (λ k t. SoundKey k × Spent (length (k .list)) (k .place) t)
 spent-kept =
     record {
-      loads = λ end k ns s p t h f rises e. let (m, r) = unused (length (k .list)) (k .place) t f h in load-spent end ns s t m r e;
-      appends = λ end k n s p t h rises low e.
-          append-spent end (length (k .list)) (extended (k .list) n) n (k .place) s t (length-append (k .list) (n ∷ [])) h e;
-      drops = (refl, refl, refl);
+      loads = λ end k ns s p t (sound, h) f rises e.
+          let (m, r) = unused (length (k .list)) (k .place) t f h in (sound-kept .loads end k ns s p t sound f rises e, load-spent end ns s t m r e);
+      appends = λ end k n s p t (sound, h) rises low e. (
+        sound-kept .appends end k n s p t sound rises low e,
+        append-spent end (length (k .list)) (extended (k .list) n) n (k .place) s t (length-append (k .list) (n ∷ [])) (λ class off kept is. sound-longer n k class off kept is sound) h e,
+      );
+      drops = (sound-kept .drops, (refl, refl, refl));
     }
+
+-- Take any book with an empty key and any list of calls: from empty to drop the key is moved no more than 9 times, and has no more than 765 records
+-- rewritten by moves.
+pub ceilings-from : (b : Book) (key : ℕ) (cs : List Call) → keyOf key b ≡ emptyKey
+    → (tallyOf key cs (answers b cs) noMoves .moves ≤ mostMoves) × (tallyOf key cs (answers b cs) noMoves .rewritten ≤ mostRewritten)
+ceilings-from b key cs is = spent-most _ (keyOf key (after b cs) .place) _ (kept-calls _ spent-kept key b cs noMoves (rw is (spent-kept .drops)) .1)
 
 -- Take any fresh book and any list of calls: from empty to drop no key is moved more than 9 times, nor has more than 765 records rewritten by moves.
 pub ceilings : (size heads key : ℕ) (cs : List Call)
-    → (tallyAfter key (fresh size heads) cs noMoves .moves ≤ mostMoves) × (tallyAfter key (fresh size heads) cs noMoves .rewritten ≤ mostRewritten)
-ceilings size heads key cs =
-    spent-most _ (keyOf key (after (fresh size heads) cs) .place) _ (kept-fresh _ spent-kept size heads key cs)
+    → (tallyOf key cs (answers (fresh size heads) cs) noMoves .moves ≤ mostMoves) × (tallyOf key cs (answers (fresh size heads) cs) noMoves .rewritten ≤ mostRewritten)
+ceilings size heads key cs = ceilings-from (fresh size heads) key cs (fresh-key size heads key)
 
 -- ---- the pages of a load
 
 -- A run has as many pages as the list was cut into.
-run-length : (off : ℕ) (parts : List (List ℕ)) → length (runPages off parts) ≡ length parts
+pub run-length : (off : ℕ) (parts : List (List ℕ)) → length (runPages off parts) ≡ length parts
 unfolding runPages
 run-length off [] = refl
 run-length off (p ∷ []) = refl
@@ -61,7 +73,7 @@ load-pages end (n ∷ []) s e = rw (placed e) (omega arith)
 load-pages end (n ∷ k ∷ ns) s {p} e = go (loadsTo (length (n ∷ k ∷ ns)) (streamLen (n ∷ k ∷ ns))) e
   where
     go : (o : Option ℕ) → loadInto end o (n ∷ k ∷ ns) s ≡ accepted p → pagesOf (p .place) ≤ length (cutting (n ∷ k ∷ ns))
-    go (some c) e = let (t, got, is) = went-on (take end c s) _ e in rw (placed is) (omega arith)
+    go (some c) e = let (t, got, is) = went-on (takeBlock end c s) _ e in rw (placed is) (omega arith)
     go none e =
         let (t, got, is) = went-on (takeRun end (length (cutting (n ∷ k ∷ ns))) s) _ e in
         rw (placed is, run-length (t .off) (cutting (n ∷ k ∷ ns))) (le-refl (length (cutting (n ∷ k ∷ ns))))
@@ -75,3 +87,17 @@ load-least b key ns e =
       ap (λ (x : Outcome). x .told) is,
       λ parts ok. le-trans (load-pages (b .size) ns (b .space) got) (pages-optimal ns (rising-below (2 ^ 62) (2 ^ 63) 0 ns (omega arith) rises) parts ok),
     )
+
+-- So it is with each load of a list of calls, on any book.
+fewest-pages : (b : Book) (c : Call) (a : Answer Outcome) → does b c ≡ a → FewestPages c (answerOf a)
+unfolding FewestPages does answered
+fewest-pages b (load key ns) (accepted o) e = load-least b key ns e
+fewest-pages b (load key ns) (refused number) e = tt
+fewest-pages b (append key n) a e = tt
+fewest-pages b (read key room) a e = tt
+fewest-pages b (drop key) a e = tt
+
+pub loads-least : (b : Book) (cs : List Call) → EachFewest cs (answers b cs)
+unfolding EachFewest answersTo
+loads-least b [] = tt
+loads-least b (c ∷ cs) = (fewest-pages b c (does b c) refl, loads-least (bookAfter b (does b c)) cs)

@@ -17,12 +17,13 @@ use Rattle.scripthash_stream.proofs.LawsStream.{last-below}
 use Rattle.scripthash_free.specs.FreeList.{Block}
 use Rattle.scripthash_free.proofs.LawsBlock.{bytes-from-16, block-stands}
 use Rattle.plain_book.specs.Key.{Page, Place, empty, inline, slab, pages, lastPage, noPage, headOf}
-use Rattle.plain_book.specs.Book.{Book, fresh, Call, keyOf, after}
+use Rattle.book_rules.specs.Calls.{Call}
+use Rattle.plain_book.specs.Book.{Book, fresh, keyOf, after}
 use Rattle.plain_book.specs.Sound.{FitPages, Fits}
 use Rattle.plain_book.specs.Owners.{Owner, slabOf, pageOf, pageAt, slabAt, pageIn, has, places}
-use Rattle.plain_book.proofs.LawsSound.{sound}
-use Rattle.plain_book.proofs.LawsBlocks.{blocks-apart}
+use Rattle.plain_book.specs.Good.{GoodPlain}
 use Rattle.plain_book.proofs.LawsMark.{mark-within}
+use Rattle.plain_book.proofs.LawsGood.{fresh-good, calls-good}
 
 -- A head value has a word: it packs into the word, and the word unpacks to it.
 pub record Told (v : ShHeadValue) : Type 0 where
@@ -74,31 +75,33 @@ last-above top prev [] r l = absurd (omega arith)
 last-above top prev (n ∷ []) (a, b, r) l = a
 last-above top prev (n ∷ m ∷ ns) (a, b, r) l = let x = last-above top n (m ∷ ns) r (omega arith) in omega arith
 
--- After any list of calls on a fresh book of at most 2^30 bytes, each key's place has a head word.
-pub heads-told : (size heads key : ℕ) (cs : List Call) → 4096 ≤ size → size ≤ 2 ^ 30
-    → let k = keyOf key (after (fresh size heads) cs) in Told (headOf (k .list) (k .place))
+-- In a good book whose mark is at most 2^30, each key's place has a head word.
+pub head-told : {b : Book} (key : ℕ) → GoodPlain b → b .space .mark ≤ 2 ^ 30 → Told (headOf (keyOf key b .list) (keyOf key b .place))
 unfolding headOf Fits has
-heads-told size heads key cs low high = go (keyOf key b .list) (keyOf key b .place) refl (sound size heads key cs .rises) (sound size heads key cs .fits)
+head-told {b} key g high = go (keyOf key b .list) (keyOf key b .place) refl (g .keys key .rises) (g .keys key .fits)
   where
-    b : Book
-    b = after (fresh size heads) cs
-
     stands : (w : Owner) (x : Block) → has (b .space) (places b) none w ≡ some x → (0 < x .off) × (x .off < 2 ^ 30)
     stands w x e =
-        let s = block-stands (x .class) (x .off) (b .space .mark) (blocks-apart size heads cs .stands w x e) in
-        let m = mark-within size heads cs low in
-        (omega (arith, s .begins), below (x .class) (x .off) (s .ends) m)
+        let s = block-stands (x .class) (x .off) (b .space .mark) (g .space .apart .stands w x e) in
+        (omega (arith, s .begins), below (x .class) (x .off) (s .ends))
       where
-        below : (class off : ℕ) → off + slabBytes class ≤ b .space .mark → b .space .mark ≤ size → off < 2 ^ 30
-        below class off ends m = let p = bytes-from-16 class in omega arith
+        below : (class off : ℕ) → off + slabBytes class ≤ b .space .mark → off < 2 ^ 30
+        below class off ends = let p = bytes-from-16 class in omega arith
 
     go : (list : List ℕ) (place : Place) → keyOf key b .place ≡ place → Rising (2 ^ 62) 0 list → Fits list place → Told (headOf list place)
     go list empty is r f = told-empty
     go list inline is r f = told-inline (lastFrom 0 list) (last-above (2 ^ 62) 0 list r (omega arith)) (last-below (2 ^ 62) 0 list (omega arith) r)
-    go list (slab class off) is r (c, two, few, bytes) =
+    go list (slab class off kept) is r (same, shortest, c, two, few, bytes) =
         let (a, l) = stands (slabOf key) (record { class = class; off = off }) (ap slabAt is) in
         told-slab class (length list) off c two few l
     go list (pages ps) is r (held-is, fit) =
         let (i, at) = last-at noPage ps fit in
         let (a, l) = stands (pageOf key i) _ (ap (pageIn i) is ∙ at) in
         told-extent (lastPage noPage ps .off) a l
+
+-- After any list of calls on a fresh book of at most 2^30 bytes, each key's place has a head word.
+pub heads-told : (size heads key : ℕ) (cs : List Call) → 4096 ≤ size → size ≤ 2 ^ 30
+    → let k = keyOf key (after (fresh size heads) cs) in Told (headOf (k .list) (k .place))
+heads-told size heads key cs low high =
+    let m = mark-within size heads cs low in
+    head-told key (calls-good cs (fresh-good size heads)) (omega arith)

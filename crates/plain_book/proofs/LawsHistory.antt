@@ -13,37 +13,19 @@ use Rattle.error.proofs.LawsAnswer.{accepted-inj, passed, went-on}
 use Rattle.scripthash_stream.specs.Stream.{Rising, lastFrom}
 use Rattle.plain_book.specs.Space.{Space}
 use Rattle.plain_book.specs.Key.{Place, empty, Key, emptyKey, headOf, pagesOf, freedPlace, Placed, appendPlace, loadPlace}
-use Rattle.plain_book.specs.Book.{Book, fresh, Call, load, append, read, drop, loaded, appended, listed, dropped, Outcome, outOfShape, onKey, offeredNumber, offeredList, keyOf, withKey, inUse, extended, loads, appends, reads, drops, does, bookAfter, answerOf, after}
-use Rattle.plain_book.specs.Moves.{Tally, noMoves, counted, talliedBy, keyOfCall, tallied, tallyAfter}
+use Rattle.book_rules.specs.Calls.{Call, load, append, read, drop, loaded, appended, listed, dropped, bookAfter, answerOf, keyOfCall, afterCalls, answersTo}
+use Rattle.book_rules.specs.Limits.{outOfShape}
+use Rattle.book_rules.proofs.LawsOffered.{offered-on, offered-all}
+use Rattle.plain_book.specs.Book.{Book, fresh, Outcome, onKey, keyOf, withKey, inUse, extended, loads, appends, reads, drops, does, after, answers}
+use Rattle.book_rules.specs.Moves.{Tally, noMoves, counted, talliedBy, tallied, tallyOf}
 
 -- A call that is accepted is on a key of the book.
-on-key : {A : Type 0} (b : Book) (key : ℕ) (after : Answer A) {x : A} → onKey b key after ≡ accepted x → (key < length (b .keys)) × (after ≡ accepted x)
+pub on-key : {A : Type 0} (b : Book) (key : ℕ) (after : Answer A) {x : A} → onKey b key after ≡ accepted x → (key < length (b .keys)) × (after ≡ accepted x)
 unfolding onKey
 on-key b key after e =
     let (shape, e') = passed (outOfShape (b .size) (length (b .keys))) shapeBad _ e in
     let (beyond, is) = passed (leb (length (b .keys)) key) keyBeyond after e' in
     (leb-false (length (b .keys)) key beyond, is)
-
--- A number that was offered and is accepted is above the one before it, and below 2^62.
-offered-on : {A : Type 0} (first : Bool) (prev n : ℕ) (after : Answer A) {x : A} → offeredNumber first prev n after ≡ accepted x
-    → (prev < n) × (n < 2 ^ 62) × (after ≡ accepted x)
-unfolding offeredNumber
-offered-on first prev n after e =
-    let (some, e1) = passed _ _ _ e in
-    let (bit, e2) = passed _ _ _ e1 in
-    let (low, e3) = passed (leb (2 ^ 62) n) _ _ e2 in
-    let (rises, is) = passed (leb n prev) _ after e3 in
-    (leb-false n prev rises, leb-false (2 ^ 62) n low, is)
-
--- A list that was offered and is accepted rises, below 2^62.
-offered-all : {A : Type 0} (first : Bool) (prev : ℕ) (ns : List ℕ) (after : Answer A) {x : A} → offeredList first prev ns after ≡ accepted x
-    → Rising (2 ^ 62) prev ns × (after ≡ accepted x)
-unfolding offeredList Rising
-offered-all first prev [] after e = (tt, e)
-offered-all first prev (n ∷ ns) after e =
-    let (rises, low, e') = offered-on first prev n (offeredList false n ns after) e in
-    let (more, is) = offered-all false n ns after e' in
-    ((rises, low, more), is)
 
 -- ---- what an accepted call did
 
@@ -103,7 +85,7 @@ fresh-key size heads key = all-same emptyKey heads key
 -- ---- what calls keep
 
 -- Something about a key and its tally that loads, appends and drops keep.
-pub record Kept (P : Key → Tally → Type 0) : Type 0 where
+pub record KeptByCalls (P : Key → Tally → Type 0) : Type 0 where
   pub loads : (end : ℕ) (k : Key) (ns : List ℕ) (s : Space) (p : Placed) (t : Tally) → P k t → inUse (k .place) ≡ false → Rising (2 ^ 62) 0 ns
       → loadPlace end ns s ≡ accepted p → P (record { list = ns; place = p .place }) t
   pub appends : (end : ℕ) (k : Key) (n : ℕ) (s : Space) (p : Placed) (t : Tally) → P k t → lastFrom 0 (k .list) < n → n < 2 ^ 62
@@ -111,7 +93,7 @@ pub record Kept (P : Key → Tally → Type 0) : Type 0 where
       → P (record { list = extended (k .list) n; place = p .place }) (counted (p .rewritten) t)
   pub drops : P emptyKey noMoves
 
-module _ (P : Key → Tally → Type 0) (kept : Kept P) where
+module _ (P : Key → Tally → Type 0) (kept : KeptByCalls P) where
   -- What an accepted call changes: its key, and the space; and it keeps what holds of its key.
   record Changed (b : Book) (key : ℕ) (o : Outcome) : Type 0 where
     within : key < length (b .keys)
@@ -181,7 +163,7 @@ module _ (P : Key → Tally → Type 0) (kept : Kept P) where
   call-changed b (drop key) e = drop-changed b key e
 
   -- One call keeps what holds of any key: a call that is turned back, or on another key, changes neither the key nor its tally.
-  kept-call : (key : ℕ) (b : Book) (c : Call) (t : Tally) (a : Answer Outcome) → does b c ≡ a → P (keyOf key b) t
+  pub kept-call : (key : ℕ) (b : Book) (c : Call) (t : Tally) (a : Answer Outcome) → does b c ≡ a → P (keyOf key b) t
       → P (keyOf key (bookAfter b a)) (tallied key c (answerOf a) t)
   unfolding bookAfter answered tallied
   kept-call key b c t (refused number) e h = h
@@ -201,11 +183,11 @@ module _ (P : Key → Tally → Type 0) (kept : Kept P) where
           rw old h
 
   -- So does every list of calls.
-  pub kept-calls : (key : ℕ) (b : Book) (cs : List Call) (t : Tally) → P (keyOf key b) t → P (keyOf key (after b cs)) (tallyAfter key b cs t)
-  unfolding after tallyAfter
+  pub kept-calls : (key : ℕ) (b : Book) (cs : List Call) (t : Tally) → P (keyOf key b) t → P (keyOf key (after b cs)) (tallyOf key cs (answers b cs) t)
+  unfolding afterCalls answersTo tallyOf
   kept-calls key b [] t h = h
   kept-calls key b (c ∷ cs) t h = kept-calls key (bookAfter b (does b c)) cs _ (kept-call key b c t (does b c) refl h)
 
   -- It holds of every key after any list of calls on a fresh book.
-  pub kept-fresh : (size heads key : ℕ) (cs : List Call) → P (keyOf key (after (fresh size heads) cs)) (tallyAfter key (fresh size heads) cs noMoves)
+  pub kept-fresh : (size heads key : ℕ) (cs : List Call) → P (keyOf key (after (fresh size heads) cs)) (tallyOf key cs (answers (fresh size heads) cs) noMoves)
   kept-fresh size heads key cs = kept-calls key (fresh size heads) cs noMoves (rw (fresh-key size heads key) (kept .drops))

@@ -14,19 +14,14 @@ use Rattle.error.proofs.LawsAnswer.{accepted-inj, went-on}
 use Rattle.scripthash_layout.specs.Sizes.{slabSlots, maxSlabClass, maxSlabCount, pageClass}
 use Rattle.scripthash_stream.specs.Stream.{streamLen}
 use Rattle.scripthash_cutting.specs.Cutting.{cutting}
-use Rattle.plain_book.specs.Space.{Space, take, takeRun}
-use Rattle.plain_book.specs.Key.{Place, empty, inline, slab, pages, Page, Placed, onePage, stays, movesTo, moved, joins, joinedTo, beginPage, appendPages, appendPlace, loadsTo, loadInto, loadPlace}
-use Rattle.plain_book.specs.Moves.{Tally, counted}
-use Rattle.plain_book.proofs.LawsRules.{slots-mono, slots-twice, stays-holds, Moves, moves-to, loads-to}
+use Rattle.plain_book.specs.Space.{Space, takeBlock, takeRun}
+use Rattle.book_rules.specs.Places.{stays, movesTo, loadsTo}
+use Rattle.plain_book.specs.Key.{Place, empty, inline, slab, pages, Kept, written, longer, Page, Placed, onePage, moved, joins, joinedTo, beginPage, appendPages, appendPlace, loadInto, loadPlace}
+use Rattle.book_rules.specs.Moves.{Tally, counted}
+use Rattle.plain_book.specs.Ceilings.{mostMoves, mostRewritten}
+use Rattle.book_rules.proofs.LawsRules.{slots-mono, slots-twice, stays-holds, Moves, moves-to, loads-to}
 
 -- ---- what a tally may be, by the place
-
--- The most moves, and the most records that they rewrite.
-abbrev pub mostMoves : ℕ
-mostMoves = 9
-
-abbrev pub mostRewritten : ℕ
-mostRewritten = 765
 
 -- A list of n numbers that moves brought into a slab of class c: it has slots there; each class was entered once at most, and left with no more
 -- records than it has slots.
@@ -45,14 +40,14 @@ pub record InSlab (c n : ℕ) (t : Tally) : Type 0 where
 abbrev pub Spent : ℕ → Place → Tally → Type 0
 Spent n empty t = (n ≡ 0) × (t .moves ≡ 0) × (t .rewritten ≡ 0)
 Spent n inline t = (n ≡ 1) × (t .moves ≡ 0) × (t .rewritten ≡ 0)
-Spent n (slab class off) t = InSlab class n t
+Spent n (slab class off kept) t = InSlab class n t
 Spent n (pages ps) t = (t .moves ≤ mostMoves) × (t .rewritten ≤ mostRewritten)
 
 -- Wherever a list stands, the tally is within the ceilings.
 pub spent-most : (n : ℕ) (p : Place) (t : Tally) → Spent n p t → (t .moves ≤ mostMoves) × (t .rewritten ≤ mostRewritten)
 spent-most n empty t (e, m, r) = (omega arith, omega arith)
 spent-most n inline t (e, m, r) = (omega arith, omega arith)
-spent-most n (slab class off) t i =
+spent-most n (slab class off kept) t i =
     ⊎-elim (λ (m, r). (omega arith, omega arith))
     (λ g. (omega (arith, g .moves, i .class), ⊎-elim (λ (a, b). omega arith) (λ (a, b). omega arith) (g .rewritten)))
     (i .so-far)
@@ -80,17 +75,17 @@ counted-none t = refl
 
 -- What a move gives: a slab of the class that was chosen, or a page; and the records held before are rewritten.
 module _ (end held : ℕ) (list : List ℕ) (old : Place) (s : Space) {p : Placed} where
-  pub moved-slab : (c : ℕ) → moved end (some c) held list old s ≡ accepted p → (off : ℕ) × (p .place ≡ slab c off) × (p .rewritten ≡ held)
+  pub moved-slab : (c : ℕ) → moved end (some c) held list old s ≡ accepted p → (off : ℕ) × (p .place ≡ slab c off (written list)) × (p .rewritten ≡ held)
   unfolding moved
   moved-slab c e =
-      let (t, got, is) = went-on (take end c s) _ e in
+      let (t, got, is) = went-on (takeBlock end c s) _ e in
       let same = accepted-inj is in
       (t .off, ap (λ (q : Placed). q .place) (sym same), ap (λ (q : Placed). q .rewritten) (sym same))
 
   pub moved-page : moved end none held list old s ≡ accepted p → (off : ℕ) × (p .place ≡ pages (onePage off list)) × (p .rewritten ≡ held)
   unfolding moved
   moved-page e =
-      let (t, got, is) = went-on (take end pageClass s) _ e in
+      let (t, got, is) = went-on (takeBlock end pageClass s) _ e in
       let same = accepted-inj is in
       (t .off, ap (λ (q : Placed). q .place) (sym same), ap (λ (q : Placed). q .rewritten) (sym same))
 
@@ -176,41 +171,41 @@ unfolding appendPages beginPage
 pages-spent end ps n s e =
     ⊎-elim (λ (b, is). let (at, told) = given is in (_, at, told))
     (λ (b, is).
-    let (t, got, is') = went-on (take end pageClass s) _ is in
+    let (t, got, is') = went-on (takeBlock end pageClass s) _ is in
     let (at, told) = given is' in
     (_, at, told))
     (which (joins n ps) (accepted (record { place = joinedTo n ps; space = s; rewritten = 0 })) (beginPage end ps n s) e)
 
 -- An append keeps the tally within what the new place allows.
 pub append-spent : (end held : ℕ) (list : List ℕ) (n : ℕ) (old : Place) (s : Space) {p : Placed} (t : Tally) → length list ≡ held + 1
-    → Spent held old t → appendPlace end held list n old s ≡ accepted p → Spent (length list) (p .place) (counted (p .rewritten) t)
+    → ((class off : ℕ) (kept : Kept) → old ≡ slab class off kept → longer n kept .bytes ≡ streamLen list) → Spent held old t → appendPlace end held list n old s ≡ accepted p → Spent (length list) (p .place) (counted (p .rewritten) t)
 unfolding appendPlace
-append-spent end held list n empty s t l (z, m, r) e =
+append-spent end held list n empty s t l same (z, m, r) e =
     let (at, told) = given e in
     rw (at, told, counted-none t) (omega arith, m, r)
-append-spent end held list n inline s t l (o, m, r) e =
+append-spent end held list n inline s t l same (o, m, r) e =
     moved-spent end held list inline s t (movesTo (length list) (streamLen list)) l
     (λ c q. first-move held (streamLen list) c t (rw l at (moves-to (length list) (streamLen list) q)) m r)
     (omega (arith, counted-moves held t), omega (arith, counted-rewritten held t))
     e
-append-spent end held list n (slab d off) s t l i e =
+append-spent end held list n (slab d off kept) s t l same i e =
     ⊎-elim
     (λ (b, is).
     let (at, told) = given is in
     rw (at, told, counted-none t) (stayed b))
     (λ (b, is).
-    moved-spent end held list (slab d off) s t (movesTo (length list) (streamLen list)) l (λ c q. into b c q) (to-page held d t i) is)
-    (which (stays d (length list) (streamLen list)) _ _ e)
+    moved-spent end held list (slab d off kept) s t (movesTo (length list) (streamLen list)) l (λ c q. into b c q) (to-page held d t i) is)
+    (which (stays d (length list) (longer n kept .bytes)) _ _ e)
   where
-    into : stays d (length list) (streamLen list) ≡ false → (c : ℕ) → movesTo (length list) (streamLen list) ≡ some c → InSlab c (held + 1) (counted held t)
+    into : stays d (length list) (longer n kept .bytes) ≡ false → (c : ℕ) → movesTo (length list) (streamLen list) ≡ some c → InSlab c (held + 1) (counted held t)
     into b c q =
         let m : Moves (held + 1) (streamLen list) c = rw l at (moves-to (length list) (streamLen list) q) in
-        let b' : stays d (held + 1) (streamLen list) ≡ false = rw l at b in
+        let b' : stays d (held + 1) (streamLen list) ≡ false = rw (l, same d off kept refl) at b in
         ⊎-elim (λ (x, y). first-move held (streamLen list) c t m x y) (λ g. next-move held (streamLen list) c t m d (m .grows d b') g) (i .so-far)
 
-    stayed : stays d (length list) (streamLen list) ≡ true → InSlab d (length list) t
+    stayed : stays d (length list) (longer n kept .bytes) ≡ true → InSlab d (length list) t
     stayed b =
-        let (few, holds, fits) = stays-holds d (length list) (streamLen list) b in
+        let (few, holds, fits) = stays-holds d (length list) (longer n kept .bytes) b in
         record {
           class = i .class;
           few = few;
@@ -218,7 +213,7 @@ append-spent end held list n (slab d off) s t l i e =
               (λ g. inr (record { holds = holds; moves = g .moves; rewritten = ⊎-elim (λ u. inl u) (λ (x, y). absurd (omega arith)) (g .rewritten) }))
               (i .so-far);
         }
-append-spent end held list n (pages ps) s t l (m, r) e =
+append-spent end held list n (pages ps) s t l same (m, r) e =
     let (qs, at, told) = pages-spent end ps n s e in
     rw (at, told, counted-none t) (m, r)
 
@@ -234,7 +229,7 @@ load-spent end (n ∷ k ∷ ns) s {p} t m r e = go (loadsTo (length (n ∷ k ∷
         → Spent (length (n ∷ k ∷ ns)) (p .place) t
     go (some c) q e =
         let (few, class, fits) = loads-to (length (n ∷ k ∷ ns)) (streamLen (n ∷ k ∷ ns)) q in
-        let (t', got, is) = went-on (take end c s) _ e in
+        let (t', got, is) = went-on (takeBlock end c s) _ e in
         rw (placed is) (record { class = class; few = few; so-far = inl (m, r) })
     go none q e =
         let (t', got, is) = went-on (takeRun end (length (cutting (n ∷ k ∷ ns))) s) _ e in

@@ -1,5 +1,5 @@
 -- Who has which block, after each step of a call that changes a stack or a key's place: popping, freeing, and placing what is in hand. Assumes nothing.
-use Prim.Native.Nat.{ℕ, zero, suc, _+_, _-_, _%_, _≤_, _<_}
+use Prim.Native.Nat.{ℕ, zero, suc, _+_, _%_, _≤_, _<_}
 use mathlib.Core.Bool.{Bool, true, false, cond}
 use mathlib.Core.List.{List, [], _∷_, _++_}
 use mathlib.Core.Logic.{_⊎_, inl, inr, ⊎-elim, _≢_}
@@ -14,8 +14,9 @@ use Rattle.scripthash_layout.specs.Sizes.{slabBytes, pageClass}
 use Rattle.scripthash_free.specs.FreeList.{Block, isBlock}
 use Rattle.scripthash_free.proofs.LawsBlock.{block-stands}
 use Rattle.plain_book.specs.Space.{Space, stackOf, freed}
-use Rattle.plain_book.specs.Key.{Page, Place, empty, inline, slab, pages, onePage, freedPages, freedPlace}
-use Rattle.plain_book.specs.Owners.{Owner, hand, stack, slabOf, pageOf, atDepth, pageAt, slabAt, pageIn, has, Apart}
+use Rattle.plain_book.specs.Key.{Kept, Page, Place, empty, inline, slab, pages, onePage, freedPages, freedPlace}
+use Rattle.plain_book.specs.Owners.{Owner, hand, stack, slabOf, pageOf, atDepth, pageAt, slabAt, pageIn, has}
+use Rattle.plain_book.specs.Good.{Good}
 use Rattle.plain_book.proofs.LawsApart.{apart-moved, apart-renamed, apart-fewer, apart-added}
 
 -- ---- owners
@@ -28,21 +29,21 @@ pub none-some : {A : Type 0} {x : A} → _≡_ {A = Option A} none (some x) → 
 none-some e = let z : _≡_ {A = ℕ} 0 1 = cc in omega arith
 
 -- The class of a stack; other owners have none.
-abbrev classOf : Owner → ℕ
+abbrev pub classOf : Owner → ℕ
 classOf hand = 0
 classOf (stack c d) = c
 classOf (slabOf k) = 0
 classOf (pageOf k i) = 0
 
 -- The depth of a stack, the key of a slab, and the index of a page.
-abbrev depthOf : Owner → ℕ
+abbrev pub depthOf : Owner → ℕ
 depthOf hand = 0
 depthOf (stack c d) = d
 depthOf (slabOf k) = k
 depthOf (pageOf k i) = i
 
 -- Which kind an owner is.
-abbrev kindOf : Owner → ℕ
+abbrev pub kindOf : Owner → ℕ
 kindOf hand = 0
 kindOf (stack c d) = 1
 kindOf (slabOf k) = 2
@@ -57,7 +58,7 @@ stack-depth e = ap depthOf e
 -- ---- a stack
 
 -- Nothing is as deep as the stack is high, or deeper.
-deep-none : (class depth : ℕ) (os : List ℕ) (x : Block) → atDepth class depth os ≡ some x → depth < length os
+pub deep-none : (class depth : ℕ) (os : List ℕ) (x : Block) → atDepth class depth os ≡ some x → depth < length os
 unfolding atDepth
 deep-none class depth [] x e = absurd (none-some e)
 deep-none class depth (o ∷ os) x e = go (eqb depth (length os)) refl e (deep-none class depth os x)
@@ -68,7 +69,7 @@ deep-none class depth (o ∷ os) x e = go (eqb depth (length os)) refl e (deep-n
     go false q e rest = let l = rest e in omega arith
 
 -- What is in a stack after a push: what was there, and the new block on top.
-top-is : (class o : ℕ) (os : List ℕ) → atDepth class (length os) (o ∷ os) ≡ some (record { class = class; off = o })
+pub top-is : (class o : ℕ) (os : List ℕ) → atDepth class (length os) (o ∷ os) ≡ some (record { class = class; off = o })
 unfolding atDepth
 top-is class o os = rw (eq-eqb (length os) (length os) refl)
 
@@ -82,7 +83,7 @@ below-top class depth o os x e = go (eqb depth (length os)) refl e
     go true q e = inl (eqb-true depth (length os) q, sym (some-inj e))
     go false q e = inr (eqb-false depth (length os) q, e)
 
-under-top : (class depth o : ℕ) (os : List ℕ) (x : Block) → atDepth class depth os ≡ some x → atDepth class depth (o ∷ os) ≡ some x
+pub under-top : (class depth o : ℕ) (os : List ℕ) (x : Block) → atDepth class depth os ≡ some x → atDepth class depth (o ∷ os) ≡ some x
 unfolding atDepth
 under-top class depth o os x e =
     let l = deep-none class depth os x e in
@@ -96,10 +97,10 @@ withStack class os s = record { mark = s .mark; stacks = set (s .stacks) class o
 
 module _ (s : Space) (class : ℕ) (os : List ℕ) (nine : class < length (s .stacks)) where
   -- its own, and the others
-  stack-same : stackOf class (withStack class os s) ≡ os
+  pub stack-same : stackOf class (withStack class os s) ≡ os
   stack-same = getD-set-same (s .stacks) class os [] nine
 
-  stack-other : (c : ℕ) → c ≢ class → stackOf c (withStack class os s) ≡ stackOf c s
+  pub stack-other : (c : ℕ) → c ≢ class → stackOf c (withStack class os s) ≡ stackOf c s
   stack-other c n = getD-set-other (s .stacks) class c os [] n
 
   -- who has what then: in the changed stack, or as before
@@ -123,7 +124,7 @@ module _ (s : Space) (class : ℕ) (os : List ℕ) (nine : class < length (s .st
 -- ---- taking from a stack, and freeing onto one
 
 -- The block of owner a goes to owner b, and nothing else changes.
-abbrev Goes : Owner → Owner → (Owner → Option Block) → (Owner → Option Block) → Type 0
+abbrev pub Goes : Owner → Owner → (Owner → Option Block) → (Owner → Option Block) → Type 0
 Goes a b f g = (w : Owner) (x : Block) → g w ≡ some x → ((w ≡ b) × (f a ≡ some x)) ⊎ ((w ≢ a) × (f w ≡ some x))
 
 module _ (s : Space) (class : ℕ) (nine : class < length (s .stacks)) where
@@ -172,13 +173,7 @@ module _ (s : Space) (class : ℕ) (nine : class < length (s .stacks)) where
 pub bytes-aligned : (off class : ℕ) → off % 16 ≡ 0 → (off + slabBytes class) % 16 ≡ 0
 bytes-aligned off class e = omega arith
 
--- ---- a good space: nine stacks, a mark at a multiple of 16 from 4,096 on, and blocks apart
-
-pub record Good (s : Space) (at : ℕ → Place) (held : Option Block) : Type 0 where
-  pub nine : length (s .stacks) ≡ 9
-  pub aligned : s .mark % 16 ≡ 0
-  pub from : 4096 ≤ s .mark
-  pub apart : Apart (s .mark) (has s at held)
+-- ---- a good space
 
 -- The top of a stack comes to hand.
 pub good-popped : (s : Space) (at : ℕ → Place) (class o : ℕ) (os : List ℕ) → class ≤ 8 → stackOf class s ≡ o ∷ os → Good s at none
@@ -236,21 +231,22 @@ module _ (key : ℕ) (place : Place) (at : ℕ → Place) where
   key-page j i = key-told (pageIn i) j
 
 -- What is in hand becomes a key's slab.
-pub good-slab : (s : Space) (at : ℕ → Place) (key class off : ℕ) → Good s at (some (record { class = class; off = off })) → Good s (atKey key (slab class off) at) none
+pub good-slab : (s : Space) (at : ℕ → Place) (key class off : ℕ) (kept : Kept) → Good s at (some (record { class = class; off = off }))
+    → Good s (atKey key (slab class off kept) at) none
 unfolding has
-good-slab s at key class off g =
+good-slab s at key class off kept g =
     record { nine = g .nine; aligned = g .aligned; from = g .from; apart = apart-moved _ _ (s .mark) hand (slabOf key) to (g .apart) }
   where
-    to : Goes hand (slabOf key) (has s at (some (record { class = class; off = off }))) (has s (atKey key (slab class off) at) none)
+    to : Goes hand (slabOf key) (has s at (some (record { class = class; off = off }))) (has s (atKey key (slab class off kept) at) none)
     to hand x e = absurd (none-some e)
     to (stack c d) x e = inr (λ q. (let z = ap kindOf q in omega arith), e)
     to (slabOf j) x e =
-        ⊎-elim (λ (is, f). inl (ap slabOf is, f)) (λ (n, f). inr (λ q. (let z = ap kindOf q in omega arith), f)) (key-slab key (slab class off) at j x e)
+        ⊎-elim (λ (is, f). inl (ap slabOf is, f)) (λ (n, f). inr (λ q. (let z = ap kindOf q in omega arith), f)) (key-slab key (slab class off kept) at j x e)
     to (pageOf j i) x e =
-        ⊎-elim (λ (is, f). absurd (none-some f)) (λ (n, f). inr (λ q. (let z = ap kindOf q in omega arith), f)) (key-page key (slab class off) at j i x e)
+        ⊎-elim (λ (is, f). absurd (none-some f)) (λ (n, f). inr (λ q. (let z = ap kindOf q in omega arith), f)) (key-page key (slab class off kept) at j i x e)
 
 -- Pages with one more behind them.
-page-behind : (i : ℕ) (ps : List Page) (p : Page) (x : Block) → pageAt i (ps ++ (p ∷ [])) ≡ some x
+pub page-behind : (i : ℕ) (ps : List Page) (p : Page) (x : Block) → pageAt i (ps ++ (p ∷ [])) ≡ some x
     → ((i ≡ length ps) × (x ≡ record { class = pageClass; off = p .off })) ⊎ (pageAt i ps ≡ some x)
 unfolding pageAt
 page-behind zero [] p x e = inl (refl, sym (some-inj e))
@@ -294,10 +290,10 @@ good-fewer s at at' held slabs pgs g =
     to (pageOf j i) x e = pgs j i x e
 
 -- A key's slab is freed.
-good-freed : (s : Space) (at : ℕ → Place) (held : Option Block) (key class off : ℕ) → class ≤ 8 → at key ≡ slab class off → Good s at held
+pub good-freed : (s : Space) (at : ℕ → Place) (held : Option Block) (key class off : ℕ) (kept : Kept) → class ≤ 8 → at key ≡ slab class off kept → Good s at held
     → Good (freed class off s) (atKey key empty at) held
 unfolding has
-good-freed s at held key class off c e g =
+good-freed s at held key class off kept c e g =
     let n = g .nine in
     record {
       nine = length-set (s .stacks) class (off ∷ stackOf class s) ∙ g .nine;
@@ -349,7 +345,7 @@ module _ (key high : ℕ) where
       go false q zero = rw q
       go false q (suc i) = rw q
 
-good-first-freed : (s : Space) (at : ℕ → Place) (held : Option Block) (key : ℕ) (p : Page) (ps : List Page) → at key ≡ pages (p ∷ ps) → Good s at held
+pub good-first-freed : (s : Space) (at : ℕ → Place) (held : Option Block) (key : ℕ) (p : Page) (ps : List Page) → at key ≡ pages (p ∷ ps) → Good s at held
     → Good (freed pageClass (p .off) s) (atKey key (pages ps) at) held
 unfolding has pageAt
 good-first-freed s at held key p ps e g =
@@ -399,7 +395,7 @@ good-twice s at held key first second g =
     once tell false j x h = h
 
 -- All pages of a key are freed, the first first.
-good-pages-freed : (s : Space) (at : ℕ → Place) (held : Option Block) (key : ℕ) (ps : List Page) → at key ≡ pages ps → Good s at held
+pub good-pages-freed : (s : Space) (at : ℕ → Place) (held : Option Block) (key : ℕ) (ps : List Page) → at key ≡ pages ps → Good s at held
     → Good (freedPages ps s) (atKey key empty at) held
 unfolding freedPages
 good-pages-freed s at held key [] e g =
@@ -428,7 +424,7 @@ pub good-freed-place : (s : Space) (at : ℕ → Place) (held : Option Block) (k
 unfolding freedPlace has
 good-freed-place s at held key empty e g = good-kept s at held key empty (λ x h. absurd (none-some h)) (λ i x h. absurd (none-some h)) g
 good-freed-place s at held key inline e g = good-kept s at held key empty (λ x h. absurd (none-some h)) (λ i x h. absurd (none-some h)) g
-good-freed-place s at held key (slab class off) e g =
+good-freed-place s at held key (slab class off kept) e g =
     let st = block-stands class off (s .mark) (g .apart .stands (slabOf key) (record { class = class; off = off }) (ap slabAt e)) in
-    good-freed s at held key class off (st .class-to-8) e g
+    good-freed s at held key class off kept (st .class-to-8) e g
 good-freed-place s at held key (pages ps) e g = good-pages-freed s at held key ps e g

@@ -1,7 +1,7 @@
 -- After every list of calls on a fresh plain book, each key is sound. Assumes nothing.
 use Prim.Native.Nat.{ℕ, suc, _+_, _-_, _^_, _≤_, _<_}
 use mathlib.Core.List.{List, [], _∷_, _++_, append-assoc, append-nil}
-use mathlib.Core.Logic.{_⊎_, ⊎-elim}
+use mathlib.Core.Logic.{⊎-elim}
 use mathlib.Core.Option.{Option, none, some}
 use mathlib.Core.Path.{_≡_, refl, sym, ap, _∙_}
 use native.Mathlib.Nat.{le-refl}
@@ -14,32 +14,30 @@ use Rattle.compact.specs.Uleb128.{divided, ulebLen}
 use Rattle.compact.proofs.LawsLength.{len-mono}
 use Rattle.scripthash_layout.specs.Sizes.{slabBytes, maxSlabClass, pageClass}
 use Rattle.scripthash_stream.specs.Stream.{Rising, lastFrom, streamLen, streamLenFrom}
-use Rattle.scripthash_stream.proofs.LawsStream.{rising-append, stream-len-append}
+use Rattle.scripthash_stream.proofs.LawsStream.{rising-append}
 use Rattle.scripthash_cutting.specs.Cutting.{pageRoom, lastPageRoom, cutting, replaceLast, joined, Fit}
 use Rattle.scripthash_cutting.proofs.LawsPages.{pages-allowed}
 use Rattle.scripthash_cutting.proofs.LawsRising.{rising-words}
-use Rattle.plain_book.specs.Space.{Space, take, takeRun}
-use Rattle.plain_book.specs.Key.{Page, Place, empty, inline, slab, pages, emptyKey, payloadLen, lastPage, noPage, onePage, longer, joins, joinedTo, beginPage, Placed, movesTo, stays, moved, appendPages, appendPlace, runPages, loadsTo, loadInto, loadPlace}
-use Rattle.plain_book.proofs.LawsRules.{bytes-mono, stays-holds, moves-to, loads-to}
+use Rattle.plain_book.specs.Space.{Space, takeBlock, takeRun}
+use Rattle.book_rules.specs.Places.{payloadLen, movesTo, stays, loadsTo}
+use Rattle.plain_book.specs.Key.{Kept, written, longer, Page, Place, empty, inline, slab, pages, Key, emptyKey, lastPage, noPage, onePage, longerPage, joins, joinedTo, beginPage, Placed, moved, appendPages, appendPlace, runPages, loadInto, loadPlace}
+use Rattle.book_rules.proofs.LawsRules.{bytes-mono, stays-holds, moves-to, loads-to}
+use Rattle.plain_book.proofs.LawsKept.{len-snoc, longer-numbers, shortest-longer, longer-bytes}
 use Rattle.plain_book.proofs.LawsMoves.{placed, which, moved-slab, moved-page}
-use Rattle.plain_book.specs.Book.{fresh, Call, keyOf, after}
-use Rattle.plain_book.proofs.LawsHistory.{Kept, kept-fresh}
+use Rattle.book_rules.specs.Calls.{Call}
+use Rattle.plain_book.specs.Book.{fresh, keyOf, after}
+use Rattle.plain_book.proofs.LawsHistory.{KeptByCalls, kept-fresh}
 use Rattle.plain_book.specs.Sound.{held, FitPages, Fits, SoundKey}
 
 -- ---- a list with one number more
 
--- its stream has the bytes of the difference more
-len-snoc : (prev : ℕ) (ns : List ℕ) (n : ℕ) → streamLenFrom prev (ns ++ (n ∷ [])) ≡ streamLenFrom prev ns + ulebLen (n - lastFrom prev ns)
-unfolding streamLenFrom
-len-snoc prev ns n = omega (arith, stream-len-append prev ns (n ∷ []))
-
--- of a number below 2^62, at most 9
-len-below : (n prev : ℕ) → n < 2 ^ 62 → ulebLen (n - prev) ≤ 9
+-- The difference to a number below 2^62 has at most 9 bytes.
+pub len-below : (n prev : ℕ) → n < 2 ^ 62 → ulebLen (n - prev) ≤ 9
 unfolding divided ulebLen
 len-below n prev h = len-mono (n - prev) 4611686018427387903 (omega arith)
 
 -- it rises, where the number is above the last
-rises-snoc : (top : ℕ) (ns : List ℕ) (n : ℕ) → Rising top 0 ns → lastFrom 0 ns < n → n < top → Rising top 0 (ns ++ (n ∷ []))
+pub rises-snoc : (top : ℕ) (ns : List ℕ) (n : ℕ) → Rising top 0 ns → lastFrom 0 ns < n → n < top → Rising top 0 (ns ++ (n ∷ []))
 unfolding Rising
 rises-snoc top ns n r h t = rising-append top 0 ns (n ∷ []) r (h, t, tt)
 
@@ -53,72 +51,73 @@ rising-below top higher prev (n ∷ ns) h (a, b, r) = (a, omega arith, rising-be
 
 -- the last page of a run has the room of a last page, the others that of a page
 run-fits : (off : ℕ) (parts : List (List ℕ)) → 0 < length parts → Fit lastPageRoom pageRoom parts → FitPages (runPages off parts)
-unfolding runPages Fit FitPages
+unfolding runPages Fit FitPages written
 run-fits off [] h f = absurd (omega arith)
-run-fits off (p ∷ []) h (some', fits) = ((some', fits, omega arith), refl)
-run-fits off (p ∷ q ∷ []) h (some', fits, f) = ((some', fits, le-refl pageRoom), run-fits (off + 4096) (q ∷ []) (omega arith) f)
-run-fits off (p ∷ q ∷ r ∷ ps) h (some', fits, f) = ((some', fits, le-refl pageRoom), run-fits (off + 4096) (q ∷ r ∷ ps) (omega arith) f)
+run-fits off (p ∷ []) h (some', fits) = ((some', fits, omega arith, refl), refl)
+run-fits off (p ∷ q ∷ []) h (some', fits, f) = ((some', fits, le-refl pageRoom, refl), run-fits (off + 4096) (q ∷ []) (omega arith) f)
+run-fits off (p ∷ q ∷ r ∷ ps) h (some', fits, f) = ((some', fits, le-refl pageRoom, refl), run-fits (off + 4096) (q ∷ r ∷ ps) (omega arith) f)
 
 run-held : (off : ℕ) (parts : List (List ℕ)) → held (runPages off parts) ≡ joined parts
-unfolding runPages held joined
+unfolding runPages held joined written
 run-held off [] = refl
 run-held off (p ∷ []) = refl
 run-held off (p ∷ q ∷ ps) = ap (λ (l : List ℕ). p ++ l) (run-held (off + 4096) (q ∷ ps))
 
 -- a number that joins the last page
-join-held : (n : ℕ) (ps : List Page) → FitPages ps → held (replaceLast (λ p. longer n p ∷ []) ps) ≡ held ps ++ (n ∷ [])
-unfolding held replaceLast FitPages
+join-held : (n : ℕ) (ps : List Page) → FitPages ps → held (replaceLast (λ p. longerPage n p ∷ []) ps) ≡ held ps ++ (n ∷ [])
+unfolding held replaceLast FitPages longer
 join-held n [] f = absurd f
-join-held n (p ∷ []) f = append-nil (p .part ++ (n ∷ [])) ∙ ap (λ (l : List ℕ). l ++ (n ∷ [])) (sym (append-nil (p .part)))
+join-held n (p ∷ []) f = append-nil (p .part .numbers ++ (n ∷ [])) ∙ ap (λ (l : List ℕ). l ++ (n ∷ [])) (sym (append-nil (p .part .numbers)))
 join-held n (p ∷ q ∷ ps) (f, fs) =
-    ap (λ (l : List ℕ). p .part ++ l) (join-held n (q ∷ ps) fs) ∙ sym (append-assoc (p .part) (held (q ∷ ps)) (n ∷ []))
+    ap (λ (l : List ℕ). p .part .numbers ++ l) (join-held n (q ∷ ps) fs) ∙ sym (append-assoc (p .part .numbers) (held (q ∷ ps)) (n ∷ []))
 
-join-fits : (n : ℕ) (page : Page) (ps : List Page) → FitPages ps → streamLen (longer n (lastPage page ps) .part) ≤ lastPage page ps .room
-    → FitPages (replaceLast (λ p. longer n p ∷ []) ps)
+join-fits : (n : ℕ) (page : Page) (ps : List Page) → FitPages ps → longer n (lastPage page ps .part) .bytes ≤ lastPage page ps .room
+    → FitPages (replaceLast (λ p. longerPage n p ∷ []) ps)
 unfolding FitPages replaceLast lastPage
 join-fits n page [] f h = f
-join-fits n page (p ∷ []) ((a, b, c), r) h = ((rw (length-append (p .part) (n ∷ [])) (omega arith), h, c), r)
+join-fits n page (p ∷ []) ((a, b, c, d), r) h =
+    ((rw (longer-numbers n (p .part), length-append (p .part .numbers) (n ∷ [])) (omega arith), h, c, shortest-longer n (p .part) d), r)
 join-fits n page (p ∷ q ∷ []) (f, fs) h = (f, join-fits n p (q ∷ []) fs h)
 join-fits n page (p ∷ q ∷ r ∷ ps) (f, fs) h = (f, join-fits n p (q ∷ r ∷ ps) fs h)
 
 -- one that begins a page
 begin-held : (n off : ℕ) (ps : List Page) → held (ps ++ onePage off (n ∷ [])) ≡ held ps ++ (n ∷ [])
-unfolding held
+unfolding held written
 begin-held n off [] = refl
-begin-held n off (p ∷ ps) = ap (λ (l : List ℕ). p .part ++ l) (begin-held n off ps) ∙ sym (append-assoc (p .part) (held ps) (n ∷ []))
+begin-held n off (p ∷ ps) = ap (λ (l : List ℕ). p .part .numbers ++ l) (begin-held n off ps) ∙ sym (append-assoc (p .part .numbers) (held ps) (n ∷ []))
 
 begin-fits : (n off : ℕ) (ps : List Page) → FitPages ps → ulebLen (n - 0) ≤ lastPageRoom → FitPages (ps ++ onePage off (n ∷ []))
-unfolding FitPages streamLenFrom
+unfolding FitPages streamLenFrom written
 begin-fits n off [] f h = absurd f
-begin-fits n off (p ∷ []) (f, r) h = (f, ((omega arith, omega arith, omega arith), refl))
+begin-fits n off (p ∷ []) (f, r) h = (f, ((omega arith, omega arith, omega arith, refl), refl))
 begin-fits n off (p ∷ q ∷ ps) (f, fs) h = (f, begin-fits n off (q ∷ ps) fs h)
 
 -- ---- places
 
 -- a list in the head word has at most 9 bytes, and one in a slab few
-one-bytes : (list : List ℕ) → Rising (2 ^ 62) 0 list → length list ≡ 1 → streamLen list ≤ 9
+pub one-bytes : (list : List ℕ) → Rising (2 ^ 62) 0 list → length list ≡ 1 → streamLen list ≤ 9
 unfolding Rising streamLenFrom
 one-bytes [] r e = absurd (omega arith)
 one-bytes (n ∷ []) (a, b, r) e = omega (arith, len-below n 0 b)
 one-bytes (n ∷ m ∷ ns) r e = absurd (omega arith)
 
-slab-bytes : (class bytes : ℕ) → class ≤ maxSlabClass → payloadLen bytes ≤ slabBytes class → bytes ≤ 2046
+pub slab-bytes : (class bytes : ℕ) → class ≤ maxSlabClass → payloadLen bytes ≤ slabBytes class → bytes ≤ 2046
 slab-bytes class bytes c h = let m = bytes-mono {c = class} {d = 7} c in omega arith
 
 -- a list that moves fits the slab or the page that it moves to
 moved-fits : (end count : ℕ) (list : List ℕ) (old : Place) (s : Space) {p : Placed} → 2 ≤ length list → streamLen list ≤ lastPageRoom
     → moved end (movesTo (length list) (streamLen list)) count list old s ≡ accepted p → Fits list (p .place)
-unfolding Fits FitPages held
+unfolding Fits FitPages held written
 moved-fits end count list old s {p} two small e = go (movesTo (length list) (streamLen list)) refl e
   where
     go : (o : Option ℕ) → movesTo (length list) (streamLen list) ≡ o → moved end o count list old s ≡ accepted p → Fits list (p .place)
     go (some c) q e =
         let m = moves-to (length list) (streamLen list) q in
         let (off, at, told) = moved-slab end count list old s c e in
-        rw at (m .slab, two, m .few, m .fits)
+        rw at (refl, refl, m .slab, two, m .few, m .fits)
     go none q e =
         let (off, at, told) = moved-page end count list old s e in
-        rw at (append-nil list, ((omega arith, small, omega arith), refl))
+        rw at (append-nil list, ((omega arith, small, omega arith, refl), refl))
 
 -- a number that joins pages, or begins one
 pages-fit : (end : ℕ) (ps : List Page) (ns : List ℕ) (n : ℕ) (s : Space) {p : Placed} → n < 2 ^ 62 → held ps ≡ ns → FitPages ps
@@ -127,10 +126,10 @@ unfolding appendPages beginPage joins Fits
 pages-fit end ps ns n s l is-held fit e =
     ⊎-elim
     (λ (t, is).
-    let room = leb-true (streamLen (longer n (lastPage noPage ps) .part)) (lastPage noPage ps .room) t in
+    let room = leb-true (longer n (lastPage noPage ps .part) .bytes) (lastPage noPage ps .room) t in
     rw (placed is) (join-held n ps fit ∙ ap (λ (l : List ℕ). l ++ (n ∷ [])) is-held, join-fits n noPage ps fit room))
     (λ (t, is).
-    let (got, took, is') = went-on (take end pageClass s) _ is in
+    let (got, took, is') = went-on (takeBlock end pageClass s) _ is in
     let nine = len-below n 0 l in
     rw (placed is') (begin-held n (got .off) ps ∙ ap (λ (l : List ℕ). l ++ (n ∷ [])) is-held, begin-fits n (got .off) ps fit (omega arith)))
     (which (joins n ps) (accepted (record { place = joinedTo n ps; space = s; rewritten = 0 })) (beginPage end ps n s) e)
@@ -146,28 +145,30 @@ append-fits end count ns n inline s r l f e =
     let c = one-bytes ns r f in
     let d = length-append ns (n ∷ []) in
     moved-fits end count (ns ++ (n ∷ [])) inline s (omega arith) (omega arith) e
-append-fits end count ns n (slab class off) s r l (c, two, few, bytes) e =
+append-fits end count ns n (slab class off kept) s r l (same, shortest, c, two, few, bytes) e =
     let a = len-snoc 0 ns n in
     let b = len-below n (lastFrom 0 ns) l in
-    let m = slab-bytes class (streamLen ns) c bytes in
+    let all : kept .bytes ≡ streamLen ns = shortest ∙ ap streamLen same in
+    let m = slab-bytes class (kept .bytes) c bytes in
     let d = length-append ns (n ∷ []) in
     ⊎-elim
     (λ (t, is).
-    let (few', slots, fits) = stays-holds class (length (ns ++ (n ∷ []))) (streamLen (ns ++ (n ∷ []))) t in
-    rw (placed is) (c, omega arith, few', fits))
-    (λ (t, is). moved-fits end count (ns ++ (n ∷ [])) (slab class off) s (omega arith) (omega arith) is)
-    (which (stays class (length (ns ++ (n ∷ []))) (streamLen (ns ++ (n ∷ [])))) _ _ e)
+    let (few', slots, fits) = stays-holds class (length (ns ++ (n ∷ []))) (longer n kept .bytes) t in
+    rw (placed is)
+    (longer-numbers n kept ∙ ap (λ (l : List ℕ). l ++ (n ∷ [])) same, shortest-longer n kept shortest, c, omega arith, few', fits))
+    (λ (t, is). moved-fits end count (ns ++ (n ∷ [])) (slab class off kept) s (omega arith) (omega arith) is)
+    (which (stays class (length (ns ++ (n ∷ []))) (longer n kept .bytes)) _ _ e)
 append-fits end count ns n (pages ps) s r l (is-held, fit) e = pages-fit end ps ns n s l is-held fit e
 
 -- parts that make up some numbers are some
-some-parts : (n : ℕ) (ns : List ℕ) (parts : List (List ℕ)) → joined parts ≡ n ∷ ns → 0 < length parts
+pub some-parts : (n : ℕ) (ns : List ℕ) (parts : List (List ℕ)) → joined parts ≡ n ∷ ns → 0 < length parts
 unfolding joined
 some-parts n ns [] e = let z : 0 ≡ suc (length ns) = ap length e in absurd (omega arith)
 some-parts n ns (p ∷ ps) e = omega arith
 
 -- a load gives a list a place that it fits
 load-fits : (end : ℕ) (ns : List ℕ) (s : Space) {p : Placed} → Rising (2 ^ 62) 0 ns → loadPlace end ns s ≡ accepted p → Fits ns (p .place)
-unfolding loadPlace loadInto Fits
+unfolding loadPlace loadInto Fits written
 load-fits end [] s r e = rw (placed e) refl
 load-fits end (n ∷ []) s r e = rw (placed e) refl
 load-fits end (n ∷ m ∷ ns) s {p} r e = go (loadsTo (length (n ∷ m ∷ ns)) (streamLen (n ∷ m ∷ ns))) refl e
@@ -175,22 +176,30 @@ load-fits end (n ∷ m ∷ ns) s {p} r e = go (loadsTo (length (n ∷ m ∷ ns))
     go : (o : Option ℕ) → loadsTo (length (n ∷ m ∷ ns)) (streamLen (n ∷ m ∷ ns)) ≡ o → loadInto end o (n ∷ m ∷ ns) s ≡ accepted p → Fits (n ∷ m ∷ ns) (p .place)
     go (some c) q e =
         let (few, class, fits) = loads-to (length (n ∷ m ∷ ns)) (streamLen (n ∷ m ∷ ns)) q in
-        let (t, got, is) = went-on (take end c s) _ e in
-        rw (placed is) (class, omega arith, few, fits)
+        let (t, got, is) = went-on (takeBlock end c s) _ e in
+        rw (placed is) (refl, refl, class, omega arith, few, fits)
     go none q e =
         let (t, got, is) = went-on (takeRun end (length (cutting (n ∷ m ∷ ns))) s) _ e in
         let ok = pages-allowed (n ∷ m ∷ ns) (rising-words 0 (n ∷ m ∷ ns) (rising-below (2 ^ 62) (2 ^ 63) 0 (n ∷ m ∷ ns) (omega arith) r)) in
         rw (placed is) (run-held (t .off) (cutting (n ∷ m ∷ ns)) ∙ ok .consecutive, run-fits (t .off) (cutting (n ∷ m ∷ ns)) (some-parts n (m ∷ ns) (cutting (n ∷ m ∷ ns)) (ok .consecutive)) (ok .fit))
 
+-- A sound key's slab takes a number more in the bytes of shortest forms.
+pub sound-longer : (n : ℕ) (k : Key) (class off : ℕ) (kept : Kept) → k .place ≡ slab class off kept → SoundKey k
+    → longer n kept .bytes ≡ streamLen (k .list ++ (n ∷ []))
+unfolding Fits
+sound-longer n k class off kept is h =
+    let fits : Fits (k .list) (slab class off kept) = rw is at (h .fits) in
+    longer-bytes n kept (k .list) (fits .0) (fits .1)
+
 -- ---- every list of calls
 
 -- A key that holds nothing is sound.
-empty-sound : SoundKey emptyKey
+pub empty-sound : SoundKey emptyKey
 unfolding Rising Fits
 empty-sound = record { rises = tt; fits = refl }
 
 -- Calls keep a key sound.
-sound-kept : Kept (λ k t. SoundKey k)
+pub sound-kept : KeptByCalls (λ k t. SoundKey k)
 sound-kept =
     record {
       loads = λ end k ns s p t h f rises e. record { rises = rises; fits = load-fits end ns s rises e };

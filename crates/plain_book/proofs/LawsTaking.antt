@@ -16,16 +16,18 @@ use Rattle.scripthash_layout.specs.Sizes.{slabBytes, pageClass, pageSize}
 use Rattle.scripthash_free.specs.FreeList.{Block, isBlock, Adjoin, Each, IsSlab, gapBlocks}
 use Rattle.scripthash_free.proofs.LawsBlock.{stands-block, slab-stands}
 use Rattle.scripthash_free.proofs.LawsGap.{gap-filled, gap-slabs}
-use Rattle.plain_book.specs.Space.{Space, stackOf, freed, freedAll, Taken, pageAfter, takeMark, rounded, takeRun, takeFresh, takeFrom, take}
+use Rattle.book_rules.specs.Places.{pageAfter}
+use Rattle.plain_book.specs.Space.{Space, stackOf, freed, freedAll, Taken, takeMark, rounded, takeRun, takeFresh, takeFrom, takeBlock}
 use Rattle.plain_book.specs.Key.{Place, pages, runPages}
 use Rattle.plain_book.specs.Owners.{Owner, hand, stack, slabOf, pageOf, pageAt, has}
+use Rattle.plain_book.specs.Good.{Good}
 use Rattle.plain_book.proofs.LawsApart.{apart-added, apart-run}
-use Rattle.plain_book.proofs.LawsOwners.{some-inj, none-some, below-top, withStack, changed-has, bytes-aligned, Good, good-popped, good-marked, atKey, key-slab, key-page}
+use Rattle.plain_book.proofs.LawsOwners.{some-inj, none-some, below-top, withStack, changed-has, bytes-aligned, good-popped, good-marked, atKey, key-slab, key-page}
 
 -- ---- carving the gap before a page
 
 -- A block at the mark goes onto its stack, and the mark passes it.
-good-carved-one : (s : Space) (at : ℕ → Place) (held : Option Block) (class off : ℕ) → off ≡ s .mark → class ≤ 7 → Good s at held
+pub good-carved-one : (s : Space) (at : ℕ → Place) (held : Option Block) (class off : ℕ) → off ≡ s .mark → class ≤ 7 → Good s at held
     → Good (record { mark = s .mark + slabBytes class; stacks = freed class off s .stacks }) at held
 unfolding has
 good-carved-one s at held class off is c g =
@@ -57,14 +59,14 @@ good-carved-one s at held class off is c g =
         (changed-has s class (off ∷ stackOf class s) in-nine at held (stack c' d) x e)
 
 -- What is freed doesn't depend on the mark.
-freed-stacks : (bs : List Block) (m m' : ℕ) (st : List (List ℕ))
+pub freed-stacks : (bs : List Block) (m m' : ℕ) (st : List (List ℕ))
     → freedAll bs (record { mark = m; stacks = st }) .stacks ≡ freedAll bs (record { mark = m'; stacks = st }) .stacks
 unfolding freedAll
 freed-stacks [] m m' st = refl
 freed-stacks (b ∷ bs) m m' st = freed-stacks bs m m' _
 
 -- Blocks side by side from the mark on are freed, and the mark passes them.
-good-carved : (bs : List Block) (s : Space) (at : ℕ → Place) (held : Option Block) (end : ℕ) → Adjoin (s .mark) bs end → Each (IsSlab end) bs → Good s at held
+pub good-carved : (bs : List Block) (s : Space) (at : ℕ → Place) (held : Option Block) (end : ℕ) → Adjoin (s .mark) bs end → Each (IsSlab end) bs → Good s at held
     → Good (record { mark = end; stacks = freedAll bs s .stacks }) at held
 unfolding Adjoin Each freedAll
 good-carved [] s at held end a e g = subst (λ (m : ℕ). Good (record { mark = m; stacks = s .stacks }) at held) a g
@@ -86,13 +88,13 @@ good-rounded s at held g =
     g
 
 -- A page at a multiple of 4,096 can stand there.
-page-stands : (off end : ℕ) → off % 4096 ≡ 0 → 4096 ≤ off → off + 4096 ≤ end → isBlock pageClass off end ≡ true
+pub page-stands : (off end : ℕ) → off % 4096 ≡ 0 → 4096 ≤ off → off + 4096 ≤ end → isBlock pageClass off end ≡ true
 page-stands off end a b e = stands-block pageClass off end (record { class-to-8 = omega arith; aligned = a; begins = b; ends = e })
 
 -- ---- a block is taken
 
 -- What a take gave, from a stack and from the mark.
-took-stack : (end class o : ℕ) (os : List ℕ) (s : Space) {t : Taken} → takeFrom end class (o ∷ os) s ≡ accepted t
+pub took-stack : (end class o : ℕ) (os : List ℕ) (s : Space) {t : Taken} → takeFrom end class (o ∷ os) s ≡ accepted t
     → t ≡ record { off = o; space = withStack class os s }
 unfolding takeFrom
 took-stack end class o os s e = sym (accepted-inj e)
@@ -112,7 +114,7 @@ unfolding rounded
 rounded-mark s = omega arith
 
 -- A page from the mark, and a slab.
-good-fresh-page : (end : ℕ) (s : Space) (at : ℕ → Place) {t : Taken} → takeRun end 1 s ≡ accepted t → Good s at none → InHand at pageClass t
+pub good-fresh-page : (end : ℕ) (s : Space) (at : ℕ → Place) {t : Taken} → takeRun end 1 s ≡ accepted t → Good s at none → InHand at pageClass t
 unfolding takeRun
 good-fresh-page end s at e g =
     let r = good-rounded s at none g in
@@ -120,17 +122,17 @@ good-fresh-page end s at e g =
     page-stands (rounded s .mark) (rounded s .mark + slabBytes pageClass) (rounded-mark s) (r .from) (omega arith) in
     subst (InHand at pageClass) (sym (took-mark end (1 * pageSize) (rounded s) e)) (good-marked (rounded s) at pageClass b r)
 
-good-fresh-slab : (end class : ℕ) (s : Space) (at : ℕ → Place) {t : Taken} → class ≤ 7 → takeMark end (slabBytes class) s ≡ accepted t → Good s at none → InHand at class t
+pub good-fresh-slab : (end class : ℕ) (s : Space) (at : ℕ → Place) {t : Taken} → class ≤ 7 → takeMark end (slabBytes class) s ≡ accepted t → Good s at none → InHand at class t
 good-fresh-slab end class s at c e g =
     subst (InHand at class) (sym (took-mark end (slabBytes class) s e))
     (good-marked s at class (slab-stands class (s .mark) (s .mark + slabBytes class) c (g .aligned) (g .from) (omega arith)) g)
 
 -- A class that is no page's is a slab's.
-slab-class : (class : ℕ) → class ≤ 8 → class ≢ 8 → class ≤ 7
+pub slab-class : (class : ℕ) → class ≤ 8 → class ≢ 8 → class ≤ 7
 slab-class class c n = ⊎-elim (λ e. absurd (n e)) (λ l. omega arith) (eq-or-lt-of-le c)
 
 -- A block of a class is taken.
-pub good-taken : (end class : ℕ) (s : Space) (at : ℕ → Place) {t : Taken} → class ≤ 8 → take end class s ≡ accepted t → Good s at none → InHand at class t
+pub good-taken : (end class : ℕ) (s : Space) (at : ℕ → Place) {t : Taken} → class ≤ 8 → takeBlock end class s ≡ accepted t → Good s at none → InHand at class t
 unfolding takeFrom takeFresh
 good-taken end class s at {t} c e g = from-stack (stackOf class s) refl e
   where
@@ -144,7 +146,7 @@ good-taken end class s at {t} c e g = from-stack (stackOf class s) refl e
 
 -- ---- a run of pages is taken for a key
 
-run-at : (i off : ℕ) (parts : List (List ℕ)) (x : Block) → pageAt i (runPages off parts) ≡ some x
+pub run-at : (i off : ℕ) (parts : List (List ℕ)) (x : Block) → pageAt i (runPages off parts) ≡ some x
     → (x ≡ record { class = pageClass; off = off + i * pageSize }) × (i < length parts)
 unfolding pageAt runPages
 run-at i off [] x e = absurd (none-some e)

@@ -1,5 +1,5 @@
 pub mod Examples
-pub mod LawsRules
+pub mod LawsKept
 pub mod LawsMoves
 pub mod LawsHistory
 pub mod LawsSound
@@ -9,4 +9,7 @@ pub mod LawsOwners
 pub mod LawsTaking
 pub mod LawsBlocks
 pub mod LawsMark
+pub mod LawsGood
 pub mod LawsHeads
+pub mod LawsRecorded
+pub mod LawsChain

@@ -1,30 +1,44 @@
 -- A key of a plain book: the list that it holds, and where that stands.
-use Prim.Native.Nat.{ℕ, _+_, max}
-use mathlib.Core.Bool.{Bool, cond, _&&_}
+use Prim.Native.Nat.{ℕ, _+_, _-_}
+use mathlib.Core.Bool.{Bool, cond}
 use mathlib.Core.List.{List, [], _∷_, _++_}
 use mathlib.Core.Option.{Option, none, some}
 use lib.Dec.{leb}
 use lib.ListN.{length}
 use Rattle.error.specs.Refusal.{Answer, accepted, andThen}
-use Rattle.scripthash_layout.specs.Sizes.{slabBytes, slabSlots, maxSlabCount, pageClass, pageSize}
+use Rattle.compact.specs.Uleb128.{ulebLen}
+use Rattle.scripthash_layout.specs.Sizes.{pageClass, pageSize}
 use Rattle.scripthash_layout.specs.declared.head.ShHeadValue.{ShHeadValue}
 use Rattle.scripthash_layout.specs.declared.head.ShHeadValue.the-variants.{Empty, Inline, Slab, Extent}
 use Rattle.scripthash_stream.specs.Stream.{lastFrom, streamLen}
-use Rattle.scripthash_slabs.specs.Class.{classByBytes, classWithSlack}
 use Rattle.scripthash_cutting.specs.Cutting.{pageRoom, lastPageRoom, cutting, replaceLast}
-use Rattle.plain_book.specs.Space.{Space, freed, take, takeRun}
+use Rattle.book_rules.specs.Places.{stays, movesTo, loadsTo}
+use Rattle.plain_book.specs.Space.{Space, freed, takeBlock, takeRun}
+
+-- A stream as it is kept in a slab or a page: its numbers, and how many bytes it takes.
+pub record Kept : Type 0 where
+  pub numbers : List ℕ
+  pub bytes : ℕ
+
+-- A list written anew: in shortest forms.
+unfoldable pub written : List ℕ → Kept
+written ns = record { numbers = ns; bytes = streamLen ns }
+
+-- A kept stream with one number more behind it, in its shortest form.
+unfoldable pub longer : ℕ → Kept → Kept
+longer n k = record { numbers = k .numbers ++ (n ∷ []); bytes = k .bytes + ulebLen (n - lastFrom 0 (k .numbers)) }
 
 -- A page: its offset, how many bytes of a stream it has room for, and the part of the list that it holds.
 pub record Page : Type 0 where
   pub off : ℕ
   pub room : ℕ
-  pub part : List ℕ
+  pub part : Kept
 
--- Where a list stands: nowhere, in the head word, in a slab, or in pages, the first first.
+-- Where a list stands: nowhere, in the head word, in a slab of a class at an offset, or in pages, the first first.
 pub data Place : Type 0 where
   empty : Place
   inline : Place
-  slab : ℕ → ℕ → Place
+  slab : ℕ → ℕ → Kept → Place
   pages : List Page → Place
 
 -- A key: its list and its place.
@@ -43,20 +57,20 @@ lastPage page (p ∷ ps) = lastPage p ps
 
 -- A page that takes nothing.
 abbrev pub noPage : Page
-noPage = record { off = 0; room = 0; part = [] }
+noPage = record { off = 0; room = 0; part = written [] }
 
 -- What a head word says of a list's place: the number, the slab's class, count and offset, or the last page's offset.
 unfoldable pub headOf : List ℕ → Place → ShHeadValue
 headOf list empty = Empty
 headOf list inline = Inline (lastFrom 0 list) 1
-headOf list (slab class off) = Slab class (length list) off
+headOf list (slab class off kept) = Slab class (length list) off
 headOf list (pages ps) = Extent (lastPage noPage ps .off)
 
 -- How many pages a place has.
 abbrev pub pagesOf : Place → ℕ
 pagesOf empty = 0
 pagesOf inline = 0
-pagesOf (slab class off) = 0
+pagesOf (slab class off kept) = 0
 pagesOf (pages ps) = length ps
 
 -- Pages freed, the first first.
@@ -68,38 +82,14 @@ freedPages (p ∷ ps) s = freedPages ps (freed pageClass (p .off) s)
 unfoldable pub freedPlace : Place → Space → Space
 freedPlace empty s = s
 freedPlace inline s = s
-freedPlace (slab class off) s = freed class off s
+freedPlace (slab class off kept) s = freed class off s
 freedPlace (pages ps) s = freedPages ps s
-
--- ---- rules, over a list's count and the bytes of its stream
-
--- The bytes of a slab's payload: two for the count, and the stream.
-abbrev pub payloadLen : ℕ → ℕ
-payloadLen bytes = 2 + bytes
-
--- A list stays in its slab: it has at most 256 numbers, and the slab has slots for them and bytes for their payload.
-unfoldable pub stays : ℕ → ℕ → ℕ → Bool
-stays class count bytes = leb count maxSlabCount && (leb count (slabSlots class) && leb (payloadLen bytes) (slabBytes class))
-
--- The larger of two classes, where both are chosen.
-unfoldable pub larger : Option ℕ → Option ℕ → Option ℕ
-larger none other = none
-larger (some c) none = none
-larger (some c) (some d) = some (max c d)
-
--- The class of the slab that a list moves to: the larger of the slack class and the class by bytes; none where it moves to a page.
-unfoldable pub movesTo : ℕ → ℕ → Option ℕ
-movesTo count bytes = larger (classWithSlack count) (classByBytes (payloadLen bytes))
-
--- The class of the slab that a load gives a list: by bytes; none where it goes to a run of pages.
-unfoldable pub loadsTo : ℕ → ℕ → Option ℕ
-loadsTo count bytes = cond (leb count maxSlabCount) (classByBytes (payloadLen bytes)) none
 
 -- ---- appending
 
 -- A list in one page.
 abbrev pub onePage : ℕ → List ℕ → List Page
-onePage off list = record { off = off; room = lastPageRoom; part = list } ∷ []
+onePage off list = record { off = off; room = lastPageRoom; part = written list } ∷ []
 
 -- A key after an append: its place, the space, and how many records were rewritten by a move.
 pub record Placed : Type 0 where
@@ -111,22 +101,22 @@ pub record Placed : Type 0 where
 -- records held before are rewritten.
 unfoldable pub moved : ℕ → Option ℕ → ℕ → List ℕ → Place → Space → Answer Placed
 moved end (some class) held list old s =
-    andThen (take end class s) (λ t. accepted (record { place = slab class (t .off); space = freedPlace old (t .space); rewritten = held }))
+    andThen (takeBlock end class s) (λ t. accepted (record { place = slab class (t .off) (written list); space = freedPlace old (t .space); rewritten = held }))
 moved end none held list old s =
-    andThen (take end pageClass s)
+    andThen (takeBlock end pageClass s)
     (λ t. accepted (record { place = pages (onePage (t .off) list); space = freedPlace old (t .space); rewritten = held }))
 
 -- A page with one number more.
-abbrev pub longer : ℕ → Page → Page
-longer n p = record { off = p .off; room = p .room; part = p .part ++ (n ∷ []) }
+abbrev pub longerPage : ℕ → Page → Page
+longerPage n p = record { off = p .off; room = p .room; part = longer n (p .part) }
 
 -- A number joins the last of some pages: that page's stream still has room.
 unfoldable pub joins : ℕ → List Page → Bool
-joins n ps = leb (streamLen (longer n (lastPage noPage ps) .part)) (lastPage noPage ps .room)
+joins n ps = leb (longer n (lastPage noPage ps .part) .bytes) (lastPage noPage ps .room)
 
 -- Some pages with the number joined to the last, as a place.
 abbrev pub joinedTo : ℕ → List Page → Place
-joinedTo n ps = pages (replaceLast (λ p. longer n p ∷ []) ps)
+joinedTo n ps = pages (replaceLast (λ p. longerPage n p ∷ []) ps)
 
 -- Some pages with one more that holds the number, as a place.
 abbrev pub begunAt : ℕ → ℕ → List Page → Place
@@ -135,7 +125,7 @@ begunAt off n ps = pages (ps ++ onePage off (n ∷ []))
 -- A number begins a taken page.
 unfoldable pub beginPage : ℕ → List Page → ℕ → Space → Answer Placed
 beginPage end ps n s =
-    andThen (take end pageClass s) (λ t. accepted (record { place = begunAt (t .off) n ps; space = t .space; rewritten = 0 }))
+    andThen (takeBlock end pageClass s) (λ t. accepted (record { place = begunAt (t .off) n ps; space = t .space; rewritten = 0 }))
 
 -- A number joins the last of some pages, or else begins a taken page.
 unfoldable pub appendPages : ℕ → List Page → ℕ → Space → Answer Placed
@@ -146,9 +136,9 @@ appendPages end ps n s =
 unfoldable pub appendPlace : ℕ → ℕ → List ℕ → ℕ → Place → Space → Answer Placed
 appendPlace end held list n empty s = accepted (record { place = inline; space = s; rewritten = 0 })
 appendPlace end held list n inline s = moved end (movesTo (length list) (streamLen list)) held list inline s
-appendPlace end held list n (slab class off) s =
-    cond (stays class (length list) (streamLen list)) (accepted (record { place = slab class off; space = s; rewritten = 0 }))
-    (moved end (movesTo (length list) (streamLen list)) held list (slab class off) s)
+appendPlace end held list n (slab class off kept) s =
+    cond (stays class (length list) (longer n kept .bytes)) (accepted (record { place = slab class off (longer n kept); space = s; rewritten = 0 }))
+    (moved end (movesTo (length list) (streamLen list)) held list (slab class off kept) s)
 appendPlace end held list n (pages ps) s = appendPages end ps n s
 
 -- ---- loading
@@ -156,13 +146,13 @@ appendPlace end held list n (pages ps) s = appendPages end ps n s
 -- The pages of a run, from an offset on: each has room for 4,088 bytes, the last for 4,072.
 unfoldable pub runPages : ℕ → List (List ℕ) → List Page
 runPages off [] = []
-runPages off (p ∷ []) = record { off = off; room = lastPageRoom; part = p } ∷ []
-runPages off (p ∷ q ∷ ps) = record { off = off; room = pageRoom; part = p } ∷ runPages (off + pageSize) (q ∷ ps)
+runPages off (p ∷ []) = record { off = off; room = lastPageRoom; part = written p } ∷ []
+runPages off (p ∷ q ∷ ps) = record { off = off; room = pageRoom; part = written p } ∷ runPages (off + pageSize) (q ∷ ps)
 
 -- A list loaded into a taken slab of a class, or else into a run of pages, a part of its cutting in each.
 unfoldable pub loadInto : ℕ → Option ℕ → List ℕ → Space → Answer Placed
 loadInto end (some class) list s =
-    andThen (take end class s) (λ t. accepted (record { place = slab class (t .off); space = t .space; rewritten = 0 }))
+    andThen (takeBlock end class s) (λ t. accepted (record { place = slab class (t .off) (written list); space = t .space; rewritten = 0 }))
 loadInto end none list s =
     andThen (takeRun end (length (cutting list)) s)
     (λ t. accepted (record { place = pages (runPages (t .off) (cutting list)); space = t .space; rewritten = 0 }))

@@ -1,6 +1,7 @@
 pub mod Space
 pub mod Key
 pub mod Book
-pub mod Moves
 pub mod Sound
 pub mod Owners
+pub mod Good
+pub mod Ceilings

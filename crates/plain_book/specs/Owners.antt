@@ -36,14 +36,14 @@ pageAt (suc i) (p ∷ ps) = pageAt i ps
 abbrev pub slabAt : Place → Option Block
 slabAt empty = none
 slabAt inline = none
-slabAt (slab class off) = some (record { class = class; off = off })
+slabAt (slab class off kept) = some (record { class = class; off = off })
 slabAt (pages ps) = none
 
 -- The page of a place at an index.
 abbrev pub pageIn : ℕ → Place → Option Block
 pageIn i empty = none
 pageIn i inline = none
-pageIn i (slab class off) = none
+pageIn i (slab class off kept) = none
 pageIn i (pages ps) = pageAt i ps
 
 -- The block that an owner has, if it has one: in a space, with keys' places and what a call has in hand.

@@ -1,21 +1,26 @@
 -- What every key of a plain book is, whatever calls led there: its list rises, and fits where it stands.
-use Prim.Native.Nat.{ℕ, _+_, _^_, _≤_, _<_}
+use Prim.Native.Nat.{ℕ, _^_, _≤_, _<_}
 use mathlib.Core.List.{List, [], _∷_, _++_}
 use mathlib.Core.Path.{_≡_}
 use lib.ListN.{length}
 use Rattle.scripthash_layout.specs.Sizes.{slabBytes, maxSlabClass, maxSlabCount}
-use Rattle.scripthash_stream.specs.Stream.{Rising, streamLen}
+use Rattle.scripthash_stream.specs.Stream.{Rising, lastFrom, streamLen}
 use Rattle.scripthash_cutting.specs.Cutting.{pageRoom, lastPageRoom}
-use Rattle.plain_book.specs.Key.{Page, Place, empty, inline, slab, pages, Key, payloadLen}
+use Rattle.book_rules.specs.Places.{payloadLen}
+use Rattle.plain_book.specs.Key.{Kept, Page, Place, empty, inline, slab, pages, Key}
 
 -- The numbers that pages hold, in order.
 unfoldable pub held : List Page → List ℕ
 held [] = []
-held (p ∷ ps) = p .part ++ held ps
+held (p ∷ ps) = p .part .numbers ++ held ps
 
--- A page holds a number, its stream fits its room, and that is no more than a page has.
+-- A kept stream takes the bytes of shortest forms.
+abbrev pub Shortest : Kept → Type 0
+Shortest k = k .bytes ≡ streamLen (k .numbers)
+
+-- A page holds a number, its stream, in shortest forms, fits its room, and that is no more than a page has.
 abbrev pub FitsPage : Page → Type 0
-FitsPage p = (0 < length (p .part)) × (streamLen (p .part) ≤ p .room) × (p .room ≤ pageRoom)
+FitsPage p = (0 < length (p .part .numbers)) × (p .part .bytes ≤ p .room) × (p .room ≤ pageRoom) × Shortest (p .part)
 
 -- Pages that fit: there is one, and the last has the room of a last page.
 unfoldable pub FitPages : List Page → Type 0
@@ -23,11 +28,17 @@ FitPages [] = ⊥
 FitPages (p ∷ []) = FitsPage p × (p .room ≡ lastPageRoom)
 FitPages (p ∷ q ∷ ps) = FitsPage p × FitPages (q ∷ ps)
 
--- A list fits its place: a slab has 2 to 256 numbers and bytes for their payload, and pages hold the list in order.
+-- Pages rise from a number on: each holds a number, its part rises behind the number before it, and the next page behind the part's last.
+unfoldable pub RisesFrom : ℕ → List Page → Type 0
+RisesFrom prev [] = Unit {0}
+RisesFrom prev (p ∷ ps) = (0 < length (p .part .numbers)) × Rising (2 ^ 62) prev (p .part .numbers) × RisesFrom (lastFrom 0 (p .part .numbers)) ps
+
+-- A list fits its place: a slab keeps it, has 2 to 256 numbers and bytes for their payload, and pages hold the list in order.
 unfoldable pub Fits : List ℕ → Place → Type 0
 Fits list empty = length list ≡ 0
 Fits list inline = length list ≡ 1
-Fits list (slab class off) = (class ≤ maxSlabClass) × (2 ≤ length list) × (length list ≤ maxSlabCount) × (payloadLen (streamLen list) ≤ slabBytes class)
+Fits list (slab class off kept) =
+    (kept .numbers ≡ list) × Shortest kept × (class ≤ maxSlabClass) × (2 ≤ length list) × (length list ≤ maxSlabCount) × (payloadLen (kept .bytes) ≤ slabBytes class)
 Fits list (pages ps) = (held ps ≡ list) × FitPages ps
 
 -- A sound key: its list rises, below 2^62, and fits its place.

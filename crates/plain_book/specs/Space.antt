@@ -1,13 +1,14 @@
 -- The space of a plain book (01 coins the term): a mark, up to which blocks were ever taken, and a stack of freed blocks for each class. No byte
 -- is read.
-use Prim.Native.Nat.{ℕ, _+_, _*_, _-_, _/_}
+use Prim.Native.Nat.{ℕ, _+_, _*_}
 use mathlib.Core.Bool.{cond}
 use mathlib.Core.List.{List, [], _∷_}
 use lib.Dec.{ltb, eqb}
 use lib.ListN.{getD, set}
-use Rattle.error.specs.Refusal.{Answer, accepted, refused, refuseIf, noRoom}
+use Rattle.error.specs.Refusal.{Answer, accepted, refuseIf, noRoom}
 use Rattle.scripthash_layout.specs.Sizes.{slabBytes, pageClass, pageSize}
 use Rattle.scripthash_free.specs.FreeList.{Block, gapBlocks}
+use Rattle.book_rules.specs.Places.{pageAfter}
 
 -- The mark, and the freed blocks' offsets of classes 0 to 8, the last freed first.
 pub record Space : Type 0 where
@@ -31,10 +32,6 @@ freedAll (b ∷ bs) s = freedAll bs (freed (b .class) (b .off) s)
 pub record Taken : Type 0 where
   pub off : ℕ
   pub space : Space
-
--- An offset rounded up to the next multiple of a page.
-abbrev pub pageAfter : ℕ → ℕ
-pageAfter off = (off + (pageSize - 1)) / pageSize * pageSize
 
 -- Some bytes taken at the mark, which then passes them; refused where they would pass the body's end.
 unfoldable pub takeMark : ℕ → ℕ → Space → Answer Taken
@@ -60,5 +57,5 @@ takeFrom end class [] s = takeFresh end class s
 takeFrom end class (o ∷ os) s = accepted (record { off = o; space = record { mark = s .mark; stacks = set (s .stacks) class os } })
 
 -- A block of a class taken: the top of its stack, or else from the mark.
-abbrev pub take : ℕ → ℕ → Space → Answer Taken
-take end class s = takeFrom end class (stackOf class s) s
+abbrev pub takeBlock : ℕ → ℕ → Space → Answer Taken
+takeBlock end class s = takeFrom end class (stackOf class s) s

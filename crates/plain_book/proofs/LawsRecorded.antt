@@ -1,0 +1,139 @@
+-- The licence's sentence on the plain book: a key's list is what calls and their answers recorded for it, and a read tells that list. Assumes nothing.
+use Prim.Native.Nat.{ℕ, _<_}
+use mathlib.Core.Bool.{Bool, true, false, cond, false≢true}
+use mathlib.Core.List.{List, [], _∷_, _++_}
+use mathlib.Core.Logic.{_⊎_, inl, inr, ⊎-elim}
+use mathlib.Core.Path.{_≡_, refl, sym, ap, _∙_}
+use native.Mathlib.Omega.{arith}
+use lib.Dec.{eqb}
+use lib.ListN.{length}
+use lib.Seq.{getD-set-same, getD-set-other}
+use borrow.Author.Tests.{eqb-true, eqb-false}
+use Rattle.error.specs.Refusal.{Answer, accepted, refused, refuseIf, answered, shapeBad, keyBeyond, listTooShort}
+use Rattle.error.proofs.LawsAnswer.{refused≢accepted}
+use Rattle.book_rules.specs.Calls.{Call, load, append, read, drop, keyOfCall, listed, bookAfter, answerOf, afterCalls, answersTo}
+use Rattle.book_rules.specs.Moves.{noMoves}
+use Rattle.book_rules.specs.Recorded.{recordedBy, recordedAfter, recorded}
+use Rattle.book_rules.specs.Licence.{AnsweredBy, Licensed}
+use Rattle.plain_book.specs.Space.{Space}
+use Rattle.plain_book.specs.Key.{Key, emptyKey, Place, empty, inline, slab, pages, pagesOf}
+use Rattle.plain_book.specs.Book.{Book, fresh, Outcome, onKey, keyOf, withKey, inUse, reads, does, after, answers}
+use Rattle.plain_book.specs.Sound.{Fits, SoundKey}
+use Rattle.plain_book.proofs.LawsHistory.{load-did, append-did, read-did, drop-did, fresh-key, kept-call}
+use Rattle.plain_book.proofs.LawsSound.{empty-sound, sound-kept}
+
+-- ---- one call
+
+-- A list of no numbers is empty.
+no-numbers : (ns : List ℕ) → length ns ≡ 0 → ns ≡ []
+no-numbers [] e = refl
+no-numbers (n ∷ ns) e = absurd (omega arith)
+
+-- A key that is not in use holds nothing.
+unused-holds : (list : List ℕ) (place : Place) → inUse place ≡ false → Fits list place → list ≡ []
+unfolding Fits
+unused-holds list empty f fits = no-numbers list fits
+unused-holds list inline f fits = absurd (false≢true (sym f))
+unused-holds list (slab class off kept) f fits = absurd (false≢true (sym f))
+unused-holds list (pages ps) f fits = absurd (false≢true (sym f))
+
+-- A key's list after the place and list of a key changed: the new one where it is that key.
+list-with : (b : Book) (own key : ℕ) (list new : List ℕ) (place : Place) (space : Space) {b' : Book} → own < length (b .keys) → b' ≡ withKey own list place space b
+    → (own ≡ key → list ≡ new) → keyOf key b' .list ≡ cond (eqb own key) new (keyOf key b .list)
+list-with b own key list new place space {b'} within is same = ap (λ (x : Book). keyOf key x .list) is ∙ go (eqb own key) refl
+  where
+    go : (x : Bool) → eqb own key ≡ x → keyOf key (withKey own list place space b) .list ≡ cond x new (keyOf key b .list)
+    go true q =
+        let e = eqb-true own key q in
+        ap (λ (k : ℕ). keyOf k (withKey own list place space b) .list) (sym e) ∙ ap (λ (k : Key). k .list) (getD-set-same (b .keys) own _ emptyKey within) ∙ same e
+    go false q = ap (λ (k : Key). k .list) (getD-set-other (b .keys) own key _ emptyKey (λ (e : key ≡ own). eqb-false own key q (sym e)))
+
+-- After a call a key's list is what the call recorded for it.
+call-recorded : (key : ℕ) (b : Book) (c : Call) (a : Answer Outcome) → does b c ≡ a → SoundKey (keyOf key b)
+    → keyOf key (bookAfter b a) .list ≡ recordedAfter key c (answerOf a) (keyOf key b .list)
+unfolding does bookAfter answered recordedAfter recordedBy
+call-recorded key b c (refused number) e s = refl
+call-recorded key b (load own ns) (accepted o) e s =
+    let (p, within, free, rises, got, is) = load-did b own ns e in
+    list-with b own key ns _ (p .place) (p .space) within (ap (λ (x : Outcome). x .book) is)
+    (λ (z : own ≡ key). rw (unused-holds (keyOf key b .list) (keyOf key b .place) (rw z at free) (s .fits)))
+call-recorded key b (append own n) (accepted o) e s =
+    let (p, within, rises, low, got, is) = append-did b own n e in
+    list-with b own key _ _ (p .place) (p .space) within (ap (λ (x : Outcome). x .book) is)
+    (λ (z : own ≡ key). ap (λ (k : ℕ). keyOf k b .list ++ (n ∷ [])) z)
+call-recorded key b (read own room) (accepted o) e s =
+    let (within, is) = read-did b own room e in
+    ap (λ (x : Outcome). keyOf key (x .book) .list) is ∙ either (eqb own key)
+  where
+    either : (x : Bool) → keyOf key b .list ≡ cond x (keyOf key b .list) (keyOf key b .list)
+    either true = refl
+    either false = refl
+call-recorded key b (drop own) (accepted o) e s =
+    let (within, is) = drop-did b own e in
+    list-with b own key _ _ _ _ within (ap (λ (x : Outcome). x .book) is) (λ z. refl)
+
+-- ---- every list of calls
+
+-- Take any book with a sound key and any list of calls: the key's list afterwards is what was there and what the calls recorded for the key.
+pub recorded-from : (b : Book) (key : ℕ) (cs : List Call) → SoundKey (keyOf key b) → keyOf key (after b cs) .list ≡ recorded key cs (answers b cs) (keyOf key b .list)
+unfolding afterCalls answersTo recorded
+recorded-from b key [] s = refl
+recorded-from b key (c ∷ cs) s =
+    recorded-from (bookAfter b (does b c)) key cs (kept-call _ sound-kept key b c noMoves (does b c) refl s)
+    ∙ ap (recorded key cs (answers (bookAfter b (does b c)) cs)) (call-recorded key b c (does b c) refl s)
+
+-- After any list of calls on a fresh book a key's list is what the calls recorded for it.
+pub recorded-fresh : (size heads key : ℕ) (cs : List Call) → keyOf key (after (fresh size heads) cs) .list ≡ recorded key cs (answers (fresh size heads) cs) []
+recorded-fresh size heads key cs =
+    recorded-from (fresh size heads) key cs (rw (fresh-key size heads key) empty-sound)
+    ∙ ap (λ (k : Key). recorded key cs (answers (fresh size heads) cs) (k .list)) (fresh-key size heads key)
+
+-- ---- reads
+
+-- An accepted read tells the key's list, and its pages.
+pub read-told : (b : Book) (key room : ℕ) {o : Outcome} → does b (read key room) ≡ accepted o
+    → o .told ≡ listed (record { numbers = keyOf key b .list; pages = pagesOf (keyOf key b .place) })
+unfolding does
+read-told b key room e = ap (λ (x : Outcome). x .told) (read-did b key room e .1)
+
+-- What a refusal came from: the test, or what comes after it.
+refused-by : {A : Type 0} (test : Bool) (number : ℕ) (after : Answer A) {m : ℕ} → refuseIf test number after ≡ refused m → (m ≡ number) ⊎ (after ≡ refused m)
+unfolding refuseIf
+refused-by true number after e = inl (cc)
+refused-by false number after e = inr e
+
+-- A read is refused only for the shape (1), the key (2), or a lent list that is too short (34).
+pub read-refused : (b : Book) (key room : ℕ) {number : ℕ} → does b (read key room) ≡ refused number
+    → (number ≡ shapeBad) ⊎ ((number ≡ keyBeyond) ⊎ (number ≡ listTooShort))
+unfolding does reads onKey
+read-refused b key room e =
+    ⊎-elim (λ q. inl q)
+    (λ e1. inr (⊎-elim (λ q. inl q) (λ e2. inr (⊎-elim (λ q. q) (λ e3. absurd (refused≢accepted (sym e3))) (refused-by _ _ _ e2))) (refused-by _ _ _ e1)))
+    (refused-by _ _ _ e)
+
+-- ---- the licence's sentence
+
+-- An answer is by what is recorded for its key.
+call-answered : (b : Book) (c : Call) (a : Answer Outcome) (numbers : List ℕ) → does b c ≡ a → keyOf (keyOfCall c) b .list ≡ numbers → AnsweredBy c (answerOf a) numbers
+unfolding AnsweredBy answered
+call-answered b (load key ns) a numbers e is = tt
+call-answered b (append key n) a numbers e is = tt
+call-answered b (read key room) (accepted o) numbers e is = (pagesOf (keyOf key b .place), rw (← is) (read-told b key room e))
+call-answered b (read key room) (refused number) numbers e is = read-refused b key room e
+call-answered b (drop key) a numbers e is = tt
+
+-- Take any book of sound keys, whose lists are what was recorded, and any list of calls: the licence's sentence holds.
+pub licensed-from : (b : Book) (before : ℕ → List ℕ) (cs : List Call) → ((key : ℕ) → SoundKey (keyOf key b)) → ((key : ℕ) → keyOf key b .list ≡ before key)
+    → Licensed before cs (answers b cs)
+unfolding Licensed answersTo
+licensed-from b before [] s is = tt
+licensed-from b before (c ∷ cs) s is = (
+  call-answered b c (does b c) (before (keyOfCall c)) refl (is (keyOfCall c)),
+  licensed-from (bookAfter b (does b c)) _ cs (λ key. kept-call _ sound-kept key b c noMoves (does b c) refl (s key))
+      (λ key. call-recorded key b c (does b c) refl (s key) ∙ ap (recordedAfter key c (answerOf (does b c))) (is key)),
+)
+
+-- On a fresh book, with nothing recorded, the licence's sentence holds of every list of calls.
+pub licensed : (size heads : ℕ) (cs : List Call) → Licensed (λ key. []) cs (answers (fresh size heads) cs)
+licensed size heads cs =
+    licensed-from (fresh size heads) (λ key. []) cs (λ key. rw (fresh-key size heads key) empty-sound) (λ key. ap (λ (k : Key). k .list) (fresh-key size heads key))
