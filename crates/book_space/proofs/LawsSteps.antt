@@ -1,0 +1,79 @@
+-- How a take goes on, test by test: what each part of it answers. By cases on the tests.
+use Prim.Native.Nat.{ℕ, _+_, _≤_, _<_}
+use mathlib.Core.List.{List, [], _∷_}
+use mathlib.Core.Option.{none, some}
+use mathlib.Core.Bool.{true}
+use mathlib.Core.Path.{_≡_, refl, ap, _∙_}
+use borrow.Author.Tests.{lt-ltb, le-ltb, ne-eqb}
+use lib.ListN.{length}
+use Rattle.error.specs.Refusal.{Answer, accepted, refused, answered, noRoom}
+use Rattle.error.proofs.LawsAnswer.{refuse-yes, refuse-no, then-yes, then-no, was-accepted, was-refused}
+use Rattle.scripthash_layout.specs.Sizes.{slabBytes, pageClass}
+use Rattle.scripthash_free.specs.FreeList.{Lists, Pop, isBlock, pushFree, popFree, pushAll, after, headsAfter}
+use Rattle.scripthash_free.proofs.LawsFree.{after-accepted, heads-accepted, push-yes}
+use Rattle.book_space.specs.Space.{Space, space, listsOf, withLists, Taken, takeMark, takeRun, takeFresh, takePopped, takeBlock, spaceAfter, release}
+
+-- The space of an accepted take stands afterwards.
+pub after-taken : (s : Space) (a : Answer Taken) {t : Taken} → a ≡ accepted t → spaceAfter s a ≡ t .space
+unfolding spaceAfter
+after-taken s a e = rw e
+
+-- A refused take leaves the space.
+pub after-refused : (s : Space) (a : Answer Taken) {number : ℕ} → a ≡ refused number → spaceAfter s a ≡ s
+unfolding spaceAfter
+after-refused s a e = rw e
+
+-- Bytes that fit are taken at the mark, and others are refused.
+pub mark-yes : (bytes : ℕ) (s : Space) → s .mark + bytes ≤ length (s .body)
+    → takeMark bytes s ≡ accepted (record { off = s .mark; space = space (s .body) (s .mark + bytes) (s .free) })
+unfolding takeMark
+mark-yes bytes s h = refuse-no _ _ _ (le-ltb (length (s .body)) (s .mark + bytes) h)
+
+pub mark-no : (bytes : ℕ) (s : Space) → length (s .body) < s .mark + bytes → takeMark bytes s ≡ refused noRoom
+unfolding takeMark
+mark-no bytes s h = refuse-yes _ _ _ (lt-ltb (length (s .body)) (s .mark + bytes) h)
+
+-- A fresh page is a run of one.
+pub fresh-page : (s : Space) → takeFresh pageClass s ≡ takeRun 1 s
+unfolding takeFresh
+fresh-page s = refl
+
+-- A fresh slab is taken at the mark.
+pub fresh-slab : (class : ℕ) (s : Space) → (class ≡ pageClass → ⊥) → takeFresh class s ≡ takeMark (slabBytes class) s
+unfolding takeFresh
+fresh-slab class s other = rw (ne-eqb class pageClass other)
+
+-- A class and a space, by what popping the class tells.
+module _ (class : ℕ) (s : Space) where
+  -- What the pop answers.
+  abbrev popping : Answer Pop
+  popping = popFree class (s .mark) (listsOf s)
+
+  -- What comes after the pop.
+  abbrev going : Pop → Answer Taken
+  going p = takePopped class s (p .block) (p .heads)
+
+  -- A block that is popped is the one taken.
+  pub told-block : {off : ℕ} (heads : List ℕ) → answered (λ (p : Pop). p .block) popping ≡ accepted (some off) → heads ≡ headsAfter popping (s .free)
+      → takeBlock class s ≡ accepted (record { off = off; space = space (s .body) (s .mark) heads })
+  unfolding takeBlock takePopped
+  told-block {off} heads e h =
+      let (p, is, b) = was-accepted (λ (p : Pop). p .block) popping e in
+      let same : heads ≡ p .heads = h ∙ heads-accepted popping (s .free) is in
+      then-yes popping going is ∙ rw (b, same)
+
+  -- Where none is, a fresh one is taken.
+  pub told-none : answered (λ (p : Pop). p .block) popping ≡ accepted none → takeBlock class s ≡ takeFresh class s
+  unfolding takeBlock takePopped
+  told-none e = let (p, is, b) = was-accepted (λ (p : Pop). p .block) popping e in then-yes popping going is ∙ rw b
+
+  -- A refused pop refuses the take.
+  pub told-refused : {number : ℕ} → answered (λ (p : Pop). p .block) popping ≡ refused number → takeBlock class s ≡ refused number
+  unfolding takeBlock
+  told-refused e = then-no popping going (was-refused (λ (p : Pop). p .block) popping e)
+
+-- The free lists after pushing a block that stands within the body are those after it is given back.
+pub release-pushed : (class off : ℕ) (s : Space) (l : Lists) → isBlock class off (length (s .body)) ≡ true → l ≡ after (pushFree class off (listsOf s)) (listsOf s)
+    → withLists l s ≡ release (record { class = class; off = off } ∷ []) s
+unfolding release pushAll
+release-pushed class off s l good e = ap (λ (x : Lists). withLists x s) (e ∙ after-accepted _ (listsOf s) (push-yes class off (listsOf s) good))

@@ -1,0 +1,4 @@
+pub mod LawsShape
+pub mod LawsLists
+pub mod LawsSteps
+pub mod LawsTake

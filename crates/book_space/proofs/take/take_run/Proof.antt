@@ -1,0 +1,65 @@
+-- `take_run` meets its contract: the run's end against the body's decides, and the gap can be carved. Assumes nothing.
+use mathlib.Core.Path.{sym}
+use Rattle.error.proofs.LawsAnswer.{answered-yes, answered-no}
+use Rattle.scripthash_free.specs.FreeList.{lists}
+use Rattle.book_space.specs.Space.{Space, Taken}
+use Rattle.book_space.specs.Answers.{spaceOf}
+use Rattle.book_space.proofs.LawsSteps.{after-taken, after-refused}
+use Rattle.book_space.proofs.LawsTake.{run-yes, run-no}
+use borrow.Author.Needs.{needs}
+use Rattle.book_space.proofs.take.take_run.Statement.{statement}
+use Rattle.book_space.proofs.take.take_run.Tie as tie
+
+-- the space before
+module _ (t : tie.Start) where
+  abbrev before : Space
+  before = spaceOf (t .args .body .now) (t .args .state)
+
+sub-from : tie.Need-sub-from
+sub-from c = search needs
+
+add-from : tie.Need-add-from
+add-from c = search needs
+
+mul-from : tie.Need-mul-from
+mul-from c = search needs
+
+mul-end : tie.Need-mul-end
+mul-end c = search needs
+
+add-end : tie.Need-add-end
+add-end c = search needs
+
+returns : tie.Need-returns
+returns c =
+    let start = c .before .before in
+    let answer = run-no (start .args .pages) (before start) (start .pre .0) (c .if1 .taken) in
+    (sym (answered-no (λ (x : Taken). x .off) _ answer), sym (after-refused (before start) _ answer))
+
+carve-lent-requires : tie.Need-carve-lent-requires
+carve-lent-requires c κs = search needs
+
+same-length : tie.Need-same-length
+same-length c = search needs
+
+returns-2 : tie.Need-returns-2
+returns-2 c =
+    let t = c .before .before .before .before .before .before in
+    let start = t .before .before in
+    let l = lists (c .before .before .carve-lent .last .0) (c .before .before .carve-lent .last .1 .0) in
+    let answer = run-yes (start .args .pages) (before start) (start .pre .0) l (c .before .before .carve-lent .ensures .1) (t .if1 .left) in
+    (sym (answered-yes (λ (x : Taken). x .off) _ answer), sym (after-taken (before start) _ answer))
+
+pub take-run-spec : {M : Type 1} → statement M
+take-run-spec =
+    tie.close
+    (tie.spec
+    sub-from
+    add-from
+    mul-from
+    mul-end
+    add-end
+    returns
+    carve-lent-requires
+    same-length
+    returns-2)

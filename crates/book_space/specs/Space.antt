@@ -1,0 +1,96 @@
+-- The space of a book over bytes (document 01, "The book"): one body, the mark up to which blocks were ever taken, and the free heads of
+-- classes 0 to 8, each the offset of the class's first freed block, 0 for none.
+use Prim.Native.Nat.{ℕ, _+_, _*_, _%_, _≤_}
+use mathlib.Core.Bool.{Bool, cond, not, _||_}
+use mathlib.Core.List.{List}
+use mathlib.Core.Option.{Option, none, some}
+use mathlib.Core.Path.{_≡_}
+use lib.Dec.{ltb, eqb}
+use lib.ListN.{length}
+use Rattle.error.specs.Refusal.{Answer, accepted, refused, refuseIf, andThen, noRoom}
+use Rattle.scripthash_layout.specs.Sizes.{slabBytes, pageClass, pageSize}
+use Rattle.scripthash_layout.specs.Head.{payloadStart}
+use Rattle.scripthash_free.specs.FreeList.{Lists, lists, Block, pushAll, gapBlocks, popFree}
+use Rattle.book_rules.specs.Limits.{leastBody, mostBody, outOfShape}
+use Rattle.book_rules.specs.Places.{pageAfter}
+
+-- The body's bytes, the mark, and the nine free heads.
+pub record Space : Type 0 where
+  pub body : List ℕ
+  pub mark : ℕ
+  pub free : List ℕ
+
+-- A body with its mark and free heads.
+abbrev pub space : List ℕ → ℕ → List ℕ → Space
+space body mark free = record { body = body; mark = mark; free = free }
+
+-- The free lists of a space.
+abbrev pub listsOf : Space → Lists
+listsOf s = lists (s .body) (s .free)
+
+-- A space with other free lists.
+abbrev pub withLists : Lists → Space → Space
+withLists l s = space (l .body) (s .mark) (l .heads)
+
+-- A mark that can't be: it isn't a multiple of 16, or leaves 4,096 to the body's end.
+unfoldable pub markBad : ℕ → ℕ → Bool
+markBad size mark = not (eqb (mark % 16) 0) || (ltb mark payloadStart || ltb size mark)
+
+-- The shape of a space with so many heads breaks the limits: its lengths, or its mark.
+unfoldable pub shapeBroken : Space → ℕ → Bool
+shapeBroken s heads = outOfShape (length (s .body)) heads || markBad (length (s .body)) (s .mark)
+
+-- A space in shape: its body is whole pages, from two to 2^30 bytes, and its mark is a multiple of 16 between 4,096 and the body's end.
+pub record InShape (s : Space) : Type 0 where
+  pub paged : length (s .body) % pageSize ≡ 0
+  pub least : leastBody ≤ length (s .body)
+  pub most : length (s .body) ≤ mostBody
+  pub aligned : s .mark % 16 ≡ 0
+  pub begins : payloadStart ≤ s .mark
+  pub within : s .mark ≤ length (s .body)
+
+-- ---- taking
+
+-- What a take gives: where the block or run begins, and the space afterwards.
+pub record Taken : Type 0 where
+  pub off : ℕ
+  pub space : Space
+
+-- Some bytes taken at the mark, which then passes them; refused where they would pass the body's end.
+unfoldable pub takeMark : ℕ → Space → Answer Taken
+takeMark bytes s =
+    refuseIf (ltb (length (s .body)) (s .mark + bytes)) noRoom
+    (accepted (record { off = s .mark; space = space (s .body) (s .mark + bytes) (s .free) }))
+
+-- The mark rounded up to a page, and the blocks of the gap pushed onto their free lists.
+unfoldable pub rounded : Space → Space
+rounded s =
+    let l = pushAll (gapBlocks (s .mark) (pageAfter (s .mark))) (listsOf s) in space (l .body) (pageAfter (s .mark)) (l .heads)
+
+-- A run of pages taken: always at the mark, rounded up.
+unfoldable pub takeRun : ℕ → Space → Answer Taken
+takeRun pages s = takeMark (pages * pageSize) (rounded s)
+
+-- A block of a class taken where none of it is freed: a page is a run of one.
+unfoldable pub takeFresh : ℕ → Space → Answer Taken
+takeFresh class s = cond (eqb class pageClass) (takeRun 1 s) (takeMark (slabBytes class) s)
+
+-- A block of a class taken after a pop: the block that was popped, or else a fresh one.
+unfoldable pub takePopped : ℕ → Space → Option ℕ → List ℕ → Answer Taken
+takePopped class s none free = takeFresh class s
+takePopped class s (some off) free = accepted (record { off = off; space = space (s .body) (s .mark) free })
+
+-- A block of a class taken: popped where the free head isn't 0, or else from the mark.
+unfoldable pub takeBlock : ℕ → Space → Answer Taken
+takeBlock class s = andThen (popFree class (s .mark) (listsOf s)) (λ p. takePopped class s (p .block) (p .heads))
+
+-- The space after a take, or as it was where the take is refused.
+unfoldable pub spaceAfter : Space → Answer Taken → Space
+spaceAfter s (accepted t) = t .space
+spaceAfter s (refused number) = s
+
+-- ---- giving back
+
+-- Blocks pushed onto their free lists one after the other.
+unfoldable pub release : List Block → Space → Space
+release bs s = withLists (pushAll bs (listsOf s)) s

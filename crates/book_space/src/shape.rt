@@ -1,0 +1,58 @@
+// The shape of a space: the lengths of its body and of its heads, and its mark.
+ghost use mathlib.Core.Path.{_≡_};
+ghost use Rattle.book_rules.specs.Limits.{outOfShape};
+ghost use Rattle.book_space.specs.Space.{markBad, shapeBroken};
+ghost use Rattle.book_space.specs.Answers.{spaceOf};
+use crate::State;
+use scripthash_layout::SH_PAGE_SIZE;
+
+// The least length of a body.
+const LEAST_BODY: usize = 8192;
+// The greatest length of a body.
+const MOST_BODY: usize = 1073741824;
+// The most heads, one for each key.
+const MOST_HEADS: usize = 65536;
+// Blocks stand in a body from this offset on.
+const PAYLOAD_START: u64 = 4096;
+
+// Tells whether the lengths of a body and of its heads break the limits.
+pub fn out_of_shape(size: usize, heads: usize) -> bool
+    ensures { λ r. ⌜ r ≡ outOfShape size heads ⌝ }
+{
+    if size % SH_PAGE_SIZE != 0 {
+        return true;
+    }
+    if size < LEAST_BODY {
+        return true;
+    }
+    if MOST_BODY < size {
+        return true;
+    }
+    if heads == 0 {
+        return true;
+    }
+    MOST_HEADS < heads
+}
+
+// Tells whether a mark isn't a multiple of 16, or leaves 4,096 to the body's end.
+fn mark_bad(size: u64, mark: u64) -> bool
+    ensures { λ r. ⌜ r ≡ markBad size mark ⌝ }
+{
+    if mark % 16 != 0 {
+        return true;
+    }
+    if mark < PAYLOAD_START {
+        return true;
+    }
+    size < mark
+}
+
+// Tells whether the shape of a space with so many heads breaks the limits: its lengths, or its mark.
+pub fn shape_broken(body: &[u8], heads: usize, state: State) -> bool
+    ensures { λ r. ⌜ r ≡ shapeBroken (spaceOf (now (body .entry)) state) heads ⌝ }
+{
+    if out_of_shape(body.len(), heads) {
+        return true;
+    }
+    mark_bad(body.len() as u64, state.mark)
+}

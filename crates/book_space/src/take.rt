@@ -1,0 +1,110 @@
+// Taking a block of a class, or a run of pages: a freed block, or else bytes from the mark on.
+ghost use Prim.Native.Nat.{_≤_};
+ghost use mathlib.Core.Path.{_≡_};
+ghost use Rattle.error.specs.Refusal.{answered, refusalOf};
+ghost use Rattle.scripthash_layout.specs.Sizes.{maxSlabClass, pageClass, slabBytes};
+ghost use Rattle.book_space.specs.Space.{InShape, Taken, takeMark, takeRun, takeBlock, spaceAfter};
+ghost use Rattle.book_space.specs.Answers.{spaceOf, takeAnswer};
+use crate::State;
+use error::Refusal;
+use scripthash_free::PopFree;
+use scripthash_layout::SH_PAGE_SLAB_CLASS;
+
+// The bytes of a page.
+const PAGE_BYTES: u64 = 4096;
+
+// What taking a block or a run answers: where it begins, or a refusal.
+pub enum TakeBlock {
+    At(u64),
+    Refused(Refusal),
+}
+
+// The answer of a take, and the state after it.
+pub struct AfterTake {
+    pub answer: TakeBlock,
+    pub state: State,
+}
+
+impl TakeBlock {
+    // The refusal's number, and 0 of another answer.
+    pub fn refusal(self) -> Refusal
+        ensures { λ r. ⌜ r ≡ refusalOf (takeAnswer self) ⌝ }
+    {
+        match self {
+            TakeBlock::At(_) => 0,
+            TakeBlock::Refused(number) => number,
+        }
+    }
+}
+
+// Takes a run of pages at the mark, rounded up to a page; the blocks of the gap are pushed onto their free lists. Nothing is written
+// where the run would pass the body's end.
+pub fn take_run(body: &mut [u8], state: State, pages: u64) -> AfterTake
+    requires { ⌜ InShape (spaceOf (now body) state) × (pages ≤ 65535) ⌝ }
+    ensures answer { λ r. ⌜ takeAnswer (r .answer) ≡ answered (λ (t : Taken). t .off) (takeRun pages (spaceOf (now (body .entry)) state)) ⌝ }
+    ensures space { λ r. ⌜ spaceOf (now (body .exit)) (r .state) ≡ spaceAfter (spaceOf (now (body .entry)) state) (takeRun pages (spaceOf (now (body .entry)) state)) ⌝ }
+{
+    let mark = state.mark;
+    let from = (mark + (PAGE_BYTES - 1)) / PAGE_BYTES * PAGE_BYTES;
+    let end = from + pages * PAGE_BYTES;
+    if (body.len() as u64) < end {
+        return AfterTake {
+            answer: TakeBlock::Refused(error::NO_ROOM),
+            state,
+        };
+    }
+    let mut free = state.free;
+    scripthash_free::carve_lent(body, &mut free, mark, from);
+    AfterTake {
+        answer: TakeBlock::At(from),
+        state: State { mark: end, free },
+    }
+}
+
+// Takes a slab of a class 0 to 7 at the mark.
+fn take_slab(body: &[u8], state: State, class: u8) -> AfterTake
+    requires { ⌜ InShape (spaceOf (now body) state) × (class ≤ maxSlabClass) ⌝ }
+    ensures answer { λ r. ⌜ takeAnswer (r .answer) ≡ answered (λ (t : Taken). t .off) (takeMark (slabBytes class) (spaceOf (now (body .entry)) state)) ⌝ }
+    ensures space { λ r. ⌜ spaceOf (now (body .entry)) (r .state) ≡ spaceAfter (spaceOf (now (body .entry)) state) (takeMark (slabBytes class) (spaceOf (now (body .entry)) state)) ⌝ }
+{
+    let mark = state.mark;
+    let end = mark + scripthash_layout::slab_bytes(class);
+    if (body.len() as u64) < end {
+        return AfterTake {
+            answer: TakeBlock::Refused(error::NO_ROOM),
+            state,
+        };
+    }
+    let free = state.free;
+    AfterTake {
+        answer: TakeBlock::At(mark),
+        state: State { mark: end, free },
+    }
+}
+
+// Takes a block of a class: the first freed one, or where there is none a fresh one at the mark.
+pub fn take_block(body: &mut [u8], state: State, class: u8) -> AfterTake
+    requires { ⌜ InShape (spaceOf (now body) state) × (class ≤ pageClass) ⌝ }
+    ensures answer { λ r. ⌜ takeAnswer (r .answer) ≡ answered (λ (t : Taken). t .off) (takeBlock class (spaceOf (now (body .entry)) state)) ⌝ }
+    ensures space { λ r. ⌜ spaceOf (now (body .exit)) (r .state) ≡ spaceAfter (spaceOf (now (body .entry)) state) (takeBlock class (spaceOf (now (body .entry)) state)) ⌝ }
+{
+    let mark = state.mark;
+    let mut free = state.free;
+    let popped = scripthash_free::pop_lent(body, &mut free, class, mark);
+    match popped {
+        PopFree::Block(off) => AfterTake {
+            answer: TakeBlock::At(off),
+            state: State { mark, free },
+        },
+        PopFree::Nothing => {
+            if class == SH_PAGE_SLAB_CLASS {
+                return take_run(body, state, 1);
+            }
+            take_slab(body, state, class)
+        }
+        PopFree::Refused(number) => AfterTake {
+            answer: TakeBlock::Refused(number),
+            state,
+        },
+    }
+}
