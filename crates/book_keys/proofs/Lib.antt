@@ -1,0 +1,11 @@
+pub mod LawsSound
+pub mod LawsBlocks
+pub mod LawsSlab
+pub mod LawsPages
+pub mod LawsWalk
+pub mod LawsChain
+pub mod LawsFill
+pub mod LawsContent
+pub mod LawsKeys
+pub mod LawsFree
+pub mod LawsDistinct

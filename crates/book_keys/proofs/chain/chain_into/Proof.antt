@@ -1,0 +1,229 @@
+-- `chain_into` meets its contract. Invariant: for each chain that the walk from the first page gives, the pages left, written from here on, make
+-- the whole list. Assumes nothing.
+use Prim.Native.Nat.{ℕ, suc, _+_, _-_, _/_, _≤_, zero-le}
+use mathlib.Core.List.{List}
+use mathlib.Core.Path.{_≡_, refl, sym, ap, _∙_, subst}
+use native.Mathlib.Omega.{arith}
+use borrow.Author.Needs.{needs}
+use lib.ListN.{length}
+use Rattle.error.specs.Refusal.{Answer, accepted, refused, answered}
+use Rattle.error.proofs.LawsAnswer.{was-accepted, was-refused, accepted-inj, refused≢accepted}
+use Rattle.buffer.specs.Bytes.{overwrite}
+use Rattle.buffer.proofs.LawsBytes.{length-overwrite}
+use Rattle.scripthash_layout.specs.Sizes.{pageSize}
+use Rattle.scripthash_stream.specs.Stream.{Scan, afterDecode}
+use Rattle.scripthash_stream.proofs.LawsLent.{lent, putBack, length-lent}
+use Rattle.scripthash_answers.specs.EntryAnswers.{PageRead, sliceAnswer}
+use Rattle.scripthash_pages.specs.Entries.{pageReadOf}
+use Rattle.book_space.specs.Space.{Space}
+use Rattle.book_keys.specs.Keys.{pageAt, Chain, walk}
+use Rattle.book_keys.specs.Steps.{keySpace, pageInto}
+use Rattle.book_keys.proofs.LawsSound.{was-sound}
+use Rattle.book_keys.proofs.LawsChain.{chain-walks}
+use Rattle.book_keys.proofs.LawsFill.{read-told, into-fits, page-written, Filling, filling-as, fill-start, fill-some, Turn, fill-turn}
+use Rattle.book_keys.proofs.chain.chain_into.Statement.{statement}
+use Rattle.book_keys.proofs.chain.chain_into.Tie as tie
+
+abbrev Inv-loop : tie.InvT-loop
+Inv-loop body mark first last out₀ most off₀ at₀ pages₀ out off at pages =
+    (pages ≤ most) × (at ≤ length out) × (length out ≡ length out₀)
+    × ((w : Chain) → walk most (keySpace body mark) last 0 first ≡ accepted w → length (w .numbers) ≤ length out₀
+    → Filling (most - pages) (keySpace body mark) last out₀ w out at off)
+
+abbrev μ-loop : tie.MeasureT-loop
+μ-loop body mark first last out₀ most off₀ at₀ pages₀ out off at pages = most - pages
+
+-- a turn: a page was read into the part from here on
+module _ (c : tie.After-page-into Inv-loop μ-loop) where
+  abbrev turn : tie.In-loop Inv-loop μ-loop
+  turn = c .before .before
+
+  abbrev start : tie.Start Inv-loop μ-loop
+  start = turn .before .before .before .before
+
+  abbrev s : Space
+  s = keySpace (start .args .body .now) (start .args .mark)
+
+  abbrev most : ℕ
+  most = start .args .mark / pageSize
+
+  abbrev out : List ℕ
+  out = turn .before .loop .out
+
+  abbrev at : ℕ
+  at = turn .before .loop .at
+
+  abbrev off : ℕ
+  off = turn .before .loop .off
+
+  abbrev part : List ℕ
+  part = c .page-into .last .1 .1 .1 .0
+
+  abbrev read : Answer Scan
+  read = pageInto (length out - at) s off
+
+  room : length (lent out at) ≡ length out - at
+  room = length-lent out at (turn .before .loop .inv .1)
+
+  answer : sliceAnswer (c .page-into .result) ≡ answered (pageReadOf (pageAt s off)) read
+  answer = c .page-into .ensures .0 ∙ ap (λ (n : ℕ). answered (pageReadOf (pageAt s off)) (pageInto n s off)) room
+
+  list : part ≡ afterDecode (lent out at) read
+  list = c .page-into .ensures .1 ∙ ap (λ (n : ℕ). afterDecode (lent out at) (pageInto n s off)) room
+
+  left : most - turn .before .loop .pages ≡ suc (most - (turn .before .loop .pages + 1))
+  left = omega (arith, turn .loop-test .taken)
+
+  -- the chain that the whole walk gives, and what is left of it
+  filling : (w : Chain) → walk most s (start .args .last) 0 (start .args .first) ≡ accepted w → length (w .numbers) ≤ length (start .args .out .now)
+      → Filling (suc (most - (turn .before .loop .pages + 1))) s (start .args .last) (start .args .out .now) w out at off
+  filling w e h =
+      subst (λ (k : ℕ). Filling k s (start .args .last) (start .args .out .now) w out at off) left (turn .before .loop .inv .3 w e h)
+
+-- a page was read
+module _ (c : tie.After-got Inv-loop μ-loop) where
+  abbrev back : tie.After-page-into Inv-loop μ-loop
+  back = c .before .before .before .before
+
+  abbrev told : PageRead
+  told = record { count = c .got .given .0 .0; next = c .got .given .0 .1 .0 }
+
+  page : (p : Scan) × (read back ≡ accepted p) × (pageReadOf (pageAt (s back) (off back)) p ≡ told)
+  page = was-accepted (pageReadOf (pageAt (s back) (off back))) _ (sym (answer back) ∙ ap sliceAnswer (c .got .given .1))
+
+  fits : at back + c .got .given .0 .0 ≤ length (out back)
+  fits =
+      let room = into-fits (length (out back) - at back) (s back) (off back) (page .0) (page .1) in
+      let count = read-told (pageAt (s back) (off back)) (page .0) told (page .2) .0 in
+      omega (arith, turn back .before .loop .inv .1)
+
+  wrote : putBack (out back) (at back) (part back) ≡ overwrite (out back) (at back) (page .0 .numbers)
+  wrote =
+      let count = read-told (pageAt (s back) (off back)) (page .0) told (page .2) .0 in
+      let h = fits in
+      page-written (out back) (at back) (part back) (read back) (page .0) (omega arith) (list back) (page .1)
+
+  -- what is left of the chain that the whole walk gives begins with that page
+  module _ (w : Chain) (e : walk (most back) (s back) (start back .args .last) 0 (start back .args .first) ≡ accepted w)
+      (h : length (w .numbers) ≤ length (start back .args .out .now)) where
+    abbrev next : Turn (s back) (start back .args .last) (start back .args .out .now) w (out back) (at back) (off back)
+        (most back - (turn back .before .loop .pages + 1)) (filling back w e h)
+    next = fill-turn (s back) (start back .args .last) (start back .args .out .now) w (out back) (at back) (off back)
+        (most back - (turn back .before .loop .pages + 1)) (filling back w e h)
+
+    same : next .page ≡ page .0
+    same = accepted-inj (sym (next .read) ∙ page .1)
+
+loop-holds : tie.Need-loop-holds Inv-loop μ-loop
+loop-holds c =
+    let a = c .before .before .args in
+    (omega arith, zero-le, refl, λ w e h. fill-start (a .mark / 4096) (keySpace (a .body .now) (a .mark)) (a .last) (a .out .now) w (a .first) e h)
+
+mul-page-into : tie.Need-mul-page-into Inv-loop μ-loop
+mul-page-into c = search needs
+
+sub-page-into : tie.Need-sub-page-into Inv-loop μ-loop
+sub-page-into c = omega arith
+
+part-page-into-start : tie.Need-part-page-into-start Inv-loop μ-loop
+part-page-into-start c = omega arith
+
+part-page-into-end : tie.Need-part-page-into-end Inv-loop μ-loop
+part-page-into-end c = search needs
+
+page-into-requires : tie.Need-page-into-requires Inv-loop μ-loop
+page-into-requires c κs = search needs
+
+enum-known-got : tie.Need-enum-known-got Inv-loop μ-loop
+enum-known-got c = search needs
+
+enum-told : tie.Need-enum-told Inv-loop μ-loop
+enum-told c = search needs
+
+same-length : tie.Need-same-length Inv-loop μ-loop
+same-length c = search needs
+
+returns : tie.Need-returns Inv-loop μ-loop
+returns c k e first h =
+    let b = c .before .before .before .before in
+    let stop = was-refused (pageReadOf (pageAt (s b) (off b))) (read b) (sym (answer b) ∙ ap sliceAnswer (c .enum-told .given .1)) in
+    let walks = chain-walks (s b) (start b .args .last) (start b .args .first) k (was-sound _ e) first in
+    let next =
+    fill-turn (s b) (start b .args .last) (start b .args .out .now) k (out b) (at b) (off b) (most b - (turn b .before .loop .pages + 1))
+    (filling b k walks h) in
+    absurd (refused≢accepted (sym stop ∙ next .read))
+
+same-length-2 : tie.Need-same-length-2 Inv-loop μ-loop
+same-length-2 c = search needs
+
+returns-2 : tie.Need-returns-2 Inv-loop μ-loop
+returns-2 c k e first h =
+    let d = c .before .before in
+    let b = back d in
+    let walks = chain-walks (s b) (start b .args .last) (start b .args .first) k (was-sound _ e) first in
+    wrote d ∙ ap (λ (p : Scan). overwrite (out b) (at b) (p .numbers)) (sym (same d k walks h)) ∙ next d k walks h .ends (c .if1 .taken)
+
+add-at : tie.Need-add-at Inv-loop μ-loop
+add-at c = let h = fits (c .before .before) in omega arith
+
+add-pages : tie.Need-add-pages Inv-loop μ-loop
+add-pages c = omega arith
+
+loop-less : tie.Need-loop-less Inv-loop μ-loop
+loop-less c = omega arith
+
+loop-again : tie.Need-loop-again Inv-loop μ-loop
+loop-again c =
+    let d = c .before .before in
+    let b = back d in
+    let told-is = read-told (pageAt (s b) (off b)) (page d .0) (told d) (page d .2) in
+    let h = fits d in
+    let length-same : length (putBack (out b) (at b) (part b)) ≡ length (out b) =
+    ap length (wrote d) ∙ length-overwrite (out b) (at b) (page d .0 .numbers) (omega (arith, told-is .0)) in (
+      omega arith,
+      subst (λ (n : ℕ). at b + told d .count ≤ n) (sym length-same) h,
+      length-same ∙ turn b .before .loop .inv .2,
+      λ w e k.
+          let p = same d w e k in
+          filling-as (most b - (turn b .before .loop .pages + 1)) (s b) (start b .args .last) (start b .args .out .now) w
+          (ap (λ (x : Scan). overwrite (out b) (at b) (x .numbers)) p ∙ sym (wrote d))
+          (ap (λ (x : Scan). at b + length (x .numbers)) p ∙ ap (λ (n : ℕ). at b + n) (told-is .0)) (told-is .1) (next d w e k .goes (c .if1 .left)),
+    )
+
+same-length-3 : tie.Need-same-length-3 Inv-loop μ-loop
+same-length-3 c = search needs
+
+returns-3 : tie.Need-returns-3 Inv-loop μ-loop
+returns-3 c k e first h =
+    let a = c .before .before .before .before .args in
+    let l = c .before .loop in
+    let space = keySpace (a .body .now) (a .mark) in
+    let walks = chain-walks space (a .last) (a .first) k (was-sound _ e) first in
+    let none : a .mark / pageSize - l .pages ≡ 0 = omega (arith, c .loop-test .left) in
+    absurd (fill-some space (a .last) (a .out .now) k (l .out) (l .at) (l .off)
+    (subst (λ (n : ℕ). Filling n space (a .last) (a .out .now) k (l .out) (l .at) (l .off)) none (l .inv .3 k walks h)))
+
+pub chain-into-spec : {M : Type 1} → statement M
+chain-into-spec =
+    tie.close
+    (tie.spec
+    Inv-loop
+    μ-loop
+    loop-holds
+    mul-page-into
+    sub-page-into
+    part-page-into-start
+    part-page-into-end
+    page-into-requires
+    enum-known-got
+    enum-told
+    same-length
+    returns
+    same-length-2
+    returns-2
+    add-at
+    add-pages
+    loop-less
+    loop-again
+    same-length-3
+    returns-3)

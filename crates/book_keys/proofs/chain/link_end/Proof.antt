@@ -1,0 +1,82 @@
+-- `link_end` meets its contract: where the page stands decides, then its bytes. Assumes nothing.
+use Prim.Native.Nat.{ℕ, _+_, _≤_}
+use mathlib.Core.Bool.{true}
+use mathlib.Core.List.{List}
+use mathlib.Core.Path.{_≡_, refl, sym, ap, _∙_}
+use native.Mathlib.Omega.{arith}
+use borrow.Author.Needs.{needs}
+use borrow.Author.Tests.{not-true, not-false}
+use lib.ListN.{length}
+use Rattle.error.specs.Refusal.{answered}
+use Rattle.scripthash_layout.specs.Sizes.{pageClass, pageSize}
+use Rattle.scripthash_free.specs.FreeList.{isBlock}
+use Rattle.book_space.specs.Space.{Space}
+use Rattle.book_keys.specs.Keys.{soundly, pageAt}
+use Rattle.book_keys.specs.Steps.{keySpace, linkRead, linkEndOf}
+use Rattle.book_keys.proofs.LawsSound.{turned-back}
+use Rattle.book_keys.proofs.LawsBlocks.{span}
+use Rattle.book_keys.proofs.LawsPages.{page-inside, link-off, link-on}
+use Rattle.book_keys.proofs.chain.link_end.Statement.{statement}
+use Rattle.book_keys.proofs.chain.link_end.Tie as tie
+
+-- the page stands
+module _ (c : tie.Else1) where
+  abbrev at : tie.Start
+  at = c .before .before .before
+
+  abbrev s : Space
+  s = keySpace (at .args .body .now) (at .args .mark)
+
+  abbrev off : ℕ
+  off = at .args .off
+
+  stands : isBlock pageClass off (s .mark) ≡ true
+  stands = sym (c .before .page-stands .ensures) ∙ not-false _ (c .if1 .left)
+
+  inside : off + pageSize ≤ length (at .args .body .now)
+  inside = page-inside s off stands (at .args .body .now) (at .pre)
+
+page-stands-requires : tie.Need-page-stands-requires
+page-stands-requires c κs = search needs
+
+returns : tie.Need-returns
+returns c =
+    let a = c .before .before .before .args in
+    let s = keySpace (a .body .now) (a .mark) in
+    turned-back (linkEndOf (pageAt s (a .off))) _ (link-off s (a .off) (a .prev) (sym (c .before .page-stands .ensures) ∙ not-true _ (c .if1 .taken)))
+
+add-read-link : tie.Need-add-read-link
+add-read-link c = let h = inside c in omega arith
+
+sub-read-link : tie.Need-sub-read-link
+sub-read-link c = search needs
+
+part-read-link-start : tie.Need-part-read-link-start
+part-read-link-start c = search needs
+
+part-read-link-end : tie.Need-part-read-link-end
+part-read-link-end c = inside c
+
+read-link-requires : tie.Need-read-link-requires
+read-link-requires c κs = search needs
+
+returns-2 : tie.Need-returns-2
+returns-2 c =
+    let d = c .before .before in
+    let prev = at d .args .prev in
+    c .read-link .ensures
+    ∙ ap (λ (bs : List ℕ). answered (linkEndOf bs) (soundly (linkRead prev bs))) (span (at d .args .body .now) (off d) pageSize pageSize refl)
+    ∙ ap (λ a. answered (linkEndOf (pageAt (s d) (off d))) (soundly a)) (sym (link-on (s d) (off d) (stands d) prev))
+
+pub link-end-spec : {M : Type 1} → statement M
+link-end-spec =
+    tie.close
+    (tie.spec
+    page-stands-requires
+    returns
+    add-read-link
+    sub-read-link
+    part-read-link-start
+    part-read-link-end
+    read-link-requires
+    returns-2)

@@ -1,0 +1,46 @@
+-- What the answers of the code about keys mean: 01's number and values for each of their cases.
+use Rattle.error.specs.Refusal.{Answer, accepted, refused}
+use Rattle.book_keys.specs.Keys.{Last}
+use Rattle.book_keys.specs.Steps.{TailEndOf, LinkEndOf, Walked, ChainEndOf, Counts}
+use Rattle.book_keys.specs.declared.chain.LastPage.{LastPage}
+use Rattle.book_keys.specs.declared.chain.LastPage.the-variants.{Header, Refused as NoHeader}
+use Rattle.book_keys.specs.declared.chain.TailEnd.{TailEnd}
+use Rattle.book_keys.specs.declared.chain.TailEnd.the-variants.{Tail, Refused as NoTail}
+use Rattle.book_keys.specs.declared.chain.LinkEnd.{LinkEnd}
+use Rattle.book_keys.specs.declared.chain.LinkEnd.the-variants.{Page, Refused as NoPage}
+use Rattle.book_keys.specs.declared.chain.WalkEnd.{WalkEnd}
+use Rattle.book_keys.specs.declared.chain.WalkEnd.the-variants.{Pages, Refused as NoPages}
+use Rattle.book_keys.specs.declared.chain.ChainEnd.{ChainEnd}
+use Rattle.book_keys.specs.declared.chain.ChainEnd.the-variants.{Chain, Refused as NoChain}
+use Rattle.book_keys.specs.declared.key.KeyCounts.{KeyCounts}
+use Rattle.book_keys.specs.declared.key.KeyCounts.the-variants.{Counts as CountsAre, Refused as NoCounts}
+
+-- The header of a key's last page.
+abbrev pub lastAnswer : LastPage → Answer Last
+lastAnswer (Header first creates) = accepted (record { first = first; creates = creates })
+lastAnswer (NoHeader number) = refused number
+
+-- The answer of `tail_end`.
+abbrev pub tailAnswer : TailEnd → Answer TailEndOf
+tailAnswer (Tail taken fk first creates) = accepted (record { taken = taken; fk = fk; first = first; creates = creates })
+tailAnswer (NoTail number) = refused number
+
+-- A page of a chain.
+abbrev pub linkAnswer : LinkEnd → Answer LinkEndOf
+linkAnswer (Page count fk last next) = accepted (record { count = count; fk = fk; last = last; next = next })
+linkAnswer (NoPage number) = refused number
+
+-- Pages walked.
+abbrev pub walkAnswer : WalkEnd → Answer Walked
+walkAnswer (Pages length pages) = accepted (record { length = length; pages = pages })
+walkAnswer (NoPages number) = refused number
+
+-- The answer of `chain_end`.
+abbrev pub chainAnswer : ChainEnd → Answer ChainEndOf
+chainAnswer (Chain first length pages) = accepted (record { first = first; length = length; pages = pages })
+chainAnswer (NoChain number) = refused number
+
+-- The answer of `key_counts`.
+abbrev pub countsAnswer : KeyCounts → Answer Counts
+countsAnswer (CountsAre length pages) = accepted (record { length = length; pages = pages })
+countsAnswer (NoCounts number) = refused number

@@ -1,0 +1,112 @@
+-- A key's blocks by their bytes alone: what is asked of a slab or page once it is known to lie below the mark, and what the steps of the
+-- code tell each other.
+use Prim.Native.Nat.{ℕ, _+_, _^_, _≤_}
+use mathlib.Core.Bool.{Bool, _&&_}
+use mathlib.Core.List.{List, []}
+use mathlib.Core.Path.{_≡_}
+use lib.Dec.{leb, ltb, eqb}
+use lib.ListN.{length, getD}
+use Rattle.error.specs.Refusal.{Answer, accepted, andThen}
+use Rattle.buffer.specs.Bytes.{overwrite}
+use Rattle.scripthash_layout.specs.Sizes.{maxSlabCount, pageClass}
+use Rattle.scripthash_stream.specs.Stream.{Scan, lastFrom}
+use Rattle.scripthash_slabs.specs.Slab.{slabUsed, decodeSlab}
+use Rattle.scripthash_fields.specs.Page.{linkOf, createsFieldOf, namesExtent, isLastLink, linkOffset}
+use Rattle.scripthash_pages.specs.Entries.{pageScan, pageEntries}
+use Rattle.scripthash_free.specs.FreeList.{isBlock}
+use Rattle.book_space.specs.Space.{Space, space}
+use Rattle.book_keys.specs.Keys.{sure, goOn, goodExtent, pageAt, createsGood, Last, Chain, Content, Tail}
+
+-- A body and its mark as keys are read there: the free heads don't matter.
+abbrev pub keySpace : List ℕ → ℕ → Space
+keySpace body mark = space body mark []
+
+-- A last number that a sound block may have: it isn't 0, which would say that there is none, and it is below 2^62.
+unfoldable pub soundLast : ℕ → Bool
+soundLast fk = ltb 0 fk && ltb fk (2 ^ 62)
+
+-- ---- the bytes of a block
+
+-- The stream of a slab, from its bytes: it has as many numbers as the head says, at most 256, and reads.
+unfoldable pub slabRead : List ℕ → ℕ → Answer Scan
+slabRead slab used =
+    sure (leb used maxSlabCount && eqb (slabUsed slab) used) (andThen (decodeSlab used slab) (λ c. sure (goOn 0 (c .numbers)) (accepted c)))
+
+-- The stream of a page behind a number, from its bytes.
+unfoldable pub linkRead : ℕ → List ℕ → Answer Scan
+linkRead prev page = andThen (pageScan page) (λ c. sure (goOn prev (c .numbers)) (accepted c))
+
+-- What the header of a page tells, as a key's last page.
+abbrev pub lastOfPage : List ℕ → Last
+lastOfPage page = record { first = linkOffset (linkOf page); creates = createsFieldOf page }
+
+-- The header of a key's last page, from its bytes.
+unfoldable pub lastRead : List ℕ → Answer Last
+lastRead page = sure (namesExtent page && isLastLink (linkOf page)) (andThen (goodExtent page) (λ e. accepted (lastOfPage page)))
+
+-- The last page of a key as an append looks at it, from its bytes.
+unfoldable pub tailRead : List ℕ → Answer Tail
+tailRead page = andThen (lastRead page) (λ h. sure (createsGood (h .creates)) (andThen (linkRead 0 page) (λ c. accepted (record { scan = c; last = h }))))
+
+-- ---- what is told of them
+
+-- The end of a key's last page: the bytes that its stream takes, its last number, the first page's offset, and creates.
+pub record TailEndOf : Type 0 where
+  pub taken : ℕ
+  pub fk : ℕ
+  pub first : ℕ
+  pub creates : ℕ
+
+-- The end of a last page that was read.
+abbrev pub tailEndOf : Tail → TailEndOf
+tailEndOf t = record { taken = t .scan .taken; fk = lastFrom 0 (t .scan .numbers); first = t .last .first; creates = t .last .creates }
+
+-- A page of a chain: how many numbers it has, its last number, whether it is LAST, and the offset that its link names.
+pub record LinkEndOf : Type 0 where
+  pub count : ℕ
+  pub fk : ℕ
+  pub last : Bool
+  pub next : ℕ
+
+-- The same of a page that was scanned.
+abbrev pub linkEndOf : List ℕ → Scan → LinkEndOf
+linkEndOf page c =
+    record { count = length (c .numbers); fk = lastFrom 0 (c .numbers); last = isLastLink (linkOf page); next = linkOffset (linkOf page) }
+
+-- How long a chain's list is, and how many pages it has.
+pub record Walked : Type 0 where
+  pub length : ℕ
+  pub pages : ℕ
+
+-- The same of a chain behind so many numbers and pages.
+abbrev pub walkedFrom : ℕ → ℕ → Chain → Walked
+walkedFrom count pages c = record { length = count + length (c .numbers); pages = pages + length (c .offs) }
+
+-- A chain: its first page's offset, how long its list is, and how many pages it has.
+pub record ChainEndOf : Type 0 where
+  pub first : ℕ
+  pub length : ℕ
+  pub pages : ℕ
+
+-- The same of a chain that was walked.
+abbrev pub chainEndOf : Chain → ChainEndOf
+chainEndOf c = record { first = getD (c .offs) 0 0; length = length (c .numbers); pages = length (c .offs) }
+
+-- How long a key's list is, and how many pages it has.
+pub record Counts : Type 0 where
+  pub length : ℕ
+  pub pages : ℕ
+
+-- The same of what a key holds.
+abbrev pub countsOf : Content → Counts
+countsOf c = record { length = length (c .numbers); pages = c .pages }
+
+-- ---- lists that are written out
+
+-- Reading the page at an offset into a lent list with room for some numbers: the page lies below the mark, reads, and fits.
+unfoldable pub pageInto : ℕ → Space → ℕ → Answer Scan
+pageInto room s off = sure (isBlock pageClass off (s .mark)) (pageEntries room (pageAt s off))
+
+-- A lent list afterwards has some numbers at its start, where it has room for them.
+abbrev pub Written : List ℕ → List ℕ → List ℕ → Type 0
+Written before after ns = length ns ≤ length before → after ≡ overwrite before 0 ns

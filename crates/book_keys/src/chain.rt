@@ -1,0 +1,338 @@
+// A key's pages: whether the last one, or the whole chain, is sound, and the chain's numbers.
+ghost use mathlib.Core.Path.{_≡_};
+ghost use Prim.Native.Nat.{_/_, _≤_};
+ghost use lib.ListN.{length, getD};
+ghost use Rattle.error.specs.Refusal.{accepted, answered, refusalOf};
+ghost use Rattle.scripthash_layout.specs.Sizes.{pageClass, pageSize};
+ghost use Rattle.scripthash_stream.specs.Stream.{afterDecode};
+ghost use Rattle.scripthash_free.specs.FreeList.{isBlock};
+ghost use Rattle.scripthash_answers.specs.EntryAnswers.{sliceAnswer};
+ghost use Rattle.scripthash_pages.specs.Entries.{pageReadOf};
+ghost use Rattle.book_keys.specs.Keys.{soundly, pageAt, linkScan, lastAt, walk, Chain as ChainIs, chainAt, tailAt};
+ghost use Rattle.book_keys.specs.Steps.{keySpace, linkRead, lastRead, tailRead, tailEndOf, linkEndOf, walkedFrom, chainEndOf, pageInto, Written};
+ghost use Rattle.book_keys.specs.Answers.{lastAnswer, tailAnswer, linkAnswer, walkAnswer, chainAnswer};
+use crate::slab::PAYLOAD_START;
+use crate::slab::sound_last;
+use compact::ReadUleb128;
+use error::Refusal;
+use scripthash_answers::PageDone;
+use scripthash_answers::PageLink;
+use scripthash_answers::PageOffset;
+use scripthash_answers::PageSlice;
+use scripthash_fields::SH_PAGE_BYTES;
+use scripthash_fields::SH_PAGE_EXTENT_VER;
+use scripthash_fields::SH_PAGE_OFF_EXTENT_BASE;
+use scripthash_fields::SH_PAGE_OFF_EXTENT_CREATES;
+use scripthash_fields::SH_PAGE_OFF_EXTENT_N;
+use scripthash_fields::SH_PAGE_OFF_N_FKS;
+use scripthash_fields::SH_PAGE_OFF_VER;
+use scripthash_layout::SH_PAGE_SIZE;
+use scripthash_pages::sh_page_stream_tail;
+use scripthash_stream::ScanStream;
+
+// The header of a key's last page: the first page's offset, and how many numbers the key has; or 31.
+pub enum LastPage {
+    Header { first: u64, creates: u32 },
+    Refused(Refusal),
+}
+
+// What an append is told of a key's last page: the bytes that its stream takes, its last number, and its header; or 31.
+pub enum TailEnd {
+    Tail {
+        taken: usize,
+        fk: u64,
+        first: u64,
+        creates: u32,
+    },
+    Refused(Refusal),
+}
+
+// A page of a chain: how many numbers it has, its last number, whether it is LAST, and the offset that its link names; or 31.
+pub enum LinkEnd {
+    Page {
+        count: u64,
+        fk: u64,
+        last: bool,
+        next: u64,
+    },
+    Refused(Refusal),
+}
+
+// Pages walked: how many numbers they have, and how many they are; or 31.
+pub enum WalkEnd {
+    Pages { length: u64, pages: u64 },
+    Refused(Refusal),
+}
+
+// A sound chain: its first page's offset, how many numbers it has, and how many pages; or 31.
+pub enum ChainEnd {
+    Chain { first: u64, length: u64, pages: u64 },
+    Refused(Refusal),
+}
+
+impl TailEnd {
+    // The refusal's number, and 0 of another answer.
+    pub fn refusal(self) -> Refusal
+        ensures { λ r. ⌜ r ≡ refusalOf (tailAnswer self) ⌝ }
+    {
+        match self {
+            TailEnd::Tail {
+                taken: _,
+                fk: _,
+                first: _,
+                creates: _,
+            } => 0,
+            TailEnd::Refused(number) => number,
+        }
+    }
+}
+
+impl ChainEnd {
+    // The refusal's number, and 0 of another answer.
+    pub fn refusal(self) -> Refusal
+        ensures { λ r. ⌜ r ≡ refusalOf (chainAnswer self) ⌝ }
+    {
+        match self {
+            ChainEnd::Chain {
+                first: _,
+                length: _,
+                pages: _,
+            } => 0,
+            ChainEnd::Refused(number) => number,
+        }
+    }
+}
+
+// Tells whether a page can stand at an offset and end at or below an end.
+fn page_stands(off: u64, end: u64) -> bool
+    ensures { λ r. ⌜ r ≡ isBlock pageClass off end ⌝ }
+{
+    if off % SH_PAGE_BYTES != 0 {
+        return false;
+    }
+    if off < PAYLOAD_START {
+        return false;
+    }
+    if end < off {
+        return false;
+    }
+    if end - off < SH_PAGE_BYTES {
+        return false;
+    }
+    true
+}
+
+// Reads the header of a key's last page.
+fn read_last(page: &[u8]) -> LastPage
+    requires { ⌜ length (now page) ≡ pageSize ⌝ }
+    ensures { λ r. ⌜ lastAnswer r ≡ soundly (lastRead (now (page .entry))) ⌝ }
+{
+    if page[SH_PAGE_OFF_VER] != SH_PAGE_EXTENT_VER {
+        return LastPage::Refused(error::KEY_UNSOUND);
+    }
+    let link = scripthash_fields::sh_page_first_off(page);
+    let PageOffset::Offset(first) = link else {
+        return LastPage::Refused(error::KEY_UNSOUND);
+    };
+    let base = buffer::get_u64(page, SH_PAGE_OFF_EXTENT_BASE);
+    let n = buffer::get_u32(page, SH_PAGE_OFF_EXTENT_N);
+    let named = scripthash_fields::check_extent(base, n);
+    let PageDone::Done = named else {
+        return LastPage::Refused(error::KEY_UNSOUND);
+    };
+    let creates = buffer::get_u32(page, SH_PAGE_OFF_EXTENT_CREATES);
+    LastPage::Header { first, creates }
+}
+
+// Reads a key's last page as an append looks at it.
+fn read_tail(page: &[u8]) -> TailEnd
+    requires { ⌜ length (now page) ≡ pageSize ⌝ }
+    ensures { λ r. ⌜ tailAnswer r ≡ answered tailEndOf (soundly (tailRead (now (page .entry)))) ⌝ }
+{
+    let header = read_last(page);
+    let LastPage::Header { first, creates } = header else {
+        return TailEnd::Refused(error::KEY_UNSOUND);
+    };
+    if creates == 0 {
+        return TailEnd::Refused(error::KEY_UNSOUND);
+    }
+    if 0xffff_ffff <= creates {
+        return TailEnd::Refused(error::KEY_UNSOUND);
+    }
+    let got = sh_page_stream_tail(page);
+    let ScanStream::Scanned { taken, last } = got else {
+        return TailEnd::Refused(error::KEY_UNSOUND);
+    };
+    if !sound_last(last) {
+        return TailEnd::Refused(error::KEY_UNSOUND);
+    }
+    TailEnd::Tail {
+        taken,
+        fk: last,
+        first,
+        creates,
+    }
+}
+
+// Reads a page of a chain behind a number: its stream is scanned once, and its first number read once more.
+fn read_link(page: &[u8], prev: u64) -> LinkEnd
+    requires { ⌜ length (now page) ≡ pageSize ⌝ }
+    ensures { λ r. ⌜ linkAnswer r ≡ answered (linkEndOf (now (page .entry))) (soundly (linkRead prev (now (page .entry)))) ⌝ }
+{
+    let got = sh_page_stream_tail(page);
+    let ScanStream::Scanned { taken: _, last: fk } = got else {
+        return LinkEnd::Refused(error::KEY_UNSOUND);
+    };
+    if !sound_last(fk) {
+        return LinkEnd::Refused(error::KEY_UNSOUND);
+    }
+    let start = scripthash_fields::stream_off(page);
+    let form = compact::read_uleb128(&page[start..]);
+    let ReadUleb128::Value { value, len: _ } = form else {
+        return LinkEnd::Refused(error::KEY_UNSOUND);
+    };
+    if value <= prev {
+        return LinkEnd::Refused(error::KEY_UNSOUND);
+    }
+    let link = scripthash_fields::sh_page_read_packed(page);
+    let PageLink::Link { last, off: next } = link else {
+        return LinkEnd::Refused(error::KEY_UNSOUND);
+    };
+    let count = buffer::get_u16(page, SH_PAGE_OFF_N_FKS) as u64;
+    LinkEnd::Page {
+        count,
+        fk,
+        last,
+        next,
+    }
+}
+
+// The header of a key's last page, at an offset.
+pub fn last_page(body: &[u8], mark: u64, last: u64) -> LastPage
+    requires { ⌜ mark ≤ length (now body) ⌝ }
+    ensures { λ r. ⌜ lastAnswer r ≡ soundly (lastAt (keySpace (now (body .entry)) mark) last) ⌝ }
+{
+    if !page_stands(last, mark) {
+        return LastPage::Refused(error::KEY_UNSOUND);
+    }
+    let start = last as usize;
+    read_last(&body[start..start + SH_PAGE_SIZE])
+}
+
+// A key's last page as an append looks at it, at an offset: it is scanned once. 31 where it isn't sound.
+pub fn tail_end(body: &[u8], mark: u64, last: u64) -> TailEnd
+    requires { ⌜ mark ≤ length (now body) ⌝ }
+    ensures { λ r. ⌜ tailAnswer r ≡ answered tailEndOf (soundly (tailAt (keySpace (now (body .entry)) mark) last)) ⌝ }
+{
+    if !page_stands(last, mark) {
+        return TailEnd::Refused(error::KEY_UNSOUND);
+    }
+    let start = last as usize;
+    read_tail(&body[start..start + SH_PAGE_SIZE])
+}
+
+// A page of a chain behind a number, at an offset.
+fn link_end(body: &[u8], mark: u64, prev: u64, off: u64) -> LinkEnd
+    requires { ⌜ mark ≤ length (now body) ⌝ }
+    ensures { λ r. ⌜ linkAnswer r ≡ answered (linkEndOf (pageAt (keySpace (now (body .entry)) mark) off)) (soundly (linkScan (keySpace (now (body .entry)) mark) prev off)) ⌝ }
+{
+    if !page_stands(off, mark) {
+        return LinkEnd::Refused(error::KEY_UNSOUND);
+    }
+    let start = off as usize;
+    read_link(&body[start..start + SH_PAGE_SIZE], prev)
+}
+
+// Walks a chain from its first page to its last, each page once.
+fn walk_pages(body: &[u8], mark: u64, first: u64, last: u64) -> WalkEnd
+    requires { ⌜ mark ≤ length (now body) ⌝ }
+    ensures { λ r. ⌜ walkAnswer r ≡ answered (walkedFrom 0 0) (soundly (walk (mark / pageSize) (keySpace (now (body .entry)) mark) last 0 first)) ⌝ }
+{
+    let most = mark / SH_PAGE_BYTES;
+    let mut off = first;
+    let mut prev: u64 = 0;
+    let mut length: u64 = 0;
+    let mut pages: u64 = 0;
+    while pages < most {
+        let got = link_end(body, mark, prev, off);
+        let LinkEnd::Page {
+            count,
+            fk,
+            last: end,
+            next,
+        } = got
+        else {
+            return WalkEnd::Refused(error::KEY_UNSOUND);
+        };
+        length += count;
+        pages += 1;
+        if off == last {
+            return WalkEnd::Pages { length, pages };
+        }
+        if end {
+            return WalkEnd::Refused(error::KEY_UNSOUND);
+        }
+        prev = fk;
+        off = next;
+    }
+    WalkEnd::Refused(error::KEY_UNSOUND)
+}
+
+// A key's chain whose last page is at an offset, or 31 where it isn't sound.
+pub fn chain_end(body: &[u8], mark: u64, last: u64) -> ChainEnd
+    requires { ⌜ mark ≤ length (now body) ⌝ }
+    ensures { λ r. ⌜ chainAnswer r ≡ answered chainEndOf (soundly (chainAt (keySpace (now (body .entry)) mark) last)) ⌝ }
+{
+    let header = last_page(body, mark, last);
+    let LastPage::Header { first, creates } = header else {
+        return ChainEnd::Refused(error::KEY_UNSOUND);
+    };
+    let walked = walk_pages(body, mark, first, last);
+    let WalkEnd::Pages { length, pages } = walked else {
+        return ChainEnd::Refused(error::KEY_UNSOUND);
+    };
+    if creates as u64 != length {
+        return ChainEnd::Refused(error::KEY_UNSOUND);
+    }
+    ChainEnd::Chain {
+        first,
+        length,
+        pages,
+    }
+}
+
+// Writes the numbers of the page at an offset to the start of out, and tells how many they are and where the next page is.
+fn page_into(body: &[u8], mark: u64, off: u64, out: &mut [u64]) -> PageSlice
+    requires { ⌜ mark ≤ length (now body) ⌝ }
+    ensures answer { λ r. ⌜ sliceAnswer r ≡ answered (pageReadOf (pageAt (keySpace (now (body .entry)) mark) off)) (pageInto (length (now (out .entry))) (keySpace (now (body .entry)) mark) off) ⌝ }
+    ensures list { λ r. ⌜ now (out .exit) ≡ afterDecode (now (out .entry)) (pageInto (length (now (out .entry))) (keySpace (now (body .entry)) mark) off) ⌝ }
+{
+    if !page_stands(off, mark) {
+        return PageSlice::Refused(error::KEY_UNSOUND);
+    }
+    let start = off as usize;
+    scripthash_pages::sh_page_decode_slice_into(&body[start..start + SH_PAGE_SIZE], out)
+}
+
+// Writes the numbers of a sound chain to the start of out, page by page.
+pub fn chain_into(body: &[u8], mark: u64, first: u64, last: u64, out: &mut [u64])
+    requires { ⌜ mark ≤ length (now body) ⌝ }
+    ensures { λ _. ⌜ ((c : ChainIs) → soundly (chainAt (keySpace (now (body .entry)) mark) last) ≡ accepted c → first ≡ getD (c .offs) 0 0 → Written (now (out .entry)) (now (out .exit)) (c .numbers)) ⌝ }
+{
+    let most = mark / SH_PAGE_BYTES;
+    let mut off = first;
+    let mut at: usize = 0;
+    let mut pages: u64 = 0;
+    while pages < most {
+        let got = page_into(body, mark, off, &mut out[at..]);
+        let PageSlice::Decoded { count, next } = got else {
+            return;
+        };
+        if off == last {
+            return;
+        }
+        at += count;
+        pages += 1;
+        off = next;
+    }
+}

@@ -1,0 +1,15 @@
+// The keys of an account book over bytes: whether a key is sound, how long its list is, and the list itself.
+mod chain;
+mod key;
+mod slab;
+
+pub use chain::ChainEnd;
+pub use chain::TailEnd;
+pub use chain::chain_end;
+pub use chain::chain_into;
+pub use chain::tail_end;
+pub use key::KeyCounts;
+pub use key::key_counts;
+pub use key::key_into;
+pub use slab::slab_end;
+pub use slab::slab_into;

@@ -1,0 +1,99 @@
+// A key's slab: whether it is sound, where its stream ends, and its numbers.
+ghost use mathlib.Core.Path.{_≡_};
+ghost use mathlib.Core.Bool.{_&&_};
+ghost use Prim.Native.Nat.{ℕ, _+_, _≤_};
+ghost use lib.Dec.{leb};
+ghost use lib.ListN.{length};
+ghost use Rattle.error.specs.Refusal.{accepted, answered};
+ghost use Rattle.scripthash_layout.specs.Sizes.{slabBytes, maxSlabClass};
+ghost use Rattle.scripthash_stream.specs.Stream.{Scan, endFrom};
+ghost use Rattle.scripthash_stream.specs.Answers.{scanAnswer};
+ghost use Rattle.scripthash_free.specs.FreeList.{isBlock};
+ghost use Rattle.book_keys.specs.Keys.{soundly, slabScan};
+ghost use Rattle.book_keys.specs.Steps.{keySpace, soundLast, slabRead, Written};
+use scripthash_layout::SH_MAX_SLAB_CLASS;
+use scripthash_layout::slab_bytes;
+use scripthash_stream::ScanStream;
+
+// Blocks stand in a body from this offset on.
+pub const PAYLOAD_START: u64 = 4096;
+// The most numbers that a slab is given.
+const SLAB_MOST: u16 = 256;
+// A book's numbers are below 2^62.
+const NUMBER_RANGE: u64 = 1 << 62;
+
+// Tells whether a block's last number is one that a sound key has: it isn't 0, which tells of no number, and below 2^62.
+pub fn sound_last(fk: u64) -> bool
+    ensures { λ r. ⌜ r ≡ soundLast fk ⌝ }
+{
+    if fk == 0 {
+        return false;
+    }
+    fk < NUMBER_RANGE
+}
+
+// Tells whether a slab of a class can stand at an offset and end at or below an end.
+pub fn slab_stands(class: u8, off: u64, end: u64) -> bool
+    ensures { λ r. ⌜ r ≡ (leb class maxSlabClass && isBlock class off end) ⌝ }
+{
+    if SH_MAX_SLAB_CLASS < class {
+        return false;
+    }
+    if off < PAYLOAD_START {
+        return false;
+    }
+    if off % 16 != 0 {
+        return false;
+    }
+    if end < off {
+        return false;
+    }
+    if end - off < slab_bytes(class) {
+        return false;
+    }
+    true
+}
+
+// Scans a slab, by its bytes, as a key's whose head says how many numbers it has.
+fn read_slab(slab: &[u8], used: u16) -> ScanStream
+    requires { ⌜ 2 ≤ length (now slab) ⌝ }
+    ensures { λ r. ⌜ scanAnswer r ≡ answered (endFrom 0) (soundly (slabRead (now (slab .entry)) used)) ⌝ }
+{
+    if SLAB_MOST < used {
+        return ScanStream::Refused(error::KEY_UNSOUND);
+    }
+    if buffer::get_u16(slab, 0) != used {
+        return ScanStream::Refused(error::KEY_UNSOUND);
+    }
+    let got = scripthash_stream::scan_fk_delta_stream(&slab[2..], used as usize);
+    let ScanStream::Scanned { taken: _, last } = got else {
+        return ScanStream::Refused(error::KEY_UNSOUND);
+    };
+    if !sound_last(last) {
+        return ScanStream::Refused(error::KEY_UNSOUND);
+    }
+    got
+}
+
+// Scans a key's slab once: how many bytes its stream takes and its last number, or 31 where it isn't sound.
+pub fn slab_end(body: &[u8], mark: u64, class: u8, used: u16, off: u64) -> ScanStream
+    requires { ⌜ mark ≤ length (now body) ⌝ }
+    ensures { λ r. ⌜ scanAnswer r ≡ answered (endFrom 0) (soundly (slabScan (keySpace (now (body .entry)) mark) class used off)) ⌝ }
+{
+    if !slab_stands(class, off, mark) {
+        return ScanStream::Refused(error::KEY_UNSOUND);
+    }
+    let start = off as usize;
+    let end = start + slab_bytes(class) as usize;
+    read_slab(&body[start..end], used)
+}
+
+// Writes the numbers of a sound slab to the start of out.
+pub fn slab_into(body: &[u8], class: u8, off: u64, out: &mut [u64])
+    requires { ⌜ (class ≤ maxSlabClass) × (off + slabBytes class ≤ length (now body)) ⌝ }
+    ensures { λ _. ⌜ ((mark used : ℕ) (c : Scan) → soundly (slabScan (keySpace (now (body .entry)) mark) class used off) ≡ accepted c → Written (now (out .entry)) (now (out .exit)) (c .numbers)) ⌝ }
+{
+    let start = off as usize;
+    let end = start + slab_bytes(class) as usize;
+    scripthash_slabs::decode_slab_payload_into(&body[start..end], out);
+}
