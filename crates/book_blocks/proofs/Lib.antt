@@ -1,0 +1,4 @@
+pub mod LawsWrites
+pub mod LawsReadsSlab
+pub mod LawsReadsPage
+pub mod LawsReadsMore

@@ -1,0 +1,36 @@
+// Slabs in the blocks of a body: written from a list, and grown by one number.
+ghost use mathlib.Core.Path.{_≡_};
+ghost use Prim.Native.Nat.{_+_, _^_, _≤_, _<_};
+ghost use lib.ListN.{length};
+ghost use Rattle.buffer.specs.Bytes.{part, overwrite};
+ghost use Rattle.compact.specs.Uleb128.{ulebLen};
+ghost use Rattle.scripthash_stream.specs.Stream.{Rising, streamLen, maxOffered};
+ghost use Rattle.scripthash_slabs.specs.Slab.{slabPayload};
+ghost use Rattle.book_blocks.specs.Blocks.{slabWith};
+
+// Writes the payload of a list to the block of a size at an offset of a body. What stands behind the payload stays.
+pub fn put_slab(body: &mut [u8], off: usize, size: usize, fks: &[u64])
+    requires { ⌜ (off + size ≤ length (now body)) × (2 + streamLen (now fks) ≤ size) × (length (now fks) ≤ maxOffered) × Rising (2 ^ 62) 0 (now fks) ⌝ }
+    ensures { λ _. ⌜ now (body .exit) ≡ overwrite (now (body .entry)) off (slabPayload (now (fks .entry))) ⌝ }
+{
+    let end = off + size;
+    scripthash_slabs::encode_slab_payload_into(&mut body[off..end], fks);
+}
+
+// Counts one number more in a slab's block that had some numbers in some bytes, and writes its form behind them.
+fn grow_block(block: &mut [u8], used: u16, taken: usize, difference: u64)
+    requires { ⌜ (used < maxOffered) × (2 + taken + ulebLen difference ≤ length (now block)) ⌝ }
+    ensures { λ _. ⌜ now (block .exit) ≡ slabWith (now (block .entry)) used taken difference ⌝ }
+{
+    buffer::put_u16(block, 0, used + 1);
+    scripthash_stream::put_form(block, 2 + taken, difference);
+}
+
+// Appends a number, by its difference, to the slab of a size at an offset of a body: only the count and the new form are written.
+pub fn grow_slab(body: &mut [u8], off: usize, size: usize, used: u16, taken: usize, difference: u64)
+    requires { ⌜ (off + size ≤ length (now body)) × (used < maxOffered) × (2 + taken + ulebLen difference ≤ size) ⌝ }
+    ensures { λ _. ⌜ now (body .exit) ≡ overwrite (now (body .entry)) off (slabWith (part (now (body .entry)) off size) used taken difference) ⌝ }
+{
+    let end = off + size;
+    grow_block(&mut body[off..end], used, taken, difference);
+}
