@@ -1,0 +1,39 @@
+-- A read and a drop over bytes (document 01, "Read", "drop").
+use Prim.Native.Nat.{ℕ}
+use mathlib.Core.List.{List}
+use lib.Dec.{ltb}
+use lib.ListN.{length}
+use Rattle.error.specs.Refusal.{Answer, accepted, refused, refuseIf, andThen, listTooShort}
+use Rattle.buffer.specs.Bytes.{overwrite}
+use Rattle.scripthash_layout.specs.declared.head.ShHeadValue.the-variants.{Empty}
+use Rattle.book_rules.specs.Calls.{Told, loaded, appended, listed, dropped}
+use Rattle.book_space.specs.Space.{release}
+use Rattle.book_keys.specs.Keys.{Content, content}
+use Rattle.book.specs.Book.{Book, Outcome, wordOf, onKey, placing}
+
+-- A read of a key into a lent list with room for some numbers.
+unfoldable pub reads : Book → ℕ → ℕ → Answer Outcome
+reads b key room =
+    onKey b key
+    (andThen (content (b .space) (wordOf key b))
+    (λ c. refuseIf (ltb room (length (c .numbers))) listTooShort
+    (accepted (record { told = listed (record { numbers = c .numbers; pages = c .pages }); book = b }))))
+
+-- A drop of a key: its blocks are pushed, and its head word is emptied.
+unfoldable pub drops : Book → ℕ → Answer Outcome
+drops b key =
+    onKey b key
+    (andThen (content (b .space) (wordOf key b))
+    (λ c. accepted (placing (dropped (record { length = length (c .numbers) })) key Empty (release (c .blocks) (b .space)) b)))
+
+-- What a lent list holds after what a call told: a read's numbers at its start.
+abbrev pub listBy : List ℕ → Told → List ℕ
+listBy out (loaded l) = out
+listBy out (appended a) = out
+listBy out (listed l) = overwrite out 0 (l .numbers)
+listBy out (dropped d) = out
+
+-- What a lent list holds after a read: the numbers at its start, or what it held where the read is refused.
+unfoldable pub listAfter : List ℕ → Answer Outcome → List ℕ
+listAfter out (accepted o) = listBy out (o .told)
+listAfter out (refused number) = out
