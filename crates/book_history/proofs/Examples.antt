@@ -1,0 +1,83 @@
+-- Small histories on a book over bytes, with the run case of document 01: each answer is computed. Assumes nothing.
+use Prim.Native.Nat.{ℕ, zero, suc, _+_, _^_}
+use mathlib.Core.List.{List, [], _∷_, _++_}
+use mathlib.Core.Path.{_≡_, refl}
+use lib.ListN.{replicate, set}
+use Rattle.scripthash_layout.specs.declared.head.ShHeadValue.{ShHeadValue}
+use Rattle.scripthash_layout.specs.declared.head.ShHeadValue.the-variants.{Inline, Slab, Extent}
+use Rattle.error.specs.Refusal.{Answer, accepted, refused, refuseIf, andThen, answered}
+use Rattle.buffer.specs.Bytes.{part, overwrite}
+use Rattle.compact.specs.Uleb128.{isForm, value, formAt, overflows, readForm, readUleb, divided, ulebLen, shortest}
+use Rattle.scripthash_layout.specs.Head.{packHead, unpackHead}
+use Rattle.scripthash_stream.specs.Stream.{lastFrom, streamFrom, streamLenFrom, storedNumber, nextNumber, scanFrom, decodeStream}
+use Rattle.scripthash_slabs.specs.Class.{firstClass, classFor, classWithSlack}
+use Rattle.scripthash_slabs.specs.Slab.{slabPayload, decodeSlab}
+use Rattle.scripthash_cutting.specs.Cutting.{fitting, firstPart, greedyParts, replaceLast}
+use Rattle.scripthash_fields.specs.Page.{field, setField, nextOff, deltaHeader, extentHeader, pageOf}
+use Rattle.scripthash_pages.specs.Entries.{streamPlace, pageScan, spotBehind, oneMore, withAppended}
+use Rattle.scripthash_free.specs.FreeList.{isBlock, pushed, popFree, largestUpTo, blockThen, carve, pushAll}
+use Rattle.book_rules.specs.Calls.{Call, load, append, read, drop, Told, loaded, appended, listed, dropped, bookAfter, answersTo}
+use Rattle.book_rules.specs.Limits.{outOfShape, offeredNumber, offeredList}
+use Rattle.book_rules.specs.Places.{stays, larger, movesTo, loadsTo}
+use Rattle.book_space.specs.Space.{markBad, shapeBroken, takeMark, rounded, takeRun, takeFresh, takePopped, takeBlock, release}
+use Rattle.book_keys.specs.Keys.{soundly, sure, goOn, slabScan, linkScan, goodExtent, lastAt, linked, walk, chainAt, pageBlocks, contentAt, content, createsGood, tailAt}
+use Rattle.book.specs.Book.{Book, fresh, headWord, onKey}
+use Rattle.book_blocks.specs.Blocks.{slabWith, pageWith, pageBefore, writeRun}
+use Rattle.book.specs.Appends.{movesInto, moves, appendSlab, growChain, appendPage, appendAt, appends}
+use Rattle.book.specs.Loads.{loadInto, loadAt, loads}
+use Rattle.book.specs.Reads.{reads, drops}
+use Rattle.book.specs.Calls.{answers, does}
+
+-- The answers to some calls.
+unfoldable pub runs : Book → List Call → List (Answer Told)
+unfolding refuseIf andThen answered part overwrite isForm value formAt overflows readForm readUleb divided ulebLen shortest packHead unpackHead lastFrom streamFrom streamLenFrom storedNumber nextNumber scanFrom decodeStream firstClass classFor classWithSlack slabPayload decodeSlab fitting firstPart greedyParts replaceLast field setField nextOff deltaHeader extentHeader pageOf streamPlace pageScan spotBehind oneMore withAppended isBlock pushed popFree largestUpTo blockThen carve pushAll bookAfter answersTo outOfShape offeredNumber offeredList stays larger movesTo loadsTo markBad shapeBroken takeMark rounded takeRun takeFresh takePopped takeBlock release soundly sure goOn slabScan linkScan goodExtent lastAt linked walk chainAt pageBlocks contentAt content createsGood tailAt headWord onKey movesInto moves slabWith appendSlab pageWith pageBefore growChain appendPage appendAt appends writeRun loadInto loadAt loads reads drops does
+runs b cs = answers b cs
+
+-- An append that is accepted: the key's new place, and the records rewritten.
+abbrev at : ShHeadValue → ℕ → Answer Told
+at place rewritten = accepted (appended (record { place = place; rewritten = rewritten }))
+
+-- A load of so many pages.
+abbrev loads-in : ℕ → Answer Told
+loads-in pages = accepted (loaded (record { pages = pages }))
+
+-- A read that is accepted.
+abbrev lists-as : List ℕ → ℕ → Answer Told
+lists-as ns pages = accepted (listed (record { numbers = ns; pages = pages }))
+
+-- k numbers in a row, from n on.
+unfoldable pub inARow : ℕ → ℕ → List ℕ
+inARow n zero = []
+inARow n (suc k) = n ∷ inARow (n + 1) k
+
+-- A body of so many bytes, none of them 0.
+abbrev pub bodyOf : ℕ → List ℕ
+bodyOf size = replicate size 165
+
+-- 5, 300, 301, 302, 303 to key 0 move at 300 and at 303; 9, 10 to key 1 take the block that was freed.
+pub run-case : runs (fresh (bodyOf 8192) 2) (append 0 5 ∷ append 0 300 ∷ append 0 301 ∷ append 0 302 ∷ append 0 303 ∷ append 1 9 ∷ append 1 10 ∷ read 0 5 ∷ read 1 2 ∷ [])
+    ≡ at (Inline 5 1) 0 ∷ at (Slab 0 2 4096) 1 ∷ at (Slab 0 3 4096) 0 ∷ at (Slab 0 4 4096) 0 ∷ at (Slab 1 5 4112) 4 ∷ at (Inline 9 1) 0 ∷ at (Slab 0 2 4096) 1
+    ∷ lists-as (5 ∷ 300 ∷ 301 ∷ 302 ∷ 303 ∷ []) 0 ∷ lists-as (9 ∷ 10 ∷ []) 0 ∷ []
+unfolding runs
+run-case = refl
+
+-- What is turned back.
+pub turned-back : (runs (fresh (bodyOf 4096) 1) (read 0 0 ∷ []) ≡ refused 1 ∷ [])
+    × (runs (fresh (bodyOf 8192) 1) (append 1 5 ∷ append 0 0 ∷ append 0 (2 ^ 63) ∷ append 0 (2 ^ 62) ∷ append 0 5 ∷ append 0 5 ∷ load 0 [] ∷ read 0 0 ∷ drop 0 ∷ read 0 0 ∷ [])
+    ≡ refused 2 ∷ refused 12 ∷ refused 13 ∷ refused 14 ∷ at (Inline 5 1) 0 ∷ refused 32 ∷ refused 3 ∷ refused 34 ∷ accepted (dropped (record { length = 1 })) ∷ lists-as [] 0 ∷ [])
+unfolding runs
+turned-back = (refl, refl)
+
+-- A page of 4,072 bytes is full, so that the next number begins another. A drop frees the first page first, so that the last one is taken again,
+-- here by a list that moves out of its slab.
+pub full-page : runs (fresh (bodyOf 16384) 2) (load 0 (inARow 1 4072) ∷ append 0 4073 ∷ append 0 4074 ∷ read 0 4074 ∷ drop 0 ∷ load 1 (inARow 1 256) ∷ append 1 257 ∷ read 1 257 ∷ [])
+    ≡ loads-in 1 ∷ at (Extent 8192) 0 ∷ at (Extent 8192) 0 ∷ lists-as (inARow 1 4074) 2 ∷ accepted (dropped (record { length = 4074 })) ∷ loads-in 0 ∷ at (Extent 8192) 256
+    ∷ lists-as (inARow 1 257) 1 ∷ []
+unfolding runs inARow
+full-page = refl
+
+-- A list of 4,073 goes to a run of two pages, behind the mark rounded up; the body is full then, but the gap before the run was carved.
+pub loaded-run : runs (fresh (bodyOf 16384) 3) (append 0 1 ∷ append 0 2 ∷ load 1 (inARow 1 4073) ∷ append 1 4074 ∷ load 2 (inARow 1 300) ∷ load 2 (inARow 1 256) ∷ read 1 4074 ∷ [])
+    ≡ at (Inline 1 1) 0 ∷ at (Slab 0 2 4096) 1 ∷ loads-in 2 ∷ at (Extent 12288) 0 ∷ refused 36 ∷ loads-in 0 ∷ lists-as (inARow 1 4074) 2 ∷ []
+unfolding runs inARow
+loaded-run = refl

@@ -1,0 +1,65 @@
+-- What calls of small histories name, computed. Assumes nothing.
+use mathlib.Core.List.{List, [], _∷_}
+use mathlib.Core.Path.{_≡_, refl}
+use Rattle.error.specs.Refusal.{refuseIf, andThen, answered}
+use Rattle.buffer.specs.Bytes.{part, overwrite}
+use Rattle.compact.specs.Uleb128.{isForm, value, formAt, overflows, readForm, readUleb, divided, ulebLen, shortest}
+use Rattle.scripthash_layout.specs.Head.{packHead, unpackHead}
+use Rattle.scripthash_stream.specs.Stream.{lastFrom, streamFrom, streamLenFrom, storedNumber, nextNumber, scanFrom, decodeStream}
+use Rattle.scripthash_slabs.specs.Class.{firstClass, classFor, classWithSlack}
+use Rattle.scripthash_slabs.specs.Slab.{slabPayload, decodeSlab}
+use Rattle.scripthash_cutting.specs.Cutting.{fitting, firstPart, greedyParts, replaceLast}
+use Rattle.scripthash_fields.specs.Page.{field, setField, nextOff, deltaHeader, extentHeader, pageOf}
+use Rattle.scripthash_pages.specs.Entries.{streamPlace, pageScan, spotBehind, oneMore, withAppended}
+use Rattle.scripthash_free.specs.FreeList.{isBlock, pushed, popFree, largestUpTo, blockThen, carve, pushAll}
+use Rattle.book_rules.specs.Calls.{Call, load, append, drop, bookAfter, afterCalls}
+use Rattle.book_rules.specs.Limits.{outOfShape, offeredNumber, offeredList}
+use Rattle.book_rules.specs.Places.{stays, larger, movesTo, loadsTo}
+use Rattle.book_space.specs.Space.{markBad, shapeBroken, takeMark, rounded, takeRun, takeFresh, takePopped, takeBlock, release}
+use Rattle.book_keys.specs.Keys.{soundly, sure, goOn, slabScan, linkScan, goodExtent, lastAt, linked, walk, chainAt, pageBlocks, contentAt, content, createsGood, tailAt}
+use Rattle.book.specs.Book.{Book, fresh, headWord, onKey}
+use Rattle.book_blocks.specs.Blocks.{slabWith, pageWith, pageBefore, writeRun}
+use Rattle.book.specs.Appends.{movesInto, moves, appendSlab, growChain, appendPage, appendAt, appends}
+use Rattle.book.specs.Loads.{loadInto, loadAt, loads}
+use Rattle.book.specs.Reads.{reads, drops}
+use Rattle.book.specs.Calls.{after, does}
+use mathlib.Core.Bool.{Bool, true, false}
+use Rattle.book_history.specs.Writes.{Region, region, CallNames, both, freeingAll, takingPages, taking, filling, writing, moving, growingSlab, growingPage, appendNames, loadNames, names}
+use Rattle.book_history.proofs.Examples.{inARow, bodyOf}
+
+-- What a call names after others.
+unfoldable pub namedAfter : Book → List Call → Call → CallNames
+unfolding refuseIf andThen answered part overwrite isForm value formAt overflows readForm readUleb divided ulebLen shortest packHead unpackHead lastFrom streamFrom streamLenFrom storedNumber nextNumber scanFrom decodeStream firstClass classFor classWithSlack slabPayload decodeSlab fitting firstPart greedyParts replaceLast field setField nextOff deltaHeader extentHeader pageOf streamPlace pageScan spotBehind oneMore withAppended isBlock pushed popFree largestUpTo blockThen carve pushAll bookAfter afterCalls outOfShape offeredNumber offeredList stays larger movesTo loadsTo markBad shapeBroken takeMark rounded takeRun takeFresh takePopped takeBlock release soundly sure goOn slabScan linkScan goodExtent lastAt linked walk chainAt pageBlocks contentAt content createsGood tailAt headWord onKey movesInto moves slabWith appendSlab pageWith pageBefore growChain appendPage appendAt appends writeRun loadInto loadAt loads reads drops does both freeingAll takingPages taking filling writing moving growingSlab growingPage appendNames loadNames names
+namedAfter b cs c = names (after b cs) c
+
+-- What is named.
+abbrev named : List Region → List Region → List Region → Bool → CallNames
+named body heads free mark = record { heads = heads; space = record { body = body; free = free; mark = mark } }
+
+-- The run case: 300 moves to a slab at the mark, 301 stays there, 303 moves to a larger slab and frees the old one, and 10 takes that again.
+pub run-names :
+    (namedAfter (fresh (bodyOf 8192) 2) (append 0 5 ∷ []) (append 0 300) ≡ named (region 4096 5 ∷ []) (region 0 1 ∷ []) [] true)
+    × (namedAfter (fresh (bodyOf 8192) 2) (append 0 5 ∷ append 0 300 ∷ []) (append 0 301) ≡ named (region 4096 2 ∷ region 4101 1 ∷ []) (region 0 1 ∷ []) [] false)
+    × (namedAfter (fresh (bodyOf 8192) 2) (append 0 5 ∷ append 0 300 ∷ append 0 301 ∷ append 0 302 ∷ []) (append 0 303)
+    ≡ named (region 4112 8 ∷ region 4096 8 ∷ []) (region 0 1 ∷ []) (region 0 1 ∷ []) true)
+    × (namedAfter (fresh (bodyOf 8192) 2) (append 0 5 ∷ append 0 300 ∷ append 0 301 ∷ append 0 302 ∷ append 0 303 ∷ append 1 9 ∷ []) (append 1 10)
+    ≡ named (region 4096 4 ∷ []) (region 1 1 ∷ []) (region 0 1 ∷ []) false)
+unfolding namedAfter
+run-names = (refl, refl, refl, refl)
+
+-- A full page gets a page behind it, which then gets a number; a drop frees both.
+pub page-names :
+    (namedAfter (fresh (bodyOf 16384) 1) (load 0 (inARow 1 4072) ∷ []) (append 0 4073) ≡ named (region 8192 4096 ∷ region 4099 5 ∷ region 4116 4 ∷ []) (region 0 1 ∷ []) [] true)
+    × (namedAfter (fresh (bodyOf 16384) 1) (load 0 (inARow 1 4072) ∷ append 0 4073 ∷ []) (append 0 4074)
+    ≡ named (region 8193 2 ∷ region 8218 1 ∷ region 8212 4 ∷ []) (region 0 1 ∷ []) [] false)
+    × (namedAfter (fresh (bodyOf 16384) 1) (load 0 (inARow 1 4072) ∷ append 0 4073 ∷ []) (drop 0)
+    ≡ named (region 4096 8 ∷ region 8192 8 ∷ []) (region 0 1 ∷ []) (region 8 1 ∷ region 8 1 ∷ []) false)
+unfolding namedAfter inARow
+page-names = (refl, refl, refl)
+
+-- A run of two pages behind a slab of 16 bytes: the gap's eight blocks are freed.
+pub gap-names : namedAfter (fresh (bodyOf 16384) 2) (append 0 1 ∷ append 0 2 ∷ []) (load 1 (inARow 1 4073))
+    ≡ named (region 4112 8 ∷ region 6160 8 ∷ region 7184 8 ∷ region 7696 8 ∷ region 7952 8 ∷ region 8080 8 ∷ region 8144 8 ∷ region 8176 8 ∷ region 8192 8192 ∷ []) (region 1 1 ∷ [])
+    (region 7 1 ∷ region 6 1 ∷ region 5 1 ∷ region 4 1 ∷ region 3 1 ∷ region 2 1 ∷ region 1 1 ∷ region 0 1 ∷ []) true
+unfolding namedAfter inARow
+gap-names = refl

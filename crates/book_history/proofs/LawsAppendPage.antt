@@ -1,0 +1,460 @@
+-- The two books answer an append alike, where the key has pages: the number joins the last page, or begins a taken page. Assumes nothing.
+use Prim.Native.Nat.{ℕ, zero, suc, _+_, _-_, _^_, _≤_, _<_}
+use mathlib.Core.Bool.{Bool, true, false, cond}
+use mathlib.Core.List.{List, [], _∷_, _++_}
+use mathlib.Core.Logic.{_⊎_, inl, inr, ⊎-elim, _≢_}
+use mathlib.Core.Option.{Option, none, some}
+use mathlib.Core.Path.{_≡_, refl, sym, ap, subst, _∙_}
+use native.Mathlib.Omega.{arith}
+use lib.Dec.{leb, eqb}
+use lib.ListN.{length, length-append}
+use borrow.Author.Tests.{eqb-true, eqb-false, eq-eqb, leb-true, leb-false}
+use Rattle.error.specs.Refusal.{Answer, accepted, refuseIf, andThen, offeredNotRising}
+use Rattle.error.proofs.LawsAnswer.{then-yes}
+use Rattle.buffer.specs.Bytes.{overwrite}
+use Rattle.buffer.proofs.LawsBytes.{length-overwrite}
+use Rattle.compact.proofs.LawsLength.{len-at-most}
+use Rattle.scripthash_layout.specs.Sizes.{slabBytes, pageClass, pageSize}
+use Rattle.scripthash_layout.specs.declared.head.ShHeadValue.the-variants.{Extent}
+use Rattle.scripthash_stream.specs.Stream.{Rising, lastFrom, streamLen, streamLenFrom}
+use Rattle.scripthash_cutting.specs.Cutting.{lastPageRoom, replaceLast}
+use Rattle.scripthash_fields.specs.Page.{streamCap}
+use Rattle.scripthash_pages.specs.Entries.{lastOf, Spot, spotBehind}
+use Rattle.scripthash_free.specs.FreeList.{Block, isBlock}
+use Rattle.scripthash_free.proofs.LawsBlock.{block-stands}
+use Rattle.book_rules.specs.Calls.{appended}
+use Rattle.book_rules.specs.Limits.{outOfShape}
+use Rattle.book_rules.proofs.LawsLimits.{in-shape}
+use Rattle.plain_book.specs.Space.{Space as PlainSpace, Taken as PlainTaken, takeBlock as plainTake}
+use Rattle.plain_book.specs.Key.{written, longer, Page, Place, pages, lastPage, noPage, headOf, Placed, longerPage, joins, joinedTo, begunAt, beginPage, appendPages, appendPlace}
+use Rattle.plain_book.specs.Book.{Book as PlainBook, Outcome as PlainOutcome, keyOf, withKey, extended, appends as plainAppends}
+use Rattle.plain_book.specs.Owners.{Owner, hand, stack, slabOf, pageOf, pageAt, pageIn, has, places}
+use Rattle.plain_book.specs.Good.{Good, GoodPlain}
+use Rattle.plain_book.proofs.LawsOwners.{some-inj, none-some, kindOf, depthOf, atKey, key-slab, key-page}
+use Rattle.plain_book.proofs.LawsTaking.{good-taken}
+use Rattle.plain_book.proofs.LawsBlocks.{joined-at}
+use Rattle.plain_book.proofs.LawsChain.{chain, mark-most, list-few}
+use Rattle.book_space.specs.Space.{Space, space, Taken, takeBlock as takes}
+use Rattle.book_keys.specs.Keys.{goodExtent, Tail}
+use Rattle.book_keys.specs.Keys.{pageAt as pageBytes}
+use Rattle.book_blocks.specs.Blocks.{lastPageOf, pageWith, pageBefore}
+use Rattle.book_blocks.proofs.LawsReadsMore.{spot-fits, spot-none, page-more, page-before}
+use Rattle.book.specs.Book.{Book}
+use Rattle.book.specs.Appends.{appending, growChain, appendPage, appendAt, appends}
+use Rattle.book_history.specs.Agrees.{scanOf, PageReads, LastReads, NextReads, ChainReads, firstOff, SlabIn, PageIn, Reading, contentsOf, AgreesSpace, Agrees}
+use Rattle.book_history.proofs.LawsFrame.{block-ends}
+use Rattle.book_history.proofs.LawsStep.{Alike, refused-alike, alike-both, placedContents}
+use Rattle.book_history.proofs.LawsTake.{inHandOf, taken-then, take-agrees}
+use Rattle.book_history.proofs.LawsHand.{agrees-same, agrees-written, Filled, filled-whole, fill-agrees, fill-long, Meanwhile, meanwhile-placed, withHand, placed-page}
+use Rattle.book_history.proofs.LawsContent.{last-written, some-pages, last-page-at, last-reads, last-fits, tail-agrees, append-begins, append-ends}
+
+-- ---- a chain of pages with a number joined to the last
+
+-- The pages of a list whose last one has a number more.
+abbrev pub joinedPages : ℕ → List Page → List Page
+joinedPages n ps = replaceLast (λ p. longerPage n p ∷ []) ps
+
+-- A page at the last index reads as a last page.
+reads-last : (first creates i : ℕ) (page : Page) (ps : List Page) (block : List ℕ) → i + 1 ≡ length ps → PageReads (lastPage page ps) block
+    → LastReads first creates block → ChainReads first creates i ps block
+unfolding ChainReads lastPage
+reads-last first creates i page [] block e r l = tt
+reads-last first creates zero page (p ∷ []) block e r l = (r, l)
+reads-last first creates zero page (p ∷ q ∷ ps) block e r l = absurd (omega arith)
+reads-last first creates (suc i) page (p ∷ []) block e r l = tt
+reads-last first creates (suc i) page (p ∷ q ∷ ps) block e r l = reads-last first creates i p (q ∷ ps) block (omega arith) r l
+
+-- There are as many pages then.
+joined-long : (n : ℕ) (ps : List Page) → length (joinedPages n ps) ≡ length ps
+unfolding replaceLast
+joined-long n [] = refl
+joined-long n (p ∷ []) = refl
+joined-long n (p ∷ q ∷ ps) = ap suc (joined-long n (q ∷ ps))
+
+-- The last of them has the number.
+joined-last : (n : ℕ) (page : Page) (ps : List Page) → 0 < length ps → lastPage page (joinedPages n ps) ≡ longerPage n (lastPage page ps)
+unfolding replaceLast lastPage
+joined-last n page [] l = absurd (omega arith)
+joined-last n page (p ∷ []) l = refl
+joined-last n page (p ∷ q ∷ ps) l = joined-last n p (q ∷ ps) (omega arith)
+
+-- The first of them is where it was.
+joined-first : (n : ℕ) (ps : List Page) → firstOff (joinedPages n ps) ≡ firstOff ps
+unfolding replaceLast
+joined-first n [] = refl
+joined-first n (p ∷ []) = refl
+joined-first n (p ∷ q ∷ ps) = refl
+
+-- The pages before the last read as they did.
+joined-before : (first creates total i n : ℕ) (ps : List Page) (block : List ℕ) → i + 1 ≢ length ps → ChainReads first creates i ps block
+    → ChainReads first total i (joinedPages n ps) block
+unfolding ChainReads replaceLast
+joined-before first creates total i n [] block e r = tt
+joined-before first creates total zero n (p ∷ []) block e r = absurd (e refl)
+joined-before first creates total zero n (p ∷ q ∷ []) block e r = r
+joined-before first creates total zero n (p ∷ q ∷ q' ∷ ps) block e r = r
+joined-before first creates total (suc i) n (p ∷ []) block e r = tt
+joined-before first creates total (suc i) n (p ∷ q ∷ ps) block e r = joined-before first creates total i n (q ∷ ps) block (λ (z : i + 1 ≡ length (q ∷ ps)). e (omega arith)) r
+
+-- ---- a chain of pages with one page more
+
+-- The page more is the last.
+begun-last : (page : Page) (ps : List Page) (p : Page) → lastPage page (ps ++ (p ∷ [])) ≡ p
+unfolding lastPage
+begun-last page [] p = refl
+begun-last page (q ∷ ps) p = begun-last q ps p
+
+-- The first of some pages is the first with one more.
+begun-first : (ps : List Page) (p : Page) → 0 < length ps → firstOff (ps ++ (p ∷ [])) ≡ firstOff ps
+begun-first [] p l = absurd (omega arith)
+begun-first (q ∷ ps) p l = refl
+
+-- The page that was the last reads as it did, and names the page more.
+begun-next : (first creates i : ℕ) (page : Page) (ps : List Page) (p : Page) (block : List ℕ) → i + 1 ≡ length ps → PageReads (lastPage page ps) block
+    → NextReads (p .off) block → ChainReads first creates i (ps ++ (p ∷ [])) block
+unfolding ChainReads lastPage
+begun-next first creates i page [] p block e r l = absurd (omega arith)
+begun-next first creates zero page (q ∷ []) p block e r l = (r, l)
+begun-next first creates zero page (q ∷ q' ∷ ps) p block e r l = absurd (omega arith)
+begun-next first creates (suc i) page (q ∷ []) p block e r l = absurd (omega arith)
+begun-next first creates (suc i) page (q ∷ q' ∷ ps) p block e r l = begun-next first creates i q (q' ∷ ps) p block (omega arith) r l
+
+-- The pages before it read as they did.
+begun-before : (first creates total i : ℕ) (ps : List Page) (p : Page) (x : Block) (block : List ℕ) → i + 1 ≢ length ps → pageAt i ps ≡ some x
+    → ChainReads first creates i ps block → ChainReads first total i (ps ++ (p ∷ [])) block
+unfolding ChainReads pageAt
+begun-before first creates total i [] p x block e at r = absurd (none-some at)
+begun-before first creates total zero (q ∷ []) p x block e at r = absurd (e refl)
+begun-before first creates total zero (q ∷ q' ∷ ps) p x block e at r = r
+begun-before first creates total (suc i) (q ∷ ps) p x block e at r = begun-before first creates total i ps p x block (λ (z : i + 1 ≡ length ps). e (omega arith)) at r
+
+-- ---- the last page is written
+
+-- The last page of a key's chain is written, and all its pages read as those of another chain: the spaces agree, nobody has another block.
+chain-written : (plain : PlainBook) (inside : PlainSpace) (s : Space) (held : Option Block) (key : ℕ) (ps qs : List Page) (list ys : List ℕ)
+    → keyOf key plain .place ≡ pages ps → 0 < length ps → Good inside (places plain) held → length ys ≡ pageSize
+    → ((i : ℕ) → i + 1 ≡ length ps → ChainReads (firstOff qs) (length list) i qs ys)
+    → ((i : ℕ) (x : Block) (block : List ℕ) → i + 1 ≢ length ps → pageAt i ps ≡ some x → ChainReads (firstOff ps) (length (keyOf key plain .list)) i ps block
+    → ChainReads (firstOff qs) (length list) i qs block)
+    → AgreesSpace inside s (places plain) held (contentsOf plain)
+    → AgreesSpace inside (space (overwrite (s .body) (lastPage noPage ps .off) ys) (s .mark) (s .free)) (places plain) held (placedContents plain key list (pages qs))
+unfolding has
+chain-written plain inside s held key ps qs list ys is one g long mine others a =
+    agrees-written inside s (places plain) (places plain) held held (contentsOf plain) (placedContents plain key list (pages qs)) (pageOf key (length ps - 1))
+    (record { class = pageClass; off = lastPage noPage ps .off }) ys g (ap (pageIn (length ps - 1)) is ∙ at-last) long to a
+  where
+    at-last : pageAt (length ps - 1) ps ≡ some (record { class = pageClass; off = lastPage noPage ps .off })
+    at-last = last-page-at (length ps - 1) noPage ps (omega arith)
+
+    to : (v : Owner) (x : Block) → has inside (places plain) held v ≡ some x
+        → ((x ≡ record { class = pageClass; off = lastPage noPage ps .off }) × Reading inside (placedContents plain key list (pages qs)) v ys)
+        ⊎ ((u : Owner) × (u ≢ pageOf key (length ps - 1)) × (has inside (places plain) held u ≡ some x)
+        × ((block : List ℕ) → Reading inside (contentsOf plain) u block → Reading inside (placedContents plain key list (pages qs)) v block))
+    to hand x e = inr (hand, λ q. (let z = ap kindOf q in omega arith), e, λ block r. r)
+    to (stack k d) x e = inr (stack k d, λ q. (let z = ap kindOf q in omega arith), e, λ block r. r)
+    to (slabOf j) x e = inr (slabOf j, λ q. (let z = ap kindOf q in omega arith), e, λ block r. keep (eqb j key) block r)
+      where
+        keep : (t : Bool) (block : List ℕ) → SlabIn (places plain j) block → SlabIn (cond t (pages qs) (places plain j)) block
+        keep true block r = tt
+        keep false block r = r
+    to (pageOf j i) x e = go (eqb j key) refl
+      where
+        go : (t : Bool) → eqb j key ≡ t
+            → ((x ≡ record { class = pageClass; off = lastPage noPage ps .off }) × PageIn (cond t (length list) (length (keyOf j plain .list))) i (cond t (pages qs) (places plain j)) ys)
+            ⊎ ((u : Owner) × (u ≢ pageOf key (length ps - 1)) × (has inside (places plain) held u ≡ some x)
+            × ((block : List ℕ) → Reading inside (contentsOf plain) u block → PageIn (cond t (length list) (length (keyOf j plain .list))) i (cond t (pages qs) (places plain j)) block))
+        go false q = inr (pageOf j i, λ z. (eqb-false j key q (cc)), e, λ block r. r)
+        go true q = at-index (eqb (i + 1) (length ps)) refl
+          where
+            same : j ≡ key
+            same = eqb-true j key q
+
+            at-key : pageAt i ps ≡ some x
+            at-key = sym (ap (pageIn i) (ap (places plain) same ∙ is)) ∙ e
+
+            at-index : (t : Bool) → eqb (i + 1) (length ps) ≡ t
+                → ((x ≡ record { class = pageClass; off = lastPage noPage ps .off }) × ChainReads (firstOff qs) (length list) i qs ys)
+                ⊎ ((u : Owner) × (u ≢ pageOf key (length ps - 1)) × (has inside (places plain) held u ≡ some x)
+                × ((block : List ℕ) → Reading inside (contentsOf plain) u block → ChainReads (firstOff qs) (length list) i qs block))
+            at-index true w =
+                let e' = eqb-true (i + 1) (length ps) w in
+                inl (some-inj (sym at-key ∙ last-page-at i noPage ps e'), mine i e')
+            at-index false w =
+                let n = eqb-false (i + 1) (length ps) w in
+                inr (
+                  pageOf j i,
+                  λ z. (let y = ap depthOf z in n (omega arith)),
+                  e,
+                  λ block r.
+                      others i x block n at-key
+                      (subst (λ (p : Place). PageIn (length (keyOf key plain .list)) i p block) is (subst (λ (k : ℕ). PageIn (length (keyOf k plain .list)) i (places plain k) block) same r)),
+                )
+
+-- ---- what a last page reads as once it is changed
+
+-- A last page with a number more is a whole page, reads so, and is the last of one number more.
+more-reads : (p : Page) (page : List ℕ) (first creates n : ℕ) (w : Spot) → PageReads p page → LastReads first creates page → lastFrom 0 (p .part .numbers) < n
+    → n < 2 ^ 62 → creates + 1 < 2 ^ 32 → spotBehind page n (scanOf (p .part)) ≡ some w → let after = pageWith page w creates in
+    (length after ≡ pageSize) × (PageReads (longerPage n p) after × LastReads first (creates + 1) after)
+unfolding longer goodExtent
+more-reads p page first creates n w r l above low few spot =
+    let m = page-more page n creates (scanOf (p .part)) w (r .reads) (l .extent) above (omega arith) spot few in (
+      m .long,
+      (
+        record { reads = m .scans; room = m .room ∙ r .room },
+        record { extent = m .names; last = rw (m .link) (l .last); first = rw (m .link) (l .first); good = rw (m .base, m .extents) (l .good); creates = m .counts },
+      ),
+    )
+
+-- A last page that gets a next one is a whole page, reads as it did, and names the next one.
+next-reads : (p : Page) (page : List ℕ) (first creates mark next : ℕ) → PageReads p page → LastReads first creates page → p .room ≡ lastPageRoom
+    → mark ≤ 2 ^ 30 → isBlock pageClass next mark ≡ true → let after = pageBefore page next in
+    (length after ≡ pageSize) × (PageReads p after × NextReads next after)
+next-reads p page first creates mark next r l room high stands =
+    let s = block-stands pageClass next mark stands in
+    let se = s .ends in
+    let m = page-before page next (scanOf (p .part)) (r .reads) (l .extent) (s .aligned) (omega arith) in
+    (m .long, (record { reads = m .scans; room = m .room ∙ sym room }, record { more = m .not-last; next = m .to }))
+
+-- ---- a number behind a key's pages
+
+-- The first of some pages is at index 0.
+first-page-at : (ps : List Page) → 0 < length ps → pageAt 0 ps ≡ some (record { class = pageClass; off = firstOff ps })
+unfolding pageAt
+first-page-at [] l = absurd (omega arith)
+first-page-at (p ∷ ps) l = refl
+
+-- One number above 0, below 2^62, rises, and its stream fits a last page.
+one-rises : (n : ℕ) → 0 < n → n < 2 ^ 62 → Rising (2 ^ 62) 0 (n ∷ [])
+unfolding Rising
+one-rises n positive small = (positive, small, tt)
+
+one-fits : (n : ℕ) → n < 2 ^ 62 → streamLen (n ∷ []) ≤ lastPageRoom
+unfolding streamLenFrom
+one-fits n small = omega (arith, len-at-most (n - 0) (omega arith))
+
+module _ (plain : PlainBook) (b : Book) (g : GoodPlain plain) (a : Agrees plain b) (shape : outOfShape (plain .size) (length (plain .keys)) ≡ false)
+    (key n : ℕ) (ps : List Page) (is : keyOf key plain .place ≡ pages ps) (low : key < length (plain .keys)) (positive : 0 < n) (small : n < 2 ^ 62)
+    (above : lastFrom 0 (lastPage noPage ps .part .numbers) < n) where
+  -- the key's list before, and after
+  abbrev list : List ℕ
+  list = keyOf key plain .list
+
+  abbrev more : List ℕ
+  more = extended list n
+
+  -- the offset of the last page
+  abbrev last : ℕ
+  last = lastPage noPage ps .off
+
+  -- what the append is told of it
+  abbrev tail : Tail
+  tail = record { scan = scanOf (lastPage noPage ps .part); last = record { first = firstOff ps; creates = length list } }
+
+  -- there is a page, and the list is one number longer, which fits creates
+  one : 0 < length ps
+  one = some-pages ps (chain key ps g is .fit)
+
+  more-long : length more ≡ length list + 1
+  more-long = length-append list (n ∷ [])
+
+  few : length list + 1 < 2 ^ 32
+  few = omega (arith, list-few key g (mark-most g shape))
+
+  -- the key has the last page, at the last index
+  last-owned : (inside : PlainSpace) (held : Option Block) → has inside (places plain) held (pageOf key (length ps - 1)) ≡ some (record { class = pageClass; off = last })
+  unfolding has
+  last-owned inside held = let l = one in ap (pageIn (length ps - 1)) is ∙ last-page-at (length ps - 1) noPage ps (omega arith)
+
+  -- What the last page reads as, in any space that agrees.
+  last-known : (inside : PlainSpace) (s : Space) (held : Option Block) → AgreesSpace inside s (places plain) held (contentsOf plain)
+      → PageReads (lastPage noPage ps) (pageBytes s last) × LastReads (firstOff ps) (length list) (pageBytes s last)
+  last-known inside s held h =
+      let l = one in
+      last-reads (firstOff ps) (length list) (length ps - 1) noPage ps (pageBytes s last) (omega arith)
+      (subst (λ (p : Place). PageIn (length list) (length ps - 1) p (pageBytes s last)) is
+      (h .stored (pageOf key (length ps - 1)) (record { class = pageClass; off = last }) (last-owned inside held)))
+
+  -- A body is as long after the last page is written.
+  last-long : (inside : PlainSpace) (s : Space) (held : Option Block) (ys : List ℕ) → Good inside (places plain) held
+      → AgreesSpace inside s (places plain) held (contentsOf plain) → length ys ≡ pageSize → length (overwrite (s .body) last ys) ≡ length (s .body)
+  last-long inside s held ys good h long =
+      let y : Block = record { class = pageClass; off = last } in
+      let ends = block-ends y (inside .mark) (good .apart .stands (pageOf key (length ps - 1)) y (last-owned inside held)) in
+      length-overwrite (s .body) last ys (rw long (omega (arith, h .within)))
+
+  -- What the last page reads as with the number joined.
+  joined-reads : (w : Spot) → spotBehind (pageBytes (b .space) last) n (tail .scan) ≡ some w → let ys = pageWith (pageBytes (b .space) last) w (length list) in
+      (length ys ≡ pageSize) × (PageReads (longerPage n (lastPage noPage ps)) ys × LastReads (firstOff ps) (length list + 1) ys)
+  joined-reads w spot =
+      let (r, l) = last-known (plain .space) (b .space) none (a .inside shape .space) in
+      more-reads (lastPage noPage ps) (pageBytes (b .space) last) (firstOff ps) (length list) n w r l above small few spot
+
+  -- The number joins the last page: the spaces agree.
+  joined-agrees : (w : Spot) → spotBehind (pageBytes (b .space) last) n (tail .scan) ≡ some w
+      → AgreesSpace (plain .space) (space (overwrite (b .space .body) last (pageWith (pageBytes (b .space) last) w (length list))) (b .space .mark) (b .space .free))
+      (atKey key (joinedTo n ps) (places plain)) none (placedContents plain key more (joinedTo n ps))
+  unfolding has
+  joined-agrees w spot =
+      agrees-same (plain .space) _ (places plain) (atKey key (joinedTo n ps) (places plain)) none none (placedContents plain key more (joinedTo n ps))
+      (placedContents plain key more (joinedTo n ps)) to
+      (chain-written plain (plain .space) (b .space) none key ps (joinedPages n ps) more ys is one (g .space) (joined-reads w spot .0) mine others (a .inside shape .space))
+    where
+      ys : List ℕ
+      ys = pageWith (pageBytes (b .space) last) w (length list)
+
+      mine : (i : ℕ) → i + 1 ≡ length ps → ChainReads (firstOff (joinedPages n ps)) (length more) i (joinedPages n ps) ys
+      mine i e =
+          let (long, (reads, ends)) = joined-reads w spot in
+          rw (joined-first n ps, more-long)
+          (reads-last (firstOff ps) (length list + 1) i noPage (joinedPages n ps) ys (rw (joined-long n ps) e) (rw (joined-last n noPage ps one) reads) ends)
+
+      others : (i : ℕ) (x : Block) (block : List ℕ) → i + 1 ≢ length ps → pageAt i ps ≡ some x → ChainReads (firstOff ps) (length list) i ps block
+          → ChainReads (firstOff (joinedPages n ps)) (length more) i (joinedPages n ps) block
+      others i x block e at r = rw (joined-first n ps) (joined-before (firstOff ps) (length list) (length more) i n ps block e r)
+
+      to : (v : Owner) (x : Block) → has (plain .space) (atKey key (joinedTo n ps) (places plain)) none v ≡ some x
+          → (u : Owner) × (has (plain .space) (places plain) none u ≡ some x)
+          × ((block : List ℕ) → Reading (plain .space) (placedContents plain key more (joinedTo n ps)) u block → Reading (plain .space) (placedContents plain key more (joinedTo n ps)) v block)
+      to hand x e = absurd (none-some e)
+      to (stack k d) x e = (stack k d, e, λ block r. r)
+      to (slabOf j) x e = ⊎-elim (λ (same, f). absurd (none-some f)) (λ (other, f). (slabOf j, f, λ block r. r)) (key-slab key (joinedTo n ps) (places plain) j x e)
+      to (pageOf j i) x e =
+          ⊎-elim (λ (same, f). (pageOf j i, ap (pageIn i) (ap (places plain) same ∙ is) ∙ sym (joined-at i n ps) ∙ f, λ block r. r)) (λ (other, f). (pageOf j i, f, λ block r. r))
+          (key-page key (joinedTo n ps) (places plain) j i x e)
+
+  -- What the plain book tells and leaves, once the key's new place is known.
+  abbrev placing : Placed → Answer PlainOutcome
+  placing p = accepted (record { told = appended (record { place = headOf more (p .place); rewritten = p .rewritten }); book = withKey key more (p .place) (p .space) plain })
+
+  -- Both books answer alike where the number joins the last page.
+  joined-alike : (w : Spot) → spotBehind (pageBytes (b .space) last) n (tail .scan) ≡ some w
+      → Alike (placing (record { place = joinedTo n ps; space = plain .space; rewritten = 0 })) (appendPage b key n last tail (some w))
+  unfolding appendPage headOf
+  joined-alike w spot =
+      append-ends plain b key more (joinedTo n ps) (Extent last) 0 (plain .space) _ a shape low (ap (λ (p : Page). Extent (p .off)) (joined-last n noPage ps one))
+      (last-long (plain .space) (b .space) none (pageWith (pageBytes (b .space) last) w (length list)) (g .space) (a .inside shape .space) (joined-reads w spot .0))
+      (joined-agrees w spot)
+
+  -- The number begins a page in hand, and the old last page names it: the spaces agree, and the body is as long.
+  begun-agrees : (inside : PlainSpace) (s : Space) (off : ℕ) → Good inside (places plain) (some (record { class = pageClass; off = off }))
+      → AgreesSpace inside s (places plain) (some (record { class = pageClass; off = off })) (contentsOf plain)
+      → let body = overwrite (overwrite (s .body) last (pageBefore (pageBytes s last) off)) off (lastPageOf (firstOff ps) off 1 (length list + 1) (n ∷ [])) in
+      AgreesSpace inside (space body (s .mark) (s .free)) (atKey key (begunAt off n ps) (places plain)) none (placedContents plain key more (begunAt off n ps))
+      × (length body ≡ length (s .body))
+  unfolding has
+  begun-agrees inside s off good h = (
+    placed-page plain key more inside _ (places plain) ps new (withHand (Filled pageClass ys) (placedContents plain key more (begunAt off n ps))) meanwhile
+        (λ i x e. ap (pageIn i) is ∙ e) (λ i block l r. rw (eq-eqb key key refl) at r) mine
+        (fill-agrees inside named (places plain) pageClass off (placedContents plain key more (begunAt off n ps)) ys whole good linked),
+    fill-long inside named (places plain) pageClass off (placedContents plain key more (begunAt off n ps)) ys whole good linked ∙ as-long,
+  )
+    where
+      -- the page in hand, and how high it can be
+      new : Page
+      new = record { off = off; room = lastPageRoom; part = written (n ∷ []) }
+
+      high : inside .mark ≤ 2 ^ 30
+      high = omega (arith, h .within, h .small)
+
+      stands : isBlock pageClass off (inside .mark) ≡ true
+      stands = good .apart .stands hand (record { class = pageClass; off = off }) refl
+
+      -- the old last page, and what it reads as with the next one
+      old : List ℕ
+      old = pageBefore (pageBytes s last) off
+
+      next : (length old ≡ pageSize) × (PageReads (lastPage noPage ps) old × NextReads off old)
+      next =
+          let (r, l) = last-known inside s (some (record { class = pageClass; off = off })) h in
+          next-reads (lastPage noPage ps) (pageBytes s last) (firstOff ps) (length list) (inside .mark) off r l (last-fits noPage ps (chain key ps g is .fit) .1) high stands
+
+      named : Space
+      named = space (overwrite (s .body) last old) (s .mark) (s .free)
+
+      as-long : length (named .body) ≡ length (s .body)
+      as-long = last-long inside s (some (record { class = pageClass; off = off })) old good h (next .0)
+
+      linked : AgreesSpace inside named (places plain) (some (record { class = pageClass; off = off })) (placedContents plain key more (begunAt off n ps))
+      linked =
+          chain-written plain inside s (some (record { class = pageClass; off = off })) key ps (ps ++ (new ∷ [])) more old is one good (next .0)
+          (λ i e. begun-next (firstOff (ps ++ (new ∷ []))) (length more) i noPage ps new old e (next .1 .0) (next .1 .1))
+          (λ i x block e at r. rw (begun-first ps new one) (begun-before (firstOff ps) (length list) (length more) i ps new x block e at r))
+          h
+
+      -- the page more, and what it reads as
+      ys : List ℕ
+      ys = lastPageOf (firstOff ps) off 1 (length list + 1) (n ∷ [])
+
+      reads : (length ys ≡ pageSize) × (PageReads new ys × LastReads (firstOff ps) (length list + 1) ys)
+      reads =
+          last-written (inside .mark) off (firstOff ps) off 1 (length list + 1) (n ∷ []) high
+          (good .apart .stands (pageOf key 0) (record { class = pageClass; off = firstOff ps }) (ap (pageIn 0) is ∙ first-page-at ps one)) stands (omega arith) (omega arith) few
+          (one-rises n positive small) (one-fits n small)
+
+      whole : length ys ≤ slabBytes pageClass
+      whole = omega (arith, reads .0)
+
+      mine : (block : List ℕ) → Filled pageClass ys block → ChainReads (firstOff (ps ++ (new ∷ []))) (length more) (length ps) (ps ++ (new ∷ [])) block
+      mine block f =
+          rw (filled-whole pageClass ys block (reads .0) f, begun-first ps new one, more-long)
+          (reads-last (firstOff ps) (length list + 1) (length ps) noPage (ps ++ (new ∷ [])) ys (sym (length-append ps (new ∷ []))) (rw (begun-last noPage ps new) (reads .1 .0)) (reads .1 .1))
+
+      meanwhile : Meanwhile plain key (places plain) (withHand (Filled pageClass ys) (placedContents plain key more (begunAt off n ps)))
+      meanwhile =
+          let m = meanwhile-placed plain key more (begunAt off n ps) (Filled pageClass ys) in
+          record { stand = λ j other. refl; slabs = m .slabs; pages = m .pages }
+
+  -- Both books answer alike where the number begins a taken page.
+  begun-alike : Alike (andThen (beginPage (plain .size) ps n (plain .space)) placing) (growChain b key n last tail)
+  unfolding beginPage growChain andThen headOf
+  begun-alike =
+      subst (λ (end : ℕ). Alike (andThen (beginPage end ps n (plain .space)) placing) (growChain b key n last tail)) (a .size)
+      (taken-then (λ x y. Alike (andThen x placing) y) (places plain) (inHandOf pageClass) (contentsOf plain) (length (b .space .body)) _ _ _ _ (λ number. refused-alike) go
+      (take-agrees (plain .space) (b .space) (places plain) (contentsOf plain) pageClass (omega arith) (g .space)
+      (rw (a .size) (in-shape (plain .size) (length (plain .keys)) shape .paged)) (a .inside shape .space)))
+    where
+      go : (t : PlainTaken) (u : Taken) → plainTake (length (b .space .body)) pageClass (plain .space) ≡ accepted t → takes pageClass (b .space) ≡ accepted u → u .off ≡ t .off
+          → length (u .space .body) ≡ length (b .space .body) → AgreesSpace (t .space) (u .space) (places plain) (some (record { class = pageClass; off = t .off })) (contentsOf plain)
+          → Alike (placing (record { place = begunAt (t .off) n ps; space = t .space; rewritten = 0 }))
+          (accepted (appending key (Extent (u .off)) 0
+          (space (overwrite (overwrite (u .space .body) last (pageBefore (pageBytes (u .space) last) (u .off))) (u .off) (lastPageOf (firstOff ps) (u .off) 1 (length list + 1) (n ∷ [])))
+          (u .space .mark) (u .space .free)) b))
+      go t u took took' same long h =
+          let good = good-taken (length (b .space .body)) pageClass (plain .space) (places plain) (omega arith) took (g .space) in
+          let (all, kept) = begun-agrees (t .space) (u .space) (t .off) good h in
+          rw same
+          (append-ends plain b key more (begunAt (t .off) n ps) (Extent (t .off)) 0 (t .space) _ a shape low
+          (ap (λ (p : Page). Extent (p .off)) (begun-last noPage ps (record { off = t .off; room = lastPageRoom; part = written (n ∷ []) }))) (kept ∙ long) all)
+
+  -- Both books answer alike: they judge by one test whether the number joins the last page.
+  behind-alike : Alike (andThen (appendPages (plain .size) ps n (plain .space)) placing)
+      (appendPage b key n last tail (spotBehind (pageBytes (b .space) last) n (tail .scan)))
+  unfolding appendPages appendPage joins longer andThen
+  behind-alike = go (joins n ps) refl
+    where
+      room : streamCap (pageBytes (b .space) last) ≡ lastPage noPage ps .room
+      room = last-known (plain .space) (b .space) none (a .inside shape .space) .0 .room
+
+      go : (t : Bool) → joins n ps ≡ t
+          → Alike (andThen (cond t (accepted (record { place = joinedTo n ps; space = plain .space; rewritten = 0 })) (beginPage (plain .size) ps n (plain .space))) placing)
+          (appendPage b key n last tail (spotBehind (pageBytes (b .space) last) n (tail .scan)))
+      go true e =
+          let fits = leb-true (longer n (lastPage noPage ps .part) .bytes) (lastPage noPage ps .room) e in
+          let spot = spot-fits (pageBytes (b .space) last) n (tail .scan) (rw room fits) in
+          rw spot (joined-alike _ spot)
+      go false e =
+          let full = leb-false (longer n (lastPage noPage ps .part) .bytes) (lastPage noPage ps .room) e in
+          rw (spot-none (pageBytes (b .space) last) n (tail .scan) (rw room full)) begun-alike
+
+-- The two books answer an append alike, where the key has pages.
+pub append-pages : (plain : PlainBook) (b : Book) (key n : ℕ) (ps : List Page) → GoodPlain plain → Agrees plain b → keyOf key plain .place ≡ pages ps
+    → Alike (plainAppends plain key n) (appends b key n)
+unfolding appendPlace appendAt headOf
+append-pages plain b key n ps g a is =
+    append-begins plain b key n g a
+    (λ shape h low positive small.
+    rw (is, then-yes _ (λ (t : Tail). refuseIf (leb n (lastOf (t .scan))) offeredNotRising (appendPage b key n (lastPage noPage ps .off) t (spotBehind (pageBytes (b .space) (lastPage noPage ps .off)) n (t .scan)))) (tail-agrees plain b g shape h key ps is))
+    (alike-both _ _ _ _ _ (ap (leb n) (chain key ps g is .last))
+    (λ e. behind-alike plain b g a shape key n ps is low positive small
+    (rw (chain key ps g is .last) at (leb-false n (lastFrom 0 (keyOf key plain .list)) e)))))

@@ -1,0 +1,429 @@
+-- The two books answer a load alike: of no number, of one, of a list for a slab, and of one for a run of pages. Assumes nothing.
+use Prim.Native.Nat.{ℕ, zero, suc, _+_, _-_, _*_, _%_, _^_, _≤_, _<_}
+use mathlib.Core.Bool.{Bool, true, false, not, true≢false}
+use mathlib.Core.List.{List, [], _∷_}
+use mathlib.Core.Logic.{⊎-elim, _≢_}
+use mathlib.Core.Option.{Option, none, some}
+use mathlib.Core.Path.{_≡_, refl, sym, ap, subst, _∙_}
+use native.Mathlib.Nat.{le-refl}
+use native.Mathlib.Omega.{arith}
+use lib.Dec.{eqb}
+use lib.ListN.{length, set, length-append}
+use lib.Seq.{set-getD}
+use borrow.Author.Tests.{leb-false, ltb-false, eq-eqb, ne-eqb}
+use Rattle.error.specs.Refusal.{Answer, accepted, andThen}
+use Rattle.error.proofs.LawsAnswer.{accepted-inj}
+use Rattle.buffer.specs.Bytes.{part, overwrite}
+use Rattle.buffer.specs.LittleEndian.{bytesOf}
+use Rattle.buffer.proofs.LawsBytes.{length-overwrite}
+use Rattle.buffer.proofs.LawsOverwrite.{part-before}
+use Rattle.buffer.proofs.LawsLittleEndian.{length-bytesOf}
+use Rattle.scripthash_layout.specs.Sizes.{slabBytes, pageClass, pageSize}
+use Rattle.scripthash_layout.specs.Head.{unpackHead}
+use Rattle.scripthash_layout.specs.declared.head.ShHeadValue.{ShHeadValue}
+use Rattle.scripthash_layout.specs.declared.head.ShHeadValue.the-variants.{Empty, Slab, Extent}
+use Rattle.scripthash_layout.proofs.LawsWords.{empty-word}
+use Rattle.scripthash_stream.specs.Stream.{maxOffered, Rising, lastFrom, stream, streamLen}
+use Rattle.scripthash_stream.proofs.LawsStream.{length-stream}
+use Rattle.scripthash_slabs.specs.Slab.{slabPayload}
+use Rattle.scripthash_cutting.specs.Cutting.{pageRoom, lastPageRoom, cutting, joined, Fit, AllowedCutting}
+use Rattle.scripthash_cutting.proofs.LawsPages.{pages-allowed}
+use Rattle.scripthash_cutting.proofs.LawsRising.{rising-words, rising-left, rising-right}
+use Rattle.scripthash_free.specs.FreeList.{Block}
+use Rattle.book_rules.specs.Calls.{load, loaded}
+use Rattle.book_rules.specs.Limits.{outOfShape, offeredNumber, offeredList}
+use Rattle.book_rules.specs.Places.{loadsTo}
+use Rattle.book_rules.proofs.LawsLimits.{in-shape}
+use Rattle.book_rules.proofs.LawsRules.{loads-to}
+use Rattle.plain_book.specs.Space.{Space as PlainSpace, Taken as PlainTaken, takeBlock as plainTake, rounded as plainRounded, takeRun as plainTakeRun}
+use Rattle.plain_book.specs.Key.{Page, Place, empty, inline, slab, pages, written, lastPage, noPage, headOf, Key, emptyKey, pagesOf, Placed, runPages, loadInto as plainLoadInto, loadPlace}
+use Rattle.plain_book.specs.Book.{Book as PlainBook, Outcome as PlainOutcome, keyOf, withKey, inUse, loads as plainLoads, does as plainDoes}
+use Rattle.plain_book.specs.Sound.{Fits}
+use Rattle.plain_book.specs.Owners.{Owner, hand, stack, slabOf, pageOf, Apart, slabAt, pageAt, pageIn, has, places}
+use Rattle.plain_book.specs.Good.{Good, GoodPlain}
+use Rattle.plain_book.proofs.LawsApart.{apart-fewer}
+use Rattle.plain_book.proofs.LawsOwners.{some-inj, none-some, atKey, key-slab, key-page}
+use Rattle.plain_book.proofs.LawsCeilings.{run-length}
+use Rattle.plain_book.proofs.LawsSound.{rising-below, some-parts}
+use Rattle.plain_book.proofs.LawsTaking.{good-taken, good-rounded, rounded-mark, took-mark}
+use Rattle.book_space.specs.Space.{Space, space, Taken, takeBlock as takes, takeRun}
+use Rattle.book_keys.specs.Keys.{goodExtent}
+use Rattle.book_blocks.specs.Blocks.{lastPageOf, pageTo, writeRun}
+use Rattle.book_blocks.proofs.LawsReadsSlab.{slab-written}
+use Rattle.book_blocks.proofs.LawsReadsPage.{last-page-reads, page-to-reads}
+use Rattle.book.specs.Book.{Book, Outcome, wordOf, headWord, filled}
+use Rattle.book.specs.Loads.{loading, lastOfRun, loadInto, loadAt, loads}
+use Rattle.book.specs.Calls.{does}
+use Rattle.book_history.specs.Agrees.{SlabReads, PageReads, LastReads, NextReads, ChainReads, firstOff, SlabIn, PageIn, Contents, Reading, contentsOf, AgreesSpace, AgreesInside, Agrees}
+use Rattle.book_history.proofs.LawsFrame.{blockOf, block-ends, block-written}
+use Rattle.book_history.proofs.LawsStep.{Alike, told-alike, refused-alike, alike-both, alike-on-key, placedContents, agrees-placed}
+use Rattle.book_history.proofs.LawsContent.{head-agrees}
+use Rattle.book_history.proofs.LawsHand.{Filled, fill-long, fill-agrees, Meanwhile, meanwhile-first, OthersKept, others-kept, placed-slab}
+use Rattle.book_history.proofs.LawsTake.{anyHand, inHandOf, TakenAlike, taken-then, take-agrees, run-agrees}
+
+-- ---- a run of pages is written
+
+-- What a run's pages are: the body stays as long as it was, what is before the run stays, and each page reads as it should.
+record RunWritten (body after : List ℕ) (off first creates : ℕ) (ps : List Page) : Type 0 where
+  long : length after ≡ length body
+  before : (p n : ℕ) → p + n ≤ off → part after p n ≡ part body p n
+  reads : (i : ℕ) (x : Block) → pageAt i ps ≡ some x → ChainReads first creates i ps (blockOf after x)
+
+-- No page is written.
+run-none : (body : List ℕ) (off first creates : ℕ) → RunWritten body body off first creates []
+unfolding pageAt
+run-none body off first creates = record { long = refl; before = λ p n l. refl; reads = λ i x e. absurd (none-some e) }
+
+-- A page is written, and then those behind it.
+run-more : (body page after : List ℕ) (off first creates : ℕ) (p : Page) (qs : List Page) → p .off ≡ off → length page ≡ slabBytes pageClass
+    → off + slabBytes pageClass ≤ length body → ChainReads first creates 0 (p ∷ qs) page → RunWritten (overwrite body off page) after (off + pageSize) first creates qs
+    → RunWritten body after off first creates (p ∷ qs)
+unfolding pageAt ChainReads
+run-more body page after off first creates p qs is size fits r w =
+    record {
+      long = w .long ∙ length-overwrite body off page (rw size fits);
+      before = λ q n l. w .before q n (omega arith) ∙ part-before body off page (rw size fits) q n l;
+      reads = reads;
+    }
+  where
+    held : blockOf after (record { class = pageClass; off = off }) ≡ page
+    held = w .before off (slabBytes pageClass) (omega arith) ∙ block-written body (record { class = pageClass; off = off }) page size fits
+
+    reads : (i : ℕ) (x : Block) → pageAt i (p ∷ qs) ≡ some x → ChainReads first creates i (p ∷ qs) (blockOf after x)
+    reads zero x e =
+        let here : page ≡ blockOf after x = sym held ∙ ap (λ (o : ℕ). blockOf after (record { class = pageClass; off = o })) (sym is) ∙ ap (blockOf after) (some-inj e) in
+        subst (ChainReads first creates 0 (p ∷ qs)) here r
+    reads (suc i) x e = w .reads i x e
+
+-- A page before the others of a run.
+run-next : (first creates off : ℕ) (p : Page) (q : List ℕ) (ps : List (List ℕ)) (block : List ℕ) → PageReads p block → NextReads off block
+    → ChainReads first creates 0 (p ∷ runPages off (q ∷ ps)) block
+unfolding ChainReads runPages
+run-next first creates off p q [] block r n = (r, n)
+run-next first creates off p q (s ∷ ps) block r n = (r, n)
+
+module _ (start count creates : ℕ) (aligned : start % 4096 ≡ 0) (from : 4096 ≤ start) (low : start ≤ 2 ^ 30) (some' : 0 < count) (few : count < 2 ^ 32)
+    (fits : creates < 2 ^ 32) where
+  -- the last page of a run reads as its part
+  last-of-run : (off : ℕ) (ns : List ℕ) → Rising (2 ^ 63) 0 ns → streamLen ns ≤ lastPageRoom
+      → (length (lastPageOf start start count creates ns) ≡ slabBytes pageClass)
+      × PageReads (record { off = off; room = lastPageRoom; part = written ns }) (lastPageOf start start count creates ns)
+      × LastReads start creates (lastPageOf start start count creates ns)
+  unfolding written goodExtent
+  last-of-run off ns rises room =
+      let r = last-page-reads start start count creates ns rises room aligned (omega arith) (omega arith) aligned (λ z. omega arith) some' few fits in (
+        r .long,
+        record { reads = r .scans; room = r .room },
+        record { extent = r .names; last = r .last; first = r .from; good = r .extent; creates = r .counts },
+      )
+
+  -- a page before another reads as its part
+  next-of-run : (off next : ℕ) (ns : List ℕ) → Rising (2 ^ 63) 0 ns → streamLen ns ≤ pageRoom → next % 4096 ≡ 0 → next ≤ 2 ^ 30
+      → (length (pageTo next ns) ≡ slabBytes pageClass) × PageReads (record { off = off; room = pageRoom; part = written ns }) (pageTo next ns) × NextReads next (pageTo next ns)
+  unfolding written
+  next-of-run off next ns rises room at-page in-body =
+      let r = page-to-reads next ns rises room at-page (omega arith) in
+      (r .long, record { reads = r .scans; room = r .room }, record { more = r .not-last; next = r .to })
+
+  -- Parts that fit their pages are written from an offset on.
+  run-written : (parts : List (List ℕ)) (body : List ℕ) (off : ℕ) → off % 4096 ≡ 0 → off + length parts * pageSize ≤ length body → length body ≤ 2 ^ 30
+      → Rising (2 ^ 63) 0 (joined parts) → Fit lastPageRoom pageRoom parts
+      → RunWritten body (writeRun start count creates body off parts) off start creates (runPages off parts)
+  unfolding joined Fit runPages writeRun ChainReads
+  run-written [] body off at-page in-body small rises fit = run-none body off start creates
+  run-written (ns ∷ []) body off at-page in-body small rises (one, room) =
+      let (size, r, last) = last-of-run off ns (rising-left (2 ^ 63) 0 ns [] rises) room in
+      run-more body (lastPageOf start start count creates ns) _ off start creates _ [] refl size (omega arith) (r, last) (run-none _ (off + pageSize) start creates)
+  run-written (ns ∷ ms ∷ ps) body off at-page in-body small rises (one, room, fit) =
+      let (size, r, next) = next-of-run off (off + pageSize) ns (rising-left (2 ^ 63) 0 ns (joined (ms ∷ ps)) rises) room (omega arith) (omega arith) in
+      let inside : off + slabBytes pageClass ≤ length body = omega arith in
+      let long = length-overwrite body off (pageTo (off + pageSize) ns) (rw size inside) in
+      run-more body (pageTo (off + pageSize) ns) (writeRun start count creates (overwrite body off (pageTo (off + pageSize) ns)) (off + pageSize) (ms ∷ ps)) off start creates
+      (record { off = off; room = pageRoom; part = written ns }) (runPages (off + pageSize) (ms ∷ ps)) refl size inside
+      (run-next start creates (off + pageSize) (record { off = off; room = pageRoom; part = written ns }) ms ps _ r next)
+      (run-written (ms ∷ ps) (overwrite body off (pageTo (off + pageSize) ns)) (off + pageSize) (omega arith) (rw long (omega arith)) (rw long small)
+      (rising-right (2 ^ 63) 0 ns (joined (ms ∷ ps)) rises) fit)
+
+-- Where the last page of a run is.
+run-last : (off : ℕ) (page : Page) (parts : List (List ℕ)) → 0 < length parts → lastPage page (runPages off parts) .off ≡ off + (length parts - 1) * pageSize
+unfolding runPages lastPage
+run-last off page [] l = absurd (omega arith)
+run-last off page (p ∷ []) l = omega arith
+run-last off page (p ∷ q ∷ ps) l = run-last (off + pageSize) (record { off = off; room = pageRoom; part = written p }) (q ∷ ps) (omega arith) ∙ omega arith
+
+-- Where the first is.
+run-first : (off : ℕ) (parts : List (List ℕ)) → 0 < length parts → firstOff (runPages off parts) ≡ off
+unfolding runPages
+run-first off [] l = absurd (omega arith)
+run-first off (p ∷ []) l = refl
+run-first off (p ∷ q ∷ ps) l = refl
+
+-- ---- spaces that agree
+
+-- Something is written where nobody has a block yet.
+written-beyond : (plain : PlainSpace) (s : Space) (at : ℕ → Place) (held : Option Block) (c : Contents) (mark : ℕ) (after : List ℕ) → Apart mark (has plain at held)
+    → length after ≡ length (s .body) → ((p n : ℕ) → p + n ≤ mark → part after p n ≡ part (s .body) p n) → AgreesSpace plain s at held c
+    → AgreesSpace plain (space after (s .mark) (s .free)) at held c
+written-beyond plain s at held c mark after apart long before a =
+    record {
+      mark = a .mark;
+      nine = a .nine;
+      tops = a .tops;
+      within = rw long (a .within);
+      small = rw long (a .small);
+      stored = λ w x e.
+          subst (Reading plain c w) (sym (before (x .off) (slabBytes (x .class)) (block-ends x mark (apart .stands w x e)))) (a .stored w x e);
+    }
+
+-- A key gets a place whose blocks, which nobody has, read as they should.
+pub placed-stored : (plain : PlainBook) (key : ℕ) (list : List ℕ) (place : Place) (inside : PlainSpace) (s : Space) (c : Contents) → Meanwhile plain key (places plain) c
+    → ((x : Block) → slabAt place ≡ some x → SlabIn place (blockOf (s .body) x))
+    → ((i : ℕ) (x : Block) → pageIn i place ≡ some x → PageIn (length list) i place (blockOf (s .body) x))
+    → AgreesSpace inside s (places plain) none c → AgreesSpace inside s (atKey key place (places plain)) none (placedContents plain key list place)
+unfolding has
+placed-stored plain key list place inside s c m slabs pgs a =
+    record { mark = a .mark; nine = a .nine; tops = a .tops; within = a .within; small = a .small; stored = stored }
+  where
+    others : OthersKept key c (placedContents plain key list place)
+    others = others-kept plain key (places plain) c m list place
+
+    stored : (w : Owner) (x : Block) → has inside (atKey key place (places plain)) none w ≡ some x
+        → Reading inside (placedContents plain key list place) w (blockOf (s .body) x)
+    stored hand x e = absurd (none-some e)
+    stored (stack k d) x e = a .stored (stack k d) x e
+    stored (slabOf j) x e =
+        ⊎-elim (λ (is, f). rw (eq-eqb j key is) (slabs x f)) (λ (n, f). others .slabs j (blockOf (s .body) x) n (a .stored (slabOf j) x f))
+        (key-slab key place (places plain) j x e)
+    stored (pageOf j i) x e =
+        ⊎-elim (λ (is, f). rw (eq-eqb j key is) (pgs i x f)) (λ (n, f). others .pages j i (blockOf (s .body) x) n (a .stored (pageOf j i) x f))
+        (key-page key place (places plain) j i x e)
+
+-- ---- what is offered
+
+-- Both books judge the offered numbers alike, and go on where they rise.
+alike-offered-list : (first : Bool) (prev : ℕ) (ns : List ℕ) (x : Answer PlainOutcome) (y : Answer Outcome) → (Rising (2 ^ 62) prev ns → Alike x y)
+    → Alike (offeredList first prev ns x) (offeredList first prev ns y)
+unfolding offeredList offeredNumber Rising
+alike-offered-list first prev [] x y go = go tt
+alike-offered-list first prev (n ∷ ns) x y go =
+    alike-both _ _ _ _ _ refl
+    (λ z. alike-both _ _ _ _ _ refl
+    (λ bit. alike-both _ _ _ _ _ refl
+    (λ large. alike-both _ _ _ _ _ refl
+    (λ low. alike-offered-list false n ns x y (λ r. go (leb-false n prev low, leb-false (2 ^ 62) n large, r))))))
+
+-- ---- whether the key is in use
+
+-- A word that tells something is not 0.
+word-some : (word : ℕ) (v : ShHeadValue) → unpackHead word ≡ accepted v → (v ≡ Empty → ⊥) → word ≢ 0
+word-some word v e n z = n (accepted-inj (sym e ∙ ap unpackHead z ∙ empty-word .unpacks))
+
+-- Both books find a key in use, or neither does.
+in-use-alike : (plain : PlainBook) (b : Book) (key : ℕ) → GoodPlain plain → outOfShape (plain .size) (length (plain .keys)) ≡ false → AgreesInside plain b
+    → inUse (keyOf key plain .place) ≡ not (eqb (wordOf key b) 0)
+unfolding headOf headWord
+in-use-alike plain b key g shape h = go (keyOf key plain .place) refl
+  where
+    tells : (place : Place) → keyOf key plain .place ≡ place → unpackHead (wordOf key b) ≡ accepted (headOf (keyOf key plain .list) place)
+    tells place is = head-agrees plain b g shape h key ∙ ap (λ (p : Place). accepted (headOf (keyOf key plain .list) p)) is
+
+    used : (place : Place) → keyOf key plain .place ≡ place → (headOf (keyOf key plain .list) place ≡ Empty → ⊥) → true ≡ not (eqb (wordOf key b) 0)
+    used place is n = sym (ap not (ne-eqb (wordOf key b) 0 (word-some (wordOf key b) _ (tells place is) n)))
+
+    go : (place : Place) → keyOf key plain .place ≡ place → inUse place ≡ not (eqb (wordOf key b) 0)
+    go empty is =
+        let zero' : wordOf key b ≡ 0 = h .heads key ∙ ap (λ (p : Place). headWord (headOf (keyOf key plain .list) p)) is ∙ rw (empty-word .packs) in
+        sym (ap not (eq-eqb (wordOf key b) 0 zero'))
+    go inline is = used inline is (λ e. (let z : _≡_ {A = ℕ} 0 1 = cc in omega arith))
+    go (slab class off kept) is = used (slab class off kept) is (λ e. (let z : _≡_ {A = ℕ} 0 1 = cc in omega arith))
+    go (pages ps) is = used (pages ps) is (λ e. (let z : _≡_ {A = ℕ} 0 1 = cc in omega arith))
+
+-- ---- where a loaded list goes
+
+-- A list that rises is cut as pages allow.
+cut-allowed : (ns : List ℕ) → Rising (2 ^ 62) 0 ns → AllowedCutting ns (cutting ns)
+cut-allowed ns rises = pages-allowed ns (rising-words 0 ns (rising-below (2 ^ 62) (2 ^ 63) 0 ns (omega arith) rises))
+
+-- A key with no place holds nothing.
+empty-key : (k : Key) → Fits (k .list) (k .place) → k .place ≡ empty → k ≡ emptyKey
+unfolding Fits
+empty-key k fits is = λ i. record { list = nothing (k .list) (rw is at fits) i; place = is i }
+  where
+    nothing : (list : List ℕ) → length list ≡ 0 → list ≡ []
+    nothing [] e = refl
+    nothing (n ∷ ns) e = absurd (omega arith)
+
+-- The payload of a list has two bytes more than its stream.
+pub payload-long : (ns : List ℕ) → length (slabPayload ns) ≡ 2 + streamLen ns
+unfolding slabPayload
+payload-long ns = length-append (bytesOf 2 (length ns)) (stream ns) ∙ omega (arith, length-bytesOf 2 (length ns), length-stream 0 ns)
+
+-- A block that begins with the payload of a list reads as the list.
+pub payload-reads : (class : ℕ) (ns block : List ℕ) → Rising (2 ^ 62) 0 ns → length ns ≤ maxOffered → Filled class (slabPayload ns) block → SlabReads (written ns) block
+unfolding written
+payload-reads class ns block rises few f =
+    let r = slab-written block ns (ap (part block 0) (sym (payload-long ns)) ∙ f .begins) (rising-below (2 ^ 62) (2 ^ 63) 0 ns (omega arith) rises) few in
+    record { used = r .counts; reads = r .reads }
+
+module _ (plain : PlainBook) (b : Book) (key : ℕ) (ns : List ℕ) (g : GoodPlain plain) (a : Agrees plain b) (shape : outOfShape (plain .size) (length (plain .keys)) ≡ false)
+    (h : AgreesInside plain b) (l : key < length (plain .keys)) (rises : Rising (2 ^ 62) 0 ns) (few : length ns ≤ maxOffered) where
+  -- what the plain book answers, once the list has a place
+  abbrev loadedTo : Placed → Answer PlainOutcome
+  loadedTo p = accepted (record { told = loaded (record { pages = pagesOf (p .place) }); book = withKey key ns (p .place) (p .space) plain })
+
+  whole : length (b .space .body) % 4096 ≡ 0
+  whole = ap (λ (n : ℕ). n % 4096) (a .size) ∙ in-shape (plain .size) (length (plain .keys)) shape .paged
+
+  -- a slab is taken and filled
+  load-slab : (class : ℕ) → loadsTo (length ns) (streamLen ns) ≡ some class
+      → Alike (andThen (plainLoadInto (plain .size) (some class) ns (plain .space)) loadedTo) (loadInto b key ns (some class))
+  unfolding plainLoadInto loadInto headOf andThen
+  load-slab class is =
+      taken-then (λ x y. Alike (andThen x loadedTo) y) (places plain) (inHandOf class) (anyHand (contentsOf plain)) (plain .size) _ _ _ _ (λ number. refused-alike) go
+      (subst (λ (n : ℕ). TakenAlike (places plain) (inHandOf class) (anyHand (contentsOf plain)) n (plainTake n class (plain .space)) (takes class (b .space))) (a .size)
+      (take-agrees (plain .space) (b .space) (places plain) (contentsOf plain) class to-8 (g .space) whole (h .space)))
+    where
+      to-8 : class ≤ 8
+      to-8 = let (many, to-7, fits) = loads-to (length ns) (streamLen ns) is in omega arith
+
+      go : (t : PlainTaken) (u : Taken) → plainTake (plain .size) class (plain .space) ≡ accepted t → takes class (b .space) ≡ accepted u → u .off ≡ t .off
+          → length (u .space .body) ≡ plain .size → AgreesSpace (t .space) (u .space) (places plain) (inHandOf class (t .off)) (anyHand (contentsOf plain))
+          → Alike (loadedTo (record { place = slab class (t .off) (written ns); space = t .space; rewritten = 0 }))
+          (accepted (loading key (Slab class (length ns) (u .off)) 0 (filled u (slabPayload ns)) b))
+      go t u took took' off long agrees =
+          let (many, to-7, fits) = loads-to (length ns) (streamLen ns) is in
+          let short : length (slabPayload ns) ≤ slabBytes class = omega (arith, payload-long ns) in
+          let good = good-taken (plain .size) class (plain .space) (places plain) to-8 took (g .space) in
+          let c = anyHand (contentsOf plain) in
+          let bytes = fill-long (t .space) (u .space) (places plain) class (t .off) c (slabPayload ns) short good agrees in
+          let placed =
+          placed-slab plain key ns (t .space) _ (places plain) class (t .off) (written ns) _ (meanwhile-first plain key (Filled class (slabPayload ns)))
+          (λ block f. payload-reads class ns block rises few f) (fill-agrees (t .space) (u .space) (places plain) class (t .off) c (slabPayload ns) short good agrees) in
+          subst
+          (λ (o : ℕ). Alike (loadedTo (record { place = slab class (t .off) (written ns); space = t .space; rewritten = 0 }))
+          (accepted (loading key (Slab class (length ns) o) 0 (space (overwrite (u .space .body) o (slabPayload ns)) (u .space .mark) (u .space .free)) b)))
+          (sym off)
+          (told-alike refl (agrees-placed plain b key ns (slab class (t .off) (written ns)) (t .space) _ a shape l (bytes ∙ long ∙ sym (a .size)) placed))
+
+  -- a run is written beyond all blocks, and becomes the key's pages
+  run-placed : (inside : PlainSpace) (s : Space) (start : ℕ) (parts : List (List ℕ)) → 0 < length parts → joined parts ≡ ns → Fit lastPageRoom pageRoom parts
+      → start % 4096 ≡ 0 → 4096 ≤ start → start + length parts * pageSize ≤ inside .mark → Apart start (has inside (places plain) none)
+      → AgreesSpace inside s (places plain) none (contentsOf plain)
+      → (length (writeRun start (length parts) (length ns) (s .body) start parts) ≡ length (s .body))
+      × AgreesSpace inside (space (writeRun start (length parts) (length ns) (s .body) start parts) (s .mark) (s .free)) (atKey key (pages (runPages start parts)) (places plain)) none
+      (placedContents plain key ns (pages (runPages start parts)))
+  run-placed inside s start parts some' same fit aligned from below apart agrees =
+      let in-body = agrees .within in
+      let small = agrees .small in
+      let w =
+      run-written start (length parts) (length ns) aligned from (omega arith) some' (omega arith) (omega arith) parts (s .body) start aligned (omega arith) small
+      (rising-below (2 ^ 62) (2 ^ 63) 0 (joined parts) (omega arith) (rw same rises)) fit in (
+        w .long,
+        placed-stored plain key ns (pages (runPages start parts)) inside _ (contentsOf plain) (meanwhile-first plain key (λ block. Unit {0})) (λ x e. absurd (none-some e))
+            (λ i x e. subst (λ (first : ℕ). ChainReads first (length ns) i (runPages start parts) (blockOf (writeRun start (length parts) (length ns) (s .body) start parts) x))
+            (sym (run-first start parts some')) (w .reads i x e))
+            (written-beyond inside s (places plain) none (contentsOf plain) start _ apart (w .long) (w .before) agrees),
+      )
+
+  -- a run is taken and written
+  load-run : 0 < length (cutting ns) → Alike (andThen (plainLoadInto (plain .size) none ns (plain .space)) loadedTo) (loadInto b key ns none)
+  unfolding plainLoadInto loadInto headOf andThen plainTakeRun has
+  load-run some' =
+      taken-then (λ x y. Alike (andThen x loadedTo) y) (places plain) (λ off. none) (contentsOf plain) (plain .size) _ _ _ _ (λ number. refused-alike)
+      (λ t u took took' off long agrees.
+      subst
+      (λ (t : PlainTaken). u .off ≡ t .off → AgreesSpace (t .space) (u .space) (places plain) none (contentsOf plain) → Alike (loadedTo (placedAt t)) (written-at u))
+      (sym (took-mark (plain .size) (length parts * pageSize) (plainRounded (plain .space)) took)) (λ off agrees. placed u off long agrees) off agrees)
+      (subst (λ (n : ℕ). TakenAlike (places plain) (λ off. none) (contentsOf plain) n (plainTakeRun n (length parts) (plain .space)) (takeRun (length parts) (b .space))) (a .size)
+      (run-agrees (plain .space) (b .space) (places plain) (contentsOf plain) (length parts) (g .space) whole (h .space)))
+    where
+      parts : List (List ℕ)
+      parts = cutting ns
+
+      start : ℕ
+      start = plainRounded (plain .space) .mark
+
+      beyond : PlainSpace
+      beyond = record { mark = start + length parts * pageSize; stacks = plainRounded (plain .space) .stacks }
+
+      placedAt : PlainTaken → Placed
+      placedAt t = record { place = pages (runPages (t .off) parts); space = t .space; rewritten = 0 }
+
+      written-at : Taken → Answer Outcome
+      written-at u =
+          accepted (loading key (Extent (lastOfRun (u .off) (length parts))) (length parts)
+          (space (writeRun (u .off) (length parts) (length ns) (u .space .body) (u .off) parts) (u .space .mark) (u .space .free)) b)
+
+      good : Good (plainRounded (plain .space)) (places plain) none
+      good = good-rounded (plain .space) (places plain) none (g .space)
+
+      apart : Apart start (has beyond (places plain) none)
+      apart = apart-fewer (has (plainRounded (plain .space)) (places plain) none) (has beyond (places plain) none) start to (good .apart)
+        where
+          to : (w : Owner) (x : Block) → has beyond (places plain) none w ≡ some x → has (plainRounded (plain .space)) (places plain) none w ≡ some x
+          to hand x e = e
+          to (stack k d) x e = e
+          to (slabOf j) x e = e
+          to (pageOf j i) x e = e
+
+      placed : (u : Taken) → u .off ≡ start → length (u .space .body) ≡ plain .size → AgreesSpace beyond (u .space) (places plain) none (contentsOf plain)
+          → Alike (loadedTo (placedAt (record { off = start; space = beyond }))) (written-at u)
+      placed u off long agrees =
+          let ok = cut-allowed ns rises in
+          let (bytes, run) =
+          run-placed beyond (u .space) start parts some' (ok .consecutive) (ok .fit) (rounded-mark (plain .space)) (good .from) (le-refl (beyond .mark)) apart agrees in
+          subst (λ (o : ℕ). Alike (loadedTo (placedAt (record { off = start; space = beyond }))) (written-at (record { off = o; space = u .space }))) (sym off)
+          (subst
+          (λ (last : ℕ). Alike (loadedTo (placedAt (record { off = start; space = beyond })))
+          (accepted (loading key (Extent last) (length parts) (space (writeRun start (length parts) (length ns) (u .space .body) start parts) (u .space .mark) (u .space .free)) b)))
+          (run-last start noPage parts some')
+          (told-alike (ap (λ (n : ℕ). loaded (record { pages = n })) (run-length start parts))
+          (agrees-placed plain b key ns (pages (runPages start parts)) beyond _ a shape l (bytes ∙ long ∙ sym (a .size)) run)))
+
+-- ---- a load
+
+-- A list that rises is loaded alike onto an empty key.
+load-alike : (plain : PlainBook) (b : Book) (key : ℕ) (ns : List ℕ) → GoodPlain plain → Agrees plain b → outOfShape (plain .size) (length (plain .keys)) ≡ false
+    → AgreesInside plain b → key < length (plain .keys) → keyOf key plain .place ≡ empty → Rising (2 ^ 62) 0 ns → length ns ≤ maxOffered
+    → Alike
+    (andThen (loadPlace (plain .size) ns (plain .space))
+    (λ p. accepted (record { told = loaded (record { pages = pagesOf (p .place) }); book = withKey key ns (p .place) (p .space) plain })))
+    (loadAt b key ns)
+unfolding loadPlace loadAt andThen headOf lastFrom
+load-alike plain b key [] g a shape h l is rises few = told-alike refl (subst (λ (p : PlainBook). Agrees p b) (sym same) a)
+  where
+    same : withKey key [] empty (plain .space) plain ≡ plain
+    same =
+        ap (λ (k : Key). record { size = plain .size; keys = set (plain .keys) key k; space = plain .space }) (sym (empty-key (keyOf key plain) (g .keys key .fits) is))
+        ∙ ap (λ (ks : List Key). record { size = plain .size; keys = ks; space = plain .space }) (set-getD (plain .keys) key emptyKey)
+load-alike plain b key (n ∷ []) g a shape h l is rises few =
+    told-alike refl
+    (agrees-placed plain b key (n ∷ []) inline (plain .space) (b .space) a shape l refl
+    (placed-stored plain key (n ∷ []) inline (plain .space) (b .space) (contentsOf plain) (meanwhile-first plain key (λ block. Unit {0})) (λ x e. absurd (none-some e))
+    (λ i x e. absurd (none-some e)) (h .space)))
+load-alike plain b key (n ∷ m ∷ ns) g a shape h l is rises few = go (loadsTo (length (n ∷ m ∷ ns)) (streamLen (n ∷ m ∷ ns))) refl
+  where
+    go : (to : Option ℕ) → loadsTo (length (n ∷ m ∷ ns)) (streamLen (n ∷ m ∷ ns)) ≡ to
+        → Alike (andThen (plainLoadInto (plain .size) to (n ∷ m ∷ ns) (plain .space)) (loadedTo plain b key (n ∷ m ∷ ns) g a shape h l rises few)) (loadInto b key (n ∷ m ∷ ns) to)
+    go (some class) e = load-slab plain b key (n ∷ m ∷ ns) g a shape h l rises few class e
+    go none e =
+        load-run plain b key (n ∷ m ∷ ns) g a shape h l rises few
+        (some-parts n (m ∷ ns) (cutting (n ∷ m ∷ ns)) (cut-allowed (n ∷ m ∷ ns) rises .consecutive))
+
+-- A place that isn't in use is none.
+unused : (place : Place) → inUse place ≡ false → place ≡ empty
+unused empty e = refl
+unused inline e = absurd (true≢false e)
+unused (slab class off kept) e = absurd (true≢false e)
+unused (pages ps) e = absurd (true≢false e)
+
+-- The two books answer a load alike.
+pub load-step : (plain : PlainBook) (b : Book) (key : ℕ) (ns : List ℕ) → GoodPlain plain → Agrees plain b → Alike (plainDoes plain (load key ns)) (does b (load key ns))
+unfolding plainDoes does plainLoads loads
+load-step plain b key ns g a =
+    alike-on-key plain b key _ _ g a
+    (λ shape h l.
+    alike-both _ _ _ _ _ (in-use-alike plain b key g shape h)
+    (λ free. alike-both _ _ _ _ _ refl
+    (λ many. alike-offered-list true 0 ns _ _
+    (λ rises. load-alike plain b key ns g a shape h l (unused (keyOf key plain .place) free) rises (ltb-false maxOffered (length ns) many)))))

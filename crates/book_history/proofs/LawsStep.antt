@@ -1,0 +1,188 @@
+-- Two books go through the tests of a call side by side: a test that both have, one that only the bytes have, and the tests that every call begins
+-- with. Assumes nothing.
+use Prim.Native.Nat.{ℕ, _+_, _%_, _^_, _≤_, _<_}
+use mathlib.Core.Bool.{Bool, true, false, cond, not, _&&_, _||_, true≢false}
+use mathlib.Core.List.{List}
+use mathlib.Core.Logic.{_≢_}
+use mathlib.Core.Option.{none}
+use mathlib.Core.Path.{_≡_, refl, sym, ap, subst, _∙_}
+use native.Mathlib.Omega.{arith}
+use lib.Dec.{leb, ltb, eqb}
+use lib.ListN.{length, getD, set, length-set}
+use lib.Seq.{getD-set-same, getD-set-other}
+use borrow.Author.Tests.{eqb-true, eqb-false, eq-eqb, ne-eqb, leb-false, ltb-false, le-ltb, lt-leb}
+use Rattle.error.specs.Refusal.{Answer, accepted, refused, refuseIf, andThen, shapeBad, keyBeyond, offeredNotRising}
+use Rattle.error.proofs.LawsAnswer.{refuse-no}
+use Rattle.scripthash_layout.specs.declared.head.ShHeadValue.{ShHeadValue}
+use Rattle.book_rules.specs.Calls.{Told}
+use Rattle.book_rules.specs.Limits.{outOfShape, offeredNumber}
+use Rattle.plain_book.specs.Space.{Space as PlainSpace}
+use Rattle.plain_book.specs.Key.{Place, Key, emptyKey, headOf}
+use Rattle.plain_book.specs.Book.{Book as PlainBook, Outcome as PlainOutcome, keyOf, withKey, onKey as plainOnKey}
+use Rattle.plain_book.specs.Owners.{places, has}
+use Rattle.plain_book.specs.Good.{GoodPlain}
+use Rattle.plain_book.proofs.LawsOwners.{atKey}
+use Rattle.plain_book.proofs.LawsBlocks.{key-place}
+use Rattle.book_space.specs.Space.{Space, markBad, shapeBroken}
+use Rattle.book.specs.Book.{Book, Outcome, headWord, onKey, placing}
+use Rattle.book_history.specs.Agrees.{Contents, SlabIn, PageIn, contentsOf, AgreesSpace, AgreesInside, Agrees}
+
+-- ---- answers alike
+
+-- What the two books answer is alike: the same is told and the books still agree, or both are refused by one number.
+pub data Alike : Answer PlainOutcome → Answer Outcome → Type 0 where
+  told-alike : {o : PlainOutcome} {u : Outcome} → o .told ≡ u .told → Agrees (o .book) (u .book) → Alike (accepted o) (accepted u)
+  refused-alike : {number : ℕ} → Alike (refused number) (refused number)
+
+-- A test that both books have.
+pub alike-both : (t t' : Bool) (number : ℕ) (a : Answer PlainOutcome) (b : Answer Outcome) → t ≡ t' → (t ≡ false → Alike a b)
+    → Alike (refuseIf t number a) (refuseIf t' number b)
+unfolding refuseIf
+alike-both true true number a b e h = refused-alike
+alike-both true false number a b e h = absurd (true≢false e)
+alike-both false true number a b e h = absurd (true≢false (sym e))
+alike-both false false number a b e h = h refl
+
+-- A test that only the bytes have, and that they pass.
+pub alike-passed : (t : Bool) (number : ℕ) (a : Answer PlainOutcome) (b : Answer Outcome) → t ≡ false → Alike a b → Alike a (refuseIf t number b)
+alike-passed t number a b e h = subst (Alike a) (sym (refuse-no t number b e)) h
+
+-- Both books branch by one test.
+pub alike-cond : (t t' : Bool) (a a' : Answer PlainOutcome) (b b' : Answer Outcome) → t ≡ t' → (t ≡ true → Alike a b) → (t ≡ false → Alike a' b')
+    → Alike (cond t a a') (cond t' b b')
+alike-cond true true a a' b b' e yes' no' = yes' refl
+alike-cond true false a a' b b' e yes' no' = absurd (true≢false e)
+alike-cond false true a a' b b' e yes' no' = absurd (true≢false (sym e))
+alike-cond false false a a' b b' e yes' no' = no' refl
+
+-- ---- the tests that a call begins with
+
+-- A mark of a good book in shape.
+mark-good : (plain : PlainBook) (b : Book) → GoodPlain plain → outOfShape (plain .size) (length (plain .keys)) ≡ false → length (b .space .body) ≡ plain .size
+    → AgreesInside plain b → markBad (length (b .space .body)) (b .space .mark) ≡ false
+unfolding markBad
+mark-good plain b g shape size h =
+    let m = h .space .mark in
+    let low = g .space .from in
+    let al = g .space .aligned in
+    let high = g .within shape in
+    let a : not (eqb (b .space .mark % 16) 0) ≡ false = ap not (eq-eqb (b .space .mark % 16) 0 (ap (λ (k : ℕ). k % 16) m ∙ al)) in
+    let l : ltb (b .space .mark) 4096 ≡ false = le-ltb (b .space .mark) 4096 (omega arith) in
+    let u : ltb (length (b .space .body)) (b .space .mark) ≡ false = le-ltb (length (b .space .body)) (b .space .mark) (omega arith) in
+    rw (a, l, u)
+
+-- A call on a key: both books judge the shape and the key alike.
+pub alike-on-key : (plain : PlainBook) (b : Book) (key : ℕ) (x : Answer PlainOutcome) (y : Answer Outcome) → GoodPlain plain → Agrees plain b
+    → (outOfShape (plain .size) (length (plain .keys)) ≡ false → AgreesInside plain b → key < length (plain .keys) → Alike x y)
+    → Alike (plainOnKey plain key x) (onKey b key y)
+unfolding plainOnKey onKey shapeBroken
+alike-on-key plain b key x y g a go =
+    rw (a .size, a .count)
+    (shape (outOfShape (plain .size) (length (plain .keys))) refl)
+  where
+    inner : (shape : outOfShape (plain .size) (length (plain .keys)) ≡ false)
+        → Alike (refuseIf (leb (length (plain .keys)) key) keyBeyond x) (refuseIf (leb (length (plain .keys)) key) keyBeyond y)
+    inner shape =
+        alike-both (leb (length (plain .keys)) key) (leb (length (plain .keys)) key) keyBeyond x y refl
+        (λ e. go shape (a .inside shape) (leb-false (length (plain .keys)) key e))
+
+    shape : (t : Bool) → outOfShape (plain .size) (length (plain .keys)) ≡ t
+        → Alike (refuseIf (outOfShape (plain .size) (length (plain .keys))) shapeBad (refuseIf (leb (length (plain .keys)) key) keyBeyond x))
+        (refuseIf (outOfShape (plain .size) (length (plain .keys)) || markBad (plain .size) (b .space .mark)) shapeBad (refuseIf (leb (length (plain .keys)) key) keyBeyond y))
+    shape true e = rw e (alike-both true true shapeBad _ _ refl (λ z. absurd (true≢false z)))
+    shape false e =
+        let m : markBad (plain .size) (b .space .mark) ≡ false = rw (← a .size) (mark-good plain b g e (a .size) (a .inside e)) in
+        alike-both _ _ shapeBad _ _ (e ∙ sym (ap (λ (t : Bool). t || markBad (plain .size) (b .space .mark)) e ∙ m)) (λ z. inner e)
+
+-- A book over bytes that agrees, in shape, goes on with a call on one of its keys.
+pub on-key-passes : {A : Type 0} (plain : PlainBook) (b : Book) (key : ℕ) (after : Answer A) → GoodPlain plain → Agrees plain b
+    → outOfShape (plain .size) (length (plain .keys)) ≡ false → key < length (plain .keys) → onKey b key after ≡ after
+unfolding onKey shapeBroken
+on-key-passes plain b key after g a shape l =
+    let out : outOfShape (length (b .space .body)) (length (b .heads)) ≡ false = rw (a .size, a .count) shape in
+    let bad = mark-good plain b g shape (a .size) (a .inside shape) in
+    let within : key < length (b .heads) = rw (a .count) l in
+    refuse-no _ _ _ (rw (out, bad)) ∙ refuse-no _ _ _ (lt-leb (length (b .heads)) key within)
+
+-- A number that is offered: the plain book knows the number before it, the bytes find it later.
+pub alike-offered : (last n : ℕ) (x : Answer PlainOutcome) (y : Answer Outcome)
+    → (0 < n → n < 2 ^ 62 → Alike (refuseIf (leb n last) offeredNotRising x) y) → Alike (offeredNumber true last n x) (offeredNumber true 0 n y)
+unfolding offeredNumber
+alike-offered last n x y go =
+    alike-both _ _ _ _ _ refl
+    (λ zero. alike-both _ _ _ _ _ refl
+    (λ bit. alike-both _ _ _ _ _ refl
+    (λ large.
+    let some : n ≢ 0 = eqb-false n 0 zero in
+    let low : n < 2 ^ 62 = leb-false (2 ^ 62) n large in
+    alike-passed (leb n 0) offeredNotRising _ _ (lt-leb n 0 (positive n some)) (go (positive n some) low))))
+  where
+    positive : (k : ℕ) → k ≢ 0 → 0 < k
+    positive k ne = omega (arith, ne)
+
+-- ---- a key gets another place
+
+-- What blocks read as once a key has another list and place.
+abbrev pub placedContents : PlainBook → ℕ → List ℕ → Place → Contents
+placedContents plain key list place =
+    record {
+      inHand = λ block. Unit {0};
+      slabs = λ j block. SlabIn (atKey key place (places plain) j) block;
+      pages = λ j i block. PageIn (cond (eqb j key) (length list) (length (keyOf j plain .list))) i (atKey key place (places plain) j) block;
+    }
+
+-- What a key of a book with a key changed is.
+key-is : (plain : PlainBook) (key : ℕ) (list : List ℕ) (place : Place) (space : PlainSpace) → key < length (plain .keys) → (j : ℕ)
+    → keyOf j (withKey key list place space plain) ≡ cond (eqb j key) (record { list = list; place = place }) (keyOf j plain)
+key-is plain key list place space l j = go (eqb j key) refl
+  where
+    go : (t : Bool) → eqb j key ≡ t → keyOf j (withKey key list place space plain) ≡ cond t (record { list = list; place = place }) (keyOf j plain)
+    go true e =
+        ap (λ (k : ℕ). getD (set (plain .keys) key (record { list = list; place = place })) k emptyKey) (eqb-true j key e)
+        ∙ getD-set-same (plain .keys) key _ emptyKey l
+    go false e = getD-set-other (plain .keys) key j _ emptyKey (eqb-false j key e)
+
+-- The contents of a book with a key changed, as those with the key placed.
+contents-placed : (plain : PlainBook) (key : ℕ) (list : List ℕ) (place : Place) (space : PlainSpace) → key < length (plain .keys)
+    → contentsOf (withKey key list place space plain) ≡ placedContents plain key list place
+contents-placed plain key list place space l =
+    λ i. record {
+      inHand = λ block. Unit {0};
+      slabs = λ j block. SlabIn (key-place plain key list place space l j i) block;
+      pages = λ j n block. PageIn (lengths j i) n (key-place plain key list place space l j i) block;
+    }
+  where
+    lengths : (j : ℕ) → length (keyOf j (withKey key list place space plain) .list) ≡ cond (eqb j key) (length list) (length (keyOf j plain .list))
+    lengths j = ap (λ (k : Key). length (k .list)) (key-is plain key list place space l j) ∙ inside (eqb j key)
+      where
+        inside : (t : Bool) → length (cond t (record { list = list; place = place }) (keyOf j plain) .list) ≡ cond t (length list) (length (keyOf j plain .list))
+        inside true = refl
+        inside false = refl
+
+-- A key gets another list and place in both books: they agree where the spaces do.
+pub agrees-placed : (plain : PlainBook) (b : Book) (key : ℕ) (list : List ℕ) (place : Place) (space : PlainSpace) (s : Space) → Agrees plain b
+    → outOfShape (plain .size) (length (plain .keys)) ≡ false → key < length (plain .keys) → length (s .body) ≡ length (b .space .body)
+    → AgreesSpace space s (atKey key place (places plain)) none (placedContents plain key list place)
+    → Agrees (withKey key list place space plain) (record { heads = set (b .heads) key (headWord (headOf list place)); space = s })
+agrees-placed plain b key list place space s a shape l long h =
+    record {
+      size = long ∙ a .size;
+      count = length-set (b .heads) key _ ∙ a .count ∙ sym (length-set (plain .keys) key _);
+      inside = λ z. record { heads = heads; space = spaces };
+    }
+  where
+    heads : (j : ℕ) → getD (set (b .heads) key (headWord (headOf list place))) j 0
+        ≡ headWord (headOf (keyOf j (withKey key list place space plain) .list) (keyOf j (withKey key list place space plain) .place))
+    heads j = rw (key-is plain key list place space l j) (go (eqb j key) refl)
+      where
+        go : (t : Bool) → eqb j key ≡ t → getD (set (b .heads) key (headWord (headOf list place))) j 0
+            ≡ headWord (headOf (cond t (record { list = list; place = place }) (keyOf j plain) .list) (cond t (record { list = list; place = place }) (keyOf j plain) .place))
+        go true e =
+            ap (λ (k : ℕ). getD (set (b .heads) key (headWord (headOf list place))) k 0) (eqb-true j key e)
+            ∙ getD-set-same (b .heads) key _ 0 (subst (λ (n : ℕ). key < n) (sym (a .count)) l)
+        go false e = getD-set-other (b .heads) key j _ 0 (eqb-false j key e) ∙ a .inside shape .heads j
+
+    spaces : AgreesSpace space s (places (withKey key list place space plain)) none (contentsOf (withKey key list place space plain))
+    spaces =
+        rw (contents-placed plain key list place space l)
+        (subst (λ (at : ℕ → Place). AgreesSpace space s at none (placedContents plain key list place)) (sym (λ i j. key-place plain key list place space l j i)) h)

@@ -1,0 +1,155 @@
+-- Demand 1 of the account book: a refused call leaves the book as it was, and an accepted one changes what it names only. Any book, any call.
+use Prim.Native.Nat.{ℕ, _+_, _≤_, _<_}
+use mathlib.Core.Bool.{true}
+use mathlib.Core.List.{List, [], _∷_}
+use mathlib.Core.Logic.{_⊎_, inl, inr, ⊎-elim, _≢_}
+use mathlib.Core.Path.{_≡_, refl, sym, ap, subst, _∙_}
+use native.Mathlib.Nat.{eq-or-lt-of-le}
+use native.Mathlib.Omega.{arith}
+use borrow.Author.Tests.{ltb-false}
+use lib.ListN.{length, length-replicate}
+use Rattle.error.specs.Refusal.{Answer, accepted, refused}
+use Rattle.error.proofs.LawsAnswer.{accepted-inj, passed, went-on}
+use Rattle.buffer.proofs.LawsOrder.{lt-or-ge}
+use Rattle.scripthash_layout.specs.Sizes.{pageClass}
+use Rattle.scripthash_layout.specs.declared.head.ShHeadValue.{ShHeadValue}
+use Rattle.scripthash_layout.specs.declared.head.ShHeadValue.the-variants.{Empty, Inline, Slab, Extent}
+use Rattle.scripthash_free.specs.FreeList.{isBlock, Each, Within}
+use Rattle.scripthash_free.proofs.LawsBlock.{block-stands}
+use Rattle.scripthash_free.proofs.LawsGap.{each-map}
+use Rattle.book_rules.specs.Calls.{Call, load, append, read, drop, keyOfCall, Listed, listed, bookAfter}
+use Rattle.book_space.specs.Space.{Space}
+use Rattle.book_keys.specs.Keys.{Content, content, contentAt, pageBlocks}
+use Rattle.book_keys.proofs.LawsSlab.{slab-sound}
+use Rattle.book_keys.proofs.LawsContent.{was-content, was-slab, was-pages}
+use Rattle.book_keys.proofs.LawsKeys.{Every, chain-known}
+use Rattle.book.specs.Book.{Book, Outcome, wordOf, makesFresh, madeAfter}
+use Rattle.book.specs.Reads.{reads, drops, listAfter}
+use Rattle.book.specs.Calls.{does}
+use Rattle.book_history.specs.Writes.{region, Outside, Only, nothing, wordAnd, freeingAll, names, Differs, Changes}
+use Rattle.book_history.proofs.LawsOnly.{only-bytes}
+use Rattle.book_history.proofs.LawsWritesSpace.{wrote-released}
+use Rattle.book_history.proofs.LawsWritesLoad.{on-key, differs-not, differs-placed, load-only}
+use Rattle.book_history.proofs.LawsWritesAppend.{append-only}
+
+-- ---- a drop
+
+-- Pages that stand below a mark, as blocks.
+pages-within : (mark : ℕ) (offs : List ℕ) → Every (λ o. isBlock pageClass o mark ≡ true) offs → Each (Within 0 mark) (pageBlocks offs)
+unfolding Every Each pageBlocks
+pages-within mark [] e = tt
+pages-within mark (o ∷ os) e = ((omega arith, block-stands pageClass o mark (e .0) .ends), pages-within mark os (e .1))
+
+-- The blocks of a place that holds something lie below the mark.
+place-within : (s : Space) (place : ShHeadValue) (k : Content) → contentAt s place ≡ accepted k → Each (Within 0 (s .mark)) (k .blocks)
+unfolding contentAt Each
+place-within s Empty k e = subst (λ (k : Content). Each (Within 0 (s .mark)) (k .blocks)) (accepted-inj e) tt
+place-within s (Inline entry used) k e = subst (λ (k : Content). Each (Within 0 (s .mark)) (k .blocks)) (accepted-inj e) tt
+place-within s (Slab class used off) k e =
+    let (c, is, same) = was-slab s class used off k e in
+    let known = slab-sound s class used off c is in
+    subst (λ (k : Content). Each (Within 0 (s .mark)) (k .blocks)) same ((omega arith, block-stands class off (s .mark) (known .stands) .ends), tt)
+place-within s (Extent last) k e =
+    let (c, is, same) = was-pages s last k e in
+    subst (λ (k : Content). Each (Within 0 (s .mark)) (k .blocks)) same (pages-within (s .mark) (c .offs) (chain-known s last c is .stands))
+
+-- A drop.
+drop-only : (b : Book) (key : ℕ) {o : Outcome} → drops b key ≡ accepted o → Changes b (o .book) (drop key)
+unfolding drops names
+drop-only b key e =
+    let k = on-key b key _ e in
+    let (c, is, out) = went-on (content (b .space) (wordOf key b)) _ (k .2) in
+    let (place, at, holds) = was-content (b .space) (wordOf key b) c is in
+    let within = k .0 .within in
+    let blocks = each-map (Within 0 (b .space .mark)) (Within 0 (length (b .space .body))) (λ x h. (h .0, omega (arith, h .1))) (c .blocks)
+    (place-within (b .space) place c holds) in
+    rw is
+    (subst (λ (o : Outcome). Differs (wordAnd key (freeingAll (c .blocks))) b (o .book)) (accepted-inj out)
+    (differs-placed key _ _ b (wrote-released (c .blocks) (b .space) blocks)))
+
+-- ---- a read
+
+-- A read leaves the book as it was.
+pub read-nothing : (b : Book) (key room : ℕ) {o : Outcome} → does b (read key room) ≡ accepted o → o .book ≡ b
+unfolding does reads
+read-nothing b key room e =
+    let k = on-key b key _ e in
+    let (c, is, out) = went-on (content (b .space) (wordOf key b)) _ (k .2) in
+    ap (λ (o : Outcome). o .book) (sym (accepted-inj (passed _ _ _ out .1)))
+
+-- A read writes its numbers at the beginning of its lent list, and nothing else there.
+pub list-only : (b : Book) (key : ℕ) (out : List ℕ) (l : Listed) {o : Outcome} → does b (read key (length out)) ≡ accepted o → o .told ≡ listed l
+    → Only (region 0 (length (l .numbers)) ∷ []) out (listAfter out (does b (read key (length out))))
+unfolding does reads listAfter
+list-only b key out l {o} e is =
+    let k = on-key b key _ e in
+    let (c, held, answer) = went-on (content (b .space) (wordOf key b)) _ (k .2) in
+    let p = passed _ _ _ answer in
+    let same : listed (record { numbers = c .numbers; pages = c .pages }) ≡ listed l = ap (λ (x : Outcome). x .told) (accepted-inj (p .1)) ∙ is in
+    let numbers : c .numbers ≡ l .numbers = cc in
+    let fits : length (l .numbers) ≤ length out = rw numbers at (ltb-false (length out) (length (c .numbers)) (p .0)) in
+    rw (e, is) (only-bytes out 0 (length (l .numbers)) (l .numbers) refl (omega arith))
+
+-- A refused read leaves its lent list.
+pub list-refused : (b : Book) (key : ℕ) (out : List ℕ) {number : ℕ} → does b (read key (length out)) ≡ refused number
+    → listAfter out (does b (read key (length out))) ≡ out
+unfolding listAfter
+list-refused b key out e = rw e
+
+-- ---- a fresh book
+
+-- A book that is made fresh keeps its body's bytes, and as many head words.
+pub fresh-only : (b : Book) {made : Book} → makesFresh b ≡ accepted made → (made .space .body ≡ b .space .body) × (length (made .heads) ≡ length (b .heads))
+unfolding makesFresh
+fresh-only b e =
+    let is = accepted-inj (passed _ _ _ e .1) in
+    (ap (λ (a : Book). a .space .body) (sym is), ap (λ (a : Book). length (a .heads)) (sym is) ∙ length-replicate (length (b .heads)) 0)
+
+-- A book that isn't is as it was.
+pub fresh-refused : (b : Book) {number : ℕ} → makesFresh b ≡ refused number → madeAfter b (makesFresh b) ≡ b
+unfolding madeAfter
+fresh-refused b e = rw e
+
+-- ---- any call
+
+-- A refused call leaves the book as it was.
+pub refused-nothing : (b : Book) (c : Call) {number : ℕ} → does b c ≡ refused number → bookAfter b (does b c) ≡ b
+unfolding bookAfter
+refused-nothing b c e = rw e
+
+-- An accepted call changes what it names only.
+pub accepted-only : (b : Book) (c : Call) {o : Outcome} → does b c ≡ accepted o → Changes b (o .book) c
+unfolding does names
+accepted-only b (load key ns) e = load-only b key ns e
+accepted-only b (append key n) e = append-only b key n e
+accepted-only b (read key room) e = subst (λ (a : Book). Differs (record { heads = []; space = nothing }) b a) (sym (read-nothing b key room e)) (differs-not (record { heads = []; space = nothing }) b)
+accepted-only b (drop key) e = drop-only b key e
+
+-- What an answer leaves.
+after-answer : (b : Book) (c : Call) (a : Answer Outcome) → ((o : Outcome) → a ≡ accepted o → Changes b (o .book) c) → Changes b (bookAfter b a) c
+unfolding bookAfter
+after-answer b c (accepted o) f = f o refl
+after-answer b c (refused number) f = differs-not (names b c) b
+
+-- So after any call the book differs from the one before in what the call names only.
+pub call-only : (b : Book) (c : Call) → Changes b (bookAfter b (does b c)) c
+call-only b c = after-answer b c (does b c) (λ o e. accepted-only b c e)
+
+-- A key other than another is outside of its head word.
+outside-key : (k key : ℕ) → k ≢ key → (k < key) ⊎ (key + 1 ≤ k)
+outside-key k key other =
+    ⊎-elim inl (λ (h : key ≤ k). inr (⊎-elim (λ (e : key ≡ k). absurd (other (sym e))) (λ (l : key < k). omega arith) (eq-or-lt-of-le h))) (lt-or-ge k key)
+
+-- A call names no head word but its key's.
+words-named : (b : Book) (c : Call) (k : ℕ) → k ≢ keyOfCall c → Outside (names b c .heads) k
+unfolding names Outside
+words-named b (load key []) k other = tt
+words-named b (load key (n ∷ [])) k other = (outside-key k key other, tt)
+words-named b (load key (n ∷ m ∷ ns)) k other = (outside-key k key other, tt)
+words-named b (append key n) k other = (outside-key k key other, tt)
+words-named b (read key room) k other = tt
+words-named b (drop key) k other = (outside-key k key other, tt)
+
+-- So after any call each head word but its key's is as before.
+pub other-words : (b : Book) (c : Call) (k : ℕ) → k ≢ keyOfCall c → wordOf k (bookAfter b (does b c)) ≡ wordOf k b
+other-words b c k other = call-only b c .heads .same k (words-named b c k other)
