@@ -1,0 +1,118 @@
+"""A page as Markdown and as HTML that needs no other file. A page is a list of blocks: prose in a little Markdown, and code with links."""
+import html
+import re
+from collections import namedtuple
+from itertools import groupby
+
+# Lines as they stand in a file; `anchor` is a link's target, and `links` are (row, column, length, anchor) in order.
+Code = namedtuple("Code", "lines anchor links")
+
+STYLE = """
+body { color: #111; background: #fff; font: 16px/1.45 Georgia, 'DejaVu Serif', serif; margin: 2em auto; max-width: 60em; padding: 0 1em }
+h1, h2, h3, h4, p, ol, ul, blockquote { max-width: 36em }
+h1 { font-size: 1.6em } h2 { font-size: 1.3em; border-top: 1px solid #111; padding-top: .6em; margin-top: 2em } h3 { font-size: 1.1em }
+h4 { font-size: 1em; margin-bottom: .3em }
+blockquote { border-left: 3px solid #777; font-style: italic; margin-left: 0; padding-left: 1em }
+li { margin: .45em 0 }
+table { border-collapse: collapse; font-size: .9em; margin: 1em 0 }
+th, td { border: 1px solid #999; padding: .25em .5em; text-align: left; vertical-align: top } th { background: #eee }
+td.number, th.number { text-align: right }
+code, pre { font: .82em/1.4 'DejaVu Sans Mono', Menlo, Consolas, monospace }
+pre { border-left: 2px solid #bbb; margin: .5em 0; padding: .1em 0 .1em .8em; white-space: pre-wrap; overflow-wrap: anywhere }
+pre .comment { color: #444; font-style: italic }
+a { color: #034; text-decoration: none } a:hover { text-decoration: underline } p a, li a, td a { text-decoration: underline }
+@page { margin: 18mm 16mm }
+@media print {
+  body { font-size: 10.5pt; margin: 0; max-width: none; padding: 0 } pre { font-size: 7.5pt; break-inside: avoid } a { color: #111 }
+  h1, h2, h3, h4 { break-after: avoid } tr { break-inside: avoid } p a, li a, td a { text-decoration: none }
+}
+"""
+
+
+def anchor(text):
+    """A heading's link target."""
+    return re.sub(r"[^\w]+", "-", text.lower()).strip("-")
+
+
+# ---- Markdown
+
+
+def markdown(blocks):
+    """The page as Markdown: neighbouring pieces of code share a fence."""
+    parts = []
+    for code, run in groupby(blocks, lambda block: isinstance(block, Code)):
+        texts = ["\n".join(block.lines) if code else block for block in run]
+        parts.append("```\n" + "\n\n".join(texts) + "\n```" if code else "\n\n".join(texts))
+    return "\n\n".join(parts) + "\n"
+
+
+# ---- HTML
+
+
+def page(title, blocks):
+    """The page as HTML."""
+    body = "\n".join(code_html(block) if isinstance(block, Code) else prose_html(block) for block in blocks)
+    head = f'<meta charset="utf-8"><meta name="viewport" content="width=device-width"><title>{html.escape(title)}</title><style>{STYLE}</style>'
+    return f'<!DOCTYPE html>\n<html lang="en"><head>{head}</head><body>\n{body}\n</body></html>\n'
+
+
+def code_html(block):
+    """Lines of code, with a link at each name that has one."""
+    rows = [line_html(line, [link[1:] for link in block.links if link[0] == row]) for row, line in enumerate(block.lines)]
+    name = f' id="{html.escape(block.anchor)}"' if block.anchor else ""
+    return f"<pre{name}>" + "\n".join(rows) + "</pre>"
+
+
+def line_html(line, links):
+    """One line of code; a comment is set apart."""
+    if line.lstrip().startswith(("-- ", "// ")):
+        return f'<span class="comment">{html.escape(line)}</span>'
+    parts, at = [], 0
+    for column, length, target in sorted(links):
+        parts += [html.escape(line[at:column]), f'<a href="#{html.escape(target)}">{html.escape(line[column : column + length])}</a>']
+        at = column + length
+    return "".join(parts) + html.escape(line[at:])
+
+
+def prose_html(text):
+    """Prose: headings, quotes, lists, tables and paragraphs, each a run of lines with an empty line behind it."""
+    return "\n".join(run_html(run.split("\n")) for run in re.split(r"\n{2,}", text.strip()))
+
+
+def run_html(lines):
+    heading = re.match(r"(#+) (.*)", lines[0])
+    if heading:
+        level = len(heading.group(1))
+        return f'<h{level} id="{anchor(heading.group(2))}">{inline(heading.group(2))}</h{level}>'
+    for mark, tag in ((r"> ?", "blockquote"), (r"\d+\. ", "ol"), (r"- ", "ul")):
+        if re.match(mark, lines[0]):
+            items = [inline(re.sub("^" + mark, "", line)) for line in lines]
+            return f"<{tag}>" + ("<br>".join(items) if tag == "blockquote" else "".join(f"<li>{item}</li>" for item in items)) + f"</{tag}>"
+    if lines[0].startswith("|"):
+        return table_html(lines)
+    return f"<p>{inline(' '.join(lines))}</p>"
+
+
+def table_html(lines):
+    """A table; a column whose rule ends with a colon holds numbers."""
+    rows = [[cell.strip() for cell in line.strip("|").split("|")] for line in lines]
+    numbers = [rule.endswith(":") for rule in rows[1]]
+    parts = [row_html("th", rows[0], numbers)] + [row_html("td", row, numbers) for row in rows[2:]]
+    return "<table>" + "\n".join(parts) + "</table>"
+
+
+def row_html(tag, cells, numbers):
+    return "<tr>" + "".join(f"<{tag}{' class=number' if n else ''}>{inline(c)}</{tag}>" for c, n in zip(cells, numbers)) + "</tr>"
+
+
+def inline(text):
+    """Code, bold, emphasis and links within a line."""
+    parts = re.split(r"`([^`]+)`", html.escape(text, quote=False))
+    return "".join(f"<code>{part}</code>" if i % 2 else spoken(part) for i, part in enumerate(parts))
+
+
+def spoken(text):
+    """What stands between pieces of code."""
+    text = re.sub(r"\*\*(.+?)\*\*", r"<b>\1</b>", text)
+    text = re.sub(r"(?<!\w)\*([^*]+)\*(?!\w)", r"<i>\1</i>", text)
+    return re.sub(r"\[([^\]]+)\]\(([^)]+)\)", r'<a href="\2">\1</a>', text)
