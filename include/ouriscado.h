@@ -13,6 +13,12 @@ extern "C" {
 
 /* Why a call is turned back. */
 enum ouriscado_refusal {
+    /* The book's shape breaks its limits. */
+    OURISCADO_SHAPE_BAD = 1,
+    /* The key is beyond the heads. */
+    OURISCADO_KEY_BEYOND = 2,
+    /* A load meets a key in use. */
+    OURISCADO_KEY_IN_USE = 3,
     /* A page buffer isn't 4,096 bytes. */
     OURISCADO_PAGE_LENGTH = 4,
     /* A link offset isn't a multiple of 4,096. */
@@ -33,6 +39,8 @@ enum ouriscado_refusal {
     OURISCADO_OFFERED_FIRST_ZERO = 12,
     /* A number offered has bit 63 set. */
     OURISCADO_OFFERED_BIT_63 = 13,
+    /* A book is offered 2^62 or more. */
+    OURISCADO_OFFERED_TOO_LARGE = 14,
     /* A page's count exceeds its capacity. */
     OURISCADO_COUNT_ABOVE_CAPACITY = 15,
     /* The version is another, or 0 with a count. */
@@ -65,6 +73,8 @@ enum ouriscado_refusal {
     OURISCADO_MODE_TWO = 29,
     /* Mode 3 has payload 0. */
     OURISCADO_EXTENT_PAYLOAD_ZERO = 30,
+    /* A book key isn't sound. */
+    OURISCADO_KEY_UNSOUND = 31,
     /* A number offered isn't above the one before. */
     OURISCADO_OFFERED_NOT_RISING = 32,
     /* What is to be written doesn't fit its destination. */
@@ -73,6 +83,8 @@ enum ouriscado_refusal {
     OURISCADO_LIST_TOO_SHORT = 34,
     /* A free head to be popped isn't a multiple of 16 (page: 4,096), or its block leaves 4,096 to the mark. */
     OURISCADO_FREE_HEAD_BAD = 35,
+    /* No room: the block or run would pass the body's end. */
+    OURISCADO_NO_ROOM = 36,
 };
 
 /* The smallest class whose bytes hold len bytes: none for 0 or above 2,048. */

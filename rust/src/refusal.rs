@@ -4,6 +4,12 @@
 #[derive(Clone, Copy, Debug, PartialEq, Eq, Hash)]
 #[repr(u32)]
 pub enum Refusal {
+    /// The book's shape breaks its limits.
+    ShapeBad = 1,
+    /// The key is beyond the heads.
+    KeyBeyond = 2,
+    /// A load meets a key in use.
+    KeyInUse = 3,
     /// A page buffer isn't 4,096 bytes.
     PageLength = 4,
     /// A link offset isn't a multiple of 4,096.
@@ -24,6 +30,8 @@ pub enum Refusal {
     OfferedFirstZero = 12,
     /// A number offered has bit 63 set.
     OfferedBit63 = 13,
+    /// A book is offered 2^62 or more.
+    OfferedTooLarge = 14,
     /// A page's count exceeds its capacity.
     CountAboveCapacity = 15,
     /// The version is another, or 0 with a count.
@@ -56,6 +64,8 @@ pub enum Refusal {
     ModeTwo = 29,
     /// Mode 3 has payload 0.
     ExtentPayloadZero = 30,
+    /// A book key isn't sound.
+    KeyUnsound = 31,
     /// A number offered isn't above the one before.
     OfferedNotRising = 32,
     /// What is to be written doesn't fit its destination.
@@ -64,11 +74,16 @@ pub enum Refusal {
     ListTooShort = 34,
     /// A free head to be popped isn't a multiple of 16 (page: 4,096), or its block leaves 4,096 to the mark.
     FreeHeadBad = 35,
+    /// No room: the block or run would pass the body's end.
+    NoRoom = 36,
 }
 
 impl Refusal {
     /// Every refusal, in the order of the numbers.
     pub const ALL: &'static [Refusal] = &[
+        Refusal::ShapeBad,
+        Refusal::KeyBeyond,
+        Refusal::KeyInUse,
         Refusal::PageLength,
         Refusal::LinkUnaligned,
         Refusal::LinkTooLarge,
@@ -79,6 +94,7 @@ impl Refusal {
         Refusal::SlabTooShort,
         Refusal::OfferedFirstZero,
         Refusal::OfferedBit63,
+        Refusal::OfferedTooLarge,
         Refusal::CountAboveCapacity,
         Refusal::VersionBad,
         Refusal::UlebCutShort,
@@ -95,15 +111,20 @@ impl Refusal {
         Refusal::SlabUsedTooSmall,
         Refusal::ModeTwo,
         Refusal::ExtentPayloadZero,
+        Refusal::KeyUnsound,
         Refusal::OfferedNotRising,
         Refusal::DoesNotFit,
         Refusal::ListTooShort,
         Refusal::FreeHeadBad,
+        Refusal::NoRoom,
     ];
 
     /// What the refusal says.
     pub fn text(self) -> &'static str {
         match self {
+            Refusal::ShapeBad => "The book's shape breaks its limits.",
+            Refusal::KeyBeyond => "The key is beyond the heads.",
+            Refusal::KeyInUse => "A load meets a key in use.",
             Refusal::PageLength => "A page buffer isn't 4,096 bytes.",
             Refusal::LinkUnaligned => "A link offset isn't a multiple of 4,096.",
             Refusal::LinkTooLarge => "A link index is 2^39 or more.",
@@ -114,6 +135,7 @@ impl Refusal {
             Refusal::SlabTooShort => "A slab buffer is under 2 bytes.",
             Refusal::OfferedFirstZero => "The first or only number offered is 0.",
             Refusal::OfferedBit63 => "A number offered has bit 63 set.",
+            Refusal::OfferedTooLarge => "A book is offered 2^62 or more.",
             Refusal::CountAboveCapacity => "A page's count exceeds its capacity.",
             Refusal::VersionBad => "The version is another, or 0 with a count.",
             Refusal::UlebCutShort => "The bytes end before a ULEB128 form does.",
@@ -130,10 +152,12 @@ impl Refusal {
             Refusal::SlabUsedTooSmall => "A stored slab head has used 0 or 1.",
             Refusal::ModeTwo => "The mode is 2.",
             Refusal::ExtentPayloadZero => "Mode 3 has payload 0.",
+            Refusal::KeyUnsound => "A book key isn't sound.",
             Refusal::OfferedNotRising => "A number offered isn't above the one before.",
             Refusal::DoesNotFit => "What is to be written doesn't fit its destination.",
             Refusal::ListTooShort => "The lent list is too short.",
             Refusal::FreeHeadBad => "A free head to be popped isn't a multiple of 16 (page: 4,096), or its block leaves 4,096 to the mark.",
+            Refusal::NoRoom => "No room: the block or run would pass the body's end.",
         }
     }
 }
