@@ -8,7 +8,7 @@ use Rattle.scripthash_layout.specs.declared.head.ShHeadValue.the-variants.{Inli
 use Rattle.error.specs.Refusal.{Answer, accepted, refused, refuseIf, andThen, answered}
 use Rattle.buffer.specs.Bytes.{part, overwrite}
 use Rattle.compact.specs.Uleb128.{isForm, value, formAt, overflows, readForm, readUleb, divided, ulebLen, shortest}
-use Rattle.scripthash_layout.specs.Head.{packHead, unpackHead}
+use Rattle.scripthash_layout.specs.Head.{slabWord, packHead, unpackHead}
 use Rattle.scripthash_stream.specs.Stream.{lastFrom, streamFrom, streamLenFrom, storedNumber, nextNumber, scanFrom, decodeStream}
 use Rattle.scripthash_slabs.specs.Class.{firstClass, classFor, classWithSlack}
 use Rattle.scripthash_slabs.specs.Slab.{slabPayload, decodeSlab}
@@ -21,7 +21,7 @@ use Rattle.book_rules.specs.Limits.{outOfShape, offeredNumber, offeredList}
 use Rattle.book_rules.specs.Places.{stays, larger, movesTo, loadsTo}
 use Rattle.book_space.specs.Space.{markBad, shapeBroken, takeMark, rounded, takeRun, takeFresh, takePopped, takeBlock, release}
 use Rattle.book_keys.specs.Keys.{soundly, sure, goOn, slabScan, linkScan, goodExtent, lastAt, linked, walk, chainAt, pageBlocks, contentAt, content, createsGood, tailAt}
-use Rattle.book.specs.Book.{Book, fresh, headWord, onKey}
+use Rattle.book.specs.Book.{Book, book, fresh, headWord, onKey}
 use Rattle.book_blocks.specs.Blocks.{slabWith, pageWith, pageBefore, writeRun}
 use Rattle.book.specs.Appends.{movesInto, moves, appendSlab, growChain, appendPage, appendAt, appends}
 use Rattle.book.specs.Loads.{loadInto, loadAt, loads}
@@ -81,3 +81,13 @@ pub loaded-run : runs (fresh (bodyOf 16384) 3) (append 0 1 ∷ append 0 2 ∷ lo
     ≡ at (Inline 1 1) 0 ∷ at (Slab 0 2 4096) 1 ∷ loads-in 2 ∷ at (Extent 12288) 0 ∷ refused 36 ∷ loads-in 0 ∷ lists-as (inARow 1 4074) 2 ∷ []
 unfolding runs inARow
 loaded-run = refl
+
+-- What damage gets: a slab whose stored count isn't its head's is no sound key, a free head that no block can have isn't popped, and there is no room
+-- behind a mark at the body's end. A number is judged before the key, and the key before its last number.
+pub damaged : (runs (book (bodyOf 8192) (slabWord 0 2 4096 ∷ []) 4112 (replicate 9 0)) (read 0 5 ∷ append 0 9 ∷ drop 0 ∷ append 0 0 ∷ load 0 [] ∷ [])
+    ≡ refused 31 ∷ refused 31 ∷ refused 31 ∷ refused 12 ∷ refused 3 ∷ [])
+    × (runs (book (bodyOf 8192) (5 ∷ []) 4112 (4104 ∷ replicate 8 0)) (append 0 6 ∷ append 0 5 ∷ []) ≡ refused 35 ∷ refused 32 ∷ [])
+    × (runs (book (bodyOf 8192) (5 ∷ []) 8192 (replicate 9 0)) (append 0 6 ∷ read 0 1 ∷ []) ≡ refused 36 ∷ lists-as (5 ∷ []) 0 ∷ [])
+    × (runs (book (bodyOf 8192) (5 ∷ []) 8200 (replicate 9 0)) (read 0 1 ∷ []) ≡ refused 1 ∷ [])
+unfolding runs
+damaged = (refl, refl, refl, refl)
