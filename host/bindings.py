@@ -1,7 +1,7 @@
 #!/usr/bin/env python3
 """Writes the C header and the Rust declarations of the exported functions.
 
-They are made from the signatures and comments in crates/exports/src and from the refusals in
+They are made from the signatures and comments in crates/ouriscado/src and from the refusals in
 crates/error/src/lib.rt, and from nothing else:
 
     include/ouriscado.h        for C and C++
@@ -19,7 +19,7 @@ C_TYPE = {"u8": "uint8_t", "u16": "uint16_t", "u32": "uint32_t", "u64": "uint64_
 FUNCTION = re.compile(
     r'((?://[^\n]*\n)+)#\[no_mangle\]\npub extern "C" fn (\w+)\(([^)]*)\)(?: -> (\w+))?', re.S)
 REFUSAL = re.compile(r"((?://[^\n]*\n)+)pub const (\w+): Refusal = (\d+);")
-MADE = "Made by host/bindings.py from crates/exports/src and crates/error/src: change those, and make it again."
+MADE = "Made by host/bindings.py from crates/ouriscado/src and crates/error/src: change those, and make it again."
 
 
 def comment(lines):
@@ -66,7 +66,7 @@ class Parameter:
 
 def functions():
     """Every exported function: its comment, name, parameters and result."""
-    for path in sorted((ROOT / "crates/exports/src").rglob("*.rt")):
+    for path in sorted((ROOT / "crates/ouriscado/src").rglob("*.rt")):
         text = path.read_text()
         found = list(FUNCTION.finditer(text))
         if len(found) != text.count("#[no_mangle]"):

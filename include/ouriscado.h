@@ -1,4 +1,4 @@
-/* Ouriscado: posting-list codecs. Made by host/bindings.py from crates/exports/src and crates/error/src: change those, and make it again.
+/* Ouriscado: posting-list codecs. Made by host/bindings.py from crates/ouriscado/src and crates/error/src: change those, and make it again.
    A slice is passed as a pointer and then its length in elements. The functions keep no pointer, and what two parameters of a
    call point to must not overlap. A pointer is never null, save that of an empty slice. A result of type uint32_t of a function
    that names refusals is a refusal's number, or 0 for success; on a refusal every buffer and out-parameter holds what it held. */

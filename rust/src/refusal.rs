@@ -1,4 +1,4 @@
-//! Why a call is turned back. Made by host/bindings.py from crates/exports/src and crates/error/src: change those, and make it again.
+//! Why a call is turned back. Made by host/bindings.py from crates/ouriscado/src and crates/error/src: change those, and make it again.
 
 /// A refusal, by the number that the library answers.
 #[derive(Clone, Copy, Debug, PartialEq, Eq, Hash)]

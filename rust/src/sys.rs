@@ -1,4 +1,4 @@
-//! The exported functions. Made by host/bindings.py from crates/exports/src and crates/error/src: change those, and make it again.
+//! The exported functions. Made by host/bindings.py from crates/ouriscado/src and crates/error/src: change those, and make it again.
 
 /// The functions as the library defines them.
 pub mod raw {

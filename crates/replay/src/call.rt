@@ -13,7 +13,7 @@ pub const UNKNOWN: u32 = 0xffff_ffff;
 fn read_uleb128(bytes: &[u8], told: &mut [u64; 4]) -> u32 {
     let mut value = BEFORE;
     let mut len = BEFORE as usize;
-    let number = exports::ouriscado_read_uleb128(bytes, &mut value, &mut len);
+    let number = ouriscado::ouriscado_read_uleb128(bytes, &mut value, &mut len);
     told[0] = value;
     told[1] = len as u64;
     number
@@ -22,7 +22,7 @@ fn read_uleb128(bytes: &[u8], told: &mut [u64; 4]) -> u32 {
 // Writes a number.
 fn write_uleb128_into(n: u64, bytes: &mut [u8], told: &mut [u64; 4]) -> u32 {
     let mut len = BEFORE as usize;
-    let number = exports::ouriscado_write_uleb128_into(bytes, n, &mut len);
+    let number = ouriscado::ouriscado_write_uleb128_into(bytes, n, &mut len);
     told[0] = len as u64;
     number
 }
@@ -34,10 +34,10 @@ fn pack8(given: &[u64; 4], told: &mut [u64; 4]) -> u32 {
     let used = (given[2] % 0x1_0000) as u16;
     let mut word = BEFORE;
     let number = match kind {
-        0 => exports::ouriscado_pack8_empty(&mut word),
-        1 => exports::ouriscado_pack8_inline(given[3], (used % 0x100) as u8, &mut word),
-        2 => exports::ouriscado_pack8_slab(class, used, given[3], &mut word),
-        _ => exports::ouriscado_pack8_extent(given[3], &mut word),
+        0 => ouriscado::ouriscado_pack8_empty(&mut word),
+        1 => ouriscado::ouriscado_pack8_inline(given[3], (used % 0x100) as u8, &mut word),
+        2 => ouriscado::ouriscado_pack8_slab(class, used, given[3], &mut word),
+        _ => ouriscado::ouriscado_pack8_extent(given[3], &mut word),
     };
     told[0] = word;
     number
@@ -55,10 +55,10 @@ fn pack8_bytes(given: &[u64; 4], told: &mut [u64; 4]) -> u32 {
     let used = (given[2] % 0x1_0000) as u16;
     let mut out = buffer::u64_bytes(BEFORE);
     let number = match kind {
-        0 => exports::ouriscado_pack8_bytes_empty(&mut out),
-        1 => exports::ouriscado_pack8_bytes_inline(given[3], (used % 0x100) as u8, &mut out),
-        2 => exports::ouriscado_pack8_bytes_slab(class, used, given[3], &mut out),
-        _ => exports::ouriscado_pack8_bytes_extent(given[3], &mut out),
+        0 => ouriscado::ouriscado_pack8_bytes_empty(&mut out),
+        1 => ouriscado::ouriscado_pack8_bytes_inline(given[3], (used % 0x100) as u8, &mut out),
+        2 => ouriscado::ouriscado_pack8_bytes_slab(class, used, given[3], &mut out),
+        _ => ouriscado::ouriscado_pack8_bytes_extent(given[3], &mut out),
     };
     told[0] = word_of(out);
     number
@@ -71,7 +71,7 @@ fn unpack8_bytes(w: u64, told: &mut [u64; 4]) -> u32 {
     let mut class = BEFORE as u8;
     let mut used = BEFORE as u16;
     let mut place = BEFORE;
-    let number = exports::ouriscado_unpack8_bytes(
+    let number = ouriscado::ouriscado_unpack8_bytes(
         &buf,
         &mut kind,
         &mut class,
@@ -91,7 +91,7 @@ fn unpack8(w: u64, told: &mut [u64; 4]) -> u32 {
     let mut class = BEFORE as u8;
     let mut used = BEFORE as u16;
     let mut place = BEFORE;
-    let number = exports::ouriscado_unpack8(w, &mut kind, &mut class, &mut used, &mut place);
+    let number = ouriscado::ouriscado_unpack8(w, &mut kind, &mut class, &mut used, &mut place);
     told[0] = kind as u64;
     told[1] = class as u64;
     told[2] = used as u64;
@@ -104,10 +104,10 @@ fn choose(rule: u64, n: u64, told: &mut [u64; 4]) {
     let mut class = BEFORE as u8;
     let count = (n % 0x1_0000_0000) as u32;
     let some = match rule {
-        0 => exports::ouriscado_slab_class_for_packed_len(n as usize, &mut class),
-        1 => exports::ouriscado_slab_class_for_n_fks(count, &mut class),
-        2 => exports::ouriscado_slab_class_for_n_fks_with_slack(count, &mut class),
-        _ => exports::ouriscado_largest_reloc_class_le(n, &mut class),
+        0 => ouriscado::ouriscado_slab_class_for_packed_len(n as usize, &mut class),
+        1 => ouriscado::ouriscado_slab_class_for_n_fks(count, &mut class),
+        2 => ouriscado::ouriscado_slab_class_for_n_fks_with_slack(count, &mut class),
+        _ => ouriscado::ouriscado_largest_reloc_class_le(n, &mut class),
     };
     told[0] = some as u64;
     told[1] = class as u64;
@@ -116,7 +116,7 @@ fn choose(rule: u64, n: u64, told: &mut [u64; 4]) {
 // Writes a stream.
 fn encode_fk_delta_stream_into(bytes: &mut [u8], list: &[u64], told: &mut [u64; 4]) -> u32 {
     let mut len = BEFORE as usize;
-    let number = exports::ouriscado_encode_fk_delta_stream_into(bytes, list, &mut len);
+    let number = ouriscado::ouriscado_encode_fk_delta_stream_into(bytes, list, &mut len);
     told[0] = len as u64;
     number
 }
@@ -124,7 +124,7 @@ fn encode_fk_delta_stream_into(bytes: &mut [u8], list: &[u64], told: &mut [u64; 
 // Reads a stream.
 fn decode_fk_delta_stream_into(bytes: &[u8], n: u64, list: &mut [u64], told: &mut [u64; 4]) -> u32 {
     let mut taken = BEFORE as usize;
-    let number = exports::ouriscado_decode_fk_delta_stream_into(
+    let number = ouriscado::ouriscado_decode_fk_delta_stream_into(
         bytes,
         n as usize,
         list,
@@ -137,7 +137,7 @@ fn decode_fk_delta_stream_into(bytes: &[u8], n: u64, list: &mut [u64], told: &mu
 // Writes a slab's payload.
 fn encode_slab_payload_into(bytes: &mut [u8], list: &[u64], told: &mut [u64; 4]) -> u32 {
     let mut len = BEFORE as usize;
-    let number = exports::ouriscado_encode_slab_payload_into(bytes, list, &mut len);
+    let number = ouriscado::ouriscado_encode_slab_payload_into(bytes, list, &mut len);
     told[0] = len as u64;
     number
 }
@@ -146,7 +146,7 @@ fn encode_slab_payload_into(bytes: &mut [u8], list: &[u64], told: &mut [u64; 4])
 fn decode_slab_payload_into(bytes: &[u8], list: &mut [u64], told: &mut [u64; 4]) -> u32 {
     let mut used = BEFORE as usize;
     let mut len = BEFORE as usize;
-    let number = exports::ouriscado_decode_slab_payload_into(bytes, list, &mut used, &mut len);
+    let number = ouriscado::ouriscado_decode_slab_payload_into(bytes, list, &mut used, &mut len);
     told[0] = used as u64;
     told[1] = len as u64;
     number
@@ -165,16 +165,16 @@ pub fn call(
         return page::call(function - FIRST_OF_PAGES, given, bytes, list, told);
     }
     match function {
-        0 => told[0] = exports::ouriscado_uleb128_len(n) as u64,
+        0 => told[0] = ouriscado::ouriscado_uleb128_len(n) as u64,
         1 => return read_uleb128(bytes, told),
         2 => return write_uleb128_into(n, bytes, told),
         3 => return pack8(given, told),
         4 => return pack8_bytes(given, told),
         5 => return unpack8(n, told),
         6 => return unpack8_bytes(n, told),
-        7 => told[0] = exports::ouriscado_payload_start(n as usize),
-        8 => told[0] = exports::ouriscado_slab_cap((n % 0x100) as u8) as u64,
-        9 => told[0] = exports::ouriscado_slab_bytes((n % 0x100) as u8),
+        7 => told[0] = ouriscado::ouriscado_payload_start(n as usize),
+        8 => told[0] = ouriscado::ouriscado_slab_cap((n % 0x100) as u8) as u64,
+        9 => told[0] = ouriscado::ouriscado_slab_bytes((n % 0x100) as u8),
         10 => choose(0, n, told),
         11 => choose(1, n, told),
         12 => choose(2, n, told),

@@ -36,9 +36,9 @@ fn call_on(
         return UNKNOWN;
     }
     match function {
-        17 => exports::ouriscado_sh_page_chunk_ranges(list, &mut ranges[0..room], parts),
+        17 => ouriscado::ouriscado_sh_page_chunk_ranges(list, &mut ranges[0..room], parts),
         _ => {
-            exports::ouriscado_split_last_chunk_for_extent(list, &mut ranges[0..room], count, parts)
+            ouriscado::ouriscado_split_last_chunk_for_extent(list, &mut ranges[0..room], count, parts)
         }
     }
 }

@@ -55,7 +55,7 @@ fn put_heads(heads: &[u64; 9], to: &mut [u64]) {
 // Pops a block.
 fn pop(body: &[u8], heads: &mut [u64; 9], class: u8, mark: u64, told: &mut [u64; 4]) -> u32 {
     let mut off = BEFORE;
-    let number = exports::ouriscado_pop_free_head(body, heads, class, mark, &mut off);
+    let number = ouriscado::ouriscado_pop_free_head(body, heads, class, mark, &mut off);
     told[0] = off;
     number
 }
@@ -74,9 +74,9 @@ fn call_on(
         return UNKNOWN;
     }
     match function {
-        19 => exports::ouriscado_push_free_head(&mut body[0..end], heads, class, given[1]),
+        19 => ouriscado::ouriscado_push_free_head(&mut body[0..end], heads, class, given[1]),
         20 => pop(&body[0..end], heads, class, given[1], told),
-        _ => exports::ouriscado_carve_gap_into_freelist(
+        _ => ouriscado::ouriscado_carve_gap_into_freelist(
             &mut body[0..end],
             heads,
             given[0],

@@ -16,7 +16,7 @@ fn flag(number: u32, told: bool) -> u64 {
 fn read_packed(page: &[u8], told: &mut [u64; 4]) -> u32 {
     let mut last = true;
     let mut off = BEFORE;
-    let number = exports::ouriscado_sh_page_read_packed(page, &mut last, &mut off);
+    let number = ouriscado::ouriscado_sh_page_read_packed(page, &mut last, &mut off);
     told[0] = flag(number, last);
     told[1] = off;
     number
@@ -25,7 +25,7 @@ fn read_packed(page: &[u8], told: &mut [u64; 4]) -> u32 {
 // Asks whether a page is LAST.
 fn is_last(page: &[u8], told: &mut [u64; 4]) -> u32 {
     let mut last = true;
-    let number = exports::ouriscado_sh_page_is_last(page, &mut last);
+    let number = ouriscado::ouriscado_sh_page_is_last(page, &mut last);
     told[0] = flag(number, last);
     number
 }
@@ -34,9 +34,9 @@ fn is_last(page: &[u8], told: &mut [u64; 4]) -> u32 {
 fn offset(which: u64, page: &[u8], told: &mut [u64; 4]) -> u32 {
     let mut off = BEFORE;
     let number = match which {
-        2 => exports::ouriscado_sh_page_first_off(page, &mut off),
-        3 => exports::ouriscado_sh_page_next(page, &mut off),
-        _ => exports::ouriscado_sh_page_last_fk(page, &mut off),
+        2 => ouriscado::ouriscado_sh_page_first_off(page, &mut off),
+        3 => ouriscado::ouriscado_sh_page_next(page, &mut off),
+        _ => ouriscado::ouriscado_sh_page_last_fk(page, &mut off),
     };
     told[0] = off;
     number
@@ -46,9 +46,9 @@ fn offset(which: u64, page: &[u8], told: &mut [u64; 4]) -> u32 {
 fn count(which: u64, page: &[u8], told: &mut [u64; 4]) -> u32 {
     let mut n = BEFORE as usize;
     let number = match which {
-        7 => exports::ouriscado_sh_page_stream_off(page, &mut n),
-        8 => exports::ouriscado_sh_page_stream_cap(page, &mut n),
-        _ => exports::ouriscado_sh_page_n_fks(page, &mut n),
+        7 => ouriscado::ouriscado_sh_page_stream_off(page, &mut n),
+        8 => ouriscado::ouriscado_sh_page_stream_cap(page, &mut n),
+        _ => ouriscado::ouriscado_sh_page_n_fks(page, &mut n),
     };
     told[0] = n as u64;
     number
@@ -58,7 +58,7 @@ fn count(which: u64, page: &[u8], told: &mut [u64; 4]) -> u32 {
 fn extent(page: &[u8], told: &mut [u64; 4]) -> u32 {
     let mut base = BEFORE;
     let mut n = BEFORE as u32;
-    let number = exports::ouriscado_sh_page_extent(page, &mut base, &mut n);
+    let number = ouriscado::ouriscado_sh_page_extent(page, &mut base, &mut n);
     told[0] = base;
     told[1] = n as u64;
     number
@@ -67,7 +67,7 @@ fn extent(page: &[u8], told: &mut [u64; 4]) -> u32 {
 // Asks for creates.
 fn extent_creates(page: &[u8], told: &mut [u64; 4]) -> u32 {
     let mut n = BEFORE as u32;
-    let number = exports::ouriscado_sh_page_extent_creates(page, &mut n);
+    let number = ouriscado::ouriscado_sh_page_extent_creates(page, &mut n);
     told[0] = n as u64;
     number
 }
@@ -76,7 +76,7 @@ fn extent_creates(page: &[u8], told: &mut [u64; 4]) -> u32 {
 fn stream_tail(page: &[u8], told: &mut [u64; 4]) -> u32 {
     let mut taken = BEFORE as usize;
     let mut last = BEFORE;
-    let number = exports::ouriscado_sh_page_stream_tail(page, &mut taken, &mut last);
+    let number = ouriscado::ouriscado_sh_page_stream_tail(page, &mut taken, &mut last);
     told[0] = taken as u64;
     told[1] = last;
     number
@@ -85,7 +85,7 @@ fn stream_tail(page: &[u8], told: &mut [u64; 4]) -> u32 {
 // Reads the numbers of a page.
 fn entries_into(page: &[u8], list: &mut [u64], told: &mut [u64; 4]) -> u32 {
     let mut n = BEFORE as usize;
-    let number = exports::ouriscado_sh_page_entries_into(page, list, &mut n);
+    let number = ouriscado::ouriscado_sh_page_entries_into(page, list, &mut n);
     told[0] = n as u64;
     number
 }
@@ -94,7 +94,7 @@ fn entries_into(page: &[u8], list: &mut [u64], told: &mut [u64; 4]) -> u32 {
 fn decode_slice_into(page: &[u8], list: &mut [u64], told: &mut [u64; 4]) -> u32 {
     let mut n = BEFORE as usize;
     let mut next = BEFORE;
-    let number = exports::ouriscado_sh_page_decode_slice_into(page, list, &mut n, &mut next);
+    let number = ouriscado::ouriscado_sh_page_decode_slice_into(page, list, &mut n, &mut next);
     told[0] = n as u64;
     told[1] = next;
     number
@@ -103,7 +103,7 @@ fn decode_slice_into(page: &[u8], list: &mut [u64], told: &mut [u64; 4]) -> u32 
 // Appends a number.
 fn try_append(page: &mut [u8], fk: u64, told: &mut [u64; 4]) -> u32 {
     let mut appended = true;
-    let number = exports::ouriscado_sh_page_try_append(page, fk, &mut appended);
+    let number = ouriscado::ouriscado_sh_page_try_append(page, fk, &mut appended);
     told[0] = flag(number, appended);
     number
 }
@@ -111,7 +111,7 @@ fn try_append(page: &mut [u8], fk: u64, told: &mut [u64; 4]) -> u32 {
 // Writes a stream.
 fn write_stream(page: &mut [u8], list: &[u64], told: &mut [u64; 4]) -> u32 {
     let mut len = BEFORE as usize;
-    let number = exports::ouriscado_sh_page_write_stream(page, list, &mut len);
+    let number = ouriscado::ouriscado_sh_page_write_stream(page, list, &mut len);
     told[0] = len as u64;
     number
 }
@@ -119,7 +119,7 @@ fn write_stream(page: &mut [u8], list: &[u64], told: &mut [u64; 4]) -> u32 {
 // Packs a page that names an extent.
 fn pack_extent(page: &mut [u8], list: &[u64], given: &[u64; 4]) -> u32 {
     let n = (given[2] % 0x1_0000_0000) as u32;
-    exports::ouriscado_sh_page_pack_extent_last_fks(page, list, given[1], n, given[0])
+    ouriscado::ouriscado_sh_page_pack_extent_last_fks(page, list, given[1], n, given[0])
 }
 
 // Sets a field.
@@ -127,13 +127,13 @@ fn set(function: u64, given: &[u64; 4], page: &mut [u8]) -> u32 {
     let a = given[0];
     let b = given[1];
     match function {
-        4 => exports::ouriscado_sh_page_write_packed(page, a != 0, b),
-        5 => exports::ouriscado_sh_page_set_last(page, b),
-        6 => exports::ouriscado_sh_page_set_next(page, b),
-        10 => exports::ouriscado_sh_page_set_extent(page, a, (b % 0x1_0000_0000) as u32),
-        12 => exports::ouriscado_sh_page_set_extent_creates(page, (a % 0x1_0000_0000) as u32),
-        14 => exports::ouriscado_sh_page_set_n_fks(page, (a % 0x1_0000) as u16),
-        _ => exports::ouriscado_sh_page_init_empty(page),
+        4 => ouriscado::ouriscado_sh_page_write_packed(page, a != 0, b),
+        5 => ouriscado::ouriscado_sh_page_set_last(page, b),
+        6 => ouriscado::ouriscado_sh_page_set_next(page, b),
+        10 => ouriscado::ouriscado_sh_page_set_extent(page, a, (b % 0x1_0000_0000) as u32),
+        12 => ouriscado::ouriscado_sh_page_set_extent_creates(page, (a % 0x1_0000_0000) as u32),
+        14 => ouriscado::ouriscado_sh_page_set_n_fks(page, (a % 0x1_0000) as u16),
+        _ => ouriscado::ouriscado_sh_page_init_empty(page),
     }
 }
 
@@ -153,13 +153,13 @@ pub fn call(
         7 | 8 | 13 => count(function, page, told),
         9 => extent(page, told),
         11 => extent_creates(page, told),
-        15 => exports::ouriscado_sh_page_require_delta(page),
+        15 => ouriscado::ouriscado_sh_page_require_delta(page),
         17 => stream_tail(page, told),
         19 => entries_into(page, list, told),
         20 => decode_slice_into(page, list, told),
         21 => try_append(page, given[0], told),
         22 => write_stream(page, list, told),
-        23 => exports::ouriscado_sh_page_pack_fks(page, list, given[0]),
+        23 => ouriscado::ouriscado_sh_page_pack_fks(page, list, given[0]),
         24 => pack_extent(page, list, given),
         _ => UNKNOWN,
     }

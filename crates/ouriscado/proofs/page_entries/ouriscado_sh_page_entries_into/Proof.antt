@@ -1,0 +1,42 @@
+-- `ouriscado_sh_page_entries_into` hands out what `sh_page_entries_into` answers. Assumes nothing.
+use mathlib.Core.Path.{_≡_, sym, _∙_, ap}
+use Rattle.error.specs.Refusal.{refusalOf}
+use Rattle.error.proofs.LawsOut.{number-accepted, number-answered, told-accepted, told-answered, told-refused}
+use Rattle.scripthash_pages.specs.Entries.{readCount}
+use Rattle.scripthash_answers.specs.EntryAnswers.{entriesAnswer}
+use borrow.Author.Needs.{needs}
+use Rattle.ouriscado.proofs.page_entries.ouriscado_sh_page_entries_into.Statement.{statement}
+use Rattle.ouriscado.proofs.page_entries.ouriscado_sh_page_entries_into.Tie as tie
+
+sh-page-entries-into-requires : tie.Need-sh-page-entries-into-requires
+sh-page-entries-into-requires c κs = search needs
+
+enum-known-got : tie.Need-enum-known-got
+enum-known-got c = search needs
+
+enum-told : tie.Need-enum-told
+enum-told c = search needs
+
+refusal-requires : tie.Need-refusal-requires
+refusal-requires c κs = search needs
+
+same-length : tie.Need-same-length
+same-length c = search needs
+
+returns : tie.Need-returns
+returns c =
+    let e = c .before .before .before .before .before .sh-page-entries-into .ensures in
+    let no = sym (e .0) ∙ ap entriesAnswer (c .before .enum-told .given .1) in
+    (c .refusal .ensures ∙ ap refusalOf (e .0) ∙ number-answered readCount _, (e .1, told-refused (λ x. x) _ no ∙ told-answered (λ x. x) readCount _ _))
+
+same-length-2 : tie.Need-same-length-2
+same-length-2 c = search needs
+
+returns-2 : tie.Need-returns-2
+returns-2 c =
+    let e = c .before .before .before .before .before .sh-page-entries-into .ensures in
+    let yes = sym (e .0) ∙ ap entriesAnswer (c .before .got .given .1) in
+    (number-accepted yes ∙ number-answered readCount _, (e .1, told-accepted (λ x. x) _ yes ∙ told-answered (λ x. x) readCount _ _))
+
+pub ouriscado-sh-page-entries-into-spec : {M : Type 1} → statement M
+ouriscado-sh-page-entries-into-spec = tie.close (tie.spec sh-page-entries-into-requires enum-known-got enum-told refusal-requires same-length returns same-length-2 returns-2)
