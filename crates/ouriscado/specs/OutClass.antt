@@ -7,8 +7,3 @@ use mathlib.Core.Option.{Option, none, some}
 abbrev pub isSome : Option ℕ → Bool
 isSome (some c) = true
 isSome none = false
-
--- The class, or what the out-parameter held.
-abbrev pub someOr : Option ℕ → ℕ → ℕ
-someOr (some c) before = c
-someOr none before = before

@@ -1,21 +1,25 @@
-// The class of slab that a list moves to. The result says whether there is one; where there is none, class holds what it held.
+// The class of slab that a list moves to. The result says whether there is one; where there is none, class is 0.
 ghost use mathlib.Core.Path.{_≡_};
 ghost use Rattle.scripthash_slabs.specs.Class.{classByBytes, classByCount, classWithSlack};
 ghost use Rattle.scripthash_slabs.specs.Answers.{chosen};
-ghost use Rattle.ouriscado.specs.OutClass.{isSome, someOr};
+ghost use mathlib.Core.Option.{Option·getD};
+ghost use Rattle.ouriscado.specs.OutClass.{isSome};
 use scripthash_slabs::SlabClass;
 
 // Hands out a class, and tells whether there is one.
 fn put_class(choice: SlabClass, class: &mut u8) -> bool
     ensures some { λ r. ⌜ r ≡ isSome (chosen choice) ⌝ }
-    ensures class { λ r. ⌜ now (class .exit) ≡ someOr (chosen choice) (now (class .entry)) ⌝ }
+    ensures class { λ r. ⌜ now (class .exit) ≡ Option·getD (chosen choice) 0 ⌝ }
 {
     match choice {
         SlabClass::Class(c) => {
             *class = c;
             true
         }
-        SlabClass::Nothing => false,
+        SlabClass::Nothing => {
+            *class = 0;
+            false
+        }
     }
 }
 
@@ -23,7 +27,7 @@ fn put_class(choice: SlabClass, class: &mut u8) -> bool
 #[no_mangle]
 pub extern "C" fn ouriscado_slab_class_for_packed_len(len: usize, class: &mut u8) -> bool
     ensures some { λ r. ⌜ r ≡ isSome (classByBytes len) ⌝ }
-    ensures class { λ r. ⌜ now (class .exit) ≡ someOr (classByBytes len) (now (class .entry)) ⌝ }
+    ensures class { λ r. ⌜ now (class .exit) ≡ Option·getD (classByBytes len) 0 ⌝ }
 {
     put_class(scripthash_slabs::slab_class_for_packed_len(len), class)
 }
@@ -32,7 +36,7 @@ pub extern "C" fn ouriscado_slab_class_for_packed_len(len: usize, class: &mut u8
 #[no_mangle]
 pub extern "C" fn ouriscado_slab_class_for_n_fks(n: u32, class: &mut u8) -> bool
     ensures some { λ r. ⌜ r ≡ isSome (classByCount n) ⌝ }
-    ensures class { λ r. ⌜ now (class .exit) ≡ someOr (classByCount n) (now (class .entry)) ⌝ }
+    ensures class { λ r. ⌜ now (class .exit) ≡ Option·getD (classByCount n) 0 ⌝ }
 {
     put_class(scripthash_slabs::slab_class_for_n_fks(n), class)
 }
@@ -41,7 +45,7 @@ pub extern "C" fn ouriscado_slab_class_for_n_fks(n: u32, class: &mut u8) -> bool
 #[no_mangle]
 pub extern "C" fn ouriscado_slab_class_for_n_fks_with_slack(n: u32, class: &mut u8) -> bool
     ensures some { λ r. ⌜ r ≡ isSome (classWithSlack n) ⌝ }
-    ensures class { λ r. ⌜ now (class .exit) ≡ someOr (classWithSlack n) (now (class .entry)) ⌝ }
+    ensures class { λ r. ⌜ now (class .exit) ≡ Option·getD (classWithSlack n) 0 ⌝ }
 {
     put_class(scripthash_slabs::slab_class_for_n_fks_with_slack(n), class)
 }

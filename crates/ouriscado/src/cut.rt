@@ -9,9 +9,10 @@ use scripthash_cutting::ChunkRanges;
 // Hands out a count of parts.
 fn put_parts(got: ChunkRanges, parts: &mut usize) -> u32
     ensures number { λ r. ⌜ r ≡ refusalOf (chunkAnswer got) ⌝ }
-    ensures parts { λ r. ⌜ now (parts .exit) ≡ told (λ x. x) (chunkAnswer got) (now (parts .entry)) ⌝ }
+    ensures parts { λ r. ⌜ now (parts .exit) ≡ told (λ x. x) (chunkAnswer got) 0 ⌝ }
 {
     let ChunkRanges::Parts(k) = got else {
+        *parts = 0;
         return got.refusal();
     };
     *parts = k;
@@ -27,7 +28,7 @@ pub extern "C" fn ouriscado_sh_page_chunk_ranges(
 ) -> u32
     ensures number { λ r. ⌜ r ≡ refusalOf (chunkRanges (length (now (out .entry))) (now (fks .entry))) ⌝ }
     ensures list { λ r. ⌜ now (out .exit) ≡ afterChunkRanges (now (out .entry)) (now (fks .entry)) ⌝ }
-    ensures parts { λ r. ⌜ now (parts .exit) ≡ told (λ x. x) (chunkRanges (length (now (out .entry))) (now (fks .entry))) (now (parts .entry)) ⌝ }
+    ensures parts { λ r. ⌜ now (parts .exit) ≡ told (λ x. x) (chunkRanges (length (now (out .entry))) (now (fks .entry))) 0 ⌝ }
 {
     put_parts(scripthash_cutting::sh_page_chunk_ranges(fks, out), parts)
 }
@@ -43,7 +44,7 @@ pub extern "C" fn ouriscado_split_last_chunk_for_extent(
 ) -> u32
     ensures number { λ r. ⌜ r ≡ refusalOf (splitLast (now (fks .entry)) (now (chunks .entry)) count) ⌝ }
     ensures list { λ r. ⌜ now (chunks .exit) ≡ afterSplitLast (now (fks .entry)) (now (chunks .entry)) count ⌝ }
-    ensures parts { λ r. ⌜ now (parts .exit) ≡ told (λ x. x) (splitLast (now (fks .entry)) (now (chunks .entry)) count) (now (parts .entry)) ⌝ }
+    ensures parts { λ r. ⌜ now (parts .exit) ≡ told (λ x. x) (splitLast (now (fks .entry)) (now (chunks .entry)) count) 0 ⌝ }
 {
     put_parts(
         scripthash_cutting::split_last_chunk_for_extent(fks, chunks, count),

@@ -3,28 +3,32 @@ ghost use mathlib.Core.Path.{_≡_};
 ghost use Rattle.error.specs.Refusal.{refusalOf, told};
 ghost use Rattle.scripthash_free.specs.FreeList.{lists, pushFree, popFree, carveGap, relocClass, after, headsAfter};
 ghost use Rattle.scripthash_free.specs.Answers.{classAnswer, popAnswer};
-ghost use Rattle.ouriscado.specs.OutClass.{isSome, someOr};
+ghost use mathlib.Core.Option.{Option·getD};
+ghost use Rattle.ouriscado.specs.OutClass.{isSome};
 use scripthash_free::PopFree;
 use scripthash_free::RelocClass;
 
 // Hands out a class, and tells whether there is one.
 fn put_reloc_class(choice: RelocClass, class: &mut u8) -> bool
     ensures some { λ r. ⌜ r ≡ isSome (classAnswer choice) ⌝ }
-    ensures class { λ r. ⌜ now (class .exit) ≡ someOr (classAnswer choice) (now (class .entry)) ⌝ }
+    ensures class { λ r. ⌜ now (class .exit) ≡ Option·getD (classAnswer choice) 0 ⌝ }
 {
     match choice {
         RelocClass::Class(c) => {
             *class = c;
             true
         }
-        RelocClass::Nothing => false,
+        RelocClass::Nothing => {
+            *class = 0;
+            false
+        }
     }
 }
 
 // Hands out the offset of a popped block, 0 where there is none.
 fn put_block(answer: PopFree, off: &mut u64) -> u32
     ensures number { λ r. ⌜ r ≡ refusalOf (popAnswer answer) ⌝ }
-    ensures off { λ r. ⌜ now (off .exit) ≡ told (λ o. someOr o 0) (popAnswer answer) (now (off .entry)) ⌝ }
+    ensures off { λ r. ⌜ now (off .exit) ≡ told (λ o. Option·getD o 0) (popAnswer answer) 0 ⌝ }
 {
     match answer {
         PopFree::Block(at) => {
@@ -35,7 +39,10 @@ fn put_block(answer: PopFree, off: &mut u64) -> u32
             *off = 0;
             0
         }
-        PopFree::Refused(number) => number,
+        PopFree::Refused(number) => {
+            *off = 0;
+            number
+        }
     }
 }
 
@@ -43,7 +50,7 @@ fn put_block(answer: PopFree, off: &mut u64) -> u32
 #[no_mangle]
 pub extern "C" fn ouriscado_largest_reloc_class_le(bytes: u64, class: &mut u8) -> bool
     ensures some { λ r. ⌜ r ≡ isSome (relocClass bytes) ⌝ }
-    ensures class { λ r. ⌜ now (class .exit) ≡ someOr (relocClass bytes) (now (class .entry)) ⌝ }
+    ensures class { λ r. ⌜ now (class .exit) ≡ Option·getD (relocClass bytes) 0 ⌝ }
 {
     put_reloc_class(scripthash_free::largest_reloc_class_le(bytes), class)
 }
@@ -74,7 +81,7 @@ pub extern "C" fn ouriscado_pop_free_head(
 ) -> u32
     ensures number { λ r. ⌜ r ≡ refusalOf (popFree class mark (lists (now (body .entry)) (now (heads .entry)))) ⌝ }
     ensures heads { λ r. ⌜ now (heads .exit) ≡ headsAfter (popFree class mark (lists (now (body .entry)) (now (heads .entry)))) (now (heads .entry)) ⌝ }
-    ensures off { λ r. ⌜ now (off .exit) ≡ told (λ p. someOr (p .block) 0) (popFree class mark (lists (now (body .entry)) (now (heads .entry)))) (now (off .entry)) ⌝ }
+    ensures off { λ r. ⌜ now (off .exit) ≡ told (λ p. Option·getD (p .block) 0) (popFree class mark (lists (now (body .entry)) (now (heads .entry)))) 0 ⌝ }
 {
     let answer = scripthash_free::pop_lent(body, heads, class, mark);
     put_block(answer, off)

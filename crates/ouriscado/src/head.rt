@@ -23,14 +23,17 @@ fn refusal_of(packed: Packed) -> u32
 // Hands out a packed word.
 fn put_word(packed: Packed, word: &mut u64) -> u32
     ensures number { λ r. ⌜ r ≡ refusalOf (packAnswer packed) ⌝ }
-    ensures word { λ r. ⌜ now (word .exit) ≡ told (λ x. x) (packAnswer packed) (now (word .entry)) ⌝ }
+    ensures word { λ r. ⌜ now (word .exit) ≡ told (λ x. x) (packAnswer packed) 0 ⌝ }
 {
     match packed {
         Packed::Word(w) => {
             *word = w;
             0
         }
-        Packed::Refused(number) => number,
+        Packed::Refused(number) => {
+            *word = 0;
+            number
+        }
     }
 }
 
@@ -38,7 +41,7 @@ fn put_word(packed: Packed, word: &mut u64) -> u32
 #[no_mangle]
 pub extern "C" fn ouriscado_pack8_empty(word: &mut u64) -> u32
     ensures number { λ r. ⌜ r ≡ refusalOf (packHead ShHeadValue.Empty) ⌝ }
-    ensures word { λ r. ⌜ now (word .exit) ≡ told (λ x. x) (packHead ShHeadValue.Empty) (now (word .entry)) ⌝ }
+    ensures word { λ r. ⌜ now (word .exit) ≡ told (λ x. x) (packHead ShHeadValue.Empty) 0 ⌝ }
 {
     put_word(scripthash_layout::pack8(ShHeadValue::Empty), word)
 }
@@ -47,7 +50,7 @@ pub extern "C" fn ouriscado_pack8_empty(word: &mut u64) -> u32
 #[no_mangle]
 pub extern "C" fn ouriscado_pack8_inline(entry: u64, used: u8, word: &mut u64) -> u32
     ensures number { λ r. ⌜ r ≡ refusalOf (packHead (ShHeadValue.Inline entry used)) ⌝ }
-    ensures word { λ r. ⌜ now (word .exit) ≡ told (λ x. x) (packHead (ShHeadValue.Inline entry used)) (now (word .entry)) ⌝ }
+    ensures word { λ r. ⌜ now (word .exit) ≡ told (λ x. x) (packHead (ShHeadValue.Inline entry used)) 0 ⌝ }
 {
     put_word(
         scripthash_layout::pack8(ShHeadValue::Inline { entry, used }),
@@ -59,7 +62,7 @@ pub extern "C" fn ouriscado_pack8_inline(entry: u64, used: u8, word: &mut u64) -
 #[no_mangle]
 pub extern "C" fn ouriscado_pack8_slab(class: u8, used: u16, off: u64, word: &mut u64) -> u32
     ensures number { λ r. ⌜ r ≡ refusalOf (packHead (ShHeadValue.Slab class used off)) ⌝ }
-    ensures word { λ r. ⌜ now (word .exit) ≡ told (λ x. x) (packHead (ShHeadValue.Slab class used off)) (now (word .entry)) ⌝ }
+    ensures word { λ r. ⌜ now (word .exit) ≡ told (λ x. x) (packHead (ShHeadValue.Slab class used off)) 0 ⌝ }
 {
     put_word(
         scripthash_layout::pack8(ShHeadValue::Slab { class, used, off }),
@@ -71,7 +74,7 @@ pub extern "C" fn ouriscado_pack8_slab(class: u8, used: u16, off: u64, word: &mu
 #[no_mangle]
 pub extern "C" fn ouriscado_pack8_extent(last: u64, word: &mut u64) -> u32
     ensures number { λ r. ⌜ r ≡ refusalOf (packHead (ShHeadValue.Extent last)) ⌝ }
-    ensures word { λ r. ⌜ now (word .exit) ≡ told (λ x. x) (packHead (ShHeadValue.Extent last)) (now (word .entry)) ⌝ }
+    ensures word { λ r. ⌜ now (word .exit) ≡ told (λ x. x) (packHead (ShHeadValue.Extent last)) 0 ⌝ }
 {
     put_word(
         scripthash_layout::pack8(ShHeadValue::Extent { last_page: last }),
@@ -188,16 +191,28 @@ fn place_of(v: ShHeadValue) -> u64
     }
 }
 
-// Hands out a head value.
-fn put_head(got: Unpacked, kind: &mut u8, class: &mut u8, used: &mut u16, place: &mut u64) -> u32
+// Hands out a head value, or zeros where it is refused.
+pub fn put_head(
+    got: Unpacked,
+    kind: &mut u8,
+    class: &mut u8,
+    used: &mut u16,
+    place: &mut u64,
+) -> u32
     ensures number { λ r. ⌜ r ≡ refusalOf (unpackAnswer got) ⌝ }
-    ensures kind { λ r. ⌜ now (kind .exit) ≡ told kindOf (unpackAnswer got) (now (kind .entry)) ⌝ }
-    ensures class { λ r. ⌜ now (class .exit) ≡ told classOf (unpackAnswer got) (now (class .entry)) ⌝ }
-    ensures used { λ r. ⌜ now (used .exit) ≡ told usedOf (unpackAnswer got) (now (used .entry)) ⌝ }
-    ensures place { λ r. ⌜ now (place .exit) ≡ told placeOf (unpackAnswer got) (now (place .entry)) ⌝ }
+    ensures kind { λ r. ⌜ now (kind .exit) ≡ told kindOf (unpackAnswer got) 0 ⌝ }
+    ensures class { λ r. ⌜ now (class .exit) ≡ told classOf (unpackAnswer got) 0 ⌝ }
+    ensures used { λ r. ⌜ now (used .exit) ≡ told usedOf (unpackAnswer got) 0 ⌝ }
+    ensures place { λ r. ⌜ now (place .exit) ≡ told placeOf (unpackAnswer got) 0 ⌝ }
 {
     match got {
-        Unpacked::Refused(number) => number,
+        Unpacked::Refused(number) => {
+            *kind = 0;
+            *class = 0;
+            *used = 0;
+            *place = 0;
+            number
+        }
         Unpacked::Head(v) => {
             *kind = kind_of(v);
             *class = class_of(v);
@@ -218,10 +233,10 @@ pub extern "C" fn ouriscado_unpack8(
     place: &mut u64,
 ) -> u32
     ensures number { λ r. ⌜ r ≡ refusalOf (unpackHead w) ⌝ }
-    ensures kind { λ r. ⌜ now (kind .exit) ≡ told kindOf (unpackHead w) (now (kind .entry)) ⌝ }
-    ensures class { λ r. ⌜ now (class .exit) ≡ told classOf (unpackHead w) (now (class .entry)) ⌝ }
-    ensures used { λ r. ⌜ now (used .exit) ≡ told usedOf (unpackHead w) (now (used .entry)) ⌝ }
-    ensures place { λ r. ⌜ now (place .exit) ≡ told placeOf (unpackHead w) (now (place .entry)) ⌝ }
+    ensures kind { λ r. ⌜ now (kind .exit) ≡ told kindOf (unpackHead w) 0 ⌝ }
+    ensures class { λ r. ⌜ now (class .exit) ≡ told classOf (unpackHead w) 0 ⌝ }
+    ensures used { λ r. ⌜ now (used .exit) ≡ told usedOf (unpackHead w) 0 ⌝ }
+    ensures place { λ r. ⌜ now (place .exit) ≡ told placeOf (unpackHead w) 0 ⌝ }
 {
     put_head(scripthash_layout::unpack8(w), kind, class, used, place)
 }
@@ -236,10 +251,10 @@ pub extern "C" fn ouriscado_unpack8_bytes(
     place: &mut u64,
 ) -> u32
     ensures number { λ r. ⌜ r ≡ refusalOf (unpackHead (littleEndian (now (buf .entry)))) ⌝ }
-    ensures kind { λ r. ⌜ now (kind .exit) ≡ told kindOf (unpackHead (littleEndian (now (buf .entry)))) (now (kind .entry)) ⌝ }
-    ensures class { λ r. ⌜ now (class .exit) ≡ told classOf (unpackHead (littleEndian (now (buf .entry)))) (now (class .entry)) ⌝ }
-    ensures used { λ r. ⌜ now (used .exit) ≡ told usedOf (unpackHead (littleEndian (now (buf .entry)))) (now (used .entry)) ⌝ }
-    ensures place { λ r. ⌜ now (place .exit) ≡ told placeOf (unpackHead (littleEndian (now (buf .entry)))) (now (place .entry)) ⌝ }
+    ensures kind { λ r. ⌜ now (kind .exit) ≡ told kindOf (unpackHead (littleEndian (now (buf .entry)))) 0 ⌝ }
+    ensures class { λ r. ⌜ now (class .exit) ≡ told classOf (unpackHead (littleEndian (now (buf .entry)))) 0 ⌝ }
+    ensures used { λ r. ⌜ now (used .exit) ≡ told usedOf (unpackHead (littleEndian (now (buf .entry)))) 0 ⌝ }
+    ensures place { λ r. ⌜ now (place .exit) ≡ told placeOf (unpackHead (littleEndian (now (buf .entry)))) 0 ⌝ }
 {
     put_head(
         scripthash_layout::unpack8_bytes(buf),

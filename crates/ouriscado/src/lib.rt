@@ -1,5 +1,6 @@
-// The C boundary: each function calls the one of its name without the prefix. A result of type u32 is document 01's number of a refusal, or
-// 0; on a refusal every out-parameter and buffer holds what it held.
+// The C boundary: each function calls the one of its name without the prefix. A
+// result of type u32 is document 01's number of a refusal, or 0. On a refusal every number that goes out is 0, and every buffer and list
+// holds what it held.
 mod class;
 mod cut;
 mod free;

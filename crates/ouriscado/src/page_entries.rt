@@ -1,4 +1,5 @@
 // The stream of a page: read, appended to and written.
+ghost use mathlib.Core.Bool.{false};
 ghost use mathlib.Core.Path.{_≡_};
 ghost use lib.ListN.{length};
 ghost use Rattle.error.specs.Refusal.{refusalOf, told};
@@ -22,11 +23,13 @@ pub extern "C" fn ouriscado_sh_page_stream_tail(
     last: &mut u64,
 ) -> u32
     ensures number { λ r. ⌜ r ≡ refusalOf (pageScan (now (page .entry))) ⌝ }
-    ensures taken { λ r. ⌜ now (taken .exit) ≡ told (λ s. s .taken) (pageScan (now (page .entry))) (now (taken .entry)) ⌝ }
-    ensures last { λ r. ⌜ now (last .exit) ≡ told lastOf (pageScan (now (page .entry))) (now (last .entry)) ⌝ }
+    ensures taken { λ r. ⌜ now (taken .exit) ≡ told (λ s. s .taken) (pageScan (now (page .entry))) 0 ⌝ }
+    ensures last { λ r. ⌜ now (last .exit) ≡ told lastOf (pageScan (now (page .entry))) 0 ⌝ }
 {
     let got = scripthash_pages::sh_page_stream_tail(page);
     let ScanStream::Scanned { taken: t, last: l } = got else {
+        *taken = 0;
+        *last = 0;
         return got.refusal();
     };
     *taken = t;
@@ -38,10 +41,11 @@ pub extern "C" fn ouriscado_sh_page_stream_tail(
 #[no_mangle]
 pub extern "C" fn ouriscado_sh_page_last_fk(page: &[u8], last: &mut u64) -> u32
     ensures number { λ r. ⌜ r ≡ refusalOf (pageScan (now (page .entry))) ⌝ }
-    ensures last { λ r. ⌜ now (last .exit) ≡ told lastOf (pageScan (now (page .entry))) (now (last .entry)) ⌝ }
+    ensures last { λ r. ⌜ now (last .exit) ≡ told lastOf (pageScan (now (page .entry))) 0 ⌝ }
 {
     let got = scripthash_pages::sh_page_last_fk(page);
     let PageLastFk::Last(l) = got else {
+        *last = 0;
         return got.refusal();
     };
     *last = l;
@@ -57,10 +61,11 @@ pub extern "C" fn ouriscado_sh_page_entries_into(
 ) -> u32
     ensures number { λ r. ⌜ r ≡ refusalOf (pageEntries (length (now (out .entry))) (now (page .entry))) ⌝ }
     ensures list { λ r. ⌜ now (out .exit) ≡ afterDecode (now (out .entry)) (pageEntries (length (now (out .entry))) (now (page .entry))) ⌝ }
-    ensures count { λ r. ⌜ now (count .exit) ≡ told readCount (pageEntries (length (now (out .entry))) (now (page .entry))) (now (count .entry)) ⌝ }
+    ensures count { λ r. ⌜ now (count .exit) ≡ told readCount (pageEntries (length (now (out .entry))) (now (page .entry))) 0 ⌝ }
 {
     let got = scripthash_pages::sh_page_entries_into(page, out);
     let PageEntries::Entries(n) = got else {
+        *count = 0;
         return got.refusal();
     };
     *count = n;
@@ -78,11 +83,13 @@ pub extern "C" fn ouriscado_sh_page_decode_slice_into(
 ) -> u32
     ensures number { λ r. ⌜ r ≡ refusalOf (pageEntries (length (now (out .entry))) (now (page .entry))) ⌝ }
     ensures list { λ r. ⌜ now (out .exit) ≡ afterDecode (now (out .entry)) (pageEntries (length (now (out .entry))) (now (page .entry))) ⌝ }
-    ensures count { λ r. ⌜ now (count .exit) ≡ told readCount (pageEntries (length (now (out .entry))) (now (page .entry))) (now (count .entry)) ⌝ }
-    ensures next { λ r. ⌜ now (next .exit) ≡ told (λ _. nextOff (now (page .entry))) (pageEntries (length (now (out .entry))) (now (page .entry))) (now (next .entry)) ⌝ }
+    ensures count { λ r. ⌜ now (count .exit) ≡ told readCount (pageEntries (length (now (out .entry))) (now (page .entry))) 0 ⌝ }
+    ensures next { λ r. ⌜ now (next .exit) ≡ told (λ _. nextOff (now (page .entry))) (pageEntries (length (now (out .entry))) (now (page .entry))) 0 ⌝ }
 {
     let got = scripthash_pages::sh_page_decode_slice_into(page, out);
     let PageSlice::Decoded { count: n, next: o } = got else {
+        *count = 0;
+        *next = 0;
         return got.refusal();
     };
     *count = n;
@@ -93,17 +100,15 @@ pub extern "C" fn ouriscado_sh_page_decode_slice_into(
 // Hands out whether a number was appended.
 fn put_appended(got: TryAppend, appended: &mut bool) -> u32
     ensures number { λ r. ⌜ r ≡ refusalOf (tryAnswer got) ⌝ }
-    ensures appended { λ r. ⌜ now (appended .exit) ≡ told (λ x. x) (tryAnswer got) (now (appended .entry)) ⌝ }
+    ensures appended { λ r. ⌜ now (appended .exit) ≡ told (λ x. x) (tryAnswer got) false ⌝ }
 {
+    *appended = false;
     match got {
         TryAppend::Appended => {
             *appended = true;
             0
         }
-        TryAppend::Full => {
-            *appended = false;
-            0
-        }
+        TryAppend::Full => 0,
         TryAppend::Refused(number) => number,
     }
 }
@@ -113,7 +118,7 @@ fn put_appended(got: TryAppend, appended: &mut bool) -> u32
 pub extern "C" fn ouriscado_sh_page_try_append(page: &mut [u8], fk: u64, appended: &mut bool) -> u32
     ensures number { λ r. ⌜ r ≡ refusalOf (appendSpot (now (page .entry)) fk) ⌝ }
     ensures bytes { λ r. ⌜ now (page .exit) ≡ afterAppend (now (page .entry)) (appendSpot (now (page .entry)) fk) ⌝ }
-    ensures appended { λ r. ⌜ now (appended .exit) ≡ told hasSpot (appendSpot (now (page .entry)) fk) (now (appended .entry)) ⌝ }
+    ensures appended { λ r. ⌜ now (appended .exit) ≡ told hasSpot (appendSpot (now (page .entry)) fk) false ⌝ }
 {
     let got = scripthash_pages::sh_page_try_append(page, fk);
     put_appended(got, appended)
@@ -128,10 +133,11 @@ pub extern "C" fn ouriscado_sh_page_write_stream(
 ) -> u32
     ensures number { λ r. ⌜ r ≡ refusalOf (writeStream (now (page .entry)) (now (fks .entry))) ⌝ }
     ensures bytes { λ r. ⌜ now (page .exit) ≡ afterWriteStream (now (page .entry)) (now (fks .entry)) (writeStream (now (page .entry)) (now (fks .entry))) ⌝ }
-    ensures len { λ r. ⌜ now (len .exit) ≡ told (λ x. x) (writeStream (now (page .entry)) (now (fks .entry))) (now (len .entry)) ⌝ }
+    ensures len { λ r. ⌜ now (len .exit) ≡ told (λ x. x) (writeStream (now (page .entry)) (now (fks .entry))) 0 ⌝ }
 {
     let got = scripthash_pages::sh_page_write_stream(page, fks);
     let StreamBytes::Bytes(w) = got else {
+        *len = 0;
         return got.refusal();
     };
     *len = w;

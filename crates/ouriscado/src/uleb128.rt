@@ -17,9 +17,11 @@ pub extern "C" fn ouriscado_uleb128_len(n: u64) -> usize
 #[no_mangle]
 pub extern "C" fn ouriscado_read_uleb128(buf: &[u8], value: &mut u64, len: &mut usize) -> u32
     ensures number { λ r. ⌜ r ≡ refusalOf (readUleb (now (buf .entry))) ⌝ }
-    ensures value { λ r. ⌜ now (value .exit) ≡ told (λ x. x .value) (readUleb (now (buf .entry))) (now (value .entry)) ⌝ }
-    ensures len { λ r. ⌜ now (len .exit) ≡ told (λ x. x .len) (readUleb (now (buf .entry))) (now (len .entry)) ⌝ }
+    ensures value { λ r. ⌜ now (value .exit) ≡ told (λ x. x .value) (readUleb (now (buf .entry))) 0 ⌝ }
+    ensures len { λ r. ⌜ now (len .exit) ≡ told (λ x. x .len) (readUleb (now (buf .entry))) 0 ⌝ }
 {
+    *value = 0;
+    *len = 0;
     compact::read_form(buf, value, len)
 }
 
@@ -28,10 +30,11 @@ pub extern "C" fn ouriscado_read_uleb128(buf: &[u8], value: &mut u64, len: &mut 
 pub extern "C" fn ouriscado_write_uleb128_into(dst: &mut [u8], n: u64, len: &mut usize) -> u32
     ensures number { λ r. ⌜ r ≡ refusalOf (writeUleb (length (now (dst .entry))) n) ⌝ }
     ensures bytes { λ r. ⌜ now (dst .exit) ≡ afterWrite (now (dst .entry)) n ⌝ }
-    ensures len { λ r. ⌜ now (len .exit) ≡ told (λ x. x) (writeUleb (length (now (dst .entry))) n) (now (len .entry)) ⌝ }
+    ensures len { λ r. ⌜ now (len .exit) ≡ told (λ x. x) (writeUleb (length (now (dst .entry))) n) 0 ⌝ }
 {
     let got = compact::write_uleb128_into(dst, n);
     let WriteUleb128::Written(w) = got else {
+        *len = 0;
         return got.refusal();
     };
     *len = w;

@@ -1,4 +1,5 @@
-// The exported functions by their numbers in the text, each on numbers, a buffer and a list. Out-parameters hold BEFORE before a call.
+// The exported functions by their numbers in the text, each on numbers, a buffer and a list. Out-parameters hold BEFORE before a call, and 0
+// after one that is refused.
 use crate::cut;
 use crate::free;
 use crate::page;
@@ -48,6 +49,17 @@ fn word_of(b: [u8; 8]) -> u64 {
     buffer::u64_of(b[0], b[1], b[2], b[3], b[4], b[5], b[6], b[7])
 }
 
+// The word of eight bytes after a call: those that a refused call left as they were are told as 0.
+fn word_after(number: u32, b: [u8; 8]) -> u64 {
+    let word = word_of(b);
+    if number != 0 {
+        if word == BEFORE {
+            return 0;
+        }
+    }
+    word
+}
+
 // Packs the head value of four numbers into eight bytes.
 fn pack8_bytes(given: &[u64; 4], told: &mut [u64; 4]) -> u32 {
     let kind = given[0];
@@ -60,7 +72,7 @@ fn pack8_bytes(given: &[u64; 4], told: &mut [u64; 4]) -> u32 {
         2 => ouriscado::ouriscado_pack8_bytes_slab(class, used, given[3], &mut out),
         _ => ouriscado::ouriscado_pack8_bytes_extent(given[3], &mut out),
     };
-    told[0] = word_of(out);
+    told[0] = word_after(number, out);
     number
 }
 

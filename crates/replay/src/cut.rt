@@ -38,7 +38,12 @@ fn call_on(
     match function {
         17 => ouriscado::ouriscado_sh_page_chunk_ranges(list, &mut ranges[0..room], parts),
         _ => {
-            ouriscado::ouriscado_split_last_chunk_for_extent(list, &mut ranges[0..room], count, parts)
+            ouriscado::ouriscado_split_last_chunk_for_extent(
+                list,
+                &mut ranges[0..room],
+                count,
+                parts,
+            )
         }
     }
 }

@@ -2,22 +2,12 @@
 use crate::call::BEFORE;
 use crate::call::UNKNOWN;
 
-// A flag that a call handed out: it was set before, and a refused call leaves it.
-fn flag(number: u32, told: bool) -> u64 {
-    if number != 0 {
-        if told {
-            return BEFORE;
-        }
-    }
-    told as u64
-}
-
 // Reads a link.
 fn read_packed(page: &[u8], told: &mut [u64; 4]) -> u32 {
     let mut last = true;
     let mut off = BEFORE;
     let number = ouriscado::ouriscado_sh_page_read_packed(page, &mut last, &mut off);
-    told[0] = flag(number, last);
+    told[0] = last as u64;
     told[1] = off;
     number
 }
@@ -26,7 +16,7 @@ fn read_packed(page: &[u8], told: &mut [u64; 4]) -> u32 {
 fn is_last(page: &[u8], told: &mut [u64; 4]) -> u32 {
     let mut last = true;
     let number = ouriscado::ouriscado_sh_page_is_last(page, &mut last);
-    told[0] = flag(number, last);
+    told[0] = last as u64;
     number
 }
 
@@ -104,7 +94,7 @@ fn decode_slice_into(page: &[u8], list: &mut [u64], told: &mut [u64; 4]) -> u32 
 fn try_append(page: &mut [u8], fk: u64, told: &mut [u64; 4]) -> u32 {
     let mut appended = true;
     let number = ouriscado::ouriscado_sh_page_try_append(page, fk, &mut appended);
-    told[0] = flag(number, appended);
+    told[0] = appended as u64;
     number
 }
 
