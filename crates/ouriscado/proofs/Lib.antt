@@ -1,1 +1,2 @@
+pub mod LawsBook
 pub mod LawsOut

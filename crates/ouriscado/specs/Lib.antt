@@ -1,3 +1,4 @@
+pub mod OutBook
 pub mod OutClass
 pub mod OutHead
 pub mod OutPage

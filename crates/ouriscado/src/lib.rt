@@ -1,6 +1,7 @@
-// The C boundary: each function calls the one of its name without the prefix. A
+// The C boundary: each function calls the one of its name without the prefix; those of the account book begin with ouriscado_book. A
 // result of type u32 is document 01's number of a refusal, or 0. On a refusal every number that goes out is 0, and every buffer and list
 // holds what it held.
+mod account_book;
 mod class;
 mod cut;
 mod free;
@@ -13,6 +14,11 @@ mod slab;
 mod stream;
 mod uleb128;
 
+pub use account_book::ouriscado_book_append;
+pub use account_book::ouriscado_book_drop;
+pub use account_book::ouriscado_book_fresh;
+pub use account_book::ouriscado_book_load;
+pub use account_book::ouriscado_book_read;
 pub use class::ouriscado_slab_class_for_n_fks;
 pub use class::ouriscado_slab_class_for_n_fks_with_slack;
 pub use class::ouriscado_slab_class_for_packed_len;

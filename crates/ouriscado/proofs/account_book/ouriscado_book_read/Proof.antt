@@ -1,0 +1,54 @@
+-- `ouriscado_book_read` hands out what `read` answers, on the state that the words hold. Assumes nothing.
+use mathlib.Core.Path.{_≡_, _∙_, ap}
+use lib.ListN.{length}
+use Rattle.error.specs.Refusal.{refusalOf, answered}
+use Rattle.error.proofs.LawsOut.{number-answered, told-answered, told-same}
+use Rattle.book_rules.specs.Calls.{answerOf}
+use Rattle.book.specs.Book.{Book, Outcome}
+use Rattle.book.specs.Reads.{reads, listAfter}
+use Rattle.book.specs.Answers.{Counted, countedOf, readAnswer}
+use Rattle.ouriscado.proofs.LawsBook.{book-words}
+use borrow.Author.Needs.{needs}
+use Rattle.ouriscado.proofs.account_book.ouriscado_book_read.Statement.{statement}
+use Rattle.ouriscado.proofs.account_book.ouriscado_book_read.Tie as tie
+
+state-of-requires : tie.Need-state-of-requires
+state-of-requires c κs = search needs
+
+read-requires : tie.Need-read-requires
+read-requires c κs = search needs
+
+put-listed-requires : tie.Need-put-listed-requires
+put-listed-requires c κs = search needs
+
+same-length : tie.Need-same-length
+same-length c = search needs
+
+returns : tie.Need-returns
+returns c =
+    let r = c .before .before .before .before .before in
+    let s = r .before .before in
+    let a = s .before .before .before .before .before .args in
+    let room = length (a .out .now) in
+    let same = book-words (s .state-of .ensures) in
+    let h = c .put-listed .ensures in
+    let e = r .read .ensures .0 ∙ ap (λ (b : Book). answered countedOf (answerOf (reads b (a .key) room))) same in (
+      h .0 ∙ ap refusalOf e ∙ number-answered countedOf _ ∙ number-answered (λ (o : Outcome). o .told) _,
+      (
+        r .read .ensures .1 ∙ ap (λ (b : Book). listAfter (a .out .now) (reads b (a .key) room)) same,
+        (
+          h .1 .0 ∙ told-same (λ (x : Counted). x .length) _ e ∙ told-answered (λ (x : Counted). x .length) countedOf _ _,
+          h .1 .1 ∙ told-same (λ (x : Counted). x .pages) _ e ∙ told-answered (λ (x : Counted). x .pages) countedOf _ _,
+        ),
+      ),
+    )
+
+pub ouriscado-book-read-spec : {M : Type 1} → statement M
+ouriscado-book-read-spec =
+    tie.close
+    (tie.spec
+    state-of-requires
+    read-requires
+    put-listed-requires
+    same-length
+    returns)
