@@ -1,253 +1,257 @@
-/* Ouriscado: posting-list codecs. Made by host/bindings.py from crates/ouriscado/src and crates/error/src: change those, and make it again.
-   A slice is passed as a pointer and then its length in elements. The functions keep no pointer, and what two parameters of a
-   call point to must not overlap. A pointer is never null, save that of an empty slice. A result of type uint32_t of a function
-   that names refusals is a refusal's number, or 0 for success; on a refusal every buffer and out-parameter holds what it held. */
+/* Ouriscado 0.1.0: an account book for record numbers, with its calls proved.
+   Made by host/bindings.py from the exports and host/boundary: change those, and make it again.
+
+   WHAT IT IS
+
+   A book keeps a list of record numbers for each account, for instance the deposits that a shop received. A
+   record number (the source of the format calls it Fk, a foreign key) is a 64-bit integer from 1 to
+   OURISCADO_MOST_NUMBER that names a record which you keep elsewhere; 0 stands for no record. A list rises
+   strictly: no number stands in it twice.
+
+   A book is three things, which you hold, and lend to each call:
+
+       body     bytes, in which the lists stand: a multiple of OURISCADO_PAGE_BYTES, at least
+                OURISCADO_LEAST_BODY_BYTES and at most OURISCADO_MOST_BODY_BYTES
+       heads    one 64-bit word for each account, 1 to OURISCADO_MOST_HEADS words: where its list stands.
+                An account is named by its key, which is the index of its word, from 0
+       state    OURISCADO_STATE_WORDS words of 64 bits: first the mark, which is the offset up to which the
+                body was ever used, then the free heads: for each of nine sizes of block the offset of the
+                block that was freed last, or 0
+
+   The three belong together. Keep, copy, store and restore them together, as of one moment: a body with the
+   heads of another day is a damaged book. They hold no pointers, so a copy elsewhere, or a file, is the same
+   book.
+
+   There are five calls:
+
+       ouriscado_book_fresh     makes a book in which nothing is recorded
+       ouriscado_book_load      records a whole list for an account that has none
+       ouriscado_book_append    records one more number for an account
+       ouriscado_book_read      gives an account's list
+       ouriscado_book_drop      takes an account's list out of the book
+
+   WHAT IS PROVED
+
+   Take a book that ouriscado_book_fresh made and any calls on it after that, with any arguments, refused ones
+   included, where each call gets body, heads and state as the one before it left them, and nobody else writes
+   them. Then each read gives exactly the numbers that were recorded for its key since that key was last
+   dropped, or is refused with 1, 2 or 34; so a read that is accepted with length 0 says that nothing is
+   recorded. Each call ends on every input, reads and writes only what it is lent, and checks for itself that
+   the book is sound as far as it looks at it. Not proved: the compiler's back end and the linker, and your
+   side of the boundary, that pointers and lengths are what you say.
+
+   RESULTS
+
+   Every call answers 0 where it was accepted, else the number of a refusal (enum ouriscado_refusal below). A
+   refused call has changed nothing: body, heads, state and lists hold what they held. Numbers that go out
+   through a pointer are 0 then.
+
+   LOOK AT THE RESULT FIRST. A refused read also leaves 0 in its length: that says nothing about the account.
+   Only a result of 0 together with a length of 0 says that nothing is recorded.
+
+       uint64_t list[64], length, pages;
+       uint32_t refusal = ouriscado_book_read(body, body_len, heads, heads_len, state, key,
+                                              list, 64, &length, &pages);
+       if (refusal == OURISCADO_ACCEPTED) use(list, length);         length 0: nothing is recorded
+       else if (refusal == OURISCADO_LIST_TOO_SHORT) ask_again();    with more room; this is no empty account
+       else tell_the_operator(refusal);                              nor is this
+
+   UNITS, POINTERS, OWNERSHIP
+
+   A slice is passed as a pointer and then its length, which counts elements: bytes of a body, words of heads,
+   numbers of a list. Offsets count bytes from the start of the body. Integers that stand in a body have their
+   lowest byte first. A parameter class_ is a class; class is a word of C++. All memory is yours. Nothing is
+   allocated, no pointer is kept after the call, and there are no files, locks or clocks. A pointer may be
+   null only where it is that of a slice of length 0. What two parameters of one call point to must not
+   overlap (heads must not lie in the body, say), and a pointer to a number must be aligned for it, as in any
+   C program.
+
+   THREADS
+
+   There are no global variables. One book is for one call at a time: while a call runs, no other thread may
+   write its body, heads or state, nor use a list that was lent. Reads write only their list, length and
+   pages, so several may run at once on a book that nobody writes. Different books are independent.
+
+   PLATFORM
+
+   The library is compiled for x86-64 and the calling convention of Linux; it needs nothing but memcpy, memset
+   and their like from the C library.
+
+   STACK
+
+   A call takes at most so many bytes of stack below its caller's frame (measured, and held by a test):
+
+       ouriscado_book_fresh     OURISCADO_STACK_SHORT
+       the others               OURISCADO_STACK_SHORT where the list is empty, inline or in a slab before
+                                and after the call, else OURISCADO_STACK_ANY */
 #ifndef OURISCADO_H
 #define OURISCADO_H
-#include <stdbool.h>
 #include <stddef.h>
 #include <stdint.h>
 #ifdef __cplusplus
 extern "C" {
 #endif
 
-/* Why a call is turned back. */
+/* The version of this header, as numbers and as text. */
+#define OURISCADO_VERSION_MAJOR 0
+#define OURISCADO_VERSION_MINOR 1
+#define OURISCADO_VERSION_PATCH 0
+#define OURISCADO_VERSION "0.1.0"
+
+/* Sizes and limits. */
+#define OURISCADO_STATE_WORDS              10 /* words of a state: the mark, then nine free heads */
+#define OURISCADO_PAGE_BYTES             4096 /* bytes of a page, and the unit of a body's length */
+#define OURISCADO_LEAST_BODY_BYTES       8192 /* the least bytes of a body */
+#define OURISCADO_MOST_BODY_BYTES  1073741824 /* the most bytes of a body */
+#define OURISCADO_MOST_HEADS            65536 /* the most head words, one for each account */
+#define OURISCADO_MOST_NUMBER      UINT64_C(4611686018427387903) /* the largest record number */
+#define OURISCADO_MOST_LOADED           65535 /* the most numbers in one load */
+#define OURISCADO_MOST_IN_SLAB            256 /* the most numbers in a slab; a longer list stands in pages */
+#define OURISCADO_MOST_IN_PAGE           4088 /* the most numbers in a page */
+#define OURISCADO_PAGE_CLASS                8 /* the class of a page; slabs have the classes 0 to 7 */
+
+/* Where a list stands: the kinds of place that an append tells. A list is inline with one number, then in a
+   slab, which is a block of 16 to 2,048 bytes for up to OURISCADO_MOST_IN_SLAB numbers, then in pages, which
+   are blocks of OURISCADO_PAGE_BYTES. */
+#define OURISCADO_KIND_EMPTY                0 /* the list is empty */
+#define OURISCADO_KIND_INLINE               1 /* one number, which stands in the head word itself */
+#define OURISCADO_KIND_SLAB                 2 /* 2 to 256 numbers, in a slab of the body */
+#define OURISCADO_KIND_PAGES                3 /* in a chain of pages of the body */
+
+/* The bytes of stack that a call needs. */
+#define OURISCADO_STACK_SHORT            4096 /* bytes of stack of a call where no list stands in pages */
+#define OURISCADO_STACK_ANY             40960 /* bytes of stack of any call */
+
+/* Why a call is refused, and what an operator does then. Where several apply, the smallest number is given;
+   but a list that is offered is judged number by number, and its first bad number decides. A key is sound
+   where its head word, its slab or pages and the numbers in them are as the format has them. In a book that
+   began with ouriscado_book_fresh and that nobody else wrote, no call is refused with OURISCADO_KEY_UNSOUND
+   or OURISCADO_FREE_HEAD_BAD. */
 enum ouriscado_refusal {
-    /* The book's shape breaks its limits. */
+    /* No refusal: the call was accepted. */
+    OURISCADO_ACCEPTED = 0,
+    /* The body's length, the count of head words or the mark is outside the limits.
+       Operator: checks that body, head words and state belong together and are whole; restores all three. */
     OURISCADO_SHAPE_BAD = 1,
-    /* The key is beyond the heads. */
+    /* The key isn't below the count of head words.
+       Operator: checks the account's index; if that is right, the head words that were lent are not all. */
     OURISCADO_KEY_BEYOND = 2,
-    /* A load meets a key in use. */
+    /* A list is loaded onto a key whose head word isn't 0.
+       Operator: appends instead, or drops the key first. */
     OURISCADO_KEY_IN_USE = 3,
-    /* A page buffer isn't 4,096 bytes. */
-    OURISCADO_PAGE_LENGTH = 4,
-    /* A link offset isn't a multiple of 4,096. */
-    OURISCADO_LINK_UNALIGNED = 5,
-    /* A link index is 2^39 or more. */
-    OURISCADO_LINK_TOO_LARGE = 6,
-    /* The first offset is asked of a page without LAST. */
-    OURISCADO_NOT_LAST = 7,
-    /* An extent count is 0. */
-    OURISCADO_EXTENT_COUNT_ZERO = 8,
-    /* An extent base is 0 or unaligned. */
-    OURISCADO_EXTENT_BASE_BAD = 9,
-    /* More than 65,535 numbers are offered to a page, slab or load. */
+    /* One call is offered over 65,535 numbers.
+       Operator: loads the first 65,535 and appends the others. */
     OURISCADO_TOO_MANY_OFFERED = 10,
-    /* A slab buffer is under 2 bytes. */
-    OURISCADO_SLAB_TOO_SHORT = 11,
-    /* The first or only number offered is 0. */
+    /* The number offered, or the first of a list, is 0.
+       Operator: has the caller corrected: 0 stands for no record. */
     OURISCADO_OFFERED_FIRST_ZERO = 12,
-    /* A number offered has bit 63 set. */
+    /* A number offered is 2^63 or more.
+       Operator: has the caller corrected. */
     OURISCADO_OFFERED_BIT_63 = 13,
-    /* A book is offered 2^62 or more. */
+    /* A number offered is 2^62 or more, and below 2^63.
+       Operator: has the caller corrected; a book can't hold it. */
     OURISCADO_OFFERED_TOO_LARGE = 14,
-    /* A page's count exceeds its capacity. */
-    OURISCADO_COUNT_ABOVE_CAPACITY = 15,
-    /* The version is another, or 0 with a count. */
-    OURISCADO_VERSION_BAD = 16,
-    /* The bytes end before a ULEB128 form does. */
-    OURISCADO_ULEB_CUT_SHORT = 17,
-    /* A ULEB128 form overflows 64 bits. */
-    OURISCADO_ULEB_OVERFLOW = 18,
-    /* A page stream passes its capacity. */
-    OURISCADO_STREAM_PAST_CAPACITY = 19,
-    /* A stored first number is 0. */
-    OURISCADO_STORED_FIRST_ZERO = 20,
-    /* A stored difference is 0. */
-    OURISCADO_STORED_DIFFERENCE_ZERO = 21,
-    /* A stored sum passes 2^64 - 1. */
-    OURISCADO_STORED_SUM_OVERFLOW = 22,
-    /* A stored number has bit 63 set. */
-    OURISCADO_STORED_BIT_63 = 23,
-    /* An inline head has used other than 1. */
-    OURISCADO_INLINE_USED_NOT_ONE = 24,
-    /* An inline head exceeds 2^62 - 1. */
-    OURISCADO_INLINE_TOO_LARGE = 25,
-    /* A slab head has offset above 2^40 - 1 or class above 63. */
-    OURISCADO_SLAB_FIELD_TOO_LARGE = 26,
-    /* An extent head is 0 or above 2^62 - 1. */
-    OURISCADO_EXTENT_OUT_OF_RANGE = 27,
-    /* A stored slab head has used 0 or 1. */
-    OURISCADO_SLAB_USED_TOO_SMALL = 28,
-    /* The mode is 2. */
-    OURISCADO_MODE_TWO = 29,
-    /* Mode 3 has payload 0. */
-    OURISCADO_EXTENT_PAYLOAD_ZERO = 30,
-    /* A book key isn't sound. */
+    /* The key isn't sound.
+       Operator: takes the account for unknown and never for empty; restores body, head words and state of one
+       moment; finds who else wrote them. */
     OURISCADO_KEY_UNSOUND = 31,
-    /* A number offered isn't above the one before. */
+    /* A number is offered that doesn't rise above its predecessor, in the list or in the key.
+       Operator: reads the key: the number may be recorded already. */
     OURISCADO_OFFERED_NOT_RISING = 32,
-    /* What is to be written doesn't fit its destination. */
-    OURISCADO_DOES_NOT_FIT = 33,
-    /* The lent list is too short. */
+    /* The numbers or ranges to be answered are more than the lent list has room for.
+       Operator: asks again with a longer list. */
     OURISCADO_LIST_TOO_SHORT = 34,
-    /* A free head to be popped isn't a multiple of 16 (page: 4,096), or its block leaves 4,096 to the mark. */
+    /* A free head leads to no block: it is unaligned, or lies outside of 4,096 up to the mark; or such a
+       block is pushed, or such a gap carved.
+       Operator: the state or a freed block is damaged: restores as for 31; reads go on meanwhile. */
     OURISCADO_FREE_HEAD_BAD = 35,
-    /* No room: the block or run would pass the body's end. */
+    /* A block, of which none is freed, or a run of pages would pass the body's end.
+       Operator: drops keys that are no longer needed, which frees blocks of their classes, or moves to a book
+       with a larger body. */
     OURISCADO_NO_ROOM = 36,
 };
 
-/* The smallest class whose bytes hold len bytes: none for 0 or above 2,048. */
-bool ouriscado_slab_class_for_packed_len(size_t len, uint8_t *class_);
+/* Makes a fresh book, in which every key is empty: all heads become 0, and state that of a book from which
+   nothing was taken; the body isn't written. A book is these three: a body, whose length is a multiple of
+   4,096 bytes from 8,192 to 2^30; heads, one word for each key, 1 to 65,536 of them; and state, ten words,
+   the mark up to which the body was ever used and the first freed block of each of nine sizes. What body,
+   heads and state held before doesn't matter. Refuses 1, where the lengths are others.
 
-/* The smallest class whose slots hold n numbers: none for 0, 1 or from 257 on. */
-bool ouriscado_slab_class_for_n_fks(uint32_t n, uint8_t *class_);
+   The body may hold anything, since nothing is read of it before it is written: there is no need to clear it.
+   Making a book fresh in place of one that is in use forgets all its records.
 
-/* The class for one number more than n, or where there is none the class for n. */
-bool ouriscado_slab_class_for_n_fks_with_slack(uint32_t n, uint8_t *class_);
+   Refusals: OURISCADO_SHAPE_BAD (1). */
+uint32_t ouriscado_book_fresh(
+    const uint8_t *body, size_t body_len, uint64_t *heads, size_t heads_len,
+    uint64_t state[OURISCADO_STATE_WORDS]);
 
-/* Cuts fks into parts, tells how many, and puts their ranges, each from an index up to another, to the start of out. Refuses 34. */
-uint32_t ouriscado_sh_page_chunk_ranges(const uint64_t *fks, size_t fks_len, size_t (*out)[2], size_t out_len, size_t *parts);
+/* Loads a list onto an empty key, counted from 0: record numbers from 1 to 2^62 - 1 that rise strictly,
+   65,535 at most. An empty list changes nothing. Hands out pages, how many pages of 4,096 bytes hold the
+   list, 0 where it needs none. Refuses 1 and 2, where the book's shape or the key is beyond the limits; 3,
+   where the key is in use; 10, 12 to 14 and 32, where the list isn't such a list; 35, where a freed block is
+   damaged; and 36, where the body has no room.
 
-/* Cuts the last of the first count ranges of chunks again, into parts that fit a last page, and tells how many ranges there are then. One that is empty, or leaves fks, stays. Refuses 34. */
-uint32_t ouriscado_split_last_chunk_for_extent(const uint64_t *fks, size_t fks_len, size_t (*chunks)[2], size_t chunks_len, size_t count, size_t *parts);
+   This is how to fill a book from another one or from an archive: a loaded list stands in the fewest pages
+   that can hold it. A load of a longer list is a load of its first OURISCADO_MOST_LOADED numbers, and appends
+   of the others.
 
-/* The largest class of a slab whose blocks have at most so many bytes; the result says whether there is one. */
-bool ouriscado_largest_reloc_class_le(uint64_t bytes, uint8_t *class_);
+   Refusals: OURISCADO_SHAPE_BAD (1), OURISCADO_KEY_BEYOND (2), OURISCADO_KEY_IN_USE (3),
+   OURISCADO_TOO_MANY_OFFERED (10), OURISCADO_OFFERED_FIRST_ZERO (12), OURISCADO_OFFERED_BIT_63 (13),
+   OURISCADO_OFFERED_TOO_LARGE (14), OURISCADO_OFFERED_NOT_RISING (32), OURISCADO_FREE_HEAD_BAD (35),
+   OURISCADO_NO_ROOM (36). */
+uint32_t ouriscado_book_load(
+    uint8_t *body, size_t body_len, uint64_t *heads, size_t heads_len, uint64_t state[OURISCADO_STATE_WORDS],
+    uint64_t key, const uint64_t *fks, size_t fks_len, uint64_t *pages);
 
-/* Pushes a block onto its class's free list: its first 8 bytes name the head so far, and it becomes the head. Refuses 35. */
-uint32_t ouriscado_push_free_head(uint8_t *body, size_t body_len, uint64_t *heads, uint8_t class_, uint64_t off);
+/* Appends a record number to the list of a key: from 1 to 2^62 - 1, and above the last of the list. Hands out
+   where the list then stands, and rewritten, how many record numbers a move of the list wrote anew, 0 where
+   it stayed. kind is 1 where the number stands in the head word itself, 2 for a slab, 3 for pages; class is a
+   slab's class, else 0; used is how many numbers a slab or head word holds, 0 for pages; place is the number
+   itself, or the offset of the slab or of the last page in the body. Refuses 1 and 2, where the book's shape
+   or the key is beyond the limits; 12 to 14 and 32, where the number isn't such a number; 31, where the key
+   is damaged; 35, where a freed block is; and 36, where the body has no room.
 
-/* Pops a block of a class that lies below the mark, and hands out its offset, 0 where there is none. Refuses 35. */
-uint32_t ouriscado_pop_free_head(const uint8_t *body, size_t body_len, uint64_t *heads, uint8_t class_, uint64_t mark, uint64_t *off);
+   A number that isn't above the last is refused, so that no deposit stands in a list twice. When an append is
+   refused with 36, the number is not recorded; keep it until there is room. From empty to drop a list moves
+   at most 9 times, and moves write at most 765 numbers anew.
 
-/* Carves the gap between two offsets into blocks, from its low end, the largest class up to 7 first, and pushes them. Refuses 35. */
-uint32_t ouriscado_carve_gap_into_freelist(uint8_t *body, size_t body_len, uint64_t *heads, uint64_t from, uint64_t to);
+   Refusals: OURISCADO_SHAPE_BAD (1), OURISCADO_KEY_BEYOND (2), OURISCADO_OFFERED_FIRST_ZERO (12),
+   OURISCADO_OFFERED_BIT_63 (13), OURISCADO_OFFERED_TOO_LARGE (14), OURISCADO_KEY_UNSOUND (31),
+   OURISCADO_OFFERED_NOT_RISING (32), OURISCADO_FREE_HEAD_BAD (35), OURISCADO_NO_ROOM (36). */
+uint32_t ouriscado_book_append(
+    uint8_t *body, size_t body_len, uint64_t *heads, size_t heads_len, uint64_t state[OURISCADO_STATE_WORDS],
+    uint64_t key, uint64_t fk, uint8_t *kind, uint8_t *class_, uint16_t *used, uint64_t *place,
+    uint64_t *rewritten);
 
-/* The word of no number. */
-uint32_t ouriscado_pack8_empty(uint64_t *word);
+/* Reads the list of a key into the start of out; what stood behind it there stays. Hands out length, how many
+   record numbers the list has, and pages, how many pages of 4,096 bytes it stands in. An accepted read with
+   length 0 means that nothing is recorded for the key. Refuses 1 and 2, where the book's shape or the key is
+   beyond the limits; 31, where the key is damaged; and 34, where out is too short for the whole list: then
+   length is 0 too, and out is as it was.
 
-/* The word of an inline number. Refuses 24, 25. */
-uint32_t ouriscado_pack8_inline(uint64_t entry, uint8_t used, uint64_t *word);
+   How long the list must be that you lend: an inline number needs 1; a slab needs the number that an append
+   told as used, at most OURISCADO_MOST_IN_SLAB; a list in pages has at most OURISCADO_MOST_IN_PAGE numbers
+   for each OURISCADO_PAGE_BYTES of the body. Without such knowledge, begin with any room, and while the call
+   is refused with 34, ask again with twice the room.
 
-/* The word of a slab. Refuses 26. */
-uint32_t ouriscado_pack8_slab(uint8_t class_, uint16_t used, uint64_t off, uint64_t *word);
+   Refusals: OURISCADO_SHAPE_BAD (1), OURISCADO_KEY_BEYOND (2), OURISCADO_KEY_UNSOUND (31),
+   OURISCADO_LIST_TOO_SHORT (34). */
+uint32_t ouriscado_book_read(
+    const uint8_t *body, size_t body_len, const uint64_t *heads, size_t heads_len,
+    const uint64_t state[OURISCADO_STATE_WORDS], uint64_t key, uint64_t *out, size_t out_len,
+    uint64_t *length, uint64_t *pages);
 
-/* The word of pages, by the offset of the last. Refuses 27. */
-uint32_t ouriscado_pack8_extent(uint64_t last, uint64_t *word);
+/* Drops the list of a key, which is then empty, and gives its slab or pages back to the book. Hands out
+   length, how many record numbers the list had. Refuses 1 and 2, where the book's shape or the key is beyond
+   the limits, and 31, where the key is damaged.
 
-/* The eight bytes that store the head of no number. */
-uint32_t ouriscado_pack8_bytes_empty(uint8_t *out);
+   Afterwards the key reads as empty, and other keys may be given its blocks. Dropping a key that is empty is
+   accepted and tells 0.
 
-/* The eight bytes that store an inline number. Refuses 24, 25. */
-uint32_t ouriscado_pack8_bytes_inline(uint64_t entry, uint8_t used, uint8_t *out);
-
-/* The eight bytes that store a slab's head. Refuses 26. */
-uint32_t ouriscado_pack8_bytes_slab(uint8_t class_, uint16_t used, uint64_t off, uint8_t *out);
-
-/* The eight bytes that store the head of pages, by the offset of the last. Refuses 27. */
-uint32_t ouriscado_pack8_bytes_extent(uint64_t last, uint8_t *out);
-
-/* What a stored word says, as four numbers. Refuses 28 to 30. */
-uint32_t ouriscado_unpack8(uint64_t w, uint8_t *kind, uint8_t *class_, uint16_t *used, uint64_t *place);
-
-/* What eight stored bytes say, as four numbers. Refuses 28 to 30. */
-uint32_t ouriscado_unpack8_bytes(const uint8_t *buf, uint8_t *kind, uint8_t *class_, uint16_t *used, uint64_t *place);
-
-/* How many bytes a page's stream takes, and its last number, 0 where it has none. Refuses 4, 15 to 18, 20 to 23. */
-uint32_t ouriscado_sh_page_stream_tail(const uint8_t *page, size_t page_len, size_t *taken, uint64_t *last);
-
-/* The last number of a page, 0 where it has none. Refuses 4, 15 to 18, 20 to 23. */
-uint32_t ouriscado_sh_page_last_fk(const uint8_t *page, size_t page_len, uint64_t *last);
-
-/* Reads the numbers of a page into the start of out, and tells how many. Refuses 4, 15 to 18, 20 to 23, 34. */
-uint32_t ouriscado_sh_page_entries_into(const uint8_t *page, size_t page_len, uint64_t *out, size_t out_len, size_t *count);
-
-/* Reads the numbers of a page into the start of out, and tells how many and the next page's offset, 0 where the page is LAST. Refuses 4, 15 to 18, 20 to 23, 34. */
-uint32_t ouriscado_sh_page_decode_slice_into(const uint8_t *page, size_t page_len, uint64_t *out, size_t out_len, size_t *count, uint64_t *next);
-
-/* Appends a number to a page, and tells whether it was: it isn't where the page is full. Refuses 4, 12, 13, 15 to 18, 20 to 23, 32. */
-uint32_t ouriscado_sh_page_try_append(uint8_t *page, size_t page_len, uint64_t fk, bool *appended);
-
-/* Writes the stream of a rising list to a page whose version is set, with its count, and tells its length. Refuses 4, 10, 12, 13, 32, 33. */
-uint32_t ouriscado_sh_page_write_stream(uint8_t *page, size_t page_len, const uint64_t *fks, size_t fks_len, size_t *len);
-
-/* What a page's link says: whether the page is LAST, and the offset of the page that it names. Refuses 4. */
-uint32_t ouriscado_sh_page_read_packed(const uint8_t *page, size_t page_len, bool *last, uint64_t *off);
-
-/* Whether a page is LAST. Refuses 4. */
-uint32_t ouriscado_sh_page_is_last(const uint8_t *page, size_t page_len, bool *last);
-
-/* The first page's offset, of a page with LAST. Refuses 4, 7. */
-uint32_t ouriscado_sh_page_first_off(const uint8_t *page, size_t page_len, uint64_t *off);
-
-/* The next page's offset, 0 where the page is LAST. Refuses 4. */
-uint32_t ouriscado_sh_page_next(const uint8_t *page, size_t page_len, uint64_t *off);
-
-/* Writes a page's link: LAST or not, and the offset of the page that it names. Refuses 4 to 6. */
-uint32_t ouriscado_sh_page_write_packed(uint8_t *page, size_t page_len, bool last, uint64_t off);
-
-/* Makes a page LAST, with the first page's offset. Refuses 4 to 6. */
-uint32_t ouriscado_sh_page_set_last(uint8_t *page, size_t page_len, uint64_t off);
-
-/* Gives a page a next page, without LAST. Refuses 4 to 6. */
-uint32_t ouriscado_sh_page_set_next(uint8_t *page, size_t page_len, uint64_t off);
-
-/* Where a page's stream starts. Refuses 4. */
-uint32_t ouriscado_sh_page_stream_off(const uint8_t *page, size_t page_len, size_t *off);
-
-/* How many bytes a page's stream may take. Refuses 4. */
-uint32_t ouriscado_sh_page_stream_cap(const uint8_t *page, size_t page_len, size_t *cap);
-
-/* The extent that a page names, its base and how many pages it has: 0 and 0 outside version 2. Refuses 4, 8, 9. */
-uint32_t ouriscado_sh_page_extent(const uint8_t *page, size_t page_len, uint64_t *base, uint32_t *n);
-
-/* Makes a page name an extent, in version 2. Refuses 4, 8, 9. */
-uint32_t ouriscado_sh_page_set_extent(uint8_t *page, size_t page_len, uint64_t base, uint32_t n);
-
-/* A page's creates, 0 outside version 2. Refuses 4. */
-uint32_t ouriscado_sh_page_extent_creates(const uint8_t *page, size_t page_len, uint32_t *n);
-
-/* Writes a page's creates, in version 2 only. Refuses 4. */
-uint32_t ouriscado_sh_page_set_extent_creates(uint8_t *page, size_t page_len, uint32_t n);
-
-/* How many numbers a page has. Refuses 4, 15. */
-uint32_t ouriscado_sh_page_n_fks(const uint8_t *page, size_t page_len, size_t *n);
-
-/* Writes a page's count. Refuses 4. */
-uint32_t ouriscado_sh_page_set_n_fks(uint8_t *page, size_t page_len, uint16_t n);
-
-/* Passes a page that can be read. Refuses 4, 15, 16. */
-uint32_t ouriscado_sh_page_require_delta(const uint8_t *page, size_t page_len);
-
-/* Makes a page empty: version 1, LAST with first offset 0, every other byte 0. Refuses 4. */
-uint32_t ouriscado_sh_page_init_empty(uint8_t *page, size_t page_len);
-
-/* Makes a page of version 1 of a rising list, with a next page, or LAST with first offset 0 where next is 0. Refuses 4 to 6, 10, 12, 13, 32, 33. */
-uint32_t ouriscado_sh_page_pack_fks(uint8_t *page, size_t page_len, const uint64_t *fks, size_t fks_len, uint64_t next);
-
-/* Makes a page of version 2 of a rising list, which names an extent, with a next page, or LAST with the extent's base where next is 0. Refuses 4 to 6, 8 to 10, 12, 13, 32, 33. */
-uint32_t ouriscado_sh_page_pack_extent_last_fks(uint8_t *page, size_t page_len, const uint64_t *fks, size_t fks_len, uint64_t base, uint32_t n, uint64_t next);
-
-/* How many numbers a slab of a class has slots for, or 0 where that passes 32 bits. */
-uint32_t ouriscado_slab_cap(uint8_t class_);
-
-/* How many bytes a block of a class has, or 0 where that passes 64 bits. */
-uint64_t ouriscado_slab_bytes(uint8_t class_);
-
-/* The offset from which on lists stand in a file, whatever the length of the file's own header. */
-uint64_t ouriscado_payload_start(size_t file_header_len);
-
-/* Writes the payload of a rising list to the start of out, and tells its length. Refuses 10 to 13, 32, 33. */
-uint32_t ouriscado_encode_slab_payload_into(uint8_t *out, size_t out_len, const uint64_t *fks, size_t fks_len, size_t *len);
-
-/* Reads the payload at the start of buf into the start of out, and tells how many numbers it has and how many bytes it takes. Refuses 11, 17, 18, 20 to 23, 34. */
-uint32_t ouriscado_decode_slab_payload_into(const uint8_t *buf, size_t buf_len, uint64_t *out, size_t out_len, size_t *used, size_t *len);
-
-/* Writes the stream of a rising list to the start of out, and tells its length. Refuses 12, 13, 32, 33. */
-uint32_t ouriscado_encode_fk_delta_stream_into(uint8_t *out, size_t out_len, const uint64_t *fks, size_t fks_len, size_t *len);
-
-/* Reads a stream of n numbers at the start of buf into the start of out, and tells how many bytes it takes. Refuses 17, 18, 20 to 23, 34. */
-uint32_t ouriscado_decode_fk_delta_stream_into(const uint8_t *buf, size_t buf_len, size_t n, uint64_t *out, size_t out_len, size_t *taken);
-
-/* The length of the shortest form of n, in bytes. */
-size_t ouriscado_uleb128_len(uint64_t n);
-
-/* Reads the number at the start of buf: its value, and the length of its form. Refuses 17, 18. */
-uint32_t ouriscado_read_uleb128(const uint8_t *buf, size_t buf_len, uint64_t *value, size_t *len);
-
-/* Writes the shortest form of n to the start of dst, and tells its length. Refuses 33. */
-uint32_t ouriscado_write_uleb128_into(uint8_t *dst, size_t dst_len, uint64_t n, size_t *len);
+   Refusals: OURISCADO_SHAPE_BAD (1), OURISCADO_KEY_BEYOND (2), OURISCADO_KEY_UNSOUND (31). */
+uint32_t ouriscado_book_drop(
+    uint8_t *body, size_t body_len, uint64_t *heads, size_t heads_len, uint64_t state[OURISCADO_STATE_WORDS],
+    uint64_t key, uint64_t *length);
 
 #ifdef __cplusplus
 }

@@ -65,10 +65,10 @@ mod tests {
         assert!(status.success(), "run python3 host/bindings.py");
     }
 
-    /// The header is C and C++.
+    /// The headers are C and C++: the one includes the other.
     #[test]
     fn header_compiles() {
-        let header = concat!(env!("CARGO_MANIFEST_DIR"), "/../include/ouriscado.h");
+        let header = concat!(env!("CARGO_MANIFEST_DIR"), "/../include/ouriscado_codec.h");
         for (language, standard) in [("c", "-std=c99"), ("c++", "-std=c++11")] {
             let words = [standard, "-Wall", "-Wextra", "-Werror", "-pedantic", "-fsyntax-only", "-x", language, header];
             let status = std::process::Command::new("cc").args(words).status().unwrap();

@@ -1,0 +1,109 @@
+"""The C headers: their text stands in the templates *.h.in beside this file. A template's line that begins with @ asks for something made:
+
+@call NAME            a function's comment and declaration; indented lines after it join the comment
+@refusals book        an enum's refusals, those that the book's calls name; @refusals others, the rest
+@constants GROUP      constants
+@version              the version's macros
+"""
+import re
+import textwrap
+from pathlib import Path
+
+from boundary.exports import CONSTANTS, fail, version
+
+TYPES = {"u8": "uint8_t", "u16": "uint16_t", "u32": "uint32_t", "u64": "uint64_t", "usize": "size_t", "bool": "bool"}
+WIDTH = 110
+
+
+def filled(first, text):
+    """Text in lines of a comment; the first begins with `first`, the others stand under its text. The comment's end is never alone on a line."""
+    joined = text.replace(" */", "\u00a0*/")
+    lines = textwrap.wrap(joined, WIDTH, initial_indent=first, subsequent_indent=" " * len(first), break_on_hyphens=False)
+    return [l.replace("\u00a0", " ") for l in lines]
+
+
+def parameter(p):
+    """A parameter's declarations: of a slice two, pointer and length."""
+    const = "" if p.mut or not p.ref else "const "
+    name = "class_" if p.name == "class" else p.name  # a word of C++
+    if p.slice:
+        pointer = f"(*{name})[{p.each[0]}]" if p.each else f"*{name}"
+        return [f"{const}{TYPES[p.number]} {pointer}", f"size_t {name}_len"]
+    if p.len:
+        return [f"{const}{TYPES[p.number]} {name}[{'OURISCADO_STATE_WORDS' if name == 'state' else p.len}]"]
+    return [f"{const}{TYPES[p.number]} {'*' if p.ref else ''}{name}"]
+
+
+def declaration(function):
+    given = [d for p in function.parameters for d in parameter(p)] or ["void"]
+    start = f"{TYPES[function.result] if function.result else 'void'} {function.name}("
+    whole = f"{start}{', '.join(given)});"
+    if len(whole) <= WIDTH:
+        return [whole]
+    lines = [start, f"    {given[0]}"]
+    for d in given[1:]:
+        lines[-1] += ","
+        lines += [f"    {d}"] if len(lines[-1]) + len(d) + 3 > WIDTH else [f"{lines.pop()} {d}"]
+    return lines[:-1] + [lines[-1] + ");"]
+
+
+def call(function, more, names):
+    """A function's comment, with what the template adds, and its declaration. Of the book's calls the refusals are named too."""
+    paragraphs = [function.text] + [" ".join(p.split()) for p in re.split(r"\n\s*\n", "\n".join(more)) if p.strip()]
+    if function.of_book:
+        paragraphs.append("Refusals: " + ", ".join(f"{names[n]} ({n})" for n in function.refuses) + ".")
+    paragraphs[-1] += " */"
+    out = filled("/* ", paragraphs[0])
+    for paragraph in paragraphs[1:]:
+        out += ([""] if function.of_book else []) + filled("   ", paragraph)
+    return out + declaration(function)
+
+
+def refusal(r):
+    if not r.name:
+        return filled("    /* ", f"{r.number} is not in use: {r.cause}. */")
+    said = f"{r.cause[0].upper()}{r.cause[1:]}."
+    return filled("    /* ", said) + filled("       ", f"{r.operator}. */") + [f"    OURISCADO_{r.name} = {r.number},"]
+
+
+def constant(name, value, kind, text):
+    shown = f"UINT64_C({value})" if kind == "u64" else str(value)
+    return filled(f"#define OURISCADO_{name:16} {shown:>10} /* ", f"{text} */")
+
+
+def version_macros():
+    numbers = version().split(".")
+    out = [f"#define OURISCADO_VERSION_{part} {n}" for part, n in zip(("MAJOR", "MINOR", "PATCH"), numbers)]
+    return out + [f'#define OURISCADO_VERSION "{version()}"']
+
+
+def refusals_of(which, functions, refusals):
+    of_book = {n for f in functions if f.of_book for n in f.refuses}
+    return [l for r in refusals if (r.number in of_book) == (which == "book") for l in refusal(r)]
+
+
+def header(template, made, functions, refusals):
+    """A header, and the names of the functions that it declares."""
+    lines = (Path(__file__).parent / template).read_text().replace("@MADE@", made).replace("@VERSION@", version()).split("\n")
+    by_name = {f.name: f for f in functions}
+    names = {r.number: f"OURISCADO_{r.name}" for r in refusals}
+    out, called, i = [], [], 0
+    while i < len(lines):
+        word, _, what = lines[i].partition(" ")
+        i += 1
+        if word == "@call":
+            if what not in by_name:
+                fail(f"{template} asks for {what}, which isn't exported")
+            end = next(k for k in range(i, len(lines)) if lines[k] and not lines[k].startswith("    "))
+            out += call(by_name[what], lines[i:end], names) + [""]
+            called.append(what)
+            i = end
+        elif word == "@refusals":
+            out += refusals_of(what, functions, refusals)
+        elif word == "@constants":
+            out += [l for c in CONSTANTS[what] for l in constant(*c)]
+        elif word == "@version":
+            out += version_macros()
+        else:
+            out.append(lines[i - 1])
+    return "\n".join(out), called

@@ -1,0 +1,122 @@
+"""What crosses the C boundary, read from the sources: the exported functions, the refusals, the constants and the version."""
+import re
+import sys
+from pathlib import Path
+
+ROOT = Path(__file__).resolve().parent.parent.parent
+NUMBERS = {"u8", "u16", "u32", "u64", "usize", "bool"}
+FUNCTION = re.compile(r'((?://[^\n]*\n)+)#\[no_mangle\]\npub extern "C" fn (\w+)\(([^)]*)\)(?: -> (\w+))?', re.S)
+REFUSAL = re.compile(r"((?://[^\n]*\n)+)pub const (\w+): Refusal = (\d+);")
+ROW = re.compile(r"^\| (\d+) \| (.+?) \| (.+?) \| (.+?) \|$", re.M)
+LISTED = re.compile(r"\d+(?:(?:, | and | to )\d+)*(?=, where|\.?$)")
+BOOK = "ouriscado_book_"
+
+# The constants of the boundary: name, value, Rust type, text. A test of the Rust crate tries each limit on the library.
+CONSTANTS = {
+    "kinds": [
+        ("KIND_EMPTY", 0, "u8", "the list is empty"),
+        ("KIND_INLINE", 1, "u8", "one number, which stands in the head word itself"),
+        ("KIND_SLAB", 2, "u8", "2 to 256 numbers, in a slab of the body"),
+        ("KIND_PAGES", 3, "u8", "in a chain of pages of the body"),
+    ],
+    "sizes": [
+        ("STATE_WORDS", 10, "usize", "words of a state: the mark, then nine free heads"),
+        ("PAGE_BYTES", 4096, "usize", "bytes of a page, and the unit of a body's length"),
+        ("LEAST_BODY_BYTES", 8192, "usize", "the least bytes of a body"),
+        ("MOST_BODY_BYTES", 1 << 30, "usize", "the most bytes of a body"),
+        ("MOST_HEADS", 65536, "usize", "the most head words, one for each account"),
+        ("MOST_NUMBER", (1 << 62) - 1, "u64", "the largest record number"),
+        ("MOST_LOADED", 65535, "usize", "the most numbers in one load"),
+        ("MOST_IN_SLAB", 256, "usize", "the most numbers in a slab; a longer list stands in pages"),
+        ("MOST_IN_PAGE", 4088, "usize", "the most numbers in a page"),
+        ("PAGE_CLASS", 8, "u8", "the class of a page; slabs have the classes 0 to 7"),
+    ],
+    "stacks": [
+        ("STACK_SHORT", 4096, "usize", "bytes of stack of a call where no list stands in pages"),
+        ("STACK_ANY", 40960, "usize", "bytes of stack of any call"),
+    ],
+}
+
+
+def fail(text):
+    sys.exit(f"bindings: {text}")
+
+
+def comment(lines):
+    """The text of a block of line comments."""
+    return " ".join(l.removeprefix("//").strip() for l in lines.strip().split("\n"))
+
+
+class Parameter:
+    """A parameter of an exported function: a number, or a reference to a number, an array, or a slice of numbers or of arrays."""
+
+    def __init__(self, text):
+        self.name, kind = (s.strip() for s in text.split(":", 1))
+        m = re.fullmatch(r"(&)?(mut )?(?:\[(\w+|\[\w+; \d+\])(?:; (\d+))?\]|(\w+))", kind)
+        if not m:
+            fail(f"the type {kind} of {self.name} can't cross the boundary")
+        self.ref, self.mut, item, self.len, number = m[1], m[2], m[3], m[4], m[5]
+        self.item, self.slice = item or number, bool(item) and not self.len
+        self.number, *self.each = re.findall(r"\w+", self.item)  # of a slice of arrays, the length of each
+        if self.number not in NUMBERS or (item and not self.ref) or (self.each and self.len):
+            fail(f"the type {kind} of {self.name} can't cross the boundary")
+
+
+class Function:
+    """An exported function: its comment, name, parameters, result and the numbers that it refuses with."""
+
+    def __init__(self, m):
+        self.text, self.name, self.result = comment(m[1]), m[2], m[4]
+        self.parameters = [Parameter(p) for p in re.split(r",\s*(?![^\[]*\])", m[3].strip().rstrip(",")) if p.strip()]
+        self.of_book = self.name.startswith(BOOK)
+        self.refuses = sorted(refused_in(self.text))
+
+
+def refused_in(text):
+    """The numbers that a comment's last sentence names: 'Refuses 4, 15 to 18.', also with a 'where' after some of them."""
+    _, _, sentence = text.partition("Refuses ")
+    for listed in LISTED.findall(sentence):
+        for first, last in re.findall(r"(\d+)(?: to (\d+))?", listed):
+            yield from range(int(first), int(last or first) + 1)
+
+
+def functions():
+    """Every exported function, in the order of the files and of the functions in them."""
+    out = []
+    for path in sorted((ROOT / "crates/ouriscado/src").rglob("*.rt")):
+        text = path.read_text()
+        found = [Function(m) for m in FUNCTION.finditer(text)]
+        if len(found) != text.count("#[no_mangle]"):
+            fail(f"{path.name} has an exported function with no comment, or in another form")
+        out += found
+    return out
+
+
+class Refusal:
+    """A refusal: number, name and short text, its cause, and what an operator does or else who meets it. One that is listed but has no
+    name is out of use."""
+
+    def __init__(self, number, name, text, cause, operator):
+        self.number, self.name, self.text, self.cause, self.operator = number, name, text, cause, operator
+
+
+def refusals():
+    """Every refusal, by its number: names and short texts of crate error, the rest of the table in docs/FORMAT.md."""
+    named = {int(m[3]): (m[2], comment(m[1])) for m in REFUSAL.finditer((ROOT / "crates/error/src/lib.rt").read_text())}
+    _, _, section = (ROOT / "docs/FORMAT.md").read_text().partition("## Refusals")
+    rows, before = {}, None
+    for number, cause, who, operator in ROW.findall(section):
+        before = before if operator == "the same" else plain(f"Operator: {operator}" if operator != "–" else f"Met by {who}")
+        rows[int(number)] = (plain(cause), before)
+    if missing := sorted(named.keys() - rows.keys()):
+        fail(f"docs/FORMAT.md has no row for the refusals {missing}")
+    return [Refusal(n, *named.get(n, (None, None)), *rows[n]) for n in sorted(rows)]
+
+
+def plain(text):
+    """A table cell's text without marks of Markdown, in ASCII."""
+    return text.replace("`", "").replace("…", "...")
+
+
+def version():
+    return re.search(r'^version = "([^"]+)"', (ROOT / "rust/Cargo.toml").read_text(), re.M)[1]
