@@ -1,242 +1,90 @@
-//! Posting-list codecs, proved in Rattle: safe functions over the static library.
+//! An account book for record numbers, with its calls proved in Rattle: a safe crate over the static library.
 //!
-//! Each function answers what the proved function of its name answers; a refusal is a [`Refusal`], and leaves every buffer as it was.
-//! [`sys`] has the functions as the library defines them.
-use std::fmt;
+//! A [`Book`] keeps, for each account, a rising list of record numbers in one body of bytes. What is proved: in a book that began with
+//! [`Book::fresh`], and that nobody writes but its calls, each read gives exactly what was recorded for its account since it was last dropped,
+//! or is refused. So an empty list says that nothing is recorded, and a refusal never does.
+//!
+//! ```
+//! use ouriscado::{Book, Place, Refusal};
+//!
+//! let mut book = Book::fresh(vec![0; 65_536], vec![0; 16])?; // a body of 64 KiB, and 16 accounts
+//! assert_eq!(book.append(3, 5)?.place, Place::Inline(5));
+//! book.append(3, 300)?;
+//! assert_eq!(book.read(3)?, [5, 300]);
+//! assert!(book.read(4)?.is_empty()); // nothing is recorded for account 4
+//!
+//! let mut short = [0; 1];
+//! assert_eq!(book.read_into(3, &mut short), Err(Refusal::ListTooShort)); // which isn't an empty list
+//! # Ok::<(), Refusal>(())
+//! ```
+//!
+//! A refused call has changed nothing, and its [`Refusal`] says why. Nothing is allocated by the library; [`Book::read`] allocates its list.
+//! Modules: [`codec`] has the ported functions on single head words, slabs, pages and free lists, [`limits`] the sizes and limits, and
+//! [`sys`] the functions as the library defines them.
+//!
+//! The library, `libouriscado.a`, is for x86-64; the build says which command writes it where it is missing.
+#![warn(missing_docs)]
+#[cfg(not(all(target_arch = "x86_64", target_os = "linux")))]
+compile_error!("libouriscado.a is for x86-64 Linux");
 
-mod pages;
+mod book;
+pub mod codec;
+pub mod limits;
 mod refusal;
+#[rustfmt::skip] // made
 pub mod sys;
 
-pub use pages::*;
+pub use book::{Appended, Book, Listed, Place, Places, State};
 pub use refusal::Refusal;
 
 impl Refusal {
-    /// The number that the library answers.
-    pub fn number(self) -> u32 {
-        self as u32
-    }
-
-    /// The refusal of a number, if it has one.
+    /// The refusal of a number that the library answered: none of 0, which is no refusal, and [`Refusal::Unknown`] of one without a name.
+    ///
+    /// ```
+    /// use ouriscado::Refusal;
+    /// assert_eq!(Refusal::of_number(34), Some(Refusal::ListTooShort));
+    /// assert_eq!(Refusal::of_number(0), None);
+    /// assert_eq!(Refusal::of_number(999), Some(Refusal::Unknown(999)));
+    /// ```
+    #[must_use]
     pub fn of_number(number: u32) -> Option<Refusal> {
-        Self::ALL.iter().copied().find(|r| r.number() == number)
+        match number {
+            0 => None,
+            _ => Some(Self::ALL.iter().copied().find(|r| r.number() == number).unwrap_or(Refusal::Unknown(number))),
+        }
     }
 }
 
-impl fmt::Display for Refusal {
-    fn fmt(&self, f: &mut fmt::Formatter<'_>) -> fmt::Result {
-        f.write_str(self.text())
+/// The text in lower case, and the number.
+///
+/// ```
+/// assert_eq!(ouriscado::Refusal::ListTooShort.to_string(), "the lent list is too short (34)");
+/// ```
+impl std::fmt::Display for Refusal {
+    fn fmt(&self, f: &mut std::fmt::Formatter<'_>) -> std::fmt::Result {
+        write!(f, "{} ({})", self.text(), self.number())
     }
 }
 
 impl std::error::Error for Refusal {}
 
+/// The example of the package's readme.
+#[cfg(doctest)]
+#[doc = include_str!("../README.md")]
+struct Readme;
+
 /// An answer of the library: values where the number is 0, else its refusal.
 #[inline]
 fn answer<T>(number: u32, values: T) -> Result<T, Refusal> {
-    match number {
-        0 => Ok(values),
-        _ => Err(refusal_of(number)),
+    if number == 0 {
+        Ok(values)
+    } else {
+        Err(refusal_of(number))
     }
 }
 
-/// The refusal of a number that the library answered.
+/// The refusal of a number that isn't 0.
 #[cold]
 fn refusal_of(number: u32) -> Refusal {
-    Refusal::of_number(number).expect("the library answers listed numbers")
-}
-
-pub use sys::{payload_start, slab_bytes, slab_cap, uleb128_len};
-
-/// A number that was read, and the length of its form.
-#[derive(Clone, Copy, Debug, PartialEq, Eq)]
-pub struct Reading {
-    pub value: u64,
-    pub len: usize,
-}
-
-/// Reads the ULEB128 number at the start of some bytes; padded forms are read.
-#[inline]
-pub fn read_uleb128(buf: &[u8]) -> Result<Reading, Refusal> {
-    let (mut value, mut len) = (0, 0);
-    let number = sys::read_uleb128(buf, &mut value, &mut len);
-    answer(number, Reading { value, len })
-}
-
-/// Writes a number's shortest ULEB128 form to the start of `dst`, and tells its length.
-#[inline]
-pub fn write_uleb128_into(dst: &mut [u8], n: u64) -> Result<usize, Refusal> {
-    let mut len = 0;
-    let number = sys::write_uleb128_into(dst, n, &mut len);
-    answer(number, len)
-}
-
-/// What a head word says of its key.
-#[derive(Clone, Copy, Debug, PartialEq, Eq)]
-pub enum Head {
-    /// No number.
-    Empty,
-    /// One number; `used` is 1.
-    Inline { entry: u64, used: u8 },
-    /// A slab of a class at an offset, with `used` numbers.
-    Slab { class: u8, used: u16, off: u64 },
-    /// Pages, by the offset of the last.
-    Extent { last_page: u64 },
-}
-
-impl Head {
-    /// The head value of the four numbers that the library hands out.
-    fn of_numbers(kind: u8, class: u8, used: u16, place: u64) -> Head {
-        match kind {
-            0 => Head::Empty,
-            1 => Head::Inline { entry: place, used: used as u8 },
-            2 => Head::Slab { class, used, off: place },
-            _ => Head::Extent { last_page: place },
-        }
-    }
-}
-
-/// The word that stores a head value.
-pub fn pack8(head: Head) -> Result<u64, Refusal> {
-    let mut word = 0;
-    let number = match head {
-        Head::Empty => sys::pack8_empty(&mut word),
-        Head::Inline { entry, used } => sys::pack8_inline(entry, used, &mut word),
-        Head::Slab { class, used, off } => sys::pack8_slab(class, used, off, &mut word),
-        Head::Extent { last_page } => sys::pack8_extent(last_page, &mut word),
-    };
-    answer(number, word)
-}
-
-/// The eight bytes that store a head value.
-pub fn pack8_bytes(head: Head) -> Result<[u8; 8], Refusal> {
-    let mut out = [0; 8];
-    let number = match head {
-        Head::Empty => sys::pack8_bytes_empty(&mut out),
-        Head::Inline { entry, used } => sys::pack8_bytes_inline(entry, used, &mut out),
-        Head::Slab { class, used, off } => sys::pack8_bytes_slab(class, used, off, &mut out),
-        Head::Extent { last_page } => sys::pack8_bytes_extent(last_page, &mut out),
-    };
-    answer(number, out)
-}
-
-/// What a stored word says.
-pub fn unpack8(w: u64) -> Result<Head, Refusal> {
-    let (mut kind, mut class, mut used, mut place) = (0, 0, 0, 0);
-    let number = sys::unpack8(w, &mut kind, &mut class, &mut used, &mut place);
-    answer(number, Head::of_numbers(kind, class, used, place))
-}
-
-/// What eight stored bytes say.
-pub fn unpack8_bytes(buf: &[u8; 8]) -> Result<Head, Refusal> {
-    let (mut kind, mut class, mut used, mut place) = (0, 0, 0, 0);
-    let number = sys::unpack8_bytes(buf, &mut kind, &mut class, &mut used, &mut place);
-    answer(number, Head::of_numbers(kind, class, used, place))
-}
-
-/// A class that a function of the library hands out, if there is one.
-#[inline]
-fn class(choose: impl FnOnce(&mut u8) -> bool) -> Option<u8> {
-    let mut class = 0;
-    choose(&mut class).then_some(class)
-}
-
-/// The smallest class whose bytes hold some bytes: none for 0 or above 2,048.
-#[inline]
-pub fn slab_class_for_packed_len(len: usize) -> Option<u8> {
-    class(|c| sys::slab_class_for_packed_len(len, c))
-}
-
-/// The smallest class whose slots hold n numbers: none for 0, 1 or from 257 on.
-#[inline]
-pub fn slab_class_for_n_fks(n: u32) -> Option<u8> {
-    class(|c| sys::slab_class_for_n_fks(n, c))
-}
-
-/// The class for one number more than n, or where there is none the class for n.
-#[inline]
-pub fn slab_class_for_n_fks_with_slack(n: u32) -> Option<u8> {
-    class(|c| sys::slab_class_for_n_fks_with_slack(n, c))
-}
-
-/// Writes the stream of a rising list to the start of `out`, and tells its length.
-pub fn encode_fk_delta_stream_into(out: &mut [u8], fks: &[u64]) -> Result<usize, Refusal> {
-    let mut len = 0;
-    let number = sys::encode_fk_delta_stream_into(out, fks, &mut len);
-    answer(number, len)
-}
-
-/// Reads a stream of n numbers into the start of `out`, and tells how many bytes it takes.
-pub fn decode_fk_delta_stream_into(buf: &[u8], n: usize, out: &mut [u64]) -> Result<usize, Refusal> {
-    let mut taken = 0;
-    let number = sys::decode_fk_delta_stream_into(buf, n, out, &mut taken);
-    answer(number, taken)
-}
-
-/// Writes the slab payload of a rising list to the start of `out`, and tells its length.
-pub fn encode_slab_payload_into(out: &mut [u8], fks: &[u64]) -> Result<usize, Refusal> {
-    let mut len = 0;
-    let number = sys::encode_slab_payload_into(out, fks, &mut len);
-    answer(number, len)
-}
-
-/// A slab payload that was read: how many numbers it has, and how many bytes it takes.
-#[derive(Clone, Copy, Debug, PartialEq, Eq)]
-pub struct SlabPayload {
-    pub used: usize,
-    pub len: usize,
-}
-
-/// Reads a slab payload into the start of `out`; bytes after the payload are ignored.
-pub fn decode_slab_payload_into(buf: &[u8], out: &mut [u64]) -> Result<SlabPayload, Refusal> {
-    let (mut used, mut len) = (0, 0);
-    let number = sys::decode_slab_payload_into(buf, out, &mut used, &mut len);
-    answer(number, SlabPayload { used, len })
-}
-
-/// A part of a list: the index of its first number, and the one behind its last.
-pub type ChunkRange = [usize; 2];
-
-/// Cuts a list into the parts that pages hold: tells how many, and puts their ranges to the start of `out`.
-pub fn sh_page_chunk_ranges(fks: &[u64], out: &mut [ChunkRange]) -> Result<usize, Refusal> {
-    let mut parts = 0;
-    let number = sys::sh_page_chunk_ranges(fks, out, &mut parts);
-    answer(number, parts)
-}
-
-/// Cuts the last of the first `count` ranges of `chunks` again, into parts that fit a last page, and tells how many ranges there are then. One
-/// that is empty, or leaves `fks`, stays.
-pub fn split_last_chunk_for_extent(fks: &[u64], chunks: &mut [ChunkRange], count: usize) -> Result<usize, Refusal> {
-    let mut parts = 0;
-    let number = sys::split_last_chunk_for_extent(fks, chunks, count, &mut parts);
-    answer(number, parts)
-}
-
-/// The largest class of a slab whose blocks have at most so many bytes.
-#[inline]
-pub fn largest_reloc_class_le(bytes: u64) -> Option<u8> {
-    class(|c| sys::largest_reloc_class_le(bytes, c))
-}
-
-/// The free heads of the classes 0 to 8: the offset of each class's first freed block in a body, or 0.
-#[derive(Clone, Copy, Debug, Default, PartialEq, Eq)]
-pub struct FreeHeads(pub [u64; 9]);
-
-impl FreeHeads {
-    /// Pushes a block onto its class's free list.
-    pub fn push_free_head(&mut self, body: &mut [u8], class: u8, off: u64) -> Result<(), Refusal> {
-        answer(sys::push_free_head(body, &mut self.0, class, off), ())
-    }
-
-    /// Pops a block of a class that lies below the mark, if there is one.
-    pub fn pop_free_head(&mut self, body: &[u8], class: u8, mark: u64) -> Result<Option<u64>, Refusal> {
-        let mut off = 0;
-        let number = sys::pop_free_head(body, &mut self.0, class, mark, &mut off);
-        answer(number, (off != 0).then_some(off))
-    }
-
-    /// Carves the gap between two offsets into blocks, and pushes them.
-    pub fn carve_gap_into_freelist(&mut self, body: &mut [u8], from: u64, to: u64) -> Result<(), Refusal> {
-        answer(sys::carve_gap_into_freelist(body, &mut self.0, from, to), ())
-    }
+    Refusal::of_number(number).unwrap_or(Refusal::Unknown(number))
 }

@@ -1,85 +1,159 @@
-//! Why a call is turned back. Made by host/bindings.py from crates/ouriscado/src and crates/error/src: change those, and make it again.
+//! Why a call is turned back. Made by host/bindings.py from the exports and host/boundary: change those, and make it again.
 
 /// A refusal, by the number that the library answers.
 #[derive(Clone, Copy, Debug, PartialEq, Eq, Hash)]
-#[repr(u32)]
+#[non_exhaustive]
 pub enum Refusal {
-    /// The book's shape breaks its limits.
-    ShapeBad = 1,
-    /// The key is beyond the heads.
-    KeyBeyond = 2,
-    /// A load meets a key in use.
-    KeyInUse = 3,
-    /// A page buffer isn't 4,096 bytes.
-    PageLength = 4,
-    /// A link offset isn't a multiple of 4,096.
-    LinkUnaligned = 5,
-    /// A link index is 2^39 or more.
-    LinkTooLarge = 6,
-    /// The first offset is asked of a page without LAST.
-    NotLast = 7,
-    /// An extent count is 0.
-    ExtentCountZero = 8,
-    /// An extent base is 0 or unaligned.
-    ExtentBaseBad = 9,
-    /// More than 65,535 numbers are offered to a page, slab or load.
-    TooManyOffered = 10,
-    /// A slab buffer is under 2 bytes.
-    SlabTooShort = 11,
-    /// The first or only number offered is 0.
-    OfferedFirstZero = 12,
-    /// A number offered has bit 63 set.
-    OfferedBit63 = 13,
-    /// A book is offered 2^62 or more.
-    OfferedTooLarge = 14,
-    /// A page's count exceeds its capacity.
-    CountAboveCapacity = 15,
-    /// The version is another, or 0 with a count.
-    VersionBad = 16,
-    /// The bytes end before a ULEB128 form does.
-    UlebCutShort = 17,
-    /// A ULEB128 form overflows 64 bits.
-    UlebOverflow = 18,
-    /// A page stream passes its capacity.
-    StreamPastCapacity = 19,
-    /// A stored first number is 0.
-    StoredFirstZero = 20,
-    /// A stored difference is 0.
-    StoredDifferenceZero = 21,
-    /// A stored sum passes 2^64 - 1.
-    StoredSumOverflow = 22,
-    /// A stored number has bit 63 set.
-    StoredBit63 = 23,
-    /// An inline head has used other than 1.
-    InlineUsedNotOne = 24,
-    /// An inline head exceeds 2^62 - 1.
-    InlineTooLarge = 25,
-    /// A slab head has offset above 2^40 - 1 or class above 63.
-    SlabFieldTooLarge = 26,
-    /// An extent head is 0 or above 2^62 - 1.
-    ExtentOutOfRange = 27,
-    /// A stored slab head has used 0 or 1.
-    SlabUsedTooSmall = 28,
-    /// The mode is 2.
-    ModeTwo = 29,
-    /// Mode 3 has payload 0.
-    ExtentPayloadZero = 30,
-    /// A book key isn't sound.
-    KeyUnsound = 31,
-    /// A number offered isn't above the one before.
-    OfferedNotRising = 32,
-    /// What is to be written doesn't fit its destination.
-    DoesNotFit = 33,
-    /// The lent list is too short.
-    ListTooShort = 34,
-    /// A free head to be popped isn't a multiple of 16 (page: 4,096), or its block leaves 4,096 to the mark.
-    FreeHeadBad = 35,
-    /// No room: the block or run would pass the body's end.
-    NoRoom = 36,
+    /// 1: the body's length, the count of head words or the mark is outside the limits.
+    ///
+    /// Operator: checks that body, head words and state belong together and are whole; restores all three.
+    ShapeBad,
+    /// 2: the key isn't below the count of head words.
+    ///
+    /// Operator: checks the account's index; if that is right, the head words that were lent are not all.
+    KeyBeyond,
+    /// 3: a list is loaded onto a key whose head word isn't 0.
+    ///
+    /// Operator: appends instead, or drops the key first.
+    KeyInUse,
+    /// 4: a page buffer doesn't have 4,096 bytes.
+    ///
+    /// Operator: has the caller corrected.
+    PageLength,
+    /// 5: an offset for a link is no multiple of 4,096.
+    ///
+    /// Operator: has the caller corrected.
+    LinkUnaligned,
+    /// 6: an offset for a link is 2^51 or more, so that its index needs more than 39 bits.
+    ///
+    /// Operator: has the caller corrected.
+    LinkTooLarge,
+    /// 7: a page that hasn't LAST is asked for its first page.
+    ///
+    /// Operator: asks the last page; if it was that, the page is damaged.
+    NotLast,
+    /// 8: an extent has no page: its count is 0.
+    ///
+    /// Operator: has the caller corrected; if it was stored, the page is damaged.
+    ExtentCountZero,
+    /// 9: an extent begins at 0, or at no multiple of 4,096.
+    ///
+    /// Operator: has the caller corrected; if it was stored, the page is damaged.
+    ExtentBaseBad,
+    /// 10: one call is offered over 65,535 numbers.
+    ///
+    /// Operator: loads the first 65,535 and appends the others.
+    TooManyOffered,
+    /// 11: a slab buffer has less than 2 bytes.
+    ///
+    /// Operator: has the caller corrected.
+    SlabTooShort,
+    /// 12: the number offered, or the first of a list, is 0.
+    ///
+    /// Operator: has the caller corrected: 0 stands for no record.
+    OfferedFirstZero,
+    /// 13: a number offered is 2^63 or more.
+    ///
+    /// Operator: has the caller corrected.
+    OfferedBit63,
+    /// 14: a number offered is 2^62 or more, and below 2^63.
+    ///
+    /// Operator: has the caller corrected; a book can't hold it.
+    OfferedTooLarge,
+    /// 15: a page's count is more than the bytes for its stream.
+    ///
+    /// Operator: the page is damaged: restores it.
+    CountAboveCapacity,
+    /// 16: a page's version is above 2, or 0 with a count.
+    ///
+    /// Operator: the page is damaged: restores it.
+    VersionBad,
+    /// 17: the bytes end within a ULEB128 form.
+    ///
+    /// Operator: the bytes are damaged, or fewer were given than there are.
+    UlebCutShort,
+    /// 18: a ULEB128 form has more than 64 bits, or more than ten bytes.
+    ///
+    /// Operator: the bytes are damaged.
+    UlebOverflow,
+    /// 19: a page's stream passes the page's end.
+    ///
+    /// Met by nobody: no input gives it (17 comes first).
+    StreamPastCapacity,
+    /// 20: a stream begins with 0.
+    ///
+    /// Operator: the bytes are damaged.
+    StoredFirstZero,
+    /// 21: a stored number equals the one before it.
+    ///
+    /// Operator: the bytes are damaged.
+    StoredDifferenceZero,
+    /// 22: a stored number is 2^64 or more.
+    ///
+    /// Operator: the bytes are damaged.
+    StoredSumOverflow,
+    /// 23: a stored number is 2^63 or more.
+    ///
+    /// Operator: the bytes are damaged.
+    StoredBit63,
+    /// 24: the used of an inline head isn't 1.
+    ///
+    /// Operator: has the caller corrected.
+    InlineUsedNotOne,
+    /// 25: an inline number is 2^62 or more.
+    ///
+    /// Operator: has the caller corrected.
+    InlineTooLarge,
+    /// 26: a slab's offset is 2^40 or more, or its class 64 or more.
+    ///
+    /// Operator: has the caller corrected.
+    SlabFieldTooLarge,
+    /// 27: a last page's offset is 0, or 2^62 or more.
+    ///
+    /// Operator: has the caller corrected.
+    ExtentOutOfRange,
+    /// 28: a head word of mode 1 has used 0 or 1.
+    ///
+    /// Operator: the word is damaged.
+    SlabUsedTooSmall,
+    /// 29: a head word has mode 2.
+    ///
+    /// Operator: the word is damaged.
+    ModeTwo,
+    /// 30: a head word of mode 3 has offset 0.
+    ///
+    /// Operator: the word is damaged.
+    ExtentPayloadZero,
+    /// 31: the key isn't sound.
+    ///
+    /// Operator: takes the account for unknown and never for empty; restores body, head words and state of one moment; finds who else wrote them.
+    KeyUnsound,
+    /// 32: a number is offered that doesn't rise above its predecessor, in the list or in the key.
+    ///
+    /// Operator: reads the key: the number may be recorded already.
+    OfferedNotRising,
+    /// 33: what is to be written is longer than its destination.
+    ///
+    /// Operator: has a larger buffer lent, or fewer numbers offered.
+    DoesNotFit,
+    /// 34: the numbers or ranges to be answered are more than the lent list has room for.
+    ///
+    /// Operator: asks again with a longer list.
+    ListTooShort,
+    /// 35: a free head leads to no block: it is unaligned, or lies outside of 4,096 up to the mark; or such a block is pushed, or such a gap carved.
+    ///
+    /// Operator: the state or a freed block is damaged: restores as for 31; reads go on meanwhile.
+    FreeHeadBad,
+    /// 36: a block, of which none is freed, or a run of pages would pass the body's end.
+    ///
+    /// Operator: drops keys that are no longer needed, which frees blocks of their classes, or moves to a book with a larger body.
+    NoRoom,
+    /// A number that this crate doesn't know: the library is of another version.
+    Unknown(u32),
 }
 
 impl Refusal {
-    /// Every refusal, in the order of the numbers.
+    /// Every refusal that has a name, in the order of the numbers.
     pub const ALL: &'static [Refusal] = &[
         Refusal::ShapeBad,
         Refusal::KeyBeyond,
@@ -119,45 +193,91 @@ impl Refusal {
         Refusal::NoRoom,
     ];
 
-    /// What the refusal says.
-    pub fn text(self) -> &'static str {
+    /// The number that the library answers.
+    #[must_use]
+    pub const fn number(self) -> u32 {
         match self {
-            Refusal::ShapeBad => "The book's shape breaks its limits.",
-            Refusal::KeyBeyond => "The key is beyond the heads.",
-            Refusal::KeyInUse => "A load meets a key in use.",
-            Refusal::PageLength => "A page buffer isn't 4,096 bytes.",
-            Refusal::LinkUnaligned => "A link offset isn't a multiple of 4,096.",
-            Refusal::LinkTooLarge => "A link index is 2^39 or more.",
-            Refusal::NotLast => "The first offset is asked of a page without LAST.",
-            Refusal::ExtentCountZero => "An extent count is 0.",
-            Refusal::ExtentBaseBad => "An extent base is 0 or unaligned.",
-            Refusal::TooManyOffered => "More than 65,535 numbers are offered to a page, slab or load.",
-            Refusal::SlabTooShort => "A slab buffer is under 2 bytes.",
-            Refusal::OfferedFirstZero => "The first or only number offered is 0.",
-            Refusal::OfferedBit63 => "A number offered has bit 63 set.",
-            Refusal::OfferedTooLarge => "A book is offered 2^62 or more.",
-            Refusal::CountAboveCapacity => "A page's count exceeds its capacity.",
-            Refusal::VersionBad => "The version is another, or 0 with a count.",
-            Refusal::UlebCutShort => "The bytes end before a ULEB128 form does.",
-            Refusal::UlebOverflow => "A ULEB128 form overflows 64 bits.",
-            Refusal::StreamPastCapacity => "A page stream passes its capacity.",
-            Refusal::StoredFirstZero => "A stored first number is 0.",
-            Refusal::StoredDifferenceZero => "A stored difference is 0.",
-            Refusal::StoredSumOverflow => "A stored sum passes 2^64 - 1.",
-            Refusal::StoredBit63 => "A stored number has bit 63 set.",
-            Refusal::InlineUsedNotOne => "An inline head has used other than 1.",
-            Refusal::InlineTooLarge => "An inline head exceeds 2^62 - 1.",
-            Refusal::SlabFieldTooLarge => "A slab head has offset above 2^40 - 1 or class above 63.",
-            Refusal::ExtentOutOfRange => "An extent head is 0 or above 2^62 - 1.",
-            Refusal::SlabUsedTooSmall => "A stored slab head has used 0 or 1.",
-            Refusal::ModeTwo => "The mode is 2.",
-            Refusal::ExtentPayloadZero => "Mode 3 has payload 0.",
-            Refusal::KeyUnsound => "A book key isn't sound.",
-            Refusal::OfferedNotRising => "A number offered isn't above the one before.",
-            Refusal::DoesNotFit => "What is to be written doesn't fit its destination.",
-            Refusal::ListTooShort => "The lent list is too short.",
-            Refusal::FreeHeadBad => "A free head to be popped isn't a multiple of 16 (page: 4,096), or its block leaves 4,096 to the mark.",
-            Refusal::NoRoom => "No room: the block or run would pass the body's end.",
+            Refusal::ShapeBad => 1,
+            Refusal::KeyBeyond => 2,
+            Refusal::KeyInUse => 3,
+            Refusal::PageLength => 4,
+            Refusal::LinkUnaligned => 5,
+            Refusal::LinkTooLarge => 6,
+            Refusal::NotLast => 7,
+            Refusal::ExtentCountZero => 8,
+            Refusal::ExtentBaseBad => 9,
+            Refusal::TooManyOffered => 10,
+            Refusal::SlabTooShort => 11,
+            Refusal::OfferedFirstZero => 12,
+            Refusal::OfferedBit63 => 13,
+            Refusal::OfferedTooLarge => 14,
+            Refusal::CountAboveCapacity => 15,
+            Refusal::VersionBad => 16,
+            Refusal::UlebCutShort => 17,
+            Refusal::UlebOverflow => 18,
+            Refusal::StreamPastCapacity => 19,
+            Refusal::StoredFirstZero => 20,
+            Refusal::StoredDifferenceZero => 21,
+            Refusal::StoredSumOverflow => 22,
+            Refusal::StoredBit63 => 23,
+            Refusal::InlineUsedNotOne => 24,
+            Refusal::InlineTooLarge => 25,
+            Refusal::SlabFieldTooLarge => 26,
+            Refusal::ExtentOutOfRange => 27,
+            Refusal::SlabUsedTooSmall => 28,
+            Refusal::ModeTwo => 29,
+            Refusal::ExtentPayloadZero => 30,
+            Refusal::KeyUnsound => 31,
+            Refusal::OfferedNotRising => 32,
+            Refusal::DoesNotFit => 33,
+            Refusal::ListTooShort => 34,
+            Refusal::FreeHeadBad => 35,
+            Refusal::NoRoom => 36,
+            Refusal::Unknown(number) => number,
+        }
+    }
+
+    /// What the refusal says.
+    #[must_use]
+    pub const fn text(self) -> &'static str {
+        match self {
+            Refusal::ShapeBad => "the book's shape breaks its limits",
+            Refusal::KeyBeyond => "the key is beyond the heads",
+            Refusal::KeyInUse => "a load meets a key in use",
+            Refusal::PageLength => "a page buffer isn't 4,096 bytes",
+            Refusal::LinkUnaligned => "a link offset isn't a multiple of 4,096",
+            Refusal::LinkTooLarge => "a link index is 2^39 or more",
+            Refusal::NotLast => "the first offset is asked of a page without LAST",
+            Refusal::ExtentCountZero => "an extent count is 0",
+            Refusal::ExtentBaseBad => "an extent base is 0 or unaligned",
+            Refusal::TooManyOffered => "more than 65,535 numbers are offered to a page, slab or load",
+            Refusal::SlabTooShort => "a slab buffer is under 2 bytes",
+            Refusal::OfferedFirstZero => "the first or only number offered is 0",
+            Refusal::OfferedBit63 => "a number offered has bit 63 set",
+            Refusal::OfferedTooLarge => "a book is offered 2^62 or more",
+            Refusal::CountAboveCapacity => "a page's count exceeds its capacity",
+            Refusal::VersionBad => "the version is another, or 0 with a count",
+            Refusal::UlebCutShort => "the bytes end before a ULEB128 form does",
+            Refusal::UlebOverflow => "a ULEB128 form overflows 64 bits",
+            Refusal::StreamPastCapacity => "a page stream passes its capacity",
+            Refusal::StoredFirstZero => "a stored first number is 0",
+            Refusal::StoredDifferenceZero => "a stored difference is 0",
+            Refusal::StoredSumOverflow => "a stored sum passes 2^64 - 1",
+            Refusal::StoredBit63 => "a stored number has bit 63 set",
+            Refusal::InlineUsedNotOne => "an inline head has used other than 1",
+            Refusal::InlineTooLarge => "an inline head exceeds 2^62 - 1",
+            Refusal::SlabFieldTooLarge => "a slab head has offset above 2^40 - 1 or class above 63",
+            Refusal::ExtentOutOfRange => "an extent head is 0 or above 2^62 - 1",
+            Refusal::SlabUsedTooSmall => "a stored slab head has used 0 or 1",
+            Refusal::ModeTwo => "the mode is 2",
+            Refusal::ExtentPayloadZero => "mode 3 has payload 0",
+            Refusal::KeyUnsound => "a book key isn't sound",
+            Refusal::OfferedNotRising => "a number offered isn't above the one before",
+            Refusal::DoesNotFit => "what is to be written doesn't fit its destination",
+            Refusal::ListTooShort => "the lent list is too short",
+            Refusal::FreeHeadBad => "a free head to be popped isn't a multiple of 16 (page: 4,096), or its block leaves 4,096 to the mark",
+            Refusal::NoRoom => "no room: the block or run would pass the body's end",
+            Refusal::Unknown(_) => "a refusal that this version doesn't know",
         }
     }
 }

@@ -1,8 +1,64 @@
-//! The exported functions. Made by host/bindings.py from crates/ouriscado/src and crates/error/src: change those, and make it again.
+//! The exported functions. Made by host/bindings.py from the exports and host/boundary: change those, and make it again.
+//!
+//! Each function over slices is sound: pointer and length are those of a slice that is lent for the call alone, what is written is
+//! lent to nobody else, and the library keeps no pointer.
+#![allow(clippy::too_many_arguments)]
 
 /// The functions as the library defines them.
 pub mod raw {
     extern "C" {
+        /// Makes a fresh book, in which every key is empty: all heads become 0, and state that of a book from which nothing was taken; the body isn't written. A book is these three: a body, whose length is a multiple of 4,096 bytes from 8,192 to 2^30; heads, one word for each key, 1 to 65,536 of them; and state, ten words, the mark up to which the body was ever used and the first freed block of each of nine sizes. What body, heads and state held before doesn't matter. Refuses 1, where the lengths are others.
+        pub fn ouriscado_book_fresh(body: *const u8, body_len: usize, heads: *mut u64, heads_len: usize, state: &mut [u64; 10]) -> u32;
+        /// Loads a list onto an empty key, counted from 0: record numbers from 1 to 2^62 - 1 that rise strictly, 65,535 at most. An empty list changes nothing. Hands out pages, how many pages of 4,096 bytes hold the list, 0 where it needs none. Refuses 1 and 2, where the book's shape or the key is beyond the limits; 3, where the key is in use; 10, 12 to 14 and 32, where the list isn't such a list; 35, where a freed block is damaged; and 36, where the body has no room.
+        pub fn ouriscado_book_load(
+            body: *mut u8,
+            body_len: usize,
+            heads: *mut u64,
+            heads_len: usize,
+            state: &mut [u64; 10],
+            key: u64,
+            fks: *const u64,
+            fks_len: usize,
+            pages: &mut u64,
+        ) -> u32;
+        /// Appends a record number to the list of a key: from 1 to 2^62 - 1, and above the last of the list. Hands out where the list then stands, and rewritten, how many record numbers a move of the list wrote anew, 0 where it stayed. kind is 1 where the number stands in the head word itself, 2 for a slab, 3 for pages; class is a slab's class, else 0; used is how many numbers a slab or head word holds, 0 for pages; place is the number itself, or the offset of the slab or of the last page in the body. Refuses 1 and 2, where the book's shape or the key is beyond the limits; 12 to 14 and 32, where the number isn't such a number; 31, where the key is damaged; 35, where a freed block is; and 36, where the body has no room.
+        pub fn ouriscado_book_append(
+            body: *mut u8,
+            body_len: usize,
+            heads: *mut u64,
+            heads_len: usize,
+            state: &mut [u64; 10],
+            key: u64,
+            fk: u64,
+            kind: &mut u8,
+            class: &mut u8,
+            used: &mut u16,
+            place: &mut u64,
+            rewritten: &mut u64,
+        ) -> u32;
+        /// Reads the list of a key into the start of out; what stood behind it there stays. Hands out length, how many record numbers the list has, and pages, how many pages of 4,096 bytes it stands in. An accepted read with length 0 means that nothing is recorded for the key. Refuses 1 and 2, where the book's shape or the key is beyond the limits; 31, where the key is damaged; and 34, where out is too short for the whole list: then length is 0 too, and out is as it was.
+        pub fn ouriscado_book_read(
+            body: *const u8,
+            body_len: usize,
+            heads: *const u64,
+            heads_len: usize,
+            state: &[u64; 10],
+            key: u64,
+            out: *mut u64,
+            out_len: usize,
+            length: &mut u64,
+            pages: &mut u64,
+        ) -> u32;
+        /// Drops the list of a key, which is then empty, and gives its slab or pages back to the book. Hands out length, how many record numbers the list had. Refuses 1 and 2, where the book's shape or the key is beyond the limits, and 31, where the key is damaged.
+        pub fn ouriscado_book_drop(
+            body: *mut u8,
+            body_len: usize,
+            heads: *mut u64,
+            heads_len: usize,
+            state: &mut [u64; 10],
+            key: u64,
+            length: &mut u64,
+        ) -> u32;
         /// The smallest class whose bytes hold len bytes: none for 0 or above 2,048.
         pub fn ouriscado_slab_class_for_packed_len(len: usize, class: &mut u8) -> bool;
         /// The smallest class whose slots hold n numbers: none for 0, 1 or from 257 on.
@@ -10,9 +66,22 @@ pub mod raw {
         /// The class for one number more than n, or where there is none the class for n.
         pub fn ouriscado_slab_class_for_n_fks_with_slack(n: u32, class: &mut u8) -> bool;
         /// Cuts fks into parts, tells how many, and puts their ranges, each from an index up to another, to the start of out. Refuses 34.
-        pub fn ouriscado_sh_page_chunk_ranges(fks: *const u64, fks_len: usize, out: *mut [usize; 2], out_len: usize, parts: &mut usize) -> u32;
+        pub fn ouriscado_sh_page_chunk_ranges(
+            fks: *const u64,
+            fks_len: usize,
+            out: *mut [usize; 2],
+            out_len: usize,
+            parts: &mut usize,
+        ) -> u32;
         /// Cuts the last of the first count ranges of chunks again, into parts that fit a last page, and tells how many ranges there are then. One that is empty, or leaves fks, stays. Refuses 34.
-        pub fn ouriscado_split_last_chunk_for_extent(fks: *const u64, fks_len: usize, chunks: *mut [usize; 2], chunks_len: usize, count: usize, parts: &mut usize) -> u32;
+        pub fn ouriscado_split_last_chunk_for_extent(
+            fks: *const u64,
+            fks_len: usize,
+            chunks: *mut [usize; 2],
+            chunks_len: usize,
+            count: usize,
+            parts: &mut usize,
+        ) -> u32;
         /// The largest class of a slab whose blocks have at most so many bytes; the result says whether there is one.
         pub fn ouriscado_largest_reloc_class_le(bytes: u64, class: &mut u8) -> bool;
         /// Pushes a block onto its class's free list: its first 8 bytes name the head so far, and it becomes the head. Refuses 35.
@@ -48,7 +117,14 @@ pub mod raw {
         /// Reads the numbers of a page into the start of out, and tells how many. Refuses 4, 15 to 18, 20 to 23, 34.
         pub fn ouriscado_sh_page_entries_into(page: *const u8, page_len: usize, out: *mut u64, out_len: usize, count: &mut usize) -> u32;
         /// Reads the numbers of a page into the start of out, and tells how many and the next page's offset, 0 where the page is LAST. Refuses 4, 15 to 18, 20 to 23, 34.
-        pub fn ouriscado_sh_page_decode_slice_into(page: *const u8, page_len: usize, out: *mut u64, out_len: usize, count: &mut usize, next: &mut u64) -> u32;
+        pub fn ouriscado_sh_page_decode_slice_into(
+            page: *const u8,
+            page_len: usize,
+            out: *mut u64,
+            out_len: usize,
+            count: &mut usize,
+            next: &mut u64,
+        ) -> u32;
         /// Appends a number to a page, and tells whether it was: it isn't where the page is full. Refuses 4, 12, 13, 15 to 18, 20 to 23, 32.
         pub fn ouriscado_sh_page_try_append(page: *mut u8, page_len: usize, fk: u64, appended: &mut bool) -> u32;
         /// Writes the stream of a rising list to a page whose version is set, with its count, and tells its length. Refuses 4, 10, 12, 13, 32, 33.
@@ -90,7 +166,15 @@ pub mod raw {
         /// Makes a page of version 1 of a rising list, with a next page, or LAST with first offset 0 where next is 0. Refuses 4 to 6, 10, 12, 13, 32, 33.
         pub fn ouriscado_sh_page_pack_fks(page: *mut u8, page_len: usize, fks: *const u64, fks_len: usize, next: u64) -> u32;
         /// Makes a page of version 2 of a rising list, which names an extent, with a next page, or LAST with the extent's base where next is 0. Refuses 4 to 6, 8 to 10, 12, 13, 32, 33.
-        pub fn ouriscado_sh_page_pack_extent_last_fks(page: *mut u8, page_len: usize, fks: *const u64, fks_len: usize, base: u64, n: u32, next: u64) -> u32;
+        pub fn ouriscado_sh_page_pack_extent_last_fks(
+            page: *mut u8,
+            page_len: usize,
+            fks: *const u64,
+            fks_len: usize,
+            base: u64,
+            n: u32,
+            next: u64,
+        ) -> u32;
         /// How many numbers a slab of a class has slots for, or 0 where that passes 32 bits.
         pub fn ouriscado_slab_cap(class: u8) -> u32;
         /// How many bytes a block of a class has, or 0 where that passes 64 bits.
@@ -100,11 +184,25 @@ pub mod raw {
         /// Writes the payload of a rising list to the start of out, and tells its length. Refuses 10 to 13, 32, 33.
         pub fn ouriscado_encode_slab_payload_into(out: *mut u8, out_len: usize, fks: *const u64, fks_len: usize, len: &mut usize) -> u32;
         /// Reads the payload at the start of buf into the start of out, and tells how many numbers it has and how many bytes it takes. Refuses 11, 17, 18, 20 to 23, 34.
-        pub fn ouriscado_decode_slab_payload_into(buf: *const u8, buf_len: usize, out: *mut u64, out_len: usize, used: &mut usize, len: &mut usize) -> u32;
+        pub fn ouriscado_decode_slab_payload_into(
+            buf: *const u8,
+            buf_len: usize,
+            out: *mut u64,
+            out_len: usize,
+            used: &mut usize,
+            len: &mut usize,
+        ) -> u32;
         /// Writes the stream of a rising list to the start of out, and tells its length. Refuses 12, 13, 32, 33.
         pub fn ouriscado_encode_fk_delta_stream_into(out: *mut u8, out_len: usize, fks: *const u64, fks_len: usize, len: &mut usize) -> u32;
         /// Reads a stream of n numbers at the start of buf into the start of out, and tells how many bytes it takes. Refuses 17, 18, 20 to 23, 34.
-        pub fn ouriscado_decode_fk_delta_stream_into(buf: *const u8, buf_len: usize, n: usize, out: *mut u64, out_len: usize, taken: &mut usize) -> u32;
+        pub fn ouriscado_decode_fk_delta_stream_into(
+            buf: *const u8,
+            buf_len: usize,
+            n: usize,
+            out: *mut u64,
+            out_len: usize,
+            taken: &mut usize,
+        ) -> u32;
         /// The length of the shortest form of n, in bytes.
         pub fn ouriscado_uleb128_len(n: u64) -> usize;
         /// Reads the number at the start of buf: its value, and the length of its form. Refuses 17, 18.
@@ -114,326 +212,456 @@ pub mod raw {
     }
 }
 
+/// Makes a fresh book, in which every key is empty: all heads become 0, and state that of a book from which nothing was taken; the body isn't written. A book is these three: a body, whose length is a multiple of 4,096 bytes from 8,192 to 2^30; heads, one word for each key, 1 to 65,536 of them; and state, ten words, the mark up to which the body was ever used and the first freed block of each of nine sizes. What body, heads and state held before doesn't matter. Refuses 1, where the lengths are others.
+#[inline]
+#[must_use]
+pub fn book_fresh(body: &[u8], heads: &mut [u64], state: &mut [u64; 10]) -> u32 {
+    unsafe { raw::ouriscado_book_fresh(body.as_ptr(), body.len(), heads.as_mut_ptr(), heads.len(), state) }
+}
+
+/// Loads a list onto an empty key, counted from 0: record numbers from 1 to 2^62 - 1 that rise strictly, 65,535 at most. An empty list changes nothing. Hands out pages, how many pages of 4,096 bytes hold the list, 0 where it needs none. Refuses 1 and 2, where the book's shape or the key is beyond the limits; 3, where the key is in use; 10, 12 to 14 and 32, where the list isn't such a list; 35, where a freed block is damaged; and 36, where the body has no room.
+#[inline]
+#[must_use]
+pub fn book_load(body: &mut [u8], heads: &mut [u64], state: &mut [u64; 10], key: u64, fks: &[u64], pages: &mut u64) -> u32 {
+    unsafe {
+        raw::ouriscado_book_load(body.as_mut_ptr(), body.len(), heads.as_mut_ptr(), heads.len(), state, key, fks.as_ptr(), fks.len(), pages)
+    }
+}
+
+/// Appends a record number to the list of a key: from 1 to 2^62 - 1, and above the last of the list. Hands out where the list then stands, and rewritten, how many record numbers a move of the list wrote anew, 0 where it stayed. kind is 1 where the number stands in the head word itself, 2 for a slab, 3 for pages; class is a slab's class, else 0; used is how many numbers a slab or head word holds, 0 for pages; place is the number itself, or the offset of the slab or of the last page in the body. Refuses 1 and 2, where the book's shape or the key is beyond the limits; 12 to 14 and 32, where the number isn't such a number; 31, where the key is damaged; 35, where a freed block is; and 36, where the body has no room.
+#[inline]
+#[must_use]
+pub fn book_append(
+    body: &mut [u8],
+    heads: &mut [u64],
+    state: &mut [u64; 10],
+    key: u64,
+    fk: u64,
+    kind: &mut u8,
+    class: &mut u8,
+    used: &mut u16,
+    place: &mut u64,
+    rewritten: &mut u64,
+) -> u32 {
+    unsafe {
+        raw::ouriscado_book_append(
+            body.as_mut_ptr(),
+            body.len(),
+            heads.as_mut_ptr(),
+            heads.len(),
+            state,
+            key,
+            fk,
+            kind,
+            class,
+            used,
+            place,
+            rewritten,
+        )
+    }
+}
+
+/// Reads the list of a key into the start of out; what stood behind it there stays. Hands out length, how many record numbers the list has, and pages, how many pages of 4,096 bytes it stands in. An accepted read with length 0 means that nothing is recorded for the key. Refuses 1 and 2, where the book's shape or the key is beyond the limits; 31, where the key is damaged; and 34, where out is too short for the whole list: then length is 0 too, and out is as it was.
+#[inline]
+#[must_use]
+pub fn book_read(body: &[u8], heads: &[u64], state: &[u64; 10], key: u64, out: &mut [u64], length: &mut u64, pages: &mut u64) -> u32 {
+    unsafe {
+        raw::ouriscado_book_read(
+            body.as_ptr(),
+            body.len(),
+            heads.as_ptr(),
+            heads.len(),
+            state,
+            key,
+            out.as_mut_ptr(),
+            out.len(),
+            length,
+            pages,
+        )
+    }
+}
+
+/// Drops the list of a key, which is then empty, and gives its slab or pages back to the book. Hands out length, how many record numbers the list had. Refuses 1 and 2, where the book's shape or the key is beyond the limits, and 31, where the key is damaged.
+#[inline]
+#[must_use]
+pub fn book_drop(body: &mut [u8], heads: &mut [u64], state: &mut [u64; 10], key: u64, length: &mut u64) -> u32 {
+    unsafe { raw::ouriscado_book_drop(body.as_mut_ptr(), body.len(), heads.as_mut_ptr(), heads.len(), state, key, length) }
+}
+
 /// The smallest class whose bytes hold len bytes: none for 0 or above 2,048.
 #[inline]
+#[must_use]
 pub fn slab_class_for_packed_len(len: usize, class: &mut u8) -> bool {
     unsafe { raw::ouriscado_slab_class_for_packed_len(len, class) }
 }
 
 /// The smallest class whose slots hold n numbers: none for 0, 1 or from 257 on.
 #[inline]
+#[must_use]
 pub fn slab_class_for_n_fks(n: u32, class: &mut u8) -> bool {
     unsafe { raw::ouriscado_slab_class_for_n_fks(n, class) }
 }
 
 /// The class for one number more than n, or where there is none the class for n.
 #[inline]
+#[must_use]
 pub fn slab_class_for_n_fks_with_slack(n: u32, class: &mut u8) -> bool {
     unsafe { raw::ouriscado_slab_class_for_n_fks_with_slack(n, class) }
 }
 
 /// Cuts fks into parts, tells how many, and puts their ranges, each from an index up to another, to the start of out. Refuses 34.
 #[inline]
+#[must_use]
 pub fn sh_page_chunk_ranges(fks: &[u64], out: &mut [[usize; 2]], parts: &mut usize) -> u32 {
     unsafe { raw::ouriscado_sh_page_chunk_ranges(fks.as_ptr(), fks.len(), out.as_mut_ptr(), out.len(), parts) }
 }
 
 /// Cuts the last of the first count ranges of chunks again, into parts that fit a last page, and tells how many ranges there are then. One that is empty, or leaves fks, stays. Refuses 34.
 #[inline]
+#[must_use]
 pub fn split_last_chunk_for_extent(fks: &[u64], chunks: &mut [[usize; 2]], count: usize, parts: &mut usize) -> u32 {
     unsafe { raw::ouriscado_split_last_chunk_for_extent(fks.as_ptr(), fks.len(), chunks.as_mut_ptr(), chunks.len(), count, parts) }
 }
 
 /// The largest class of a slab whose blocks have at most so many bytes; the result says whether there is one.
 #[inline]
+#[must_use]
 pub fn largest_reloc_class_le(bytes: u64, class: &mut u8) -> bool {
     unsafe { raw::ouriscado_largest_reloc_class_le(bytes, class) }
 }
 
 /// Pushes a block onto its class's free list: its first 8 bytes name the head so far, and it becomes the head. Refuses 35.
 #[inline]
+#[must_use]
 pub fn push_free_head(body: &mut [u8], heads: &mut [u64; 9], class: u8, off: u64) -> u32 {
     unsafe { raw::ouriscado_push_free_head(body.as_mut_ptr(), body.len(), heads, class, off) }
 }
 
 /// Pops a block of a class that lies below the mark, and hands out its offset, 0 where there is none. Refuses 35.
 #[inline]
+#[must_use]
 pub fn pop_free_head(body: &[u8], heads: &mut [u64; 9], class: u8, mark: u64, off: &mut u64) -> u32 {
     unsafe { raw::ouriscado_pop_free_head(body.as_ptr(), body.len(), heads, class, mark, off) }
 }
 
 /// Carves the gap between two offsets into blocks, from its low end, the largest class up to 7 first, and pushes them. Refuses 35.
 #[inline]
+#[must_use]
 pub fn carve_gap_into_freelist(body: &mut [u8], heads: &mut [u64; 9], from: u64, to: u64) -> u32 {
     unsafe { raw::ouriscado_carve_gap_into_freelist(body.as_mut_ptr(), body.len(), heads, from, to) }
 }
 
 /// The word of no number.
 #[inline]
+#[must_use]
 pub fn pack8_empty(word: &mut u64) -> u32 {
     unsafe { raw::ouriscado_pack8_empty(word) }
 }
 
 /// The word of an inline number. Refuses 24, 25.
 #[inline]
+#[must_use]
 pub fn pack8_inline(entry: u64, used: u8, word: &mut u64) -> u32 {
     unsafe { raw::ouriscado_pack8_inline(entry, used, word) }
 }
 
 /// The word of a slab. Refuses 26.
 #[inline]
+#[must_use]
 pub fn pack8_slab(class: u8, used: u16, off: u64, word: &mut u64) -> u32 {
     unsafe { raw::ouriscado_pack8_slab(class, used, off, word) }
 }
 
 /// The word of pages, by the offset of the last. Refuses 27.
 #[inline]
+#[must_use]
 pub fn pack8_extent(last: u64, word: &mut u64) -> u32 {
     unsafe { raw::ouriscado_pack8_extent(last, word) }
 }
 
 /// The eight bytes that store the head of no number.
 #[inline]
+#[must_use]
 pub fn pack8_bytes_empty(out: &mut [u8; 8]) -> u32 {
     unsafe { raw::ouriscado_pack8_bytes_empty(out) }
 }
 
 /// The eight bytes that store an inline number. Refuses 24, 25.
 #[inline]
+#[must_use]
 pub fn pack8_bytes_inline(entry: u64, used: u8, out: &mut [u8; 8]) -> u32 {
     unsafe { raw::ouriscado_pack8_bytes_inline(entry, used, out) }
 }
 
 /// The eight bytes that store a slab's head. Refuses 26.
 #[inline]
+#[must_use]
 pub fn pack8_bytes_slab(class: u8, used: u16, off: u64, out: &mut [u8; 8]) -> u32 {
     unsafe { raw::ouriscado_pack8_bytes_slab(class, used, off, out) }
 }
 
 /// The eight bytes that store the head of pages, by the offset of the last. Refuses 27.
 #[inline]
+#[must_use]
 pub fn pack8_bytes_extent(last: u64, out: &mut [u8; 8]) -> u32 {
     unsafe { raw::ouriscado_pack8_bytes_extent(last, out) }
 }
 
 /// What a stored word says, as four numbers. Refuses 28 to 30.
 #[inline]
+#[must_use]
 pub fn unpack8(w: u64, kind: &mut u8, class: &mut u8, used: &mut u16, place: &mut u64) -> u32 {
     unsafe { raw::ouriscado_unpack8(w, kind, class, used, place) }
 }
 
 /// What eight stored bytes say, as four numbers. Refuses 28 to 30.
 #[inline]
+#[must_use]
 pub fn unpack8_bytes(buf: &[u8; 8], kind: &mut u8, class: &mut u8, used: &mut u16, place: &mut u64) -> u32 {
     unsafe { raw::ouriscado_unpack8_bytes(buf, kind, class, used, place) }
 }
 
 /// How many bytes a page's stream takes, and its last number, 0 where it has none. Refuses 4, 15 to 18, 20 to 23.
 #[inline]
+#[must_use]
 pub fn sh_page_stream_tail(page: &[u8], taken: &mut usize, last: &mut u64) -> u32 {
     unsafe { raw::ouriscado_sh_page_stream_tail(page.as_ptr(), page.len(), taken, last) }
 }
 
 /// The last number of a page, 0 where it has none. Refuses 4, 15 to 18, 20 to 23.
 #[inline]
+#[must_use]
 pub fn sh_page_last_fk(page: &[u8], last: &mut u64) -> u32 {
     unsafe { raw::ouriscado_sh_page_last_fk(page.as_ptr(), page.len(), last) }
 }
 
 /// Reads the numbers of a page into the start of out, and tells how many. Refuses 4, 15 to 18, 20 to 23, 34.
 #[inline]
+#[must_use]
 pub fn sh_page_entries_into(page: &[u8], out: &mut [u64], count: &mut usize) -> u32 {
     unsafe { raw::ouriscado_sh_page_entries_into(page.as_ptr(), page.len(), out.as_mut_ptr(), out.len(), count) }
 }
 
 /// Reads the numbers of a page into the start of out, and tells how many and the next page's offset, 0 where the page is LAST. Refuses 4, 15 to 18, 20 to 23, 34.
 #[inline]
+#[must_use]
 pub fn sh_page_decode_slice_into(page: &[u8], out: &mut [u64], count: &mut usize, next: &mut u64) -> u32 {
     unsafe { raw::ouriscado_sh_page_decode_slice_into(page.as_ptr(), page.len(), out.as_mut_ptr(), out.len(), count, next) }
 }
 
 /// Appends a number to a page, and tells whether it was: it isn't where the page is full. Refuses 4, 12, 13, 15 to 18, 20 to 23, 32.
 #[inline]
+#[must_use]
 pub fn sh_page_try_append(page: &mut [u8], fk: u64, appended: &mut bool) -> u32 {
     unsafe { raw::ouriscado_sh_page_try_append(page.as_mut_ptr(), page.len(), fk, appended) }
 }
 
 /// Writes the stream of a rising list to a page whose version is set, with its count, and tells its length. Refuses 4, 10, 12, 13, 32, 33.
 #[inline]
+#[must_use]
 pub fn sh_page_write_stream(page: &mut [u8], fks: &[u64], len: &mut usize) -> u32 {
     unsafe { raw::ouriscado_sh_page_write_stream(page.as_mut_ptr(), page.len(), fks.as_ptr(), fks.len(), len) }
 }
 
 /// What a page's link says: whether the page is LAST, and the offset of the page that it names. Refuses 4.
 #[inline]
+#[must_use]
 pub fn sh_page_read_packed(page: &[u8], last: &mut bool, off: &mut u64) -> u32 {
     unsafe { raw::ouriscado_sh_page_read_packed(page.as_ptr(), page.len(), last, off) }
 }
 
 /// Whether a page is LAST. Refuses 4.
 #[inline]
+#[must_use]
 pub fn sh_page_is_last(page: &[u8], last: &mut bool) -> u32 {
     unsafe { raw::ouriscado_sh_page_is_last(page.as_ptr(), page.len(), last) }
 }
 
 /// The first page's offset, of a page with LAST. Refuses 4, 7.
 #[inline]
+#[must_use]
 pub fn sh_page_first_off(page: &[u8], off: &mut u64) -> u32 {
     unsafe { raw::ouriscado_sh_page_first_off(page.as_ptr(), page.len(), off) }
 }
 
 /// The next page's offset, 0 where the page is LAST. Refuses 4.
 #[inline]
+#[must_use]
 pub fn sh_page_next(page: &[u8], off: &mut u64) -> u32 {
     unsafe { raw::ouriscado_sh_page_next(page.as_ptr(), page.len(), off) }
 }
 
 /// Writes a page's link: LAST or not, and the offset of the page that it names. Refuses 4 to 6.
 #[inline]
+#[must_use]
 pub fn sh_page_write_packed(page: &mut [u8], last: bool, off: u64) -> u32 {
     unsafe { raw::ouriscado_sh_page_write_packed(page.as_mut_ptr(), page.len(), last, off) }
 }
 
 /// Makes a page LAST, with the first page's offset. Refuses 4 to 6.
 #[inline]
+#[must_use]
 pub fn sh_page_set_last(page: &mut [u8], off: u64) -> u32 {
     unsafe { raw::ouriscado_sh_page_set_last(page.as_mut_ptr(), page.len(), off) }
 }
 
 /// Gives a page a next page, without LAST. Refuses 4 to 6.
 #[inline]
+#[must_use]
 pub fn sh_page_set_next(page: &mut [u8], off: u64) -> u32 {
     unsafe { raw::ouriscado_sh_page_set_next(page.as_mut_ptr(), page.len(), off) }
 }
 
 /// Where a page's stream starts. Refuses 4.
 #[inline]
+#[must_use]
 pub fn sh_page_stream_off(page: &[u8], off: &mut usize) -> u32 {
     unsafe { raw::ouriscado_sh_page_stream_off(page.as_ptr(), page.len(), off) }
 }
 
 /// How many bytes a page's stream may take. Refuses 4.
 #[inline]
+#[must_use]
 pub fn sh_page_stream_cap(page: &[u8], cap: &mut usize) -> u32 {
     unsafe { raw::ouriscado_sh_page_stream_cap(page.as_ptr(), page.len(), cap) }
 }
 
 /// The extent that a page names, its base and how many pages it has: 0 and 0 outside version 2. Refuses 4, 8, 9.
 #[inline]
+#[must_use]
 pub fn sh_page_extent(page: &[u8], base: &mut u64, n: &mut u32) -> u32 {
     unsafe { raw::ouriscado_sh_page_extent(page.as_ptr(), page.len(), base, n) }
 }
 
 /// Makes a page name an extent, in version 2. Refuses 4, 8, 9.
 #[inline]
+#[must_use]
 pub fn sh_page_set_extent(page: &mut [u8], base: u64, n: u32) -> u32 {
     unsafe { raw::ouriscado_sh_page_set_extent(page.as_mut_ptr(), page.len(), base, n) }
 }
 
 /// A page's creates, 0 outside version 2. Refuses 4.
 #[inline]
+#[must_use]
 pub fn sh_page_extent_creates(page: &[u8], n: &mut u32) -> u32 {
     unsafe { raw::ouriscado_sh_page_extent_creates(page.as_ptr(), page.len(), n) }
 }
 
 /// Writes a page's creates, in version 2 only. Refuses 4.
 #[inline]
+#[must_use]
 pub fn sh_page_set_extent_creates(page: &mut [u8], n: u32) -> u32 {
     unsafe { raw::ouriscado_sh_page_set_extent_creates(page.as_mut_ptr(), page.len(), n) }
 }
 
 /// How many numbers a page has. Refuses 4, 15.
 #[inline]
+#[must_use]
 pub fn sh_page_n_fks(page: &[u8], n: &mut usize) -> u32 {
     unsafe { raw::ouriscado_sh_page_n_fks(page.as_ptr(), page.len(), n) }
 }
 
 /// Writes a page's count. Refuses 4.
 #[inline]
+#[must_use]
 pub fn sh_page_set_n_fks(page: &mut [u8], n: u16) -> u32 {
     unsafe { raw::ouriscado_sh_page_set_n_fks(page.as_mut_ptr(), page.len(), n) }
 }
 
 /// Passes a page that can be read. Refuses 4, 15, 16.
 #[inline]
+#[must_use]
 pub fn sh_page_require_delta(page: &[u8]) -> u32 {
     unsafe { raw::ouriscado_sh_page_require_delta(page.as_ptr(), page.len()) }
 }
 
 /// Makes a page empty: version 1, LAST with first offset 0, every other byte 0. Refuses 4.
 #[inline]
+#[must_use]
 pub fn sh_page_init_empty(page: &mut [u8]) -> u32 {
     unsafe { raw::ouriscado_sh_page_init_empty(page.as_mut_ptr(), page.len()) }
 }
 
 /// Makes a page of version 1 of a rising list, with a next page, or LAST with first offset 0 where next is 0. Refuses 4 to 6, 10, 12, 13, 32, 33.
 #[inline]
+#[must_use]
 pub fn sh_page_pack_fks(page: &mut [u8], fks: &[u64], next: u64) -> u32 {
     unsafe { raw::ouriscado_sh_page_pack_fks(page.as_mut_ptr(), page.len(), fks.as_ptr(), fks.len(), next) }
 }
 
 /// Makes a page of version 2 of a rising list, which names an extent, with a next page, or LAST with the extent's base where next is 0. Refuses 4 to 6, 8 to 10, 12, 13, 32, 33.
 #[inline]
+#[must_use]
 pub fn sh_page_pack_extent_last_fks(page: &mut [u8], fks: &[u64], base: u64, n: u32, next: u64) -> u32 {
     unsafe { raw::ouriscado_sh_page_pack_extent_last_fks(page.as_mut_ptr(), page.len(), fks.as_ptr(), fks.len(), base, n, next) }
 }
 
 /// How many numbers a slab of a class has slots for, or 0 where that passes 32 bits.
 #[inline]
+#[must_use]
 pub fn slab_cap(class: u8) -> u32 {
     unsafe { raw::ouriscado_slab_cap(class) }
 }
 
 /// How many bytes a block of a class has, or 0 where that passes 64 bits.
 #[inline]
+#[must_use]
 pub fn slab_bytes(class: u8) -> u64 {
     unsafe { raw::ouriscado_slab_bytes(class) }
 }
 
 /// The offset from which on lists stand in a file, whatever the length of the file's own header.
 #[inline]
+#[must_use]
 pub fn payload_start(file_header_len: usize) -> u64 {
     unsafe { raw::ouriscado_payload_start(file_header_len) }
 }
 
 /// Writes the payload of a rising list to the start of out, and tells its length. Refuses 10 to 13, 32, 33.
 #[inline]
+#[must_use]
 pub fn encode_slab_payload_into(out: &mut [u8], fks: &[u64], len: &mut usize) -> u32 {
     unsafe { raw::ouriscado_encode_slab_payload_into(out.as_mut_ptr(), out.len(), fks.as_ptr(), fks.len(), len) }
 }
 
 /// Reads the payload at the start of buf into the start of out, and tells how many numbers it has and how many bytes it takes. Refuses 11, 17, 18, 20 to 23, 34.
 #[inline]
+#[must_use]
 pub fn decode_slab_payload_into(buf: &[u8], out: &mut [u64], used: &mut usize, len: &mut usize) -> u32 {
     unsafe { raw::ouriscado_decode_slab_payload_into(buf.as_ptr(), buf.len(), out.as_mut_ptr(), out.len(), used, len) }
 }
 
 /// Writes the stream of a rising list to the start of out, and tells its length. Refuses 12, 13, 32, 33.
 #[inline]
+#[must_use]
 pub fn encode_fk_delta_stream_into(out: &mut [u8], fks: &[u64], len: &mut usize) -> u32 {
     unsafe { raw::ouriscado_encode_fk_delta_stream_into(out.as_mut_ptr(), out.len(), fks.as_ptr(), fks.len(), len) }
 }
 
 /// Reads a stream of n numbers at the start of buf into the start of out, and tells how many bytes it takes. Refuses 17, 18, 20 to 23, 34.
 #[inline]
+#[must_use]
 pub fn decode_fk_delta_stream_into(buf: &[u8], n: usize, out: &mut [u64], taken: &mut usize) -> u32 {
     unsafe { raw::ouriscado_decode_fk_delta_stream_into(buf.as_ptr(), buf.len(), n, out.as_mut_ptr(), out.len(), taken) }
 }
 
 /// The length of the shortest form of n, in bytes.
 #[inline]
+#[must_use]
 pub fn uleb128_len(n: u64) -> usize {
     unsafe { raw::ouriscado_uleb128_len(n) }
 }
 
 /// Reads the number at the start of buf: its value, and the length of its form. Refuses 17, 18.
 #[inline]
+#[must_use]
 pub fn read_uleb128(buf: &[u8], value: &mut u64, len: &mut usize) -> u32 {
     unsafe { raw::ouriscado_read_uleb128(buf.as_ptr(), buf.len(), value, len) }
 }
 
 /// Writes the shortest form of n to the start of dst, and tells its length. Refuses 33.
 #[inline]
+#[must_use]
 pub fn write_uleb128_into(dst: &mut [u8], n: u64, len: &mut usize) -> u32 {
     unsafe { raw::ouriscado_write_uleb128_into(dst.as_mut_ptr(), dst.len(), n, len) }
 }

@@ -1,5 +1,6 @@
-//! Specimens of document 01, through the safe functions.
-use ouriscado::*;
+//! Specimens of document 01, through the functions of the module codec.
+use ouriscado::codec::*;
+use ouriscado::Refusal;
 
 #[test]
 fn numbers() {
@@ -72,7 +73,7 @@ fn page_fields() {
 fn page_entries() {
     let mut page = [0; 4096];
     assert_eq!(sh_page_last_fk(&page), Ok(None));
-    assert_eq!([5, 300, 301].map(|fk| sh_page_try_append(&mut page, fk)), [Ok(true); 3]);
+    assert_eq!([5, 300, 301].map(|fk| sh_page_try_append(&mut page, fk)), [Ok(PageAppend::Appended); 3]);
     assert_eq!(page[..12], [1, 3, 0, 0, 0, 0, 0, 0, 5, 0xa7, 2, 1]);
     assert_eq!(sh_page_try_append(&mut page, 301), Err(Refusal::OfferedNotRising));
     assert_eq!(sh_page_stream_tail(&page), Ok(StreamTail { taken: 4, last: 301 }));
@@ -81,7 +82,7 @@ fn page_entries() {
     assert_eq!(list[..4], [5, 300, 301, 0]);
     let full: Vec<u64> = (1..=4088).collect();
     assert_eq!(sh_page_write_stream(&mut page, &full), Ok(4088));
-    assert_eq!(sh_page_try_append(&mut page, 4089), Ok(false));
+    assert_eq!(sh_page_try_append(&mut page, 4089), Ok(PageAppend::Full));
     assert_eq!(sh_page_entries_into(&page, &mut list), Ok(4088));
     assert_eq!(list[..4088], full[..]);
     assert_eq!(sh_page_write_stream(&mut page, &list), Err(Refusal::OfferedNotRising));
@@ -101,10 +102,4 @@ fn packed_pages() {
     assert_eq!(sh_page_pack_extent_last_fks(&mut page, &full, extent, 0), Err(Refusal::DoesNotFit));
     assert_eq!(sh_page_pack_extent_last_fks(&mut page, &full[1..], extent, 0), Ok(()));
     assert_eq!((sh_page_extent(&page), sh_page_first_off(&page), sh_page_n_fks(&page)), (Ok(Some(extent)), Ok(4096), Ok(4072)));
-}
-
-#[test]
-fn refusals_know_their_numbers() {
-    assert!(Refusal::ALL.iter().all(|r| Refusal::of_number(r.number()) == Some(*r) && !r.text().is_empty()));
-    assert_eq!(Refusal::UlebOverflow.number(), 18);
 }

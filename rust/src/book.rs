@@ -1,0 +1,353 @@
+//! The account book.
+use crate::limits::{PAGE_BYTES, STATE_WORDS};
+use crate::{answer, codec, sys, Refusal};
+
+/// A book's state: the mark, up to which the body was ever used, and for each of the classes 0 to 8 the offset of its first freed block.
+///
+/// It belongs to the body and the head words of the same moment: keep, store and restore the three together.
+#[derive(Clone, Copy, Debug, Default, PartialEq, Eq, Hash)]
+pub struct State(pub [u64; STATE_WORDS]);
+
+impl State {
+    /// The offset up to which the body was ever used.
+    #[must_use]
+    pub fn mark(&self) -> u64 {
+        self.0[0]
+    }
+
+    /// The offset of each class's first freed block, 0 where there is none.
+    #[must_use]
+    pub fn free_heads(&self) -> &[u64] {
+        &self.0[1..]
+    }
+}
+
+/// Where an account's list stands.
+#[derive(Clone, Copy, Debug, PartialEq, Eq, Hash)]
+pub enum Place {
+    /// Nothing is recorded.
+    Empty,
+    /// One number, which stands in the head word itself.
+    Inline(u64),
+    /// A slab of the body, of 16 × 2^class bytes.
+    Slab {
+        /// The slab's class, 0 to 7.
+        class: u8,
+        /// How many numbers it has.
+        used: u16,
+        /// Where it begins in the body.
+        offset: u64,
+    },
+    /// A chain of pages.
+    Pages {
+        /// Where the last page begins in the body.
+        last: u64,
+    },
+}
+
+impl From<codec::Head> for Place {
+    fn from(head: codec::Head) -> Place {
+        match head {
+            codec::Head::Empty => Place::Empty,
+            codec::Head::Inline { entry, .. } => Place::Inline(entry),
+            codec::Head::Slab { class, used, off } => Place::Slab { class, used, offset: off },
+            codec::Head::Extent { last_page } => Place::Pages { last: last_page },
+        }
+    }
+}
+
+/// What an accepted append tells.
+#[derive(Clone, Copy, Debug, PartialEq, Eq)]
+pub struct Appended {
+    /// Where the list stands now.
+    pub place: Place,
+    /// How many numbers were written anew because the list moved, 0 where it stayed.
+    pub rewritten: u64,
+}
+
+/// What an accepted read tells of the lent list.
+#[derive(Clone, Copy, Debug, PartialEq, Eq)]
+#[must_use = "only the first `length` numbers of the lent list are the account's"]
+pub struct Listed {
+    /// How many numbers the account has: so many stand at the start of the lent list now.
+    pub length: usize,
+    /// How many pages they stand in.
+    pub pages: u64,
+}
+
+/// An account book over a body of bytes and one head word for each account, which it owns or borrows.
+///
+/// An account is named by its key, the index of its head word. `B` and `H` may be vectors, boxes, arrays, mapped files or mutable borrows; a
+/// book over shared borrows can be read. Lengths are checked by each call: see [`crate::limits`].
+///
+/// ```
+/// use ouriscado::{Book, Refusal};
+///
+/// let (mut body, mut heads) = (vec![0xff; 8192], [0; 2]); // a body may hold anything
+/// let mut book = Book::fresh(&mut body[..], &mut heads[..])?;
+/// book.load(1, &[7, 8, 9])?;
+/// let (_, _, state) = book.into_parts();
+///
+/// let again = Book::from_parts(&body[..], &heads[..], state); // borrowed, to be read
+/// assert_eq!(again.read(1)?, [7, 8, 9]);
+/// # Ok::<(), Refusal>(())
+/// ```
+#[derive(Clone, Debug, PartialEq, Eq)]
+pub struct Book<B, H> {
+    body: B,
+    heads: H,
+    state: State,
+}
+
+impl<B, H> Book<B, H> {
+    /// A book of a body, head words and a state that belong together: those that [`Book::into_parts`] gave, or copies of them.
+    ///
+    /// Nothing is checked here. Each call checks the book's shape, and of its account all that it reads.
+    pub fn from_parts(body: B, heads: H, state: State) -> Self {
+        Book { body, heads, state }
+    }
+
+    /// The body, the head words and the state. Without the state, body and head words are no book.
+    #[must_use = "without its state a body is no book"]
+    pub fn into_parts(self) -> (B, H, State) {
+        (self.body, self.heads, self.state)
+    }
+
+    /// The state.
+    #[must_use]
+    pub fn state(&self) -> &State {
+        &self.state
+    }
+}
+
+impl<B: AsRef<[u8]>, H: AsRef<[u64]>> Book<B, H> {
+    /// Makes a book in which nothing is recorded: every head word becomes 0. The body stays as it is, and may hold anything.
+    ///
+    /// # Errors
+    ///
+    /// [`Refusal::ShapeBad`] where the body's length or the count of head words is outside the [limits](crate::limits).
+    pub fn fresh(body: B, mut heads: H) -> Result<Self, Refusal>
+    where
+        H: AsMut<[u64]>,
+    {
+        let mut state = State::default();
+        let number = sys::book_fresh(body.as_ref(), heads.as_mut(), &mut state.0);
+        answer(number, ()).map(|()| Book { body, heads, state })
+    }
+
+    /// The body.
+    #[must_use]
+    pub fn body(&self) -> &[u8] {
+        self.body.as_ref()
+    }
+
+    /// The head words, one for each account.
+    #[must_use]
+    pub fn heads(&self) -> &[u64] {
+        self.heads.as_ref()
+    }
+
+    /// The list of an account. An empty one says that nothing is recorded.
+    ///
+    /// ```
+    /// use ouriscado::{Book, Refusal};
+    ///
+    /// let mut book = Book::fresh(vec![0; 1 << 20], vec![0; 1])?;
+    /// let day: Vec<u64> = (1..=10_000).collect();
+    /// book.load(0, &day)?;
+    /// assert_eq!(book.read(0)?, day);
+    /// assert_eq!(book.read(1), Err(Refusal::KeyBeyond));
+    /// # Ok::<(), Refusal>(())
+    /// ```
+    ///
+    /// # Errors
+    ///
+    /// [`Refusal::ShapeBad`], [`Refusal::KeyBeyond`] and [`Refusal::KeyUnsound`]. None of them says that the account is empty.
+    pub fn read(&self, key: u64) -> Result<Vec<u64>, Refusal> {
+        self.read_with(key, self.likely_length(key))
+    }
+
+    /// The list of an account, with room for so many numbers at first. Each number takes at least a byte of the body.
+    fn read_with(&self, key: u64, room: usize) -> Result<Vec<u64>, Refusal> {
+        let most = self.body().len();
+        let mut list = vec![0; room.min(most)];
+        loop {
+            match self.read_into(key, &mut list) {
+                Ok(listed) => {
+                    list.truncate(listed.length);
+                    return Ok(list);
+                }
+                Err(Refusal::ListTooShort) if list.len() < most => list.resize((2 * list.len()).clamp(256.min(most), most), 0),
+                Err(refusal) => return Err(refusal),
+            }
+        }
+    }
+
+    /// How long an account's list is by its head word and its last page, which nothing has judged; 0 where they don't say.
+    fn likely_length(&self, key: u64) -> usize {
+        match self.place(key) {
+            Ok(Place::Inline(_)) => 1,
+            Ok(Place::Slab { used, .. }) => usize::from(used),
+            Ok(Place::Pages { last }) => self.page(last).map_or(0, |page| codec::sh_page_extent_creates(page).unwrap_or(0) as usize),
+            Ok(Place::Empty) | Err(_) => 0,
+        }
+    }
+
+    /// The page at an offset, where the body has it.
+    fn page(&self, offset: u64) -> Option<&[u8]> {
+        let start = usize::try_from(offset).ok()?;
+        self.body().get(start..start.checked_add(PAGE_BYTES)?)
+    }
+
+    /// Reads the list of an account to the start of `out`, and tells how long it is. What stands behind it in `out` stays.
+    ///
+    /// ```
+    /// use ouriscado::{Book, Refusal};
+    ///
+    /// let mut book = Book::fresh(vec![0; 8192], vec![0; 1])?;
+    /// book.load(0, &[7, 9])?;
+    /// let mut out = [0; 4];
+    /// let listed = book.read_into(0, &mut out)?;
+    /// assert_eq!(out[..listed.length], [7, 9]);
+    /// assert_eq!(book.read_into(0, &mut out[..1]), Err(Refusal::ListTooShort));
+    /// # Ok::<(), Refusal>(())
+    /// ```
+    ///
+    /// # Errors
+    ///
+    /// [`Refusal::ShapeBad`]; [`Refusal::KeyBeyond`]; [`Refusal::KeyUnsound`]; and [`Refusal::ListTooShort`] where `out` doesn't hold the whole
+    /// list: the account isn't empty then, and `out` is as it was.
+    pub fn read_into(&self, key: u64, out: &mut [u64]) -> Result<Listed, Refusal> {
+        let (mut length, mut pages) = (0, 0);
+        let number = sys::book_read(self.body(), self.heads(), &self.state.0, key, out, &mut length, &mut pages);
+        answer(number, Listed { length: length as usize, pages })
+    }
+
+    /// Where the list of an account stands, by its head word alone: what is at that place is judged by a read.
+    ///
+    /// # Errors
+    ///
+    /// [`Refusal::KeyBeyond`]; and where the head word is damaged [`Refusal::SlabUsedTooSmall`], [`Refusal::ModeTwo`] and
+    /// [`Refusal::ExtentPayloadZero`]: such an account is unknown, never empty.
+    pub fn place(&self, key: u64) -> Result<Place, Refusal> {
+        let index = usize::try_from(key).map_err(|_| Refusal::KeyBeyond)?;
+        let word = self.heads().get(index).ok_or(Refusal::KeyBeyond)?;
+        codec::unpack8(*word).map(Place::from)
+    }
+
+    /// Where each account's list stands, in the order of the keys, as [`Book::place`] tells it.
+    ///
+    /// ```
+    /// use ouriscado::{Book, Place, Refusal};
+    ///
+    /// let mut book = Book::fresh(vec![0; 8192], vec![0; 3])?;
+    /// book.append(1, 5)?;
+    /// book.load(2, &[9, 10])?;
+    /// let places: Result<Vec<Place>, Refusal> = book.places().collect();
+    /// assert_eq!(places?, [Place::Empty, Place::Inline(5), Place::Slab { class: 0, used: 2, offset: 4096 }]);
+    /// # Ok::<(), Refusal>(())
+    /// ```
+    #[must_use]
+    pub fn places(&self) -> Places<'_> {
+        Places(self.heads().iter())
+    }
+}
+
+impl<B: AsRef<[u8]> + AsMut<[u8]>, H: AsRef<[u64]> + AsMut<[u64]>> Book<B, H> {
+    /// Records a whole list for an account that has none, and tells how many pages it takes, 0 where it needs none. A list without numbers
+    /// changes nothing.
+    ///
+    /// # Errors
+    ///
+    /// [`Refusal::ShapeBad`]; [`Refusal::KeyBeyond`]; [`Refusal::KeyInUse`] where the account has a list; [`Refusal::TooManyOffered`] above
+    /// [`MOST_LOADED`](crate::limits::MOST_LOADED) numbers; [`Refusal::OfferedFirstZero`], [`Refusal::OfferedBit63`],
+    /// [`Refusal::OfferedTooLarge`] and [`Refusal::OfferedNotRising`] where the numbers are no rising list from 1 to
+    /// [`MOST_NUMBER`](crate::limits::MOST_NUMBER); [`Refusal::FreeHeadBad`] where a freed block is damaged; [`Refusal::NoRoom`].
+    pub fn load(&mut self, key: u64, numbers: &[u64]) -> Result<u64, Refusal> {
+        let mut pages = 0;
+        let number = sys::book_load(self.body.as_mut(), self.heads.as_mut(), &mut self.state.0, key, numbers, &mut pages);
+        answer(number, pages)
+    }
+
+    /// Records one more number for an account, and tells where its list stands now.
+    ///
+    /// The number is recorded only where the result is `Ok`:
+    ///
+    /// ```
+    /// use ouriscado::{Book, Refusal};
+    ///
+    /// let mut book = Book::fresh(vec![0; 8192], vec![0; 1])?;
+    /// book.append(0, 300)?;
+    /// assert_eq!(book.append(0, 300), Err(Refusal::OfferedNotRising)); // recorded already
+    /// # Ok::<(), Refusal>(())
+    /// ```
+    ///
+    /// # Errors
+    ///
+    /// [`Refusal::ShapeBad`]; [`Refusal::KeyBeyond`]; [`Refusal::OfferedFirstZero`], [`Refusal::OfferedBit63`] and
+    /// [`Refusal::OfferedTooLarge`] where the number is none from 1 to [`MOST_NUMBER`](crate::limits::MOST_NUMBER);
+    /// [`Refusal::KeyUnsound`]; [`Refusal::OfferedNotRising`] where it isn't above the account's last; [`Refusal::FreeHeadBad`] where a freed
+    /// block is damaged; [`Refusal::NoRoom`].
+    pub fn append(&mut self, key: u64, number: u64) -> Result<Appended, Refusal> {
+        let (mut kind, mut class, mut used, mut place, mut rewritten) = (0, 0, 0, 0, 0);
+        let (body, heads, state) = (self.body.as_mut(), self.heads.as_mut(), &mut self.state.0);
+        let refusal = sys::book_append(body, heads, state, key, number, &mut kind, &mut class, &mut used, &mut place, &mut rewritten);
+        answer(refusal, Appended { place: codec::Head::of_numbers(kind, class, used, place).into(), rewritten })
+    }
+
+    /// Takes an account's list out of the book, and tells how many numbers it had. Its blocks may then go to other accounts.
+    ///
+    /// # Errors
+    ///
+    /// [`Refusal::ShapeBad`], [`Refusal::KeyBeyond`] and [`Refusal::KeyUnsound`].
+    pub fn drop_key(&mut self, key: u64) -> Result<usize, Refusal> {
+        let mut length = 0;
+        let number = sys::book_drop(self.body.as_mut(), self.heads.as_mut(), &mut self.state.0, key, &mut length);
+        answer(number, length as usize)
+    }
+}
+
+/// The places of a book's accounts, in the order of the keys: see [`Book::places`].
+#[derive(Clone, Debug)]
+pub struct Places<'a>(std::slice::Iter<'a, u64>);
+
+impl Iterator for Places<'_> {
+    type Item = Result<Place, Refusal>;
+
+    fn next(&mut self) -> Option<Self::Item> {
+        self.0.next().map(|word| codec::unpack8(*word).map(Place::from))
+    }
+
+    fn size_hint(&self) -> (usize, Option<usize>) {
+        self.0.size_hint()
+    }
+}
+
+impl ExactSizeIterator for Places<'_> {}
+
+#[cfg(test)]
+mod tests {
+    use super::*;
+
+    /// A read asks again with more room until the list fits, whatever room it starts with.
+    #[test]
+    fn room_grows() {
+        let mut book = Book::fresh(vec![0; 1 << 20], vec![0; 2]).unwrap();
+        let day: Vec<u64> = (1..=10_000).collect();
+        book.load(0, &day).unwrap();
+        for room in [0, 1, 255, 9_999, 10_000, usize::MAX] {
+            assert_eq!(book.read_with(0, room).as_deref(), Ok(&day[..]), "{room}");
+            assert_eq!(book.read_with(1, room).as_deref(), Ok(&[][..]), "{room}");
+        }
+    }
+
+    /// The length by head word and last page is the length, so that a read allocates once.
+    #[test]
+    fn length_is_known() {
+        let mut book = Book::fresh(vec![0; 1 << 20], vec![0; 4]).unwrap();
+        book.append(1, 5).unwrap();
+        book.load(2, &[5, 6, 7]).unwrap();
+        book.load(3, &(1..=5_000).collect::<Vec<u64>>()).unwrap();
+        assert_eq!([0, 1, 2, 3, 4].map(|key| book.likely_length(key)), [0, 1, 3, 5_000, 0]);
+    }
+}
