@@ -1,0 +1,153 @@
+/* A day of a shop, kept in an account book: deposits, enquiries and one that is refused, the closing total, and the book in a file.
+
+   cc shop.c $(pkg-config --cflags --libs ouriscado) -o shop && ./shop FILE
+
+   FILE is written and read back. rust/examples/shop.rs tells the same story and prints the same lines. */
+#include <inttypes.h>
+#include <ouriscado.h>
+#include <stdio.h>
+#include <stdlib.h>
+#include <string.h>
+
+enum { BODY_BYTES = 65536, ACCOUNTS = 4, BAKERY = 0, FLORIST = 1, KIOSK = 2 };
+static const char *const NAMES[ACCOUNTS] = { "bakery", "florist", "kiosk", "tailor" };
+
+/* A book is these three, which belong together. */
+struct book {
+    uint8_t body[BODY_BYTES];
+    uint64_t heads[ACCOUNTS];
+    uint64_t state[OURISCADO_STATE_WORDS];
+};
+
+/* The amount of a record in cents: a stand-in for the table of records, which the firm keeps elsewhere. */
+static uint64_t cents(uint64_t record)
+{
+    return record * 3719 % 9000 + 100;
+}
+
+static void stop(const char *what)
+{
+    fprintf(stderr, "shop: %s\n", what);
+    exit(1);
+}
+
+/* Records a deposit, and says where the account's list stands now. */
+static void deposit(struct book *b, uint64_t account, uint64_t record)
+{
+    uint8_t kind, class_;
+    uint16_t used;
+    uint64_t place, rewritten;
+    uint32_t refusal = ouriscado_book_append(b->body, BODY_BYTES, b->heads, ACCOUNTS, b->state, account, record,
+                                             &kind, &class_, &used, &place, &rewritten);
+    printf("deposit %" PRIu64 " for the %s: ", record, NAMES[account]);
+    if (refusal != OURISCADO_ACCEPTED)
+        printf("refused with %" PRIu32 ", and not recorded\n", refusal);
+    else if (kind == OURISCADO_KIND_INLINE)
+        printf("inline, %" PRIu64 " rewritten\n", rewritten);
+    else if (kind == OURISCADO_KIND_SLAB)
+        printf("slab of class %d at %" PRIu64 " with %d numbers, %" PRIu64 " rewritten\n", class_, place, used, rewritten);
+    else
+        printf("pages, the last at %" PRIu64 ", %" PRIu64 " rewritten\n", place, rewritten);
+}
+
+/* An account's list, in memory that the caller frees. It asks again while the list that it lends is too short; any other refusal means
+   that the account is unknown, which must never pass for empty. */
+static uint64_t *enquire(const struct book *b, uint64_t account, uint64_t *length)
+{
+    for (size_t room = 64;; room *= 2) {
+        uint64_t pages, *list = malloc(room * sizeof *list);
+        if (!list)
+            stop("no memory");
+        uint32_t refusal = ouriscado_book_read(b->body, BODY_BYTES, b->heads, ACCOUNTS, b->state, account, list, room, length, &pages);
+        if (refusal == OURISCADO_ACCEPTED)
+            return list;
+        free(list);
+        if (refusal != OURISCADO_LIST_TOO_SHORT)
+            stop("an enquiry is refused");
+    }
+}
+
+/* One enquiry with a list of so many numbers, and what it says. */
+static void ask(const struct book *b, uint64_t account, size_t room)
+{
+    uint64_t list[512], length, pages;
+    uint32_t refusal = ouriscado_book_read(b->body, BODY_BYTES, b->heads, ACCOUNTS, b->state, account, list, room, &length, &pages);
+    printf("enquiry for the %s, with room for %zu: ", NAMES[account], room);
+    if (refusal == OURISCADO_LIST_TOO_SHORT)
+        printf("refused with %" PRIu32 ", the list is too short; this is no empty account\n", refusal);
+    else if (refusal != OURISCADO_ACCEPTED)
+        printf("refused with %" PRIu32 "; this is no empty account\n", refusal);
+    else if (length == 0)
+        printf("nothing was received\n");
+    else
+        printf("%" PRIu64 " from %" PRIu64 " to %" PRIu64 ", pages %" PRIu64 "\n", length, list[0], list[length - 1], pages);
+}
+
+/* The closing total over all accounts, an account a line. */
+static void closing(const struct book *b)
+{
+    uint64_t total = 0;
+    for (uint64_t account = 0; account < ACCOUNTS; account++) {
+        uint64_t length, sum = 0, *list = enquire(b, account, &length);
+        for (uint64_t i = 0; i < length; i++)
+            sum += cents(list[i]);
+        free(list);
+        printf("closing %s: deposits %" PRIu64 ", amount %" PRIu64 ".%02" PRIu64 "\n", NAMES[account], length, sum / 100, sum % 100);
+        total += sum;
+    }
+    printf("closing total: %" PRIu64 ".%02" PRIu64 "\n", total / 100, total % 100);
+}
+
+/* Writes state, head words and body to a file: the three of one moment. */
+static void write_book(const struct book *b, const char *path)
+{
+    FILE *file = fopen(path, "wb");
+    if (!file || fwrite(b->state, sizeof b->state, 1, file) != 1 || fwrite(b->heads, sizeof b->heads, 1, file) != 1 ||
+        fwrite(b->body, sizeof b->body, 1, file) != 1 || fclose(file) != 0)
+        stop("the file can't be written");
+    printf("the book is written: %zu bytes\n", sizeof b->state + sizeof b->heads + sizeof b->body);
+}
+
+/* Reads a book from such a file. */
+static void read_book(struct book *b, const char *path)
+{
+    FILE *file = fopen(path, "rb");
+    if (!file || fread(b->state, sizeof b->state, 1, file) != 1 || fread(b->heads, sizeof b->heads, 1, file) != 1 ||
+        fread(b->body, sizeof b->body, 1, file) != 1 || fclose(file) != 0)
+        stop("the file can't be read");
+}
+
+int main(int argc, char **argv)
+{
+    static struct book today, later;
+    uint64_t month[300], pages;
+    if (argc != 2)
+        stop("usage: shop FILE");
+
+    printf("Ouriscado %s\n", OURISCADO_VERSION);
+    if (ouriscado_book_fresh(today.body, BODY_BYTES, today.heads, ACCOUNTS, today.state) != OURISCADO_ACCEPTED)
+        stop("no book can be made");
+    for (size_t i = 0; i < 300; i++)
+        month[i] = 10 * (i + 1);
+    if (ouriscado_book_load(today.body, BODY_BYTES, today.heads, ACCOUNTS, today.state, BAKERY, month, 300, &pages) != OURISCADO_ACCEPTED)
+        stop("the month can't be loaded");
+    printf("loaded for the bakery: 300, pages %" PRIu64 "\n", pages);
+
+    deposit(&today, FLORIST, 3005);
+    deposit(&today, BAKERY, 3006);
+    deposit(&today, FLORIST, 3010);
+    deposit(&today, FLORIST, 3012);
+    deposit(&today, FLORIST, 3012);
+
+    ask(&today, BAKERY, 300);
+    ask(&today, BAKERY, 512);
+    ask(&today, KIOSK, 0);
+    closing(&today);
+
+    write_book(&today, argv[1]);
+    read_book(&later, argv[1]);
+    ask(&later, FLORIST, 512);
+    ask(&later, BAKERY, 512);
+    closing(&later);
+    return 0;
+}
