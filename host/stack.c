@@ -1,0 +1,244 @@
+/* How many bytes of stack each call needs below its caller's frame, measured, and held to the figures of ouriscado.h: see host/stack.
+
+   Each case is run twice on a stack of its own, which ends at a page that can't be touched: first on a large one that was filled with a
+   pattern, to see how far down it was written, then, in a process of its own, on one that has room for the case's limit and no more. */
+#define _GNU_SOURCE
+#include <stdio.h>
+#include <stdlib.h>
+#include <string.h>
+#include <sys/mman.h>
+#include <sys/wait.h>
+#include <ucontext.h>
+#include <unistd.h>
+#include "ouriscado_codec.h"
+
+enum { GUARD = 4096, LARGE = 1 << 18, BODY = 1 << 20, KEYS = 4, MOST = 65535 };
+enum numbers { ONES, WIDE, MIXED, HIGH, NUMBERS };
+static const uint8_t PAINT = 0xa5;
+
+/* What the cases work on. A case's list has `count` numbers and one more, which an append offers. */
+static uint8_t body[BODY], bytes[10 * MOST], *page;
+static uint64_t heads[KEYS], state[OURISCADO_STATE_WORDS], list[MOST + 1], out[MOST + 1], words[9];
+static size_t count, byte_count, ranges[256][2];
+static uint32_t result;
+static uint8_t *before; /* the stack pointer where a case makes its call */
+
+/* What a call hands out. */
+static uint8_t kind, class_;
+static uint16_t used;
+static uint64_t a, b, place;
+static size_t s, t;
+static uint32_t n;
+static bool flag;
+
+#define CALL(call) do { __asm__ volatile("mov %%rsp, %0" : "=r"(before)); result = (uint32_t)(call); } while (0)
+#define BOOK body, BODY, heads, KEYS, state
+#define PAGE page, OURISCADO_PAGE_BYTES
+
+static void fresh(void) { CALL(ouriscado_book_fresh(BOOK)); }
+static void load(void) { CALL(ouriscado_book_load(BOOK, 1, list, count, &a)); }
+static void append(void) { CALL(ouriscado_book_append(BOOK, 0, list[count], &kind, &class_, &used, &place, &a)); }
+static void read_all(void) { CALL(ouriscado_book_read(BOOK, 0, out, MOST + 1, &a, &b)); }
+static void read_short(void) { CALL(ouriscado_book_read(BOOK, 0, out, count - 1, &a, &b)); }
+static void drop(void) { CALL(ouriscado_book_drop(BOOK, 0, &a)); }
+static void uleb(void) { CALL(ouriscado_read_uleb128(bytes, byte_count, &a, &s)); }
+static void put_uleb(void) { CALL(ouriscado_write_uleb128_into(bytes, sizeof bytes, list[0], &s)); }
+static void encode(void) { CALL(ouriscado_encode_fk_delta_stream_into(bytes, sizeof bytes, list, count, &s)); }
+static void decode(void) { CALL(ouriscado_decode_fk_delta_stream_into(bytes, byte_count, count, out, MOST + 1, &s)); }
+static void encode_slab(void) { CALL(ouriscado_encode_slab_payload_into(bytes, sizeof bytes, list, count, &s)); }
+static void decode_slab(void) { CALL(ouriscado_decode_slab_payload_into(bytes, byte_count, out, MOST + 1, &s, &t)); }
+static void unpack(void) { CALL(ouriscado_unpack8(heads[0], &kind, &class_, &used, &place)); }
+static void tail(void) { CALL(ouriscado_sh_page_stream_tail(PAGE, &s, &a)); }
+static void last(void) { CALL(ouriscado_sh_page_last_fk(PAGE, &a)); }
+static void entries(void) { CALL(ouriscado_sh_page_entries_into(PAGE, out, MOST + 1, &s)); }
+static void slice(void) { CALL(ouriscado_sh_page_decode_slice_into(PAGE, out, MOST + 1, &s, &a)); }
+static void try_append(void) { CALL(ouriscado_sh_page_try_append(PAGE, list[count], &flag)); }
+static void write_stream(void) { CALL(ouriscado_sh_page_write_stream(PAGE, list, count, &s)); }
+static void pack(void) { CALL(ouriscado_sh_page_pack_fks(PAGE, list, count, 8192)); }
+static void pack_last(void) { CALL(ouriscado_sh_page_pack_extent_last_fks(PAGE, list, count, 8192, 1, 0)); }
+static void extent(void) { CALL(ouriscado_sh_page_extent(PAGE, &a, &n)); }
+static void cut(void) { CALL(ouriscado_sh_page_chunk_ranges(list, count, ranges, 256, &s)); }
+static void carve(void) { CALL(ouriscado_carve_gap_into_freelist(body, BODY, words, 4112, 8192)); }
+static void pop(void) { CALL(ouriscado_pop_free_head(body, BODY, words, 2, BODY, &a)); }
+
+/* What a case needs before its call: a fresh book with the list in account 0, or bytes. The list is put there number by number where it
+   is short, so that a slab is one that appends have left. */
+static void nothing(void) { }
+static void loaded(void) { ouriscado_book_load(BOOK, 0, list, count, &a); }
+static void appended(void)
+{
+    for (size_t i = 0; i < count; i++)
+        ouriscado_book_append(BOOK, 0, list[i], &kind, &class_, &used, &place, &a);
+}
+static void stream(void) { ouriscado_encode_fk_delta_stream_into(bytes, sizeof bytes, list, count, &byte_count); }
+static void payload(void) { ouriscado_encode_slab_payload_into(bytes, sizeof bytes, list, count, &byte_count); }
+static void packed(void) { ouriscado_sh_page_pack_fks(PAGE, list, count, 8192); }
+static void damaged(void)
+{
+    loaded();
+    memset(body + 4096 + 30, 0xff, BODY - 4096 - 30);
+}
+/* A stream whose forms are one byte longer than they need be. */
+static void padded(void)
+{
+    byte_count = 0;
+    for (size_t i = 0; i < count; i++) {
+        ouriscado_write_uleb128_into(bytes + byte_count, 10, i ? list[i] - list[i - 1] : list[i], &s);
+        byte_count += s;
+        bytes[byte_count - 1] |= 0x80;
+        bytes[byte_count++] = 0;
+    }
+}
+
+struct test {
+    const char *call, *what;
+    size_t count;
+    void (*prepare)(void), (*run)(void);
+    size_t limit;
+};
+
+#define SHORT OURISCADO_STACK_SHORT
+#define ANY OURISCADO_STACK_ANY
+static const struct test TESTS[] = {
+    { "book_fresh", "any book", 0, nothing, fresh, SHORT },
+    { "book_load", "no number", 0, nothing, load, SHORT },
+    { "book_load", "1 number, inline", 1, nothing, load, SHORT },
+    { "book_load", "2 numbers, to a slab", 2, nothing, load, SHORT },
+    { "book_load", "200 numbers, to a slab", 200, nothing, load, SHORT },
+    { "book_load", "4,000 numbers, to pages", 4000, nothing, load, ANY },
+    { "book_load", "65,535 numbers, to pages", MOST, nothing, load, ANY },
+    { "book_append", "the first number, inline", 0, nothing, append, SHORT },
+    { "book_append", "the 2nd number, to a slab", 1, appended, append, SHORT },
+    { "book_append", "the 3rd number, stays in its slab", 2, appended, append, SHORT },
+    { "book_append", "the 5th number, moves to another slab", 4, appended, append, SHORT },
+    { "book_append", "the 129th number, moves to another slab", 128, appended, append, SHORT },
+    { "book_append", "the 250th number, stays in its slab", 249, appended, append, SHORT },
+    { "book_append", "the 257th number, moves to a page", 256, appended, append, ANY },
+    { "book_append", "the 600th number, stays in its page", 599, appended, append, ANY },
+    { "book_append", "the 4,001st number, to the last page", 4000, loaded, append, ANY },
+    { "book_append", "the 4,073rd number, a full page or not", 4072, loaded, append, ANY },
+    { "book_append", "a damaged slab", 100, damaged, append, SHORT },
+    { "book_read", "an empty account", 0, nothing, read_all, SHORT },
+    { "book_read", "1 number, inline", 1, loaded, read_all, SHORT },
+    { "book_read", "2 numbers in a slab", 2, loaded, read_all, SHORT },
+    { "book_read", "100 numbers in a slab, appended", 100, appended, read_all, SHORT },
+    { "book_read", "200 numbers in a slab", 200, loaded, read_all, SHORT },
+    { "book_read", "256 numbers in a slab", 256, appended, read_all, SHORT },
+    { "book_read", "a list that is too short for a slab", 200, loaded, read_short, SHORT },
+    { "book_read", "a damaged slab", 100, damaged, read_all, SHORT },
+    { "book_read", "4,000 numbers in pages", 4000, loaded, read_all, ANY },
+    { "book_read", "65,535 numbers in pages", MOST, loaded, read_all, ANY },
+    { "book_read", "damaged pages", MOST, damaged, read_all, ANY },
+    { "book_drop", "an empty account", 0, nothing, drop, SHORT },
+    { "book_drop", "200 numbers in a slab", 200, loaded, drop, SHORT },
+    { "book_drop", "65,535 numbers in pages", MOST, loaded, drop, ANY },
+    { "read_uleb128", "a form", 1, stream, uleb, SHORT },
+    { "write_uleb128_into", "a form", 1, nothing, put_uleb, SHORT },
+    { "encode_fk_delta_stream_into", "65,535 numbers", MOST, nothing, encode, SHORT },
+    { "decode_fk_delta_stream_into", "2 numbers", 2, stream, decode, SHORT },
+    { "decode_fk_delta_stream_into", "256 numbers", 256, stream, decode, SHORT },
+    { "decode_fk_delta_stream_into", "256 numbers in padded forms", 256, padded, decode, SHORT },
+    { "decode_fk_delta_stream_into", "4,088 numbers", 4088, stream, decode, ANY },
+    { "decode_fk_delta_stream_into", "4,088 numbers in padded forms", 4088, padded, decode, ANY },
+    { "decode_fk_delta_stream_into", "65,535 numbers", MOST, stream, decode, ANY },
+    { "encode_slab_payload_into", "256 numbers", 256, nothing, encode_slab, SHORT },
+    { "decode_slab_payload_into", "2 numbers", 2, payload, decode_slab, SHORT },
+    { "decode_slab_payload_into", "256 numbers", 256, payload, decode_slab, SHORT },
+    { "unpack8", "a head word", 2, loaded, unpack, SHORT },
+    { "sh_page_stream_tail", "a page", 400, packed, tail, ANY },
+    { "sh_page_last_fk", "a page", 400, packed, last, ANY },
+    { "sh_page_entries_into", "a page", 400, packed, entries, ANY },
+    { "sh_page_entries_into", "a page of many numbers", 2000, packed, entries, ANY },
+    { "sh_page_decode_slice_into", "a page", 400, packed, slice, ANY },
+    { "sh_page_try_append", "a page", 400, packed, try_append, ANY },
+    { "sh_page_write_stream", "a page", 400, packed, write_stream, ANY },
+    { "sh_page_pack_fks", "a page", 400, nothing, pack, ANY },
+    { "sh_page_pack_extent_last_fks", "a page", 400, nothing, pack_last, ANY },
+    { "sh_page_extent", "a page", 400, packed, extent, SHORT },
+    { "sh_page_chunk_ranges", "65,535 numbers", MOST, nothing, cut, SHORT },
+    { "carve_gap_into_freelist", "a gap", 0, nothing, carve, SHORT },
+    { "pop_free_head", "a block", 0, nothing, pop, SHORT },
+};
+
+/* A list whose differences take one byte each; two; one to three, in turn; or one, behind a first number of nine bytes. */
+static void make_list(enum numbers how)
+{
+    static const uint64_t STEPS[NUMBERS][4] = { { 1, 1, 1, 1 }, { 300, 300, 300, 300 }, { 1, 300, 7, 70000 }, { 1, 1, 1, 1 } };
+    list[0] = how == HIGH ? (UINT64_C(1) << 61) : 5;
+    for (size_t i = 1; i <= MOST; i++)
+        list[i] = list[i - 1] + STEPS[how][i % 4];
+}
+
+static void prepare(const struct test *test, enum numbers how)
+{
+    make_list(how);
+    memset(body, 0, sizeof body);
+    memset(bytes, 0, sizeof bytes);
+    memset(words, 0, sizeof words);
+    page = body + 8192;
+    count = test->count;
+    ouriscado_book_fresh(BOOK);
+    test->prepare();
+}
+
+/* Runs a case on a stack of `size` bytes, which ends at the guard page below `bottom`. */
+static void run_on(uint8_t *bottom, size_t size, void (*run)(void))
+{
+    static ucontext_t here, there;
+    getcontext(&there);
+    there.uc_stack.ss_sp = bottom;
+    there.uc_stack.ss_size = size;
+    there.uc_link = &here;
+    makecontext(&there, run, 0);
+    swapcontext(&here, &there);
+}
+
+/* How many bytes a case needs below its caller's frame; and in `frames`, how many its caller's frames take of the stack. */
+static size_t measure(const struct test *test, enum numbers how, uint8_t *bottom, size_t *frames)
+{
+    prepare(test, how);
+    memset(bottom, PAINT, LARGE);
+    run_on(bottom, LARGE, test->run);
+    uint8_t *deepest = bottom;
+    while (deepest < before && *deepest == PAINT)
+        deepest++;
+    *frames = (size_t)(bottom + LARGE - before);
+    return (size_t)(before - deepest);
+}
+
+/* Whether a case runs to its end on a stack with room for its limit and its caller's frames alone, to the byte. */
+static bool fits(const struct test *test, enum numbers how, uint8_t *bottom, size_t frames)
+{
+    fflush(stdout);
+    pid_t child = fork();
+    if (child == 0) {
+        prepare(test, how);
+        run_on(bottom, test->limit + frames, test->run);
+        _exit(0);
+    }
+    int status = 1;
+    return child > 0 && waitpid(child, &status, 0) == child && status == 0;
+}
+
+int main(void)
+{
+    uint8_t *guard = mmap(NULL, GUARD + LARGE, PROT_READ | PROT_WRITE, MAP_PRIVATE | MAP_ANONYMOUS, -1, 0);
+    if (guard == MAP_FAILED || mprotect(guard, GUARD, PROT_NONE) != 0)
+        return perror("stack"), 2;
+    size_t above = 0, cases = sizeof TESTS / sizeof *TESTS;
+    printf("%-29s %-41s %7s %7s\n", "call", "on", "needs", "limit");
+    for (size_t i = 0; i < cases; i++) {
+        const struct test *test = &TESTS[i];
+        size_t most = 0, frames = 0;
+        bool held = true;
+        for (enum numbers how = 0; how < NUMBERS; how++) {
+            size_t needs = measure(test, how, guard + GUARD, &frames);
+            most = needs > most ? needs : most;
+            held = held && needs <= test->limit && fits(test, how, guard + GUARD, frames);
+        }
+        printf("%-29s %-41s %7zu %7zu%s\n", test->call, test->what, most, test->limit, held ? "" : "  ABOVE");
+        above += !held;
+    }
+    printf("stack: %zu cases, %zu above their limit\n", cases, above);
+    return above != 0;
+}
