@@ -58,13 +58,11 @@ def folders():
 
 
 def called(name):
-    """The files that a cited file, folder or crate means."""
+    """The files that a cited crate, file or folder means."""
     name = name.removesuffix("/")
-    if name in by_path():
-        return by_path()[name]
     if (CRATES / name).is_dir():
         return [path for path in files() if CRATES / name in path.parents]
-    return folders().get(name, [])
+    return by_path().get(name) or folders().get(name, [])
 
 
 def stands_in(name, paths):
