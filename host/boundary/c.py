@@ -61,7 +61,7 @@ def call(function, more, names):
 
 def refusal(r):
     if not r.name:
-        return filled("    /* ", f"{r.number} is not in use: {r.cause}. */")
+        return filled("    /* ", f"{r.number}: {r.cause}. */")
     said = f"{r.cause[0].upper()}{r.cause[1:]}."
     return filled("    /* ", said) + filled("       ", f"{r.operator}. */") + [f"    OURISCADO_{r.name} = {r.number},"]
 

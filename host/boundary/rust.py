@@ -69,7 +69,7 @@ def enum(made, refusals):
         if r.name:
             out += [f"    /// {r.number}: {r.cause}.", "    ///", f"    /// {r.operator}.", f"    {camel(r.name)},"]
         else:
-            out += [f"    // {r.number} is not in use: {r.cause}."]
+            out += [f"    // {r.number}: {r.cause}."]
     out += ["    /// A number that this crate doesn't know: the library is of another version.", "    Unknown(u32),", "}", "",
             "impl Refusal {", "    /// Every refusal that has a name, in the order of the numbers.", "    pub const ALL: &'static [Refusal] = &["]
     out += [f"        Refusal::{camel(r.name)}," for r in named]

@@ -1,6 +1,7 @@
 //! The account book.
 use crate::limits::{PAGE_BYTES, STATE_WORDS};
 use crate::{answer, codec, sys, Refusal};
+use std::fmt;
 
 /// A book's state: the mark, up to which the body was ever used, and for each of the classes 0 to 8 the offset of its first freed block.
 ///
@@ -92,11 +93,19 @@ pub struct Listed {
 /// assert_eq!(again.read(1)?, [7, 8, 9]);
 /// # Ok::<(), Refusal>(())
 /// ```
-#[derive(Clone, Debug, PartialEq, Eq)]
+#[derive(Clone, PartialEq, Eq)]
 pub struct Book<B, H> {
     body: B,
     heads: H,
     state: State,
+}
+
+/// The lengths and the state: a body may be large.
+impl<B: AsRef<[u8]>, H: AsRef<[u64]>> fmt::Debug for Book<B, H> {
+    fn fmt(&self, f: &mut fmt::Formatter<'_>) -> fmt::Result {
+        let (bytes, keys) = (self.body().len(), self.heads().len());
+        f.debug_struct("Book").field("body_bytes", &bytes).field("heads", &keys).field("state", &self.state.0).finish()
+    }
 }
 
 impl<B, H> Book<B, H> {

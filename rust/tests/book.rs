@@ -104,7 +104,7 @@ fn refused_loads_and_appends() {
         (book.drop_key(2), book.read(2), book.place(2)),
         (Err(Refusal::KeyBeyond), Err(Refusal::KeyBeyond), Err(Refusal::KeyBeyond))
     );
-    assert_eq!(book, before, "a refused call has changed something");
+    assert!(book == before, "a refused call has changed something");
 }
 
 #[test]
@@ -151,6 +151,22 @@ fn owned_or_borrowed() {
     let shared = Book::from_parts(&body, &heads, state);
     assert_eq!((shared.read(1), shared.read(0)), (Ok(vec![3, 4]), Ok(vec![])));
     assert_eq!(shared.places().len(), 2);
+}
+
+#[test]
+fn threads() {
+    let mut shared = book(64, 2);
+    shared.load(1, &numbers(10_000)).unwrap();
+    std::thread::scope(|scope| {
+        for _ in 0..4 {
+            scope.spawn(|| assert_eq!(shared.read(1), Ok(numbers(10_000)))); // several reads of one book
+            scope.spawn(|| {
+                let mut own = book(4, 1);
+                (1..=2_000).for_each(|n| assert!(own.append(0, n).is_ok())); // other books meanwhile
+                assert_eq!(own.read(0), Ok(numbers(2_000)));
+            });
+        }
+    });
 }
 
 #[test]
