@@ -20,7 +20,8 @@
 
    The three belong together. Keep, copy, store and restore them together, as of one moment: a body with the
    heads of another day is a damaged book. They hold no pointers, so a copy elsewhere, or a file, is the same
-   book.
+   book. A call that is interrupted for good, because its process ends, may have written some of them and not
+   others: go on from a copy of an earlier moment then.
 
    There are five calls:
 
@@ -29,6 +30,8 @@
        ouriscado_book_append    records one more number for an account
        ouriscado_book_read      gives an account's list
        ouriscado_book_drop      takes an account's list out of the book
+
+   A whole program is in examples/c/shop.c of the repository, and installed beside NOTICE.
 
    WHAT IS PROVED
 
