@@ -98,6 +98,7 @@ struct test {
 };
 
 #define SHORT OURISCADO_STACK_SHORT
+#define APPEND OURISCADO_STACK_APPEND
 #define ANY OURISCADO_STACK_ANY
 static const struct test TESTS[] = {
     { "book_fresh", "any book", 0, nothing, fresh, SHORT },
@@ -107,17 +108,17 @@ static const struct test TESTS[] = {
     { "book_load", "200 numbers, to a slab", 200, nothing, load, SHORT },
     { "book_load", "4,000 numbers, to pages", 4000, nothing, load, ANY },
     { "book_load", "65,535 numbers, to pages", MOST, nothing, load, ANY },
-    { "book_append", "the first number, inline", 0, nothing, append, SHORT },
-    { "book_append", "the 2nd number, to a slab", 1, appended, append, SHORT },
-    { "book_append", "the 3rd number, stays in its slab", 2, appended, append, SHORT },
-    { "book_append", "the 5th number, moves to another slab", 4, appended, append, SHORT },
-    { "book_append", "the 129th number, moves to another slab", 128, appended, append, SHORT },
-    { "book_append", "the 250th number, stays in its slab", 249, appended, append, SHORT },
+    { "book_append", "the first number, inline", 0, nothing, append, APPEND },
+    { "book_append", "the 2nd number, to a slab", 1, appended, append, APPEND },
+    { "book_append", "the 3rd number, stays in its slab", 2, appended, append, APPEND },
+    { "book_append", "the 5th number, moves to another slab", 4, appended, append, APPEND },
+    { "book_append", "the 129th number, moves to another slab", 128, appended, append, APPEND },
+    { "book_append", "the 250th number, stays in its slab", 249, appended, append, APPEND },
     { "book_append", "the 257th number, moves to a page", 256, appended, append, ANY },
     { "book_append", "the 600th number, stays in its page", 599, appended, append, ANY },
     { "book_append", "the 4,001st number, to the last page", 4000, loaded, append, ANY },
     { "book_append", "the 4,073rd number, a full page or not", 4072, loaded, append, ANY },
-    { "book_append", "a damaged slab", 100, damaged, append, SHORT },
+    { "book_append", "a damaged slab", 100, damaged, append, APPEND },
     { "book_read", "an empty account", 0, nothing, read_all, SHORT },
     { "book_read", "1 number, inline", 1, loaded, read_all, SHORT },
     { "book_read", "2 numbers in a slab", 2, loaded, read_all, SHORT },
