@@ -1,8 +1,8 @@
 #!/usr/bin/env python3
 """Writes the C headers and the Rust declarations of the exported functions.
 
-They are made from the exported functions' signatures and comments (crates/ouriscado/src), the refusals (crates/error/src/lib.rt and the table
-in docs/FORMAT.md), the version (rust/Cargo.toml), and the headers' text and the constants in host/boundary:
+They are made from the exported functions' signatures and comments (crates/ouriscado/src), the refusals (crates/error/src/lib.rt and the
+table in docs/FORMAT.md), the version (rust/Cargo.toml), and the headers' text and the constants in host/boundary:
 
     include/ouriscado.h          for C and C++: the account book
     include/ouriscado_codec.h    for C and C++: the ported functions

@@ -16,7 +16,7 @@ WIDTH = 110
 
 
 def filled(first, text):
-    """Text in lines of a comment; the first begins with `first`, the others stand under its text. The comment's end is never alone on a line."""
+    """Text in lines of a comment: the first begins with `first`, the others stand under its text, the comment's end is behind a word."""
     joined = text.replace(" */", "\u00a0*/")
     lines = textwrap.wrap(joined, WIDTH, initial_indent=first, subsequent_indent=" " * len(first), break_on_hyphens=False)
     return [l.replace("\u00a0", " ") for l in lines]
@@ -42,9 +42,12 @@ def declaration(function):
         return [whole]
     lines = [start, f"    {given[0]}"]
     for d in given[1:]:
-        lines[-1] += ","
-        lines += [f"    {d}"] if len(lines[-1]) + len(d) + 3 > WIDTH else [f"{lines.pop()} {d}"]
-    return lines[:-1] + [lines[-1] + ");"]
+        if len(f"{lines[-1]}, {d});") <= WIDTH:
+            lines[-1] += f", {d}"
+        else:
+            lines[-1] += ","
+            lines.append(f"    {d}")
+    return lines[:-1] + [f"{lines[-1]});"]
 
 
 def call(function, more, names):

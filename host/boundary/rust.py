@@ -1,7 +1,14 @@
 """The Rust files: declarations with a function over slices for each, the refusals as an enum, the constants."""
+import textwrap
+
 from boundary.exports import CONSTANTS
 
 WIDTH = 140  # of rustfmt.toml
+
+
+def documented(indent, text):
+    """A documentation comment."""
+    return textwrap.wrap(text, WIDTH, initial_indent=f"{indent}/// ", subsequent_indent=f"{indent}/// ", break_on_hyphens=False)
 
 
 def type_of(p):
@@ -39,16 +46,17 @@ def call(f):
 
 def declarations(made, functions):
     out = [f"//! The exported functions. {made}", "//!",
-           "//! Each function over slices is sound: pointer and length are those of a slice that is lent for the call alone, what is written is",
+           "//! Each function over slices is sound: pointer and length are those of a slice that is lent for the call, what is written is",
            "//! lent to nobody else, and the library keeps no pointer.", "#![allow(clippy::too_many_arguments)]", "",
            "/// The functions as the library defines them.", "pub mod raw {", '    extern "C" {']
     wrappers = []
     for f in functions:
         arrow = f" -> {f.result}" if f.result else ""
-        out += [f"        /// {f.text}"] + listed("        ", f"pub fn {f.name}", [r for p in f.parameters for r in raw(p)], f"{arrow};")
+        out += documented("        ", f.text)
+        out += listed("        ", f"pub fn {f.name}", [r for p in f.parameters for r in raw(p)], f"{arrow};")
         given = [f"{p.name}: {type_of(p)}" for p in f.parameters]
-        wrappers += ["", f"/// {f.text}", "#[inline]", *(["#[must_use]"] if f.result else [])] + listed("", f"pub fn {f.name.removeprefix('ouriscado_')}", given, f"{arrow} {{")
-        wrappers += call(f) + ["}"]
+        wrappers += ["", *documented("", f.text), "#[inline]", *(["#[must_use]"] if f.result else [])]
+        wrappers += listed("", f"pub fn {f.name.removeprefix('ouriscado_')}", given, f"{arrow} {{") + call(f) + ["}"]
     return "\n".join(out + ["    }", "}"] + wrappers + [""])
 
 
@@ -67,11 +75,13 @@ def enum(made, refusals):
            "#[derive(Clone, Copy, Debug, PartialEq, Eq, Hash)]", "#[non_exhaustive]", "pub enum Refusal {"]
     for r in refusals:
         if r.name:
-            out += [f"    /// {r.number}: {r.cause}.", "    ///", f"    /// {r.operator}.", f"    {camel(r.name)},"]
+            out += documented("    ", f"{r.number}: {r.cause}.") + ["    ///"] + documented("    ", f"{r.operator}.")
+            out += [f"    {camel(r.name)},"]
         else:
             out += [f"    // {r.number}: {r.cause}."]
     out += ["    /// A number that this crate doesn't know: the library is of another version.", "    Unknown(u32),", "}", "",
-            "impl Refusal {", "    /// Every refusal that has a name, in the order of the numbers.", "    pub const ALL: &'static [Refusal] = &["]
+            "impl Refusal {", "    /// Every refusal that has a name, in the order of the numbers.",
+            "    pub const ALL: &'static [Refusal] = &["]
     out += [f"        Refusal::{camel(r.name)}," for r in named]
     out += ["    ];", "", "    /// The number that the library answers.", "    #[must_use]", "    pub const fn number(self) -> u32 {",
             "        match self {"]
@@ -84,7 +94,7 @@ def enum(made, refusals):
 
 
 def limits(made):
-    out = [f"//! Sizes, kinds and limits, as in the C header. {made}"]
+    out = ["//! Sizes, kinds and limits, as in the C header.", f"//! {made}"]
     for name, value, kind, text in (c for group in CONSTANTS.values() for c in group):
         shown = f"{value:_}" if value >= 10_000 else str(value)
         out += ["", f"/// {text[0].upper()}{text[1:]}.", f"pub const {name}: {kind} = {shown};"]

@@ -49,7 +49,8 @@ fn ask(book: &ShopBook, account: usize, room: usize) {
     }
 }
 
-/// The closing total over all accounts, an account a line. A refused enquiry ends it: the account is unknown, which must never pass for empty.
+/// The closing total over all accounts, an account a line. A refused enquiry ends it: the account is unknown, which must never pass for
+/// empty.
 fn closing(book: &ShopBook) -> Result<(), Refusal> {
     let mut total = 0;
     for (account, name) in NAMES.iter().enumerate() {

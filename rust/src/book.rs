@@ -78,8 +78,8 @@ pub struct Listed {
 
 /// An account book over a body of bytes and one head word for each account, which it owns or borrows.
 ///
-/// An account is named by its key, the index of its head word. `B` and `H` may be vectors, boxes, arrays, mapped files or mutable borrows; a
-/// book over shared borrows can be read. Lengths are checked by each call: see [`crate::limits`].
+/// An account is named by its key, the index of its head word. `B` and `H` may be vectors, boxes, arrays, mapped files or mutable borrows;
+/// a book over shared borrows can be read. Lengths are checked by each call: see [`crate::limits`].
 ///
 /// ```
 /// use ouriscado::{Book, Refusal};
@@ -224,8 +224,8 @@ impl<B: AsRef<[u8]>, H: AsRef<[u64]>> Book<B, H> {
     ///
     /// # Errors
     ///
-    /// [`Refusal::ShapeBad`]; [`Refusal::KeyBeyond`]; [`Refusal::KeyUnsound`]; and [`Refusal::ListTooShort`] where `out` doesn't hold the whole
-    /// list: the account isn't empty then, and `out` is as it was.
+    /// [`Refusal::ShapeBad`]; [`Refusal::KeyBeyond`]; [`Refusal::KeyUnsound`]; and [`Refusal::ListTooShort`] where `out` doesn't hold the
+    /// whole list: the account isn't empty then, and `out` is as it was.
     pub fn read_into(&self, key: u64, out: &mut [u64]) -> Result<Listed, Refusal> {
         let (mut length, mut pages) = (0, 0);
         let number = sys::book_read(self.body(), self.heads(), &self.state.0, key, out, &mut length, &mut pages);
@@ -295,8 +295,8 @@ impl<B: AsRef<[u8]> + AsMut<[u8]>, H: AsRef<[u64]> + AsMut<[u64]>> Book<B, H> {
     ///
     /// [`Refusal::ShapeBad`]; [`Refusal::KeyBeyond`]; [`Refusal::OfferedFirstZero`], [`Refusal::OfferedBit63`] and
     /// [`Refusal::OfferedTooLarge`] where the number is none from 1 to [`MOST_NUMBER`](crate::limits::MOST_NUMBER);
-    /// [`Refusal::KeyUnsound`]; [`Refusal::OfferedNotRising`] where it isn't above the account's last; [`Refusal::FreeHeadBad`] where a freed
-    /// block is damaged; [`Refusal::NoRoom`].
+    /// [`Refusal::KeyUnsound`]; [`Refusal::OfferedNotRising`] where it isn't above the account's last; [`Refusal::FreeHeadBad`] where a
+    /// freed block is damaged; [`Refusal::NoRoom`].
     pub fn append(&mut self, key: u64, number: u64) -> Result<Appended, Refusal> {
         let (mut kind, mut class, mut used, mut place, mut rewritten) = (0, 0, 0, 0, 0);
         let (body, heads, state) = (self.body.as_mut(), self.heads.as_mut(), &mut self.state.0);

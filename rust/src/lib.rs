@@ -1,8 +1,8 @@
 //! An account book for record numbers, with its calls proved in Rattle: a safe crate over the static library.
 //!
 //! A [`Book`] keeps, for each account, a rising list of record numbers in one body of bytes. What is proved: in a book that began with
-//! [`Book::fresh`], and that nobody writes but its calls, each read gives exactly what was recorded for its account since it was last dropped,
-//! or is refused. So an empty list says that nothing is recorded, and a refusal never does.
+//! [`Book::fresh`], and that nobody writes but its calls, each read gives exactly what was recorded for its account since it was last
+//! dropped, or is refused. So an empty list says that nothing is recorded, and a refusal never does.
 //!
 //! ```
 //! use ouriscado::{Book, Place, Refusal};
@@ -18,7 +18,7 @@
 //! # Ok::<(), Refusal>(())
 //! ```
 //!
-//! A refused call has changed nothing, and its [`Refusal`] says why. Nothing is allocated by the library; [`Book::read`] allocates its list.
+//! A refused call has changed nothing, and its [`Refusal`] says why. The library allocates nothing; [`Book::read`] allocates its list.
 //! Modules: [`codec`] has the ported functions on single head words, slabs, pages and free lists, [`limits`] the sizes and limits, and
 //! [`sys`] the functions as the library defines them.
 //!

@@ -1,4 +1,5 @@
-//! Sizes, kinds and limits, as in the C header. Made by host/bindings.py from the exports and host/boundary: change those, and make it again.
+//! Sizes, kinds and limits, as in the C header.
+//! Made by host/bindings.py from the exports and host/boundary: change those, and make it again.
 
 /// The list is empty.
 pub const KIND_EMPTY: u8 = 0;

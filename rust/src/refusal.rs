@@ -126,7 +126,8 @@ pub enum Refusal {
     ExtentPayloadZero,
     /// 31: the key isn't sound.
     ///
-    /// Operator: takes the account for unknown and never for empty; restores body, head words and state of one moment; finds who else wrote them.
+    /// Operator: takes the account for unknown and never for empty; restores body, head words and state of one moment; finds who else wrote
+    /// them.
     KeyUnsound,
     /// 32: a number is offered that doesn't rise above its predecessor, in the list or in the key.
     ///
@@ -140,7 +141,8 @@ pub enum Refusal {
     ///
     /// Operator: asks again with a longer list.
     ListTooShort,
-    /// 35: a free head leads to no block: it is unaligned, or lies outside of 4,096 up to the mark; or such a block is pushed, or such a gap carved.
+    /// 35: a free head leads to no block: it is unaligned, or lies outside of 4,096 up to the mark; or such a block is pushed, or such a
+    /// gap carved.
     ///
     /// Operator: the state or a freed block is damaged: restores as for 31; reads go on meanwhile.
     FreeHeadBad,

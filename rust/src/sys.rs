@@ -1,15 +1,21 @@
 //! The exported functions. Made by host/bindings.py from the exports and host/boundary: change those, and make it again.
 //!
-//! Each function over slices is sound: pointer and length are those of a slice that is lent for the call alone, what is written is
+//! Each function over slices is sound: pointer and length are those of a slice that is lent for the call, what is written is
 //! lent to nobody else, and the library keeps no pointer.
 #![allow(clippy::too_many_arguments)]
 
 /// The functions as the library defines them.
 pub mod raw {
     extern "C" {
-        /// Makes a fresh book, in which every key is empty: all heads become 0, and state that of a book from which nothing was taken; the body isn't written. A book is these three: a body, whose length is a multiple of 4,096 bytes from 8,192 to 2^30; heads, one word for each key, 1 to 65,536 of them; and state, ten words, the mark up to which the body was ever used and the first freed block of each of nine sizes. What body, heads and state held before doesn't matter. Refuses 1, where the lengths are others.
+        /// Makes a fresh book, in which every key is empty: all heads become 0, and state that of a book from which nothing was taken; the
+        /// body isn't written. A book is these three: a body, whose length is a multiple of 4,096 bytes from 8,192 to 2^30; heads, one word
+        /// for each key, 1 to 65,536 of them; and state, ten words, the mark up to which the body was ever used and the first freed block
+        /// of each of nine sizes. What body, heads and state held before doesn't matter. Refuses 1, where the lengths are others.
         pub fn ouriscado_book_fresh(body: *const u8, body_len: usize, heads: *mut u64, heads_len: usize, state: &mut [u64; 10]) -> u32;
-        /// Loads a list onto an empty key, counted from 0: record numbers from 1 to 2^62 - 1 that rise strictly, 65,535 at most. An empty list changes nothing. Hands out pages, how many pages of 4,096 bytes hold the list, 0 where it needs none. Refuses 1 and 2, where the book's shape or the key is beyond the limits; 3, where the key is in use; 10, 12 to 14 and 32, where the list isn't such a list; 35, where a freed block is damaged; and 36, where the body has no room.
+        /// Loads a list onto an empty key, counted from 0: record numbers from 1 to 2^62 - 1 that rise strictly, 65,535 at most. An empty
+        /// list changes nothing. Hands out pages, how many pages of 4,096 bytes hold the list, 0 where it needs none. Refuses 1 and 2,
+        /// where the book's shape or the key is beyond the limits; 3, where the key is in use; 10, 12 to 14 and 32, where the list isn't
+        /// such a list; 35, where a freed block is damaged; and 36, where the body has no room.
         pub fn ouriscado_book_load(
             body: *mut u8,
             body_len: usize,
@@ -21,7 +27,12 @@ pub mod raw {
             fks_len: usize,
             pages: &mut u64,
         ) -> u32;
-        /// Appends a record number to the list of a key: from 1 to 2^62 - 1, and above the last of the list. Hands out where the list then stands, and rewritten, how many record numbers a move of the list wrote anew, 0 where it stayed. kind is 1 where the number stands in the head word itself, 2 for a slab, 3 for pages; class is a slab's class, else 0; used is how many numbers a slab or head word holds, 0 for pages; place is the number itself, or the offset of the slab or of the last page in the body. Refuses 1 and 2, where the book's shape or the key is beyond the limits; 12 to 14 and 32, where the number isn't such a number; 31, where the key is damaged; 35, where a freed block is; and 36, where the body has no room.
+        /// Appends a record number to the list of a key: from 1 to 2^62 - 1, and above the last of the list. Hands out where the list then
+        /// stands, and rewritten, how many record numbers a move of the list wrote anew, 0 where it stayed. kind is 1 where the number
+        /// stands in the head word itself, 2 for a slab, 3 for pages; class is a slab's class, else 0; used is how many numbers a slab or
+        /// head word holds, 0 for pages; place is the number itself, or the offset of the slab or of the last page in the body. Refuses 1
+        /// and 2, where the book's shape or the key is beyond the limits; 12 to 14 and 32, where the number isn't such a number; 31, where
+        /// the key is damaged; 35, where a freed block is; and 36, where the body has no room.
         pub fn ouriscado_book_append(
             body: *mut u8,
             body_len: usize,
@@ -36,7 +47,10 @@ pub mod raw {
             place: &mut u64,
             rewritten: &mut u64,
         ) -> u32;
-        /// Reads the list of a key into the start of out; what stood behind it there stays. Hands out length, how many record numbers the list has, and pages, how many pages of 4,096 bytes it stands in. An accepted read with length 0 means that nothing is recorded for the key. Refuses 1 and 2, where the book's shape or the key is beyond the limits; 31, where the key is damaged; and 34, where out is too short for the whole list: then length is 0 too, and out is as it was.
+        /// Reads the list of a key into the start of out; what stood behind it there stays. Hands out length, how many record numbers the
+        /// list has, and pages, how many pages of 4,096 bytes it stands in. An accepted read with length 0 means that nothing is recorded
+        /// for the key. Refuses 1 and 2, where the book's shape or the key is beyond the limits; 31, where the key is damaged; and 34,
+        /// where out is too short for the whole list: then length is 0 too, and out is as it was.
         pub fn ouriscado_book_read(
             body: *const u8,
             body_len: usize,
@@ -49,7 +63,8 @@ pub mod raw {
             length: &mut u64,
             pages: &mut u64,
         ) -> u32;
-        /// Drops the list of a key, which is then empty, and gives its slab or pages back to the book. Hands out length, how many record numbers the list had. Refuses 1 and 2, where the book's shape or the key is beyond the limits, and 31, where the key is damaged.
+        /// Drops the list of a key, which is then empty, and gives its slab or pages back to the book. Hands out length, how many record
+        /// numbers the list had. Refuses 1 and 2, where the book's shape or the key is beyond the limits, and 31, where the key is damaged.
         pub fn ouriscado_book_drop(
             body: *mut u8,
             body_len: usize,
@@ -73,7 +88,8 @@ pub mod raw {
             out_len: usize,
             parts: &mut usize,
         ) -> u32;
-        /// Cuts the last of the first count ranges of chunks again, into parts that fit a last page, and tells how many ranges there are then. One that is empty, or leaves fks, stays. Refuses 34.
+        /// Cuts the last of the first count ranges of chunks again, into parts that fit a last page, and tells how many ranges there are
+        /// then. One that is empty, or leaves fks, stays. Refuses 34.
         pub fn ouriscado_split_last_chunk_for_extent(
             fks: *const u64,
             fks_len: usize,
@@ -116,7 +132,8 @@ pub mod raw {
         pub fn ouriscado_sh_page_last_fk(page: *const u8, page_len: usize, last: &mut u64) -> u32;
         /// Reads the numbers of a page into the start of out, and tells how many. Refuses 4, 15 to 18, 20 to 23, 34.
         pub fn ouriscado_sh_page_entries_into(page: *const u8, page_len: usize, out: *mut u64, out_len: usize, count: &mut usize) -> u32;
-        /// Reads the numbers of a page into the start of out, and tells how many and the next page's offset, 0 where the page is LAST. Refuses 4, 15 to 18, 20 to 23, 34.
+        /// Reads the numbers of a page into the start of out, and tells how many and the next page's offset, 0 where the page is LAST.
+        /// Refuses 4, 15 to 18, 20 to 23, 34.
         pub fn ouriscado_sh_page_decode_slice_into(
             page: *const u8,
             page_len: usize,
@@ -125,9 +142,11 @@ pub mod raw {
             count: &mut usize,
             next: &mut u64,
         ) -> u32;
-        /// Appends a number to a page, and tells whether it was: it isn't where the page is full. Refuses 4, 12, 13, 15 to 18, 20 to 23, 32.
+        /// Appends a number to a page, and tells whether it was: it isn't where the page is full. Refuses 4, 12, 13, 15 to 18, 20 to 23,
+        /// 32.
         pub fn ouriscado_sh_page_try_append(page: *mut u8, page_len: usize, fk: u64, appended: &mut bool) -> u32;
-        /// Writes the stream of a rising list to a page whose version is set, with its count, and tells its length. Refuses 4, 10, 12, 13, 32, 33.
+        /// Writes the stream of a rising list to a page whose version is set, with its count, and tells its length. Refuses 4, 10, 12, 13,
+        /// 32, 33.
         pub fn ouriscado_sh_page_write_stream(page: *mut u8, page_len: usize, fks: *const u64, fks_len: usize, len: &mut usize) -> u32;
         /// What a page's link says: whether the page is LAST, and the offset of the page that it names. Refuses 4.
         pub fn ouriscado_sh_page_read_packed(page: *const u8, page_len: usize, last: &mut bool, off: &mut u64) -> u32;
@@ -163,9 +182,11 @@ pub mod raw {
         pub fn ouriscado_sh_page_require_delta(page: *const u8, page_len: usize) -> u32;
         /// Makes a page empty: version 1, LAST with first offset 0, every other byte 0. Refuses 4.
         pub fn ouriscado_sh_page_init_empty(page: *mut u8, page_len: usize) -> u32;
-        /// Makes a page of version 1 of a rising list, with a next page, or LAST with first offset 0 where next is 0. Refuses 4 to 6, 10, 12, 13, 32, 33.
+        /// Makes a page of version 1 of a rising list, with a next page, or LAST with first offset 0 where next is 0. Refuses 4 to 6, 10,
+        /// 12, 13, 32, 33.
         pub fn ouriscado_sh_page_pack_fks(page: *mut u8, page_len: usize, fks: *const u64, fks_len: usize, next: u64) -> u32;
-        /// Makes a page of version 2 of a rising list, which names an extent, with a next page, or LAST with the extent's base where next is 0. Refuses 4 to 6, 8 to 10, 12, 13, 32, 33.
+        /// Makes a page of version 2 of a rising list, which names an extent, with a next page, or LAST with the extent's base where next
+        /// is 0. Refuses 4 to 6, 8 to 10, 12, 13, 32, 33.
         pub fn ouriscado_sh_page_pack_extent_last_fks(
             page: *mut u8,
             page_len: usize,
@@ -183,7 +204,8 @@ pub mod raw {
         pub fn ouriscado_payload_start(file_header_len: usize) -> u64;
         /// Writes the payload of a rising list to the start of out, and tells its length. Refuses 10 to 13, 32, 33.
         pub fn ouriscado_encode_slab_payload_into(out: *mut u8, out_len: usize, fks: *const u64, fks_len: usize, len: &mut usize) -> u32;
-        /// Reads the payload at the start of buf into the start of out, and tells how many numbers it has and how many bytes it takes. Refuses 11, 17, 18, 20 to 23, 34.
+        /// Reads the payload at the start of buf into the start of out, and tells how many numbers it has and how many bytes it takes.
+        /// Refuses 11, 17, 18, 20 to 23, 34.
         pub fn ouriscado_decode_slab_payload_into(
             buf: *const u8,
             buf_len: usize,
@@ -194,7 +216,8 @@ pub mod raw {
         ) -> u32;
         /// Writes the stream of a rising list to the start of out, and tells its length. Refuses 12, 13, 32, 33.
         pub fn ouriscado_encode_fk_delta_stream_into(out: *mut u8, out_len: usize, fks: *const u64, fks_len: usize, len: &mut usize) -> u32;
-        /// Reads a stream of n numbers at the start of buf into the start of out, and tells how many bytes it takes. Refuses 17, 18, 20 to 23, 34.
+        /// Reads a stream of n numbers at the start of buf into the start of out, and tells how many bytes it takes. Refuses 17, 18, 20 to
+        /// 23, 34.
         pub fn ouriscado_decode_fk_delta_stream_into(
             buf: *const u8,
             buf_len: usize,
@@ -212,14 +235,20 @@ pub mod raw {
     }
 }
 
-/// Makes a fresh book, in which every key is empty: all heads become 0, and state that of a book from which nothing was taken; the body isn't written. A book is these three: a body, whose length is a multiple of 4,096 bytes from 8,192 to 2^30; heads, one word for each key, 1 to 65,536 of them; and state, ten words, the mark up to which the body was ever used and the first freed block of each of nine sizes. What body, heads and state held before doesn't matter. Refuses 1, where the lengths are others.
+/// Makes a fresh book, in which every key is empty: all heads become 0, and state that of a book from which nothing was taken; the body
+/// isn't written. A book is these three: a body, whose length is a multiple of 4,096 bytes from 8,192 to 2^30; heads, one word for each
+/// key, 1 to 65,536 of them; and state, ten words, the mark up to which the body was ever used and the first freed block of each of nine
+/// sizes. What body, heads and state held before doesn't matter. Refuses 1, where the lengths are others.
 #[inline]
 #[must_use]
 pub fn book_fresh(body: &[u8], heads: &mut [u64], state: &mut [u64; 10]) -> u32 {
     unsafe { raw::ouriscado_book_fresh(body.as_ptr(), body.len(), heads.as_mut_ptr(), heads.len(), state) }
 }
 
-/// Loads a list onto an empty key, counted from 0: record numbers from 1 to 2^62 - 1 that rise strictly, 65,535 at most. An empty list changes nothing. Hands out pages, how many pages of 4,096 bytes hold the list, 0 where it needs none. Refuses 1 and 2, where the book's shape or the key is beyond the limits; 3, where the key is in use; 10, 12 to 14 and 32, where the list isn't such a list; 35, where a freed block is damaged; and 36, where the body has no room.
+/// Loads a list onto an empty key, counted from 0: record numbers from 1 to 2^62 - 1 that rise strictly, 65,535 at most. An empty list
+/// changes nothing. Hands out pages, how many pages of 4,096 bytes hold the list, 0 where it needs none. Refuses 1 and 2, where the book's
+/// shape or the key is beyond the limits; 3, where the key is in use; 10, 12 to 14 and 32, where the list isn't such a list; 35, where a
+/// freed block is damaged; and 36, where the body has no room.
 #[inline]
 #[must_use]
 pub fn book_load(body: &mut [u8], heads: &mut [u64], state: &mut [u64; 10], key: u64, fks: &[u64], pages: &mut u64) -> u32 {
@@ -228,7 +257,12 @@ pub fn book_load(body: &mut [u8], heads: &mut [u64], state: &mut [u64; 10], key:
     }
 }
 
-/// Appends a record number to the list of a key: from 1 to 2^62 - 1, and above the last of the list. Hands out where the list then stands, and rewritten, how many record numbers a move of the list wrote anew, 0 where it stayed. kind is 1 where the number stands in the head word itself, 2 for a slab, 3 for pages; class is a slab's class, else 0; used is how many numbers a slab or head word holds, 0 for pages; place is the number itself, or the offset of the slab or of the last page in the body. Refuses 1 and 2, where the book's shape or the key is beyond the limits; 12 to 14 and 32, where the number isn't such a number; 31, where the key is damaged; 35, where a freed block is; and 36, where the body has no room.
+/// Appends a record number to the list of a key: from 1 to 2^62 - 1, and above the last of the list. Hands out where the list then stands,
+/// and rewritten, how many record numbers a move of the list wrote anew, 0 where it stayed. kind is 1 where the number stands in the head
+/// word itself, 2 for a slab, 3 for pages; class is a slab's class, else 0; used is how many numbers a slab or head word holds, 0 for
+/// pages; place is the number itself, or the offset of the slab or of the last page in the body. Refuses 1 and 2, where the book's shape or
+/// the key is beyond the limits; 12 to 14 and 32, where the number isn't such a number; 31, where the key is damaged; 35, where a freed
+/// block is; and 36, where the body has no room.
 #[inline]
 #[must_use]
 pub fn book_append(
@@ -261,7 +295,10 @@ pub fn book_append(
     }
 }
 
-/// Reads the list of a key into the start of out; what stood behind it there stays. Hands out length, how many record numbers the list has, and pages, how many pages of 4,096 bytes it stands in. An accepted read with length 0 means that nothing is recorded for the key. Refuses 1 and 2, where the book's shape or the key is beyond the limits; 31, where the key is damaged; and 34, where out is too short for the whole list: then length is 0 too, and out is as it was.
+/// Reads the list of a key into the start of out; what stood behind it there stays. Hands out length, how many record numbers the list has,
+/// and pages, how many pages of 4,096 bytes it stands in. An accepted read with length 0 means that nothing is recorded for the key.
+/// Refuses 1 and 2, where the book's shape or the key is beyond the limits; 31, where the key is damaged; and 34, where out is too short
+/// for the whole list: then length is 0 too, and out is as it was.
 #[inline]
 #[must_use]
 pub fn book_read(body: &[u8], heads: &[u64], state: &[u64; 10], key: u64, out: &mut [u64], length: &mut u64, pages: &mut u64) -> u32 {
@@ -281,7 +318,8 @@ pub fn book_read(body: &[u8], heads: &[u64], state: &[u64; 10], key: u64, out: &
     }
 }
 
-/// Drops the list of a key, which is then empty, and gives its slab or pages back to the book. Hands out length, how many record numbers the list had. Refuses 1 and 2, where the book's shape or the key is beyond the limits, and 31, where the key is damaged.
+/// Drops the list of a key, which is then empty, and gives its slab or pages back to the book. Hands out length, how many record numbers
+/// the list had. Refuses 1 and 2, where the book's shape or the key is beyond the limits, and 31, where the key is damaged.
 #[inline]
 #[must_use]
 pub fn book_drop(body: &mut [u8], heads: &mut [u64], state: &mut [u64; 10], key: u64, length: &mut u64) -> u32 {
@@ -316,7 +354,8 @@ pub fn sh_page_chunk_ranges(fks: &[u64], out: &mut [[usize; 2]], parts: &mut usi
     unsafe { raw::ouriscado_sh_page_chunk_ranges(fks.as_ptr(), fks.len(), out.as_mut_ptr(), out.len(), parts) }
 }
 
-/// Cuts the last of the first count ranges of chunks again, into parts that fit a last page, and tells how many ranges there are then. One that is empty, or leaves fks, stays. Refuses 34.
+/// Cuts the last of the first count ranges of chunks again, into parts that fit a last page, and tells how many ranges there are then. One
+/// that is empty, or leaves fks, stays. Refuses 34.
 #[inline]
 #[must_use]
 pub fn split_last_chunk_for_extent(fks: &[u64], chunks: &mut [[usize; 2]], count: usize, parts: &mut usize) -> u32 {
@@ -442,7 +481,8 @@ pub fn sh_page_entries_into(page: &[u8], out: &mut [u64], count: &mut usize) -> 
     unsafe { raw::ouriscado_sh_page_entries_into(page.as_ptr(), page.len(), out.as_mut_ptr(), out.len(), count) }
 }
 
-/// Reads the numbers of a page into the start of out, and tells how many and the next page's offset, 0 where the page is LAST. Refuses 4, 15 to 18, 20 to 23, 34.
+/// Reads the numbers of a page into the start of out, and tells how many and the next page's offset, 0 where the page is LAST. Refuses 4,
+/// 15 to 18, 20 to 23, 34.
 #[inline]
 #[must_use]
 pub fn sh_page_decode_slice_into(page: &[u8], out: &mut [u64], count: &mut usize, next: &mut u64) -> u32 {
@@ -582,14 +622,16 @@ pub fn sh_page_init_empty(page: &mut [u8]) -> u32 {
     unsafe { raw::ouriscado_sh_page_init_empty(page.as_mut_ptr(), page.len()) }
 }
 
-/// Makes a page of version 1 of a rising list, with a next page, or LAST with first offset 0 where next is 0. Refuses 4 to 6, 10, 12, 13, 32, 33.
+/// Makes a page of version 1 of a rising list, with a next page, or LAST with first offset 0 where next is 0. Refuses 4 to 6, 10, 12, 13,
+/// 32, 33.
 #[inline]
 #[must_use]
 pub fn sh_page_pack_fks(page: &mut [u8], fks: &[u64], next: u64) -> u32 {
     unsafe { raw::ouriscado_sh_page_pack_fks(page.as_mut_ptr(), page.len(), fks.as_ptr(), fks.len(), next) }
 }
 
-/// Makes a page of version 2 of a rising list, which names an extent, with a next page, or LAST with the extent's base where next is 0. Refuses 4 to 6, 8 to 10, 12, 13, 32, 33.
+/// Makes a page of version 2 of a rising list, which names an extent, with a next page, or LAST with the extent's base where next is 0.
+/// Refuses 4 to 6, 8 to 10, 12, 13, 32, 33.
 #[inline]
 #[must_use]
 pub fn sh_page_pack_extent_last_fks(page: &mut [u8], fks: &[u64], base: u64, n: u32, next: u64) -> u32 {
@@ -624,7 +666,8 @@ pub fn encode_slab_payload_into(out: &mut [u8], fks: &[u64], len: &mut usize) ->
     unsafe { raw::ouriscado_encode_slab_payload_into(out.as_mut_ptr(), out.len(), fks.as_ptr(), fks.len(), len) }
 }
 
-/// Reads the payload at the start of buf into the start of out, and tells how many numbers it has and how many bytes it takes. Refuses 11, 17, 18, 20 to 23, 34.
+/// Reads the payload at the start of buf into the start of out, and tells how many numbers it has and how many bytes it takes. Refuses 11,
+/// 17, 18, 20 to 23, 34.
 #[inline]
 #[must_use]
 pub fn decode_slab_payload_into(buf: &[u8], out: &mut [u64], used: &mut usize, len: &mut usize) -> u32 {

@@ -1,7 +1,7 @@
 //! The ported functions: single head words, slabs, streams, pages and free lists, for those who work on bytes.
 //!
-//! Whoever keeps accounts needs [`Book`](crate::Book) alone. These functions know nothing of a book: used on parts of its body they can damage
-//! it, and some can make a page read as empty; each says so. Where a function documents what it refuses, the numbers are those of
+//! Whoever keeps accounts needs [`Book`](crate::Book) alone. These functions know nothing of a book: used on parts of its body they can
+//! damage it, and some can make a page read as empty; each says so. Where a function documents what it refuses, the numbers are those of
 //! [`Refusal`]; after a refusal every buffer holds what it held.
 use crate::{answer, sys, Refusal};
 
@@ -238,8 +238,8 @@ pub fn sh_page_chunk_ranges(fks: &[u64], out: &mut [ChunkRange]) -> Result<usize
     answer(number, parts)
 }
 
-/// Cuts the last of the first `count` ranges of `chunks` again, into parts that fit a last page, and tells how many ranges there are then. One
-/// that is empty, or leaves `fks`, stays.
+/// Cuts the last of the first `count` ranges of `chunks` again, into parts that fit a last page, and tells how many ranges there are then.
+/// One that is empty, or leaves `fks`, stays.
 ///
 /// # Errors
 ///
