@@ -1,0 +1,156 @@
+"""The proved library, called from Python: the calls of the book, and the functions that take a body apart."""
+import ctypes
+import os
+import subprocess
+from ctypes import POINTER, byref, c_size_t, c_uint8, c_uint16, c_uint32, c_uint64
+from pathlib import Path
+
+PAGE_BYTES = 4096
+PAGE_CLASS = 8
+KINDS = ["empty", "inline", "slab", "pages"]
+LIST_TOO_SHORT = 34
+
+
+class Wrong(Exception):
+    """What the user is told."""
+
+
+class Refused(Exception):
+    """A refusal of the library, by its number."""
+
+    def __init__(self, number):
+        super().__init__(f"refused {number}")
+        self.number = number
+
+
+class Place:
+    """Where a key's list is: its kind, and what that kind has of class, used and place."""
+
+    def __init__(self, kind, class_, used, place):
+        self.kind, self.class_, self.used, self.place = KINDS[kind], class_, used, place
+
+
+class Library:
+    """libouriscado.a as a shared library."""
+
+    def __init__(self, root):
+        folder = Path(os.environ.get("OURISCADO_LIB", root / "target" / "staticlib"))
+        archive = folder / "libouriscado.a"
+        if not archive.exists():
+            raise Wrong(f"{archive} is missing: rt staticlib ouriscado writes it")
+        shared = root / "target" / "bodymap" / "libouriscado.so"
+        if not shared.exists() or shared.stat().st_mtime <= archive.stat().st_mtime:
+            shared.parent.mkdir(parents=True, exist_ok=True)
+            subprocess.run(["gcc", "-shared", "-o", shared, "-Wl,--whole-archive", archive, "-Wl,--no-whole-archive"], check=True)
+        self.functions = ctypes.CDLL(str(shared))
+
+    def call(self, name, *arguments):
+        """Calls a function that answers a refusal's number, or 0."""
+        function = getattr(self.functions, f"ouriscado_{name}")
+        function.restype = c_uint32
+        number = function(*arguments)
+        if number:
+            raise Refused(number)
+
+    def slab_bytes(self, class_):
+        """The bytes of a block of a class."""
+        function = self.functions.ouriscado_slab_bytes
+        function.restype = c_uint64
+        return function(c_uint8(class_))
+
+
+def lent(kind, values):
+    """An array of numbers that a call may write."""
+    return (kind * len(values))(*values)
+
+
+class Book:
+    """A book: a body, its head words, and its state of ten words."""
+
+    def __init__(self, library, body, heads, state):
+        self.library = library
+        self.body = (c_uint8 * len(body)).from_buffer_copy(body) if body else (c_uint8 * 0)()
+        self.heads, self.state = lent(c_uint64, heads), lent(c_uint64, state)
+
+    @classmethod
+    def fresh(cls, library, size, keys):
+        """A fresh book over a body of so many bytes."""
+        book = cls(library, bytes(size), [0] * keys, [0] * 10)
+        library.call("book_fresh", *book.lent_body(), *book.lent_heads(), book.state)
+        return book
+
+    def lent_body(self):
+        return self.body, c_size_t(len(self.body))
+
+    def lent_heads(self):
+        return self.heads, c_size_t(len(self.heads))
+
+    def mark(self):
+        return self.state[0]
+
+    def load(self, key, numbers):
+        pages = c_uint64()
+        self.library.call("book_load", *self.lent_body(), *self.lent_heads(), self.state, c_uint64(key), lent(c_uint64, numbers), c_size_t(len(numbers)), byref(pages))
+        return pages.value
+
+    def append(self, key, number):
+        kind, class_, used, place, rewritten = c_uint8(), c_uint8(), c_uint16(), c_uint64(), c_uint64()
+        self.library.call("book_append", *self.lent_body(), *self.lent_heads(), self.state, c_uint64(key), c_uint64(number),
+                          byref(kind), byref(class_), byref(used), byref(place), byref(rewritten))
+        return Place(kind.value, class_.value, used.value, place.value), rewritten.value
+
+    def drop(self, key):
+        length = c_uint64()
+        self.library.call("book_drop", *self.lent_body(), *self.lent_heads(), self.state, c_uint64(key), byref(length))
+        return length.value
+
+    def read(self, key):
+        """The key's list, read into a lent list that is long enough."""
+        room = 1024
+        while True:
+            out, length, pages = (c_uint64 * room)(), c_uint64(), c_uint64()
+            try:
+                self.library.call("book_read", *self.lent_body(), *self.lent_heads(), self.state, c_uint64(key), out, c_size_t(room), byref(length), byref(pages))
+                return list(out[:length.value])
+            except Refused as refused:
+                if refused.number != LIST_TOO_SHORT:
+                    raise
+                room *= 4
+
+    def place(self, key):
+        """What the key's head word says."""
+        kind, class_, used, place = c_uint8(), c_uint8(), c_uint16(), c_uint64()
+        self.library.call("unpack8", c_uint64(self.heads[key]), byref(kind), byref(class_), byref(used), byref(place))
+        return Place(kind.value, class_.value, used.value, place.value)
+
+    def page(self, off):
+        """A page of the body, as it is lent."""
+        return (c_uint8 * PAGE_BYTES).from_buffer(self.body, off), c_size_t(PAGE_BYTES)
+
+    def first_page(self, last):
+        off = c_uint64()
+        self.library.call("sh_page_first_off", *self.page(last), byref(off))
+        return off.value
+
+    def next_page(self, at):
+        off = c_uint64()
+        self.library.call("sh_page_next", *self.page(at), byref(off))
+        return off.value
+
+    def page_count(self, at):
+        count = c_size_t()
+        self.library.call("sh_page_n_fks", *self.page(at), byref(count))
+        return count.value
+
+    def freed(self, class_):
+        """The offsets of a class's freed blocks, the first first, and the refusal that ends the list, or 0. Blocks are popped from a copy of the heads."""
+        heads = lent(c_uint64, self.state[1:])
+        offsets, off = [], c_uint64()
+        while True:
+            try:
+                self.library.call("pop_free_head", *self.lent_body(), heads, c_uint8(class_), c_uint64(self.mark()), byref(off))
+            except Refused as refused:
+                return offsets, refused.number
+            if off.value == 0 or off.value in offsets:
+                return offsets, 0
+            offsets.append(off.value)

@@ -1,0 +1,95 @@
+"""What a book has in its body: each block with its owner, as the library reads it."""
+from library import PAGE_BYTES, PAGE_CLASS, Refused
+
+
+class Block:
+    """Some bytes of the body: a key's slab or page, or a freed block."""
+
+    def __init__(self, off, length, class_, key=None, count=0):
+        self.off, self.length, self.class_, self.key, self.count = off, length, class_, key, count
+
+
+class Key:
+    """A key: its place in words, its blocks in order, and the refusal of a read, or 0."""
+
+    def __init__(self, index, text, blocks, refusal=0):
+        self.index, self.text, self.blocks, self.refusal = index, text, blocks, refusal
+
+
+class Survey:
+    """A book as it is drawn."""
+
+    def __init__(self, size, mark, keys, freed, broken):
+        self.size, self.mark, self.keys, self.freed = size, mark, keys, freed
+        self.broken = broken  # classes whose free list ends in a refusal
+
+    def blocks(self):
+        """All blocks, by their offsets."""
+        return sorted([b for key in self.keys for b in key.blocks] + self.freed, key=lambda b: b.off)
+
+    def unowned(self):
+        """The parts below the mark that no block has, as offset and length."""
+        parts, at = [], min(PAGE_BYTES, self.size)
+        for block in self.blocks():
+            if block.off > at:
+                parts.append((at, block.off - at))
+            at = max(at, block.off + block.length)
+        return parts + ([(at, self.mark - at)] if at < self.mark else [])
+
+
+def plural(count, thing):
+    return f"{count:,} {thing}{'' if count == 1 else 's'}"
+
+
+def chain(book, index, last):
+    """The pages of a sound key, the first first."""
+    offsets = [book.first_page(last)]
+    while offsets[-1] != last:
+        offsets.append(book.next_page(offsets[-1]))
+    return [Block(off, PAGE_BYTES, PAGE_CLASS, index, book.page_count(off)) for off in offsets]
+
+
+def told(place):
+    """A place in words, without what it takes a look at blocks to tell."""
+    if place.kind == "empty":
+        return "empty"
+    if place.kind == "inline":
+        return f"inline number {place.place:,}"
+    if place.kind == "slab":
+        return f"slab of class {place.class_} at {place.place:,}, {plural(place.used, 'number')}"
+    return f"pages, the last at {place.place:,}"
+
+
+def unsound(book, index, number):
+    """A key whose read is refused: what its head word says, if that can be read."""
+    try:
+        return Key(index, told(book.place(index)), [], number)
+    except Refused as refused:
+        return Key(index, f"{book.heads[index]:016x}, refused with {refused.number}", [], number)
+
+
+def key_of(book, index):
+    """A key as the library reads it: its list decides whether it is sound, its head word where it is."""
+    try:
+        numbers = book.read(index)
+    except Refused as refused:
+        return unsound(book, index, refused.number)
+    place = book.place(index)
+    if place.kind == "slab":
+        return Key(index, told(place), [Block(place.place, book.library.slab_bytes(place.class_), place.class_, index, place.used)])
+    if place.kind != "pages":
+        return Key(index, told(place), [])
+    blocks = chain(book, index, place.place)
+    return Key(index, f"{plural(len(blocks), 'page')}, the last at {place.place:,}, {plural(len(numbers), 'number')}", blocks)
+
+
+def survey(book):
+    """A whole book."""
+    freed, broken = [], {}
+    for class_ in range(PAGE_CLASS + 1):
+        offsets, refusal = book.freed(class_)
+        freed += [Block(off, book.library.slab_bytes(class_), class_) for off in offsets]
+        if refusal:
+            broken[class_] = refusal
+    keys = [key_of(book, index) for index in range(len(book.heads))]
+    return Survey(len(book.body), book.mark(), keys, freed, broken)
