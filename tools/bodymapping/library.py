@@ -1,6 +1,5 @@
 """The proved library, called from Python: the calls of the book, and the functions that take a body apart."""
 import ctypes
-import os
 import subprocess
 from ctypes import POINTER, byref, c_size_t, c_uint8, c_uint16, c_uint32, c_uint64
 from pathlib import Path
@@ -34,10 +33,10 @@ class Library:
     """libouriscado.a as a shared library."""
 
     def __init__(self, root):
-        folder = Path(os.environ.get("OURISCADO_LIB", root / "target" / "staticlib"))
-        archive = folder / "libouriscado.a"
-        if not archive.exists():
-            raise Wrong(f"{archive} is missing: rt staticlib ouriscado writes it")
+        found = subprocess.run([root / "tools" / "library"], stdout=subprocess.PIPE, text=True)
+        if found.returncode:
+            raise Wrong("there is no library to read by")
+        archive = Path(found.stdout.strip()) / "libouriscado.a"
         shared = root / "target" / "bodymap" / "libouriscado.so"
         if not shared.exists() or shared.stat().st_mtime <= archive.stat().st_mtime:
             shared.parent.mkdir(parents=True, exist_ok=True)
