@@ -1,12 +1,15 @@
-// The exported functions by their numbers in the text, each on numbers, a buffer and a list. Out-parameters hold BEFORE before a call, and 0
-// after one that is refused.
+// The functions by their numbers in the text, each on numbers, a buffer and a list. Out-parameters hold BEFORE before a call, and 0 after
+// one that is refused.
 use crate::cut;
 use crate::free;
 use crate::page;
+use scripthash_stream::ScanStream;
 
 pub const BEFORE: u64 = 0x5a;
-// The number of the first function on pages.
+// The number of the first function on pages, and of the first one that has no export of its own.
 const FIRST_OF_PAGES: u64 = 23;
+
+const FIRST_UNEXPORTED: u64 = 0xf0;
 // What a call answers that the program can't make: no refusal has this number.
 pub const UNKNOWN: u32 = 0xffff_ffff;
 
@@ -164,6 +167,80 @@ fn decode_slab_payload_into(bytes: &[u8], list: &mut [u64], told: &mut [u64; 4])
     number
 }
 
+// Scans a stream.
+fn scan_fk_delta_stream(bytes: &[u8], n: u64, told: &mut [u64; 4]) -> u32 {
+    let got = scripthash_stream::scan_fk_delta_stream(bytes, n as usize);
+    let ScanStream::Scanned { taken, last } = got else {
+        return got.refusal();
+    };
+    told[0] = taken as u64;
+    told[1] = last;
+    0
+}
+
+// Calls a function on one number that is never refused.
+fn on_number(function: u64, n: u64, told: &mut [u64; 4]) {
+    match function {
+        0 => told[0] = ouriscado::ouriscado_uleb128_len(n) as u64,
+        7 => told[0] = ouriscado::ouriscado_payload_start(n as usize),
+        8 => told[0] = ouriscado::ouriscado_slab_cap((n % 0x100) as u8) as u64,
+        9 => told[0] = ouriscado::ouriscado_slab_bytes((n % 0x100) as u8),
+        10 => choose(0, n, told),
+        11 => choose(1, n, told),
+        12 => choose(2, n, told),
+        _ => choose(3, n, told),
+    }
+}
+
+// Calls a function on head words.
+fn on_head(function: u64, given: &[u64; 4], told: &mut [u64; 4]) -> u32 {
+    match function {
+        3 => pack8(given, told),
+        4 => pack8_bytes(given, told),
+        5 => unpack8(given[0], told),
+        _ => unpack8_bytes(given[0], told),
+    }
+}
+
+// Calls a function on forms, streams and slabs.
+fn on_stream(
+    function: u64,
+    n: u64,
+    bytes: &mut [u8],
+    list: &mut [u64],
+    told: &mut [u64; 4],
+) -> u32 {
+    match function {
+        1 => read_uleb128(bytes, told),
+        2 => write_uleb128_into(n, bytes, told),
+        13 => encode_fk_delta_stream_into(bytes, list, told),
+        14 => decode_fk_delta_stream_into(bytes, n, list, told),
+        15 => encode_slab_payload_into(bytes, list, told),
+        16 => decode_slab_payload_into(bytes, list, told),
+        _ => scan_fk_delta_stream(bytes, n, told),
+    }
+}
+
+// Calls a function that isn't on pages: cutting and free lists have files of their own.
+fn on_others(
+    function: u64,
+    given: &[u64; 4],
+    bytes: &mut [u8],
+    list: &mut [u64],
+    told: &mut [u64; 4],
+) -> u32 {
+    match function {
+        0 | 7..=12 | 18 => {
+            on_number(function, given[0], told);
+            0
+        }
+        3..=6 => on_head(function, given, told),
+        1 | 2 | 13..=16 | FIRST_UNEXPORTED => on_stream(function, given[0], bytes, list, told),
+        17 | 22 => cut::call(function, given, list, told),
+        _ => free::call(function, given, bytes, list, told),
+    }
+}
+
 // Calls the function of a number, and answers its refusal's number, or 0.
 pub fn call(
     function: u64,
@@ -172,31 +249,8 @@ pub fn call(
     list: &mut [u64],
     told: &mut [u64; 4],
 ) -> u32 {
-    let n = given[0];
-    if FIRST_OF_PAGES <= function {
-        return page::call(function - FIRST_OF_PAGES, given, bytes, list, told);
+    if function < FIRST_OF_PAGES || FIRST_UNEXPORTED <= function {
+        return on_others(function, given, bytes, list, told);
     }
-    match function {
-        0 => told[0] = ouriscado::ouriscado_uleb128_len(n) as u64,
-        1 => return read_uleb128(bytes, told),
-        2 => return write_uleb128_into(n, bytes, told),
-        3 => return pack8(given, told),
-        4 => return pack8_bytes(given, told),
-        5 => return unpack8(n, told),
-        6 => return unpack8_bytes(n, told),
-        7 => told[0] = ouriscado::ouriscado_payload_start(n as usize),
-        8 => told[0] = ouriscado::ouriscado_slab_cap((n % 0x100) as u8) as u64,
-        9 => told[0] = ouriscado::ouriscado_slab_bytes((n % 0x100) as u8),
-        10 => choose(0, n, told),
-        11 => choose(1, n, told),
-        12 => choose(2, n, told),
-        13 => return encode_fk_delta_stream_into(bytes, list, told),
-        14 => return decode_fk_delta_stream_into(bytes, n, list, told),
-        15 => return encode_slab_payload_into(bytes, list, told),
-        16 => return decode_slab_payload_into(bytes, list, told),
-        17 | 22 => return cut::call(function, given, list, told),
-        18 => choose(3, n, told),
-        _ => return free::call(function, given, bytes, list, told),
-    }
-    0
+    page::call(function - FIRST_OF_PAGES, given, bytes, list, told)
 }

@@ -1,4 +1,5 @@
-// The functions on cutting. The ranges that a call writes stand over the first numbers of the list, as far as it reaches.
+// The functions on cutting. The ranges that a call writes stand over the first numbers of the list, as far as it reaches; where the last one
+// ends is told too.
 use crate::call::BEFORE;
 use crate::call::UNKNOWN;
 
@@ -53,10 +54,20 @@ fn last_of(count: usize) -> usize {
     if count == 0 { 0 } else { count - 1 }
 }
 
+// The end of the last of so many ranges, and BEFORE where there are none.
+fn end_of(ranges: &[[usize; 2]], parts: usize) -> u64 {
+    if parts <= ranges.len() {
+        if 0 < parts {
+            return ranges[parts - 1][1] as u64;
+        }
+    }
+    BEFORE
+}
+
 // Calls the function of a number: 17 cuts a list, others split the last of some ranges, which two numbers give.
 pub fn call(function: u64, given: &[u64; 4], list: &mut [u64], told: &mut [u64; 4]) -> u32 {
     let range = [given[2] as usize, given[3] as usize];
-    let mut ranges = [range; 8];
+    let mut ranges = [range; 24];
     let count = given[1] as usize;
     let mut parts = BEFORE as usize;
     let number = call_on(
@@ -69,6 +80,7 @@ pub fn call(function: u64, given: &[u64; 4], list: &mut [u64], told: &mut [u64; 
     );
     told[0] = parts as u64;
     if number == 0 {
+        told[1] = end_of(&ranges, parts);
         put_new(&ranges, last_of(count), parts, list);
     }
     number

@@ -68,17 +68,44 @@ pub fn hex(s: &[u8]) -> u64 {
     value
 }
 
-// Puts the numbers of a field, 16 digits and a space each, to the start of out, and tells how many.
+// Puts a number and so many more, each a step above the one before, into out from an index on, as far as it reaches. Tells the index after
+// them.
+fn put_run(out: &mut [u64], from: usize, first: u64, step: u64, more: u64) -> usize {
+    let mut n = first;
+    let mut left = more;
+    let mut k = from;
+    while k < out.len() {
+        out[k] = n;
+        k += 1;
+        if left == 0 {
+            return k;
+        }
+        left -= 1;
+        n = std::num::wrapping_add_u64(n, step);
+    }
+    k
+}
+
+// Puts the numbers of an item, which is a number or a number, a step and how many more, divided by colons.
+fn put_item(s: &[u8], out: &mut [u64], from: usize) -> usize {
+    let run = after(s, b':');
+    let first = hex(before(s, b':'));
+    let step = hex(before(run, b':'));
+    put_run(out, from, first, step, hex(after(run, b':')))
+}
+
+// Puts the numbers of a field, a space after each item, to the start of out, and tells how many.
 pub fn numbers(s: &[u8], out: &mut [u64]) -> usize {
     let mut at: usize = 0;
     let mut k: usize = 0;
-    while k < out.len() {
-        if s.len() - at < 17 {
+    while at < s.len() {
+        let rest = &s[at..];
+        let len = find(rest, b' ');
+        k = put_item(part(rest, 0, len), out, k);
+        if s.len() - at <= len {
             return k;
         }
-        out[k] = hex(part(s, at, at + 16));
-        at += 17;
-        k += 1;
+        at += len + 1;
     }
     k
 }

@@ -1,5 +1,6 @@
-// Replays answers of the published source, which data/ holds, a file for each function: calls the exported function on the same input, and
-// compares what it answers and what its buffers then hold. Writes a line for each function.
+// Replays answers of the published source, which data/ holds, a file for each function, and answers at boundaries, computed from document 01:
+// calls the function on the same input, and compares what it answers and what its buffers then hold. Writes a line for each function or
+// subject.
 mod call;
 mod cut;
 mod free;
@@ -9,11 +10,16 @@ mod same;
 
 use libc::STDOUT_FILENO;
 
+// The most bytes and numbers of an answer.
+const MOST_BYTES: usize = 4097;
+
+const MOST_NUMBERS: usize = 65536;
+
 // A buffer and a list hold what two fields say.
 fn leaves(bytes_field: &[u8], list_field: &[u8], bytes: &[u8], list: &[u64]) -> bool {
-    let mut expected = [0u8; 4096];
+    let mut expected = [0u8; MOST_BYTES];
     line::bytes(bytes_field, &mut expected);
-    let mut numbers = [0u64; 512];
+    let mut numbers = [0u64; MOST_NUMBERS];
     if line::numbers(list_field, &mut numbers) != list.len() {
         return false;
     }
@@ -23,7 +29,13 @@ fn leaves(bytes_field: &[u8], list_field: &[u8], bytes: &[u8], list: &[u64]) -> 
     same::numbers(&numbers, list)
 }
 
-// Calls the function of a number, and compares what it answers and leaves with the fields of s.
+// Puts the numbers of a field over the first of four.
+fn put_said(field: &[u8], four: &mut [u64; 4]) {
+    line::numbers(field, four);
+}
+
+// Calls the function of a number, and compares what it answers and leaves with the fields of s. Of the numbers told those count that the
+// fields have.
 fn agrees(
     function: u64,
     refusal: u64,
@@ -37,8 +49,8 @@ fn agrees(
     if number as u64 != refusal {
         return false;
     }
-    let mut expected = [0; 4];
-    line::numbers(line::before(s, b'|'), &mut expected);
+    let mut expected = told;
+    put_said(line::before(s, b'|'), &mut expected);
     if !same::four(&told, &expected) {
         return false;
     }
@@ -82,8 +94,8 @@ fn replay_in(s: &[u8], bytes: &mut [u8], list: &mut [u64]) -> bool {
 
 // Replays the answer on a line.
 fn replay(s: &[u8]) -> bool {
-    let mut bytes = [0u8; 4096];
-    let mut list = [0u64; 512];
+    let mut bytes = [0u8; MOST_BYTES];
+    let mut list = [0u64; MOST_NUMBERS];
     replay_in(s, &mut bytes, &mut list)
 }
 
@@ -123,15 +135,9 @@ fn replay_all(text: &[u8]) {
     }
 }
 
-// The name of a function's file: its number, in two digits.
-fn name_of(function: u8) -> [u8; 2] {
-    [b'0' + function / 10 % 10, b'0' + function % 10]
-}
-
-// Reads the file of a function into lent room and replays it; false where there is none.
-fn replay_function(function: u8, text: &mut [u8]) -> bool {
-    let name = name_of(function);
-    let file = os::open_read(&name);
+// Reads a file into lent room and replays it; false where there is none.
+fn replay_file(name: &[u8; 2], text: &mut [u8]) -> bool {
+    let file = os::open_read(name);
     if file < 0 {
         return false;
     }
@@ -141,18 +147,37 @@ fn replay_function(function: u8, text: &mut [u8]) -> bool {
     true
 }
 
+// The name of a function's file: its number, in two digits.
+fn name_of(function: u8) -> [u8; 2] {
+    [b'0' + function / 10 % 10, b'0' + function % 10]
+}
+
 // Replays the files of the functions, in the order of their numbers.
 fn replay_functions(text: &mut [u8]) {
     let mut function: u8 = 0;
     while function < 100 {
-        if !replay_function(function, text) {
+        let name = name_of(function);
+        if !replay_file(&name, text) {
             return;
         }
         function += 1;
     }
 }
 
+// Replays the files of boundaries, each named by b and a digit.
+fn replay_boundaries(text: &mut [u8]) {
+    let mut k: u8 = 0;
+    while k < 10 {
+        let name = [b'b', b'0' + k];
+        if !replay_file(&name, text) {
+            return;
+        }
+        k += 1;
+    }
+}
+
 fn main() {
     let mut text = io::large_buffer();
     replay_functions(&mut text);
+    replay_boundaries(&mut text);
 }

@@ -127,6 +127,36 @@ fn set(function: u64, given: &[u64; 4], page: &mut [u8]) -> u32 {
     }
 }
 
+// Reads something of a page.
+fn read(function: u64, page: &[u8], told: &mut [u64; 4]) -> u32 {
+    match function {
+        0 => read_packed(page, told),
+        1 => is_last(page, told),
+        2 | 3 | 18 => offset(function, page, told),
+        7 | 8 | 13 => count(function, page, told),
+        9 => extent(page, told),
+        11 => extent_creates(page, told),
+        15 => ouriscado::ouriscado_sh_page_require_delta(page),
+        17 => stream_tail(page, told),
+        _ => UNKNOWN,
+    }
+}
+
+// Writes a list to a page.
+fn write(
+    function: u64,
+    given: &[u64; 4],
+    page: &mut [u8],
+    list: &[u64],
+    told: &mut [u64; 4],
+) -> u32 {
+    match function {
+        22 => write_stream(page, list, told),
+        23 => ouriscado::ouriscado_sh_page_pack_fks(page, list, given[0]),
+        _ => pack_extent(page, list, given),
+    }
+}
+
 // Calls the function of a number among those on pages.
 pub fn call(
     function: u64,
@@ -136,21 +166,11 @@ pub fn call(
     told: &mut [u64; 4],
 ) -> u32 {
     match function {
-        0 => read_packed(page, told),
-        1 => is_last(page, told),
-        2 | 3 | 18 => offset(function, page, told),
-        4 | 5 | 6 | 10 | 12 | 14 | 16 => set(function, given, page),
-        7 | 8 | 13 => count(function, page, told),
-        9 => extent(page, told),
-        11 => extent_creates(page, told),
-        15 => ouriscado::ouriscado_sh_page_require_delta(page),
-        17 => stream_tail(page, told),
+        4..=6 | 10 | 12 | 14 | 16 => set(function, given, page),
         19 => entries_into(page, list, told),
         20 => decode_slice_into(page, list, told),
         21 => try_append(page, given[0], told),
-        22 => write_stream(page, list, told),
-        23 => ouriscado::ouriscado_sh_page_pack_fks(page, list, given[0]),
-        24 => pack_extent(page, list, given),
-        _ => UNKNOWN,
+        22..=24 => write(function, given, page, list, told),
+        _ => read(function, page, told),
     }
 }

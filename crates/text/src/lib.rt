@@ -1,4 +1,4 @@
-// What the programs write to standard output: words, numbers in decimal, bytes and head words in hexadecimal.
+// What the programs write to standard output: words, numbers in decimal, bytes in hexadecimal.
 use libc::STDOUT_FILENO;
 
 // The first len bytes of a buffer; all of them where it has fewer.
@@ -28,12 +28,6 @@ pub fn named(some: &[u8], n: u64) {
 // Ends the line.
 pub fn end() {
     words(b"\n");
-}
-
-// Writes a word of 64 bits in hexadecimal, 16 digits, with a space before it.
-pub fn word(w: u64) {
-    words(b" ");
-    io::print_hex(STDOUT_FILENO, w, 16);
 }
 
 // The hexadecimal digit of d, of which the four low bits count.
@@ -71,13 +65,8 @@ pub fn numbers(list: &[u64]) {
     }
 }
 
-// Writes the number of a refusal.
-pub fn refused(refusal: error::Refusal) {
-    named(b" refused ", refusal as u64);
-}
-
 // Writes the number of a refusal, and ends the line.
 pub fn refusal(refusal: error::Refusal) {
-    refused(refusal);
+    named(b" refused ", refusal as u64);
     end();
 }

@@ -15,8 +15,11 @@ abbrev μ-loop : tie.MeasureT-loop
 loop-holds : tie.Need-loop-holds Inv-loop μ-loop
 loop-holds c = search needs
 
-replay-function-requires : tie.Need-replay-function-requires Inv-loop μ-loop
-replay-function-requires c κs = search needs
+name-of-requires : tie.Need-name-of-requires Inv-loop μ-loop
+name-of-requires c κs = search needs
+
+replay-file-requires : tie.Need-replay-file-requires Inv-loop μ-loop
+replay-file-requires c κs = search needs
 
 same-length : tie.Need-same-length Inv-loop μ-loop
 same-length c = search needs
@@ -46,7 +49,8 @@ replay-functions-spec =
     Inv-loop
     μ-loop
     loop-holds
-    replay-function-requires
+    name-of-requires
+    replay-file-requires
     same-length
     returns
     add-function
