@@ -1,0 +1,141 @@
+#!/usr/bin/env python3
+"""Writes what the program `book_shell` has to write for a script, computed from document 01's plain book and not from the program:
+
+    python3 tools/book_shell.py < crates/book_shell/stdin > crates/book_shell/stdout
+"""
+import re
+import sys
+from plain_book import Book, Refused
+
+LINE_BYTES, NUMBERS, KEYS, BODY_BYTES = 16384, 4096, 4096, 262144
+FORMS = {
+    "body": "body BYTES",
+    "keys": "keys COUNT",
+    "load": "load KEY NUMBER ...",
+    "append": "append KEY NUMBER",
+    "read": "read KEY, or read KEY ROOM",
+    "drop": "drop KEY",
+    "places": "places alone",
+    "space": "space alone",
+}
+REFUSALS = {
+    1: "the book's shape breaks its limits",
+    2: "the key is beyond the heads",
+    3: "a load meets a key in use",
+    12: "the first or only number offered is 0",
+    13: "a number offered has bit 63 set",
+    14: "a book is offered 2^62 or more",
+    32: "a number offered isn't above the one before",
+    34: "the lent list is too short",
+    36: "no room: the block or run would pass the body's end",
+}
+
+
+class Unread(Exception):
+    """A line that can't be read, with what to say."""
+
+
+def counted(n, one, many=None):
+    return f"{n} {one if n == 1 else many or one + 's'}"
+
+
+def place(book, key):
+    at, ns = book.places[key], book.lists[key]
+    return {
+        "empty": lambda: "empty",
+        "inline": lambda: f"inline {ns[0]}",
+        "slab": lambda: f"slab class {at[1]}, used {len(ns)}, offset {at[2]}",
+        "pages": lambda: f"pages, the last at offset {at[1][-1][0]}",
+    }[at[0]]()
+
+
+def numbers(words):
+    ns = []
+    for word in words:
+        if not re.fullmatch("[0-9]+", word):
+            raise Unread(f"expected a number, found {word}")
+        if int(word) >= 2**64:
+            raise Unread(f"expected a number below 2^64, found {word}")
+        if len(ns) == NUMBERS:
+            raise Unread(f"too many numbers, the most here is {NUMBERS}")
+        ns.append(int(word))
+    return ns
+
+
+def limited(n, most, what):
+    if n > most:
+        raise Unread(f"{what}, the most here is {most}")
+    return n
+
+
+class Shell:
+    def __init__(self):
+        self.book = Book(0, 0)
+
+    def body(self, size):
+        self.book = Book(limited(size, BODY_BYTES, "too many bytes"), 0)
+        return f"body of {size} bytes"
+
+    def keys(self, count):
+        self.book = Book(self.book.size, limited(count, KEYS, "too many keys"))
+        if self.book.out_of_shape():
+            raise Refused(1)
+        return f"{counted(count, 'key')} over {counted(self.book.size, 'byte')}: a fresh book"
+
+    def load(self, key, *ns):
+        pages = self.book.load(key, list(ns))
+        return f"loaded: {counted(len(ns), 'number')}, {counted(pages, 'page')}"
+
+    def append(self, key, n):
+        rewritten = self.book.append(key, n)
+        return f"appended: {place(self.book, key)}; {counted(rewritten, 'record')} rewritten"
+
+    def read(self, key, room=NUMBERS):
+        ns, pages = self.book.read(key, limited(room, NUMBERS, "too much room"))
+        return f"read: {counted(len(ns), 'number')}, {counted(pages, 'page')}:" + "".join(f" {n}" for n in ns)
+
+    def drop(self, key):
+        return f"dropped: {counted(self.book.drop(key), 'number')}"
+
+    def places(self):
+        return "\n".join(f"key {key}: {place(self.book, key)}" for key in range(len(self.book.lists)))
+
+    def space(self):
+        freed = [f"freed, class {c}: {' '.join(map(str, reversed(s)))}" for c, s in enumerate(self.book.stacks) if s]
+        mark = self.book.mark if not self.book.out_of_shape() else 0
+        return "\n".join([f"mark {mark}"] + freed)
+
+
+def answer(shell, words):
+    if words[0] not in FORMS:
+        ns = numbers(words[1:])
+        raise Unread("expected body, keys, load, append, read, drop, places or space")
+    ns = numbers(words[1:])
+    least, most = {"load": (1, NUMBERS), "append": (2, 2), "read": (1, 2), "places": (0, 0), "space": (0, 0)}.get(words[0], (1, 1))
+    if not least <= len(ns) <= most:
+        raise Unread(f"expected {FORMS[words[0]]}")
+    return getattr(shell, words[0])(*ns)
+
+
+def main():
+    shell = Shell()
+    for number, line in enumerate(sys.stdin.read().split("\n"), 1):
+        if len(line) >= LINE_BYTES:
+            print(f"line {number}: too many bytes, the most here is {LINE_BYTES}")
+            continue
+        words = line.split()
+        if not words:
+            continue
+        if words[0].startswith("#"):
+            print(line)
+            continue
+        print(f"> {line}")
+        try:
+            print(answer(shell, words))
+        except Refused as refused:
+            print(f"refused {refused}: {REFUSALS[int(str(refused))]}")
+        except Unread as why:
+            print(f"line {number}: {why}")
+
+
+main()
