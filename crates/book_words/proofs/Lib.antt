@@ -1,0 +1,3 @@
+pub mod LawsWords
+pub mod LawsCalls
+pub mod LawsAnswers
