@@ -7,9 +7,7 @@ ghost use Rattle.book.specs.Answers.{bookOf, freshAnswer};
 use crate::answers::AfterFresh;
 use crate::answers::BookFresh;
 use book_space::State;
-
-// Where lists may begin: the mark of a fresh book.
-const PAYLOAD_START: u64 = 4096;
+use scripthash_layout::SH_PREFIX_PAGE;
 
 // Makes every word 0.
 fn clear_words(words: &mut [u64])
@@ -37,7 +35,7 @@ pub fn fresh(body: &[u8], heads: &mut [u64], state: State) -> AfterFresh
     AfterFresh {
         answer: BookFresh::Made,
         state: State {
-            mark: PAYLOAD_START,
+            mark: SH_PREFIX_PAGE,
             free: [0; 9],
         },
     }

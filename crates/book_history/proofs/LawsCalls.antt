@@ -74,9 +74,9 @@ nobody size heads (slabOf k) x e = none-some (ap (λ (y : Key). slabAt (y .place
 nobody size heads (pageOf k i) x e = none-some (ap (λ (y : Key). pageIn i (y .place)) (sym (fresh-key size heads k)) ∙ e)
 
 -- The word of an empty key is 0.
-pub empty-word : headWord (headOf [] empty) ≡ 0
+pub empty-key-word : headWord (headOf [] empty) ≡ 0
 unfolding headWord packHead headOf
-empty-word = refl
+empty-key-word = refl
 
 -- A fresh pair agrees, whatever the body holds.
 pub fresh-agrees : (body : List ℕ) (heads : ℕ) → Agrees (plainFresh (length body) heads) (fresh body heads)
@@ -91,7 +91,7 @@ fresh-agrees body heads =
     plain = plainFresh (length body) heads
 
     head : (key : ℕ) → getD (replicate heads 0) key 0 ≡ headWord (headOf (keyOf key plain .list) (keyOf key plain .place))
-    head key = all-same 0 heads key ∙ sym empty-word ∙ sym (ap (λ (k : Key). headWord (headOf (k .list) (k .place))) (fresh-key (length body) heads key))
+    head key = all-same 0 heads key ∙ sym empty-key-word ∙ sym (ap (λ (k : Key). headWord (headOf (k .list) (k .place))) (fresh-key (length body) heads key))
 
     space : outOfShape (plain .size) (length (plain .keys)) ≡ false → AgreesSpace (plain .space) (fresh body heads .space) (places plain) none (contentsOf plain)
     space shape =

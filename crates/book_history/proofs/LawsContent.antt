@@ -57,10 +57,10 @@ unfolding sure
 sure-yes test after e = refuse-no (not test) keyUnsound after (ap not e)
 
 -- Numbers that rise behind another, below 2^62, go on behind it.
-pub goes-on : (prev : ℕ) (ns : List ℕ) → Rising (2 ^ 62) prev ns → 0 < length ns → goOn prev ns ≡ true
+pub rising-goes-on : (prev : ℕ) (ns : List ℕ) → Rising (2 ^ 62) prev ns → 0 < length ns → goOn prev ns ≡ true
 unfolding goOn Rising
-goes-on prev [] r l = absurd (omega arith)
-goes-on prev (n ∷ ns) (a, b, r) l = rw (lt-ltb prev n a, lt-ltb (lastFrom n ns) (2 ^ 62) (last-below (2 ^ 62) n ns b r))
+rising-goes-on prev [] r l = absurd (omega arith)
+rising-goes-on prev (n ∷ ns) (a, b, r) l = rw (lt-ltb prev n a, lt-ltb (lastFrom n ns) (2 ^ 62) (last-below (2 ^ 62) n ns b r))
 
 -- A slab that stands below the mark and reads as a kept stream gives it.
 slab-scans : (s : Space) (class off : ℕ) (kept : Kept) → class ≤ maxSlabClass → isBlock class off (s .mark) ≡ true → length (kept .numbers) ≤ maxSlabCount
@@ -76,7 +76,7 @@ link-scans : (s : Space) (prev off : ℕ) (p : Page) → isBlock pageClass off (
     → Rising (2 ^ 62) prev (p .part .numbers) → 0 < length (p .part .numbers) → linkScan s prev off ≡ accepted (scanOf (p .part))
 unfolding linkScan
 link-scans s prev off p stands r rises l =
-    sure-yes _ _ stands ∙ then-yes _ _ (r .reads) ∙ sure-yes _ _ (goes-on prev (p .part .numbers) rises l)
+    sure-yes _ _ stands ∙ then-yes _ _ (r .reads) ∙ sure-yes _ _ (rising-goes-on prev (p .part .numbers) rises l)
 
 -- A last page's header.
 last-header : (s : Space) (off first creates : ℕ) → isBlock pageClass off (s .mark) ≡ true → LastReads first creates (pageBytes s off)
@@ -198,7 +198,7 @@ module _ (plain : PlainBook) (b : Book) (g : GoodPlain plain) (shape : outOfShap
       rw (← same)
       (slab-scans (b .space) class off kept c (rw (h .space .mark) (g .space .apart .stands (slabOf key) (record { class = class; off = off }) (ap slabAt is)))
       (rw same few) (subst (λ (p : Place). SlabIn p (blockAt (b .space) class off)) is (h .space .stored (slabOf key) (record { class = class; off = off }) (ap slabAt is)))
-      (goes-on 0 (kept .numbers) (rw same (g .keys key .rises)) (rw same (omega arith))))
+      (rising-goes-on 0 (kept .numbers) (rw same (g .keys key .rises)) (rw same (omega arith))))
 
   -- What is known of the pages of a key.
   pub chain-page : (ps : List Page) → keyOf key plain .place ≡ pages ps → (i off : ℕ) → pageAt i ps ≡ some (record { class = pageClass; off = off })

@@ -29,7 +29,8 @@ use Rattle.book.specs.Calls.{does}
 use Rattle.book_history.specs.Agrees.{Contents, Reading, AgreesSpace, Agrees, contentsOf}
 use Rattle.book_history.proofs.LawsFrame.{block-ends}
 use Rattle.book_history.proofs.LawsStep.{Alike, told-alike, alike-on-key, placedContents, agrees-placed}
-use Rattle.book_history.proofs.LawsPush.{FromOther, push-agrees, release-first, release-long}
+use Rattle.book_space.proofs.LawsTake.{release-first}
+use Rattle.book_history.proofs.LawsPush.{FromOther, push-agrees, release-long}
 use Rattle.book_history.proofs.LawsContent.{offsOf, blocksOf, content-agrees}
 use Rattle.book_history.proofs.LawsHand.{bare-placed, withHand, OthersKept, meanwhile-first, others-kept}
 

@@ -106,11 +106,6 @@ pub release-one : (class off : ℕ) (s : Space) → release (record { class = cl
 unfolding release pushAll pushed
 release-one class off s = refl
 
--- Blocks are released one after the other.
-pub release-first : (b : Block) (bs : List Block) (s : Space) → release (b ∷ bs) s ≡ release bs (release (b ∷ []) s)
-unfolding release pushAll
-release-first b bs s = refl
-
 -- A link is no longer than a block.
 link-short : (class n : ℕ) → length (bytesOf 8 n) ≤ slabBytes class
 link-short class n = omega (arith, bytes-from-16 class, length-bytesOf 8 n)

@@ -7,7 +7,6 @@ use mathlib.Core.Option.{none, some}
 use mathlib.Core.Path.{_≡_, refl, sym, ap, subst, _∙_}
 use native.Mathlib.Omega.{arith}
 use lib.ListN.{length, getD}
-use lib.Seq.{take-take}
 use borrow.Author.Tests.{eq-eqb, ne-eqb, le-ltb}
 use Rattle.buffer.specs.Bytes.{part}
 use Rattle.buffer.specs.LittleEndian.{littleEndian}
@@ -33,6 +32,7 @@ use Rattle.book.specs.Reads.{reads}
 use Rattle.book_history.specs.Agrees.{top, under, Contents, Reading, contentsOf, AgreesSpace, Agrees}
 use Rattle.book_history.specs.Standing.{Standing}
 use Rattle.book_history.proofs.LawsStep.{on-key-passes}
+use Rattle.book_history.proofs.LawsTake.{part-start}
 use Rattle.book_history.proofs.LawsContent.{head-agrees, content-agrees}
 
 -- ---- free lists
@@ -73,11 +73,6 @@ names-linked class body (o ∷ os) h =
           let (a, w, n) = h d x (under-top class d o os x e) in
           (a, w, n ∙ under-rest d o os (deep-none class d os x e)))),
     )
-
--- The first bytes of a part.
-pub part-start : (b : List ℕ) (o k n : ℕ) → n ≤ k → part (part b o k) 0 n ≡ part b o n
-unfolding part
-part-start b o k n h = take-take n k _ h
 
 -- Each free list of a space that agrees names its stack from the top.
 pub free-named : (plain : PlainSpace) (s : Space) (at : ℕ → Place) (c : Contents) → Good plain at none → AgreesSpace plain s at none c → (class : ℕ)

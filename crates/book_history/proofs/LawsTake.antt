@@ -62,9 +62,9 @@ taken-then P at held c long x y f g no' go (refused-taken {number}) = no' number
 -- ---- a freed block
 
 -- The first bytes of a part.
-part-first : (b : List ℕ) (o k n : ℕ) → n ≤ k → part (part b o k) 0 n ≡ part b o n
+pub part-start : (b : List ℕ) (o k n : ℕ) → n ≤ k → part (part b o k) 0 n ≡ part b o n
 unfolding part
-part-first b o k n l = take-take n k (drop o b) l
+part-start b o k n l = take-take n k (drop o b) l
 
 module _ (plain : PlainSpace) (s : Space) (at : ℕ → Place) (c : Contents) (class o : ℕ) (os : List ℕ) (to-8 : class ≤ 8) (g : Good plain at none)
     (a : AgreesSpace plain s at none c) (is : stackOf class plain ≡ o ∷ os) where
@@ -76,7 +76,7 @@ module _ (plain : PlainSpace) (s : Space) (at : ℕ → Place) (c : Contents) (c
   unfolding has
   next-is =
       let reads = a .stored (stack class (length os)) (record { class = class; off = o }) (ap (atDepth class (length os)) is ∙ top-is class o os) in
-      ap littleEndian (sym (part-first (s .body) o (slabBytes class) 8 (omega (arith, bytes-from-16 class)))) ∙ reads ∙ ap (under (length os)) is ∙ under-pushed o os
+      ap littleEndian (sym (part-start (s .body) o (slabBytes class) 8 (omega (arith, bytes-from-16 class)))) ∙ reads ∙ ap (under (length os)) is ∙ under-pushed o os
 
   -- who had a block before
   abbrev From : Block → Owner → Type 0

@@ -1,5 +1,5 @@
 -- The bytes of a key's blocks: a slab or page that stands below the mark lies in the body, and is read by its bytes. Assumes nothing.
-use Prim.Native.Nat.{ℕ, _+_, _-_, _%_, _≤_, _<_}
+use Prim.Native.Nat.{ℕ, _+_, _-_, _≤_, _<_}
 use mathlib.Core.Bool.{Bool, true, false, _&&_}
 use mathlib.Core.List.{List}
 use mathlib.Core.Path.{_≡_, _∙_}
@@ -10,7 +10,7 @@ use lib.ListN.{take, drop}
 use Rattle.buffer.specs.Bytes.{part}
 use Rattle.scripthash_layout.specs.Sizes.{slabBytes, maxSlabClass, whereBelow}
 use Rattle.scripthash_free.specs.FreeList.{isBlock}
-use Rattle.scripthash_free.proofs.LawsBlock.{both, slab-stands, bytes-fit}
+use Rattle.scripthash_free.proofs.LawsBlock.{both, bytes-fit}
 
 -- A slab of a class 0 to 7 can stand at an offset and end at or below an end.
 abbrev pub isSlab : ℕ → ℕ → ℕ → Bool
@@ -21,13 +21,9 @@ module _ (class off end : ℕ) where
   pub no-slab-class : maxSlabClass < class → isSlab class off end ≡ false
   no-slab-class h = rw (lt-leb class maxSlabClass h)
 
-  -- a slab whose block can't stand can't either
-  pub no-slab : class ≤ maxSlabClass → isBlock class off end ≡ false → isSlab class off end ≡ false
-  no-slab h e = rw (le-leb class maxSlabClass h, e)
-
-  -- a slab at a multiple of 16 from 4,096 on, that ends at or below an end, can stand
-  pub slab-stands-so : class ≤ maxSlabClass → off % 16 ≡ 0 → 4096 ≤ off → off + slabBytes class ≤ end → isSlab class off end ≡ true
-  slab-stands-so h aligned begins ends = rw (le-leb class maxSlabClass h, slab-stands class off end h aligned begins ends)
+  -- a slab of a class up to 7 can stand where its block can
+  pub slab-is : class ≤ maxSlabClass → isSlab class off end ≡ isBlock class off end
+  slab-is h = rw (le-leb class maxSlabClass h)
 
 -- a slab that can stand has a class up to 7, and its block can stand
 pub slab-lies : (class off end : ℕ) → isSlab class off end ≡ true → (class ≤ maxSlabClass) × (isBlock class off end ≡ true)

@@ -75,10 +75,10 @@ last-above top prev [] h = le-refl prev
 last-above top prev (n ∷ ns) h = omega (arith, last-above top n ns (h .2), h .0)
 
 -- rising numbers whose last is below another limit stay below that limit
-pub rising-below : (top low prev : ℕ) (ns : List ℕ) → Rising top prev ns → lastFrom prev ns < low → Rising low prev ns
+pub rising-to-last : (top low prev : ℕ) (ns : List ℕ) → Rising top prev ns → lastFrom prev ns < low → Rising low prev ns
 unfolding Rising lastFrom
-rising-below top low prev [] h k = tt
-rising-below top low prev (n ∷ ns) h k = (h .0, omega (arith, last-above top n ns (h .2)), rising-below top low n ns (h .2) k)
+rising-to-last top low prev [] h k = tt
+rising-to-last top low prev (n ∷ ns) h k = (h .0, omega (arith, last-above top n ns (h .2)), rising-to-last top low n ns (h .2) k)
 
 -- numbers that go on behind another begin above it and end with a sound last number
 pub goes-on : (prev : ℕ) (ns : List ℕ) → Rising (2 ^ 63) 0 ns → goOn prev ns ≡ soundLast (lastFrom 0 ns) && ltb prev (getD ns 0 0)
@@ -116,7 +116,7 @@ going prev (n ∷ ns) h e =
     let last : lastFrom n ns < 2 ^ 62 = ltb-true (lastFrom n ns) (2 ^ 62) (w .1) in
     record {
       some = omega arith;
-      rising = (ltb-true prev n (w .0), omega (arith, last-above (2 ^ 63) n ns (h .2)), rising-below (2 ^ 63) (2 ^ 62) n ns (h .2) last);
+      rising = (ltb-true prev n (w .0), omega (arith, last-above (2 ^ 63) n ns (h .2)), rising-to-last (2 ^ 63) (2 ^ 62) n ns (h .2) last);
       same-last = refl;
     }
 

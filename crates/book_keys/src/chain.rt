@@ -3,15 +3,13 @@ ghost use mathlib.Core.Path.{_≡_};
 ghost use Prim.Native.Nat.{_/_, _≤_};
 ghost use lib.ListN.{length, getD};
 ghost use Rattle.error.specs.Refusal.{accepted, answered, refusalOf};
-ghost use Rattle.scripthash_layout.specs.Sizes.{pageClass, pageSize};
+ghost use Rattle.scripthash_layout.specs.Sizes.{pageSize};
 ghost use Rattle.scripthash_stream.specs.Stream.{afterDecode};
-ghost use Rattle.scripthash_free.specs.FreeList.{isBlock};
 ghost use Rattle.scripthash_answers.specs.EntryAnswers.{sliceAnswer};
 ghost use Rattle.scripthash_pages.specs.Entries.{pageReadOf};
 ghost use Rattle.book_keys.specs.Keys.{soundly, pageAt, linkScan, lastAt, walk, Chain as ChainIs, chainAt, tailAt};
 ghost use Rattle.book_keys.specs.Steps.{keySpace, linkRead, lastRead, tailRead, tailEndOf, linkEndOf, walkedFrom, chainEndOf, pageInto, Written};
 ghost use Rattle.book_keys.specs.Answers.{lastAnswer, tailAnswer, linkAnswer, walkAnswer, chainAnswer};
-use crate::slab::PAYLOAD_START;
 use crate::slab::sound_last;
 use compact::ReadUleb128;
 use error::Refusal;
@@ -19,13 +17,14 @@ use scripthash_answers::PageDone;
 use scripthash_answers::PageLink;
 use scripthash_answers::PageOffset;
 use scripthash_answers::PageSlice;
-use scripthash_fields::SH_PAGE_BYTES;
 use scripthash_fields::SH_PAGE_EXTENT_VER;
 use scripthash_fields::SH_PAGE_OFF_EXTENT_BASE;
 use scripthash_fields::SH_PAGE_OFF_EXTENT_CREATES;
 use scripthash_fields::SH_PAGE_OFF_EXTENT_N;
 use scripthash_fields::SH_PAGE_OFF_N_FKS;
 use scripthash_fields::SH_PAGE_OFF_VER;
+use scripthash_free::is_page;
+use scripthash_layout::SH_PAGE_BYTES;
 use scripthash_layout::SH_PAGE_SIZE;
 use scripthash_pages::sh_page_stream_tail;
 use scripthash_stream::ScanStream;
@@ -101,25 +100,6 @@ impl ChainEnd {
             ChainEnd::Refused(number) => number,
         }
     }
-}
-
-// Tells whether a page can stand at an offset and end at or below an end.
-fn page_stands(off: u64, end: u64) -> bool
-    ensures { λ r. ⌜ r ≡ isBlock pageClass off end ⌝ }
-{
-    if off % SH_PAGE_BYTES != 0 {
-        return false;
-    }
-    if off < PAYLOAD_START {
-        return false;
-    }
-    if end < off {
-        return false;
-    }
-    if end - off < SH_PAGE_BYTES {
-        return false;
-    }
-    true
 }
 
 // Reads the header of a key's last page.
@@ -212,7 +192,7 @@ pub fn last_page(body: &[u8], mark: u64, last: u64) -> LastPage
     requires { ⌜ mark ≤ length (now body) ⌝ }
     ensures { λ r. ⌜ lastAnswer r ≡ soundly (lastAt (keySpace (now (body .entry)) mark) last) ⌝ }
 {
-    if !page_stands(last, mark) {
+    if !is_page(last, mark) {
         return LastPage::Refused(error::KEY_UNSOUND);
     }
     let start = last as usize;
@@ -224,7 +204,7 @@ pub fn tail_end(body: &[u8], mark: u64, last: u64) -> TailEnd
     requires { ⌜ mark ≤ length (now body) ⌝ }
     ensures { λ r. ⌜ tailAnswer r ≡ answered tailEndOf (soundly (tailAt (keySpace (now (body .entry)) mark) last)) ⌝ }
 {
-    if !page_stands(last, mark) {
+    if !is_page(last, mark) {
         return TailEnd::Refused(error::KEY_UNSOUND);
     }
     let start = last as usize;
@@ -236,7 +216,7 @@ fn link_end(body: &[u8], mark: u64, prev: u64, off: u64) -> LinkEnd
     requires { ⌜ mark ≤ length (now body) ⌝ }
     ensures { λ r. ⌜ linkAnswer r ≡ answered (linkEndOf (pageAt (keySpace (now (body .entry)) mark) off)) (soundly (linkScan (keySpace (now (body .entry)) mark) prev off)) ⌝ }
 {
-    if !page_stands(off, mark) {
+    if !is_page(off, mark) {
         return LinkEnd::Refused(error::KEY_UNSOUND);
     }
     let start = off as usize;
@@ -307,7 +287,7 @@ fn page_into(body: &[u8], mark: u64, off: u64, out: &mut [u64]) -> PageSlice
     ensures answer { λ r. ⌜ sliceAnswer r ≡ answered (pageReadOf (pageAt (keySpace (now (body .entry)) mark) off)) (pageInto (length (now (out .entry))) (keySpace (now (body .entry)) mark) off) ⌝ }
     ensures list { λ r. ⌜ now (out .exit) ≡ afterDecode (now (out .entry)) (pageInto (length (now (out .entry))) (keySpace (now (body .entry)) mark) off) ⌝ }
 {
-    if !page_stands(off, mark) {
+    if !is_page(off, mark) {
         return PageSlice::Refused(error::KEY_UNSOUND);
     }
     let start = off as usize;

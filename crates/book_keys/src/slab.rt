@@ -11,12 +11,11 @@ ghost use Rattle.scripthash_stream.specs.Answers.{scanAnswer};
 ghost use Rattle.scripthash_free.specs.FreeList.{isBlock};
 ghost use Rattle.book_keys.specs.Keys.{soundly, slabScan};
 ghost use Rattle.book_keys.specs.Steps.{keySpace, soundLast, slabRead, Written};
+use scripthash_free::is_slab;
 use scripthash_layout::SH_MAX_SLAB_CLASS;
 use scripthash_layout::slab_bytes;
 use scripthash_stream::ScanStream;
 
-// Blocks stand in a body from this offset on.
-pub const PAYLOAD_START: u64 = 4096;
 // The most numbers that a slab is given.
 const SLAB_MOST: u16 = 256;
 // A book's numbers are below 2^62.
@@ -39,19 +38,7 @@ pub fn slab_stands(class: u8, off: u64, end: u64) -> bool
     if SH_MAX_SLAB_CLASS < class {
         return false;
     }
-    if off < PAYLOAD_START {
-        return false;
-    }
-    if off % 16 != 0 {
-        return false;
-    }
-    if end < off {
-        return false;
-    }
-    if end - off < slab_bytes(class) {
-        return false;
-    }
-    true
+    is_slab(class, off, end)
 }
 
 // Scans a slab, by its bytes, as a key's whose head says how many numbers it has.

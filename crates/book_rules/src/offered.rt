@@ -1,12 +1,11 @@
 // What can be offered to a book: a number, and a list number by number.
 ghost use mathlib.Core.Path.{_≡_};
 ghost use mathlib.Core.Bool.{true};
-ghost use Prim.Native.Nat.{ℕ, _-_, _^_, _≤_, _<_};
-ghost use lib.ListN.{length};
+ghost use Prim.Native.Nat.{ℕ, _-_, _^_, _<_};
 ghost use lib.Dec.{eqb};
 ghost use Rattle.error.specs.Refusal.{accepted, refusalOf};
 ghost use Rattle.compact.specs.Uleb128.{ulebLen};
-ghost use Rattle.scripthash_stream.specs.Stream.{maxOffered, streamLen};
+ghost use Rattle.scripthash_stream.specs.Stream.{streamLen};
 ghost use Rattle.scripthash_stream.specs.Answers.{bytesAnswer};
 ghost use Rattle.book_rules.specs.Limits.{offeredNumber, offeredList};
 use error::Refusal;
@@ -55,7 +54,6 @@ pub fn judge_number(n: u64) -> Refusal
 
 // Judges an offered list number by number, and measures its stream.
 pub fn judge_list(fks: &[u64]) -> StreamBytes
-    requires { ⌜ length (now fks) ≤ maxOffered ⌝ }
     ensures { λ r. ⌜ bytesAnswer r ≡ offeredList true 0 (now (fks .entry)) (accepted (streamLen (now (fks .entry)))) ⌝ }
 {
     let mut prev: u64 = 0;

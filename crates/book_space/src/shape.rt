@@ -5,6 +5,7 @@ ghost use Rattle.book_space.specs.Space.{markBad, shapeBroken};
 ghost use Rattle.book_space.specs.Answers.{spaceOf};
 use crate::State;
 use scripthash_layout::SH_PAGE_SIZE;
+use scripthash_layout::SH_PREFIX_PAGE;
 
 // The least length of a body.
 const LEAST_BODY: usize = 8192;
@@ -12,8 +13,6 @@ const LEAST_BODY: usize = 8192;
 const MOST_BODY: usize = 1073741824;
 // The most heads, one for each key.
 const MOST_HEADS: usize = 65536;
-// Blocks stand in a body from this offset on.
-const PAYLOAD_START: u64 = 4096;
 
 // Tells whether the lengths of a body and of its heads break the limits.
 pub fn out_of_shape(size: usize, heads: usize) -> bool
@@ -41,7 +40,7 @@ fn mark_bad(size: u64, mark: u64) -> bool
     if mark % 16 != 0 {
         return true;
     }
-    if mark < PAYLOAD_START {
+    if mark < SH_PREFIX_PAGE {
         return true;
     }
     size < mark

@@ -8,10 +8,8 @@ ghost use Rattle.book_space.specs.Answers.{spaceOf, takeAnswer};
 use crate::State;
 use error::Refusal;
 use scripthash_free::PopFree;
+use scripthash_layout::SH_PAGE_BYTES;
 use scripthash_layout::SH_PAGE_SLAB_CLASS;
-
-// The bytes of a page.
-const PAGE_BYTES: u64 = 4096;
 
 // What taking a block or a run answers: where it begins, or a refusal.
 pub enum TakeBlock {
@@ -45,8 +43,8 @@ pub fn take_run(body: &mut [u8], state: State, pages: u64) -> AfterTake
     ensures space { λ r. ⌜ spaceOf (now (body .exit)) (r .state) ≡ spaceAfter (spaceOf (now (body .entry)) state) (takeRun pages (spaceOf (now (body .entry)) state)) ⌝ }
 {
     let mark = state.mark;
-    let from = (mark + (PAGE_BYTES - 1)) / PAGE_BYTES * PAGE_BYTES;
-    let end = from + pages * PAGE_BYTES;
+    let from = (mark + (SH_PAGE_BYTES - 1)) / SH_PAGE_BYTES * SH_PAGE_BYTES;
+    let end = from + pages * SH_PAGE_BYTES;
     if (body.len() as u64) < end {
         return AfterTake {
             answer: TakeBlock::Refused(error::NO_ROOM),

@@ -6,7 +6,7 @@ ghost use Prim.Native.Nat.{_<_, _^_};
 ghost use lib.Dec.{eqb};
 ghost use lib.ListN.{length, replicate};
 ghost use Rattle.scripthash_layout.specs.Sizes.{pageSize};
-ghost use Rattle.scripthash_fields.specs.Page.{setField, versionOf, linkOf, streamOff, linkTo, linkNamed, extentNamed};
+ghost use Rattle.scripthash_fields.specs.Page.{setField, versionOf, linkOf, nextOff, streamOff, linkTo, linkNamed, extentNamed};
 ghost use Rattle.scripthash_fields.specs.Fields.{readLink, isLast, firstOff, nextOffOf, extentOf, createsOf, nFks, requireDelta};
 ghost use Rattle.scripthash_fields.specs.Fields.{streamOffOf, streamCapOf, writeLink, setExtent, setCreates, setCount, initEmpty, done, afterSet};
 ghost use Rattle.scripthash_answers.specs.FieldAnswers.{linkAnswer, lastAnswer, offsetAnswer, extentAnswer, createsAnswer, countAnswer, doneAnswer};
@@ -17,10 +17,9 @@ use scripthash_answers::PageExtent;
 use scripthash_answers::PageLast;
 use scripthash_answers::PageLink;
 use scripthash_answers::PageOffset;
+use scripthash_layout::SH_PAGE_BYTES;
 use scripthash_layout::SH_PAGE_SIZE;
 
-// The bytes of a page, as an offset counts them.
-pub const SH_PAGE_BYTES: u64 = 4096;
 // Where the version stands.
 pub const SH_PAGE_OFF_VER: usize = 0;
 // Where the count stands, in two bytes.
@@ -71,6 +70,18 @@ fn link_of(page: &[u8]) -> u64
     ensures small { λ r. ⌜ r < 2 ^ 40 ⌝ }
 {
     buffer::get_u64(page, SH_PAGE_OFF_VER) / SH_PAGE_LINK_UNIT
+}
+
+// The offset of the page behind a page, 0 where the page is LAST.
+pub fn next_off(page: &[u8]) -> u64
+    requires { ⌜ length (now page) ≡ pageSize ⌝ }
+    ensures { λ r. ⌜ r ≡ nextOff (now (page .entry)) ⌝ }
+{
+    let link = link_of(page);
+    if link % 2 == 1 {
+        return 0;
+    }
+    link / 2 * SH_PAGE_BYTES
 }
 
 // The link that names the page at an offset, LAST or not.
@@ -194,11 +205,7 @@ pub fn sh_page_next(page: &[u8]) -> PageOffset
     if page.len() != SH_PAGE_SIZE {
         return PageOffset::Refused(error::PAGE_LENGTH);
     }
-    let link = link_of(page);
-    if link % 2 == 1 {
-        return PageOffset::Offset(0);
-    }
-    PageOffset::Offset(link / 2 * SH_PAGE_BYTES)
+    PageOffset::Offset(next_off(page))
 }
 
 // Writes a page's link to the page at an offset.

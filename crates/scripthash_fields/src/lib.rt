@@ -1,7 +1,6 @@
 // The fields of a page's header: from the source's scripthash_pages.rs.
 mod fields;
 
-pub use fields::SH_PAGE_BYTES;
 pub use fields::SH_PAGE_DELTA_VER;
 pub use fields::SH_PAGE_EXTENT_HEADER_LEN;
 pub use fields::SH_PAGE_EXTENT_VER;
@@ -16,6 +15,7 @@ pub use fields::check_extent;
 pub use fields::check_link;
 pub use fields::clear;
 pub use fields::link_to;
+pub use fields::next_off;
 pub use fields::sh_page_extent;
 pub use fields::sh_page_extent_creates;
 pub use fields::sh_page_first_off;

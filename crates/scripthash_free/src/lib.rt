@@ -10,13 +10,11 @@ ghost use Rattle.scripthash_free.specs.FreeList.{Pop, lists, isBlock, pu
 ghost use Rattle.scripthash_free.specs.Answers.{classAnswer, pushAnswer, popAnswer, done};
 use error::Refusal;
 use scripthash_layout::SH_MAX_SLAB_CLASS;
+use scripthash_layout::SH_PAGE_BYTES;
 use scripthash_layout::SH_PAGE_SLAB_CLASS;
+use scripthash_layout::SH_PREFIX_PAGE;
 use scripthash_layout::SH_SLAB_BASE_BYTES;
 
-// Blocks stand in a body from this offset on.
-const PAYLOAD_START: u64 = 4096;
-// The bytes of a page.
-const PAGE_BYTES: u64 = 4096;
 // The bytes of the largest slab.
 const LARGEST_BYTES: u64 = 2048;
 
@@ -97,19 +95,19 @@ pub fn largest_reloc_class_le(bytes: u64) -> RelocClass
 }
 
 // Tells whether a page can stand at an offset and end at or below an end.
-fn is_page(off: u64, end: u64) -> bool
+pub fn is_page(off: u64, end: u64) -> bool
     ensures { λ r. ⌜ r ≡ isBlock pageClass off end ⌝ }
 {
-    if off % PAGE_BYTES != 0 {
+    if off % SH_PAGE_BYTES != 0 {
         return false;
     }
-    if off < PAYLOAD_START {
+    if off < SH_PREFIX_PAGE {
         return false;
     }
     if end < off {
         return false;
     }
-    if end - off < PAGE_BYTES {
+    if end - off < SH_PAGE_BYTES {
         return false;
     }
     true
@@ -117,11 +115,11 @@ fn is_page(off: u64, end: u64) -> bool
 
 // Tells whether a slab of a class 0 to 7 can stand at an offset and end at or below an end: what is left there has 16 or more parts of
 // 2 ^ class bytes.
-fn is_slab(class: u8, off: u64, end: u64) -> bool
+pub fn is_slab(class: u8, off: u64, end: u64) -> bool
     requires { ⌜ class ≤ maxSlabClass ⌝ }
     ensures { λ r. ⌜ r ≡ isBlock class off end ⌝ }
 {
-    if off < PAYLOAD_START {
+    if off < SH_PREFIX_PAGE {
         return false;
     }
     if end < off {
@@ -237,7 +235,7 @@ fn is_gap(from: u64, to: u64, end: u64) -> bool
     if from % 16 != 0 {
         return false;
     }
-    if from < PAYLOAD_START {
+    if from < SH_PREFIX_PAGE {
         return false;
     }
     to <= end

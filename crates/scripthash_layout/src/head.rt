@@ -20,7 +20,7 @@ const SH8_CLASS_RANGE: u64 = 1 << 6;
 // The most numbers that a head word itself holds.
 const SH_INLINE_CAP: u64 = 1;
 // Lists stand in a file from this offset on.
-const SH_PREFIX_PAGE: u64 = 4096;
+pub const SH_PREFIX_PAGE: u64 = 4096;
 
 // What a head word says of its key.
 pub enum ShHeadValue {

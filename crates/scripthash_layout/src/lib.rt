@@ -4,6 +4,7 @@ mod head;
 mod sizes;
 
 pub use head::Packed;
+pub use head::SH_PREFIX_PAGE;
 pub use head::ShHeadValue;
 pub use head::Unpacked;
 pub use head::pack8;
@@ -13,6 +14,7 @@ pub use head::unpack8;
 pub use head::unpack8_bytes;
 pub use sizes::SH_MAX_SLAB_BYTES;
 pub use sizes::SH_MAX_SLAB_CLASS;
+pub use sizes::SH_PAGE_BYTES;
 pub use sizes::SH_PAGE_SIZE;
 pub use sizes::SH_PAGE_SLAB_CLASS;
 pub use sizes::SH_SLAB_BASE;

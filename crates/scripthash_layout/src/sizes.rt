@@ -14,6 +14,8 @@ pub const SH_MAX_SLAB_BYTES: usize = 2048;
 pub const SH_PAGE_SLAB_CLASS: u8 = 8;
 // The bytes of a page.
 pub const SH_PAGE_SIZE: usize = 4096;
+// The same, as an offset counts them.
+pub const SH_PAGE_BYTES: u64 = 4096;
 
 // How many numbers a slab of a class has slots for, or 0 where that passes 32 bits.
 pub fn slab_cap(class: u8) -> u32

@@ -5,3 +5,4 @@ pub mod LawsHeld
 pub mod LawsWritten
 pub mod LawsPack
 pub mod LawsPacked
+pub mod LawsPlace

@@ -15,17 +15,15 @@ ghost use Rattle.scripthash_pages.specs.Entries.{appendSpot, hasSpot, on
 ghost use Rattle.scripthash_pages.specs.Answers.{placeAnswer, spotAnswer};
 use compact::uleb128_len;
 use error::Refusal;
+use scripthash_answers::PageDone;
 use scripthash_answers::PageEntries;
 use scripthash_answers::PageLastFk;
 use scripthash_answers::PageSlice;
 use scripthash_answers::TryAppend;
-use scripthash_fields::SH_PAGE_BYTES;
 use scripthash_fields::SH_PAGE_DELTA_VER;
-use scripthash_fields::SH_PAGE_EXTENT_HEADER_LEN;
 use scripthash_fields::SH_PAGE_EXTENT_VER;
-use scripthash_fields::SH_PAGE_HEADER_LEN;
 use scripthash_fields::SH_PAGE_OFF_N_FKS;
-use scripthash_fields::SH_PAGE_OFF_PACKED;
+use scripthash_fields::sh_page_require_delta;
 use scripthash_fields::stream_off;
 use scripthash_layout::SH_PAGE_SIZE;
 use scripthash_stream::MAX_OFFERED;
@@ -60,38 +58,17 @@ impl StreamPlace {
     }
 }
 
-// The place of a page's stream, where the buffer is a page, its count within the capacity and its version known.
+// The place of a page's stream, where the page can be read.
 fn stream_place(page: &[u8]) -> StreamPlace
     ensures { λ r. ⌜ placeAnswer r ≡ streamPlace (now (page .entry)) ⌝ }
 {
-    if page.len() != SH_PAGE_SIZE {
-        return StreamPlace::Refused(error::PAGE_LENGTH);
-    }
-    let version = page[0];
-    let count = buffer::get_u16(page, SH_PAGE_OFF_N_FKS) as usize;
-    if version == SH_PAGE_EXTENT_VER {
-        if SH_PAGE_SIZE - SH_PAGE_EXTENT_HEADER_LEN < count {
-            return StreamPlace::Refused(error::COUNT_ABOVE_CAPACITY);
-        }
-        return StreamPlace::At {
-            off: SH_PAGE_EXTENT_HEADER_LEN,
-            count,
-        };
-    }
-    if SH_PAGE_SIZE - SH_PAGE_HEADER_LEN < count {
-        return StreamPlace::Refused(error::COUNT_ABOVE_CAPACITY);
-    }
-    if version != SH_PAGE_DELTA_VER {
-        if version != 0 {
-            return StreamPlace::Refused(error::VERSION_BAD);
-        }
-        if count != 0 {
-            return StreamPlace::Refused(error::VERSION_BAD);
-        }
-    }
+    let passed = sh_page_require_delta(page);
+    let PageDone::Done = passed else {
+        return StreamPlace::Refused(passed.refusal());
+    };
     StreamPlace::At {
-        off: SH_PAGE_HEADER_LEN,
-        count,
+        off: stream_off(page),
+        count: buffer::get_u16(page, SH_PAGE_OFF_N_FKS) as usize,
     }
 }
 
@@ -142,13 +119,9 @@ pub fn sh_page_decode_slice_into(page: &[u8], out: &mut [u64]) -> PageSlice
     let PageEntries::Entries(count) = got else {
         return PageSlice::Refused(got.refusal());
     };
-    let link = buffer::get_u40(page, SH_PAGE_OFF_PACKED);
-    if link % 2 == 1 {
-        return PageSlice::Decoded { count, next: 0 };
-    }
     PageSlice::Decoded {
         count,
-        next: link / 2 * SH_PAGE_BYTES,
+        next: scripthash_fields::next_off(page),
     }
 }
 

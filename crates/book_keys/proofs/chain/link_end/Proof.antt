@@ -31,19 +31,19 @@ module _ (c : tie.Else1) where
   off = at .args .off
 
   stands : isBlock pageClass off (s .mark) ≡ true
-  stands = sym (c .before .page-stands .ensures) ∙ not-false _ (c .if1 .left)
+  stands = sym (c .before .is-page .ensures) ∙ not-false _ (c .if1 .left)
 
   inside : off + pageSize ≤ length (at .args .body .now)
   inside = page-inside s off stands (at .args .body .now) (at .pre)
 
-page-stands-requires : tie.Need-page-stands-requires
-page-stands-requires c κs = search needs
+is-page-requires : tie.Need-is-page-requires
+is-page-requires c κs = search needs
 
 returns : tie.Need-returns
 returns c =
     let a = c .before .before .before .args in
     let s = keySpace (a .body .now) (a .mark) in
-    turned-back (linkEndOf (pageAt s (a .off))) _ (link-off s (a .off) (a .prev) (sym (c .before .page-stands .ensures) ∙ not-true _ (c .if1 .taken)))
+    turned-back (linkEndOf (pageAt s (a .off))) _ (link-off s (a .off) (a .prev) (sym (c .before .is-page .ensures) ∙ not-true _ (c .if1 .taken)))
 
 add-read-link : tie.Need-add-read-link
 add-read-link c = let h = inside c in omega arith
@@ -72,7 +72,7 @@ pub link-end-spec : {M : Type 1} → statement M
 link-end-spec =
     tie.close
     (tie.spec
-    page-stands-requires
+    is-page-requires
     returns
     add-read-link
     sub-read-link

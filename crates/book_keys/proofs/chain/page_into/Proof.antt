@@ -34,19 +34,19 @@ module _ (c : tie.Else1) where
   off = at .args .off
 
   stands : isBlock pageClass off (s .mark) ≡ true
-  stands = sym (c .before .page-stands .ensures) ∙ not-false _ (c .if1 .left)
+  stands = sym (c .before .is-page .ensures) ∙ not-false _ (c .if1 .left)
 
   inside : off + pageSize ≤ length (at .args .body .now)
   inside = page-inside s off stands (at .args .body .now) (at .pre)
 
-page-stands-requires : tie.Need-page-stands-requires
-page-stands-requires c κs = search needs
+is-page-requires : tie.Need-is-page-requires
+is-page-requires c κs = search needs
 
 returns : tie.Need-returns
 returns c =
     let a = c .before .before .before .before .args in
     let s = keySpace (a .body .now) (a .mark) in
-    let stop = into-off (length (a .out .now)) s (a .off) (sym (c .before .page-stands .ensures) ∙ not-true _ (c .if1 .taken)) in
+    let stop = into-off (length (a .out .now)) s (a .off) (sym (c .before .is-page .ensures) ∙ not-true _ (c .if1 .taken)) in
     (sym (answered-no (pageReadOf (pageAt s (a .off))) _ stop), sym (after-refused (a .out .now) _ stop))
 
 add-sh-page-decode-slice-into : tie.Need-add-sh-page-decode-slice-into
@@ -83,7 +83,7 @@ pub page-into-spec : {M : Type 1} → statement M
 page-into-spec =
     tie.close
     (tie.spec
-    page-stands-requires
+    is-page-requires
     returns
     add-sh-page-decode-slice-into
     sub-sh-page-decode-slice-into

@@ -1,8 +1,7 @@
--- `sh_page_decode_slice_into` meets its contract: what reading the numbers answers decides, then LAST. Assumes nothing.
-use Prim.Native.Nat.{ℕ, _%_}
+-- `sh_page_decode_slice_into` meets its contract: what reading the numbers answers decides. Assumes nothing.
+use Prim.Native.Nat.{ℕ}
 use mathlib.Core.List.{List}
 use mathlib.Core.Path.{_≡_, sym, ap, _∙_}
-use native.Mathlib.Omega.{arith}
 use borrow.Author.Needs.{needs}
 use lib.ListN.{length}
 use Rattle.error.specs.Refusal.{Answer, accepted, refused, refusalOf, answered}
@@ -10,11 +9,10 @@ use Rattle.error.proofs.LawsAnswer.{was-accepted, was-refused, answered-yes, an
 use Rattle.scripthash_layout.specs.Sizes.{pageSize}
 use Rattle.scripthash_stream.specs.Stream.{Scan}
 use Rattle.scripthash_fields.specs.Page.{nextOff}
-use Rattle.scripthash_fields.proofs.LawsFields.{behind-none, behind-is}
 use Rattle.scripthash_pages.specs.Entries.{pageEntries, readCount, pageReadOf}
 use Rattle.scripthash_answers.specs.EntryAnswers.{PageRead, entriesAnswer}
 use Rattle.scripthash_answers.specs.declared.entries.PageEntries.{PageEntries}
-use Rattle.scripthash_pages.proofs.LawsEntries.{entries-long, link-below, link-read, read-of}
+use Rattle.scripthash_pages.proofs.LawsEntries.{entries-long, read-of}
 use Rattle.scripthash_pages.proofs.entries.sh_page_decode_slice_into.Statement.{statement}
 use Rattle.scripthash_pages.proofs.entries.sh_page_decode_slice_into.Tie as tie
 
@@ -67,46 +65,16 @@ returns c =
       d .sh-page-entries-into .ensures .1,
     )
 
-get-u40-requires : tie.Need-get-u40-requires
-get-u40-requires c κs = omega (arith, long c)
+next-off-requires : tie.Need-next-off-requires
+next-off-requires c κs = search (needs, long c)
 
 same-length-2 : tie.Need-same-length-2
 same-length-2 c = search needs
 
 returns-2 : tie.Need-returns-2
-returns-2 c =
-    let d = c .before .before in
-    (told d 0 (behind-none (page d) (c .before .get-u40 .result) (c .before .get-u40 .ensures ∙ sym (link-read (page d))) (omega arith)), called d .sh-page-entries-into .ensures .1)
-
-mul-t11 : tie.Need-mul-t11
-mul-t11 c =
-    let d = c .before .before in
-    let below = link-below (page d) (λ i h. omega (arith, called d .before .before .before .shared-slice-known .given i)) (long d) in
-    omega (arith, c .before .get-u40 .ensures)
-
-same-length-3 : tie.Need-same-length-3
-same-length-3 c = search needs
-
-returns-3 : tie.Need-returns-3
-returns-3 c =
-    let d = c .before .before in (
-      told d _ (behind-is (page d) (c .before .get-u40 .result) (c .before .get-u40 .ensures ∙ sym (link-read (page d))) (λ (e : c .before .get-u40 .result % 2 ≡ 1). omega arith)),
-      called d .sh-page-entries-into .ensures .1,
-    )
+returns-2 c = let d = c .before in (told d _ (sym (c .next-off .ensures)), called d .sh-page-entries-into .ensures .1)
 
 pub sh-page-decode-slice-into-spec : {M : Type 1} → statement M
 sh-page-decode-slice-into-spec =
     tie.close
-    (tie.spec
-    sh-page-entries-into-requires
-    enum-known-got
-    enum-told
-    refusal-requires
-    same-length
-    returns
-    get-u40-requires
-    same-length-2
-    returns-2
-    mul-t11
-    same-length-3
-    returns-3)
+    (tie.spec sh-page-entries-into-requires enum-known-got enum-told refusal-requires same-length returns next-off-requires same-length-2 returns-2)
