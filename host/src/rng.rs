@@ -21,7 +21,11 @@ impl Rng {
     /// A number of a random length in bits, up to a bound.
     pub fn bits(&mut self, most: u32) -> u64 {
         let bits = self.below(most as u64 + 1) as u32;
-        if bits == 0 { 0 } else { self.next() >> (64 - bits) }
+        if bits == 0 {
+            0
+        } else {
+            self.next() >> (64 - bits)
+        }
     }
 
     /// One of some values.
