@@ -1,6 +1,7 @@
-//! A fixed list of their answers, in the files that the program `replay` reads: it needs no Rust to run.
-use crate::case::{Input, Output, BEFORE};
-use crate::compare::known;
+//! A fixed list of their answers, and of ours where a listed difference names it, in the files that the program `replay` reads: it needs
+//! no Rust to run.
+use crate::case::{Input, Output};
+use crate::judge::expected;
 use crate::pages;
 use crate::rng::Rng;
 use crate::table::{functions, Function};
@@ -11,9 +12,12 @@ const MOST: usize = 300;
 const MOST_OF_PAGES: usize = 150;
 /// How many shares of them accepted calls have, where each refusal has one.
 const ACCEPTED: usize = 4;
-/// The most bytes and numbers of an answer, which the program has room for.
+/// The most bytes, numbers and ranges of an answer, which the program has room for.
 const MOST_BYTES: usize = 4096;
 const MOST_NUMBERS: usize = 512;
+const MOST_RANGES: usize = 8;
+/// Bytes of a body before its first block. They hold 0 in every answer, and are left out.
+const FRONT: usize = 4096;
 /// The most text of an answer, and of each of a function's answers.
 const MOST_LINE: usize = 12_000;
 const TEXT_EACH: usize = 100;
@@ -34,29 +38,85 @@ fn bytes(out: &mut String, bytes: &[u8]) {
     runs(bytes).for_each(|run| write!(out, "{:02x}{:02x}", run.len() - 1, run[0]).unwrap());
 }
 
-/// Whether the program has room for an input, and its line isn't too long.
-fn fits(input: &Input) -> bool {
-    let text = 17 * input.list.len() + 4 * runs(&input.bytes).take(MOST_LINE).count();
-    input.bytes.len() <= MOST_BYTES && input.list.len() <= MOST_NUMBERS && input.numbers.len() <= 4 && text <= MOST_LINE
+/// Numbers, bytes and a list, as a line has them.
+#[derive(Default)]
+struct Fields {
+    numbers: Vec<u64>,
+    bytes: Vec<u8>,
+    list: Vec<u64>,
 }
 
-/// The line of an answer. A refused call leaves what it was given, and hands out nothing.
-fn line(place: usize, input: &Input, theirs: &Output) -> String {
-    let mut out = format!("{place:02x}{:02x}{:04x}|", theirs.refusal, input.bytes.len());
-    numbers(&mut out, &input.numbers);
-    out.push('|');
-    bytes(&mut out, &input.bytes);
-    out.push('|');
-    numbers(&mut out, &input.list);
-    out.push('|');
-    let after = if theirs.refusal == 0 { (&theirs.bytes, &theirs.list) } else { (&input.bytes, &input.list) };
-    let told = if theirs.refusal == 0 { theirs.numbers.clone() } else { vec![BEFORE; theirs.numbers.len()] };
-    numbers(&mut out, &told);
-    out.push('|');
-    bytes(&mut out, after.0);
-    out.push('|');
-    numbers(&mut out, after.1);
-    out
+/// The word of eight bytes, which a line has as a number.
+fn word_of(bytes: &[u8]) -> u64 {
+    u64::from_le_bytes(bytes.try_into().expect("eight bytes"))
+}
+
+/// Whether a function is on free lists.
+fn is_free(function: &Function) -> bool {
+    ["push_free_head", "pop_free_head", "carve_gap_into_freelist"].contains(&function.name)
+}
+
+/// What a line has of a body: the bytes after its front.
+fn after_front(body: &[u8]) -> Option<Vec<u8>> {
+    let (front, rest) = body.split_at_checked(FRONT)?;
+    front.iter().all(|b| *b == 0).then(|| rest.to_vec())
+}
+
+/// What a line says that a call is given. Ranges go as numbers: how many are lent, and for a split also how many count, and the last of those.
+fn given(function: &Function, input: &Input) -> Option<Fields> {
+    let mut out = Fields { numbers: input.numbers.clone(), bytes: input.bytes.clone(), list: input.list.clone() };
+    let last = input.numbers.first().and_then(|count| input.ranges.get((*count as usize).checked_sub(1)?));
+    match function.name {
+        "sh_page_chunk_ranges" => out.numbers = vec![input.ranges.len() as u64],
+        "split_last_chunk_for_extent" => {
+            let [start, end] = last.map_or([0, 0], |r| r.map(|n| n as u64));
+            out.numbers = vec![input.ranges.len() as u64, input.numbers[0], start, end];
+        }
+        "pack8_bytes" => out.bytes.clear(),
+        "unpack8_bytes" => {
+            out.numbers = vec![word_of(&input.bytes)];
+            out.bytes.clear();
+        }
+        _ if is_free(function) => out.bytes = after_front(&input.bytes)?,
+        _ => {}
+    }
+    let text = 17 * out.list.len() + 4 * runs(&out.bytes).take(MOST_LINE).count();
+    let fits = out.bytes.len() <= MOST_BYTES && out.list.len() <= MOST_NUMBERS && input.ranges.len() <= MOST_RANGES && text <= MOST_LINE;
+    (fits && out.numbers.len() <= 4).then_some(out)
+}
+
+/// What a line says that a call tells and leaves. Ranges that a call wrote stand over the first numbers of the list, as far as it reaches.
+fn told(function: &Function, input: &Input, wanted: &Output) -> Option<Fields> {
+    let mut out = Fields { numbers: wanted.numbers.clone(), bytes: wanted.bytes.clone(), list: wanted.list.clone() };
+    match function.name {
+        "pack8_bytes" if wanted.refusal == 0 => out.numbers = vec![word_of(&wanted.bytes)],
+        _ if is_free(function) => out.bytes = after_front(&wanted.bytes)?,
+        _ => {}
+    }
+    if function.name.ends_with("pack8_bytes") {
+        out.bytes.clear();
+    }
+    if !input.ranges.is_empty() && wanted.refusal == 0 {
+        let first = input.numbers.first().map_or(0, |count| count.saturating_sub(1) as usize);
+        let new = &wanted.ranges[first..wanted.numbers[0] as usize];
+        out.list.iter_mut().zip(new.iter().flatten()).for_each(|(place, n)| *place = *n as u64);
+    }
+    Some(out)
+}
+
+/// The line of an answer. A refused call leaves what it was given, and hands out zeros.
+fn line(place: usize, function: &Function, input: &Input, wanted: &Output) -> Option<String> {
+    let (given, told) = (given(function, input)?, told(function, input, wanted)?);
+    let mut out = format!("{place:02x}{:02x}{:04x}|", wanted.refusal, given.bytes.len());
+    for (k, fields) in [given, told].iter().enumerate() {
+        numbers(&mut out, &fields.numbers);
+        out.push('|');
+        bytes(&mut out, &fields.bytes);
+        out.push('|');
+        numbers(&mut out, &fields.list);
+        out.push_str(if k == 0 { "|" } else { "" });
+    }
+    Some(out)
 }
 
 /// The kind of an answer: its refusal, and of a page whether the first number told is 0, as that of a full page is.
@@ -64,7 +124,11 @@ type Kind = (u32, bool);
 
 /// How many shares of a function's answers a kind has.
 fn shares(kind: &Kind) -> usize {
-    if kind.0 == 0 { ACCEPTED } else { 1 }
+    if kind.0 == 0 {
+        ACCEPTED
+    } else {
+        1
+    }
 }
 
 /// The lines of a function: inputs of the first rounds, thinned out so that those of every kind and every refusal stay.
@@ -73,13 +137,12 @@ fn lines(place: usize, function: &Function) -> Vec<String> {
     let is_page = pages::FUNCTIONS.iter().any(|f| f.name == function.name);
     for round in 0..4 {
         let mut rng = Rng(place as u64 ^ round << 24);
-        let mut theirs = Output::default();
+        let mut wanted = Output::default();
         (function.inputs)(&mut rng, round, &mut |input| {
-            if fits(input) && known(function, input).is_none() {
-                theirs.start(input);
-                (function.theirs)(input, &mut theirs);
-                let kind = (theirs.refusal, is_page && theirs.refusal == 0 && theirs.numbers.first() == Some(&0));
-                all.push((kind, line(place, input, &theirs)));
+            expected(function, input, &mut wanted);
+            if let Some(line) = line(place, function, input, &wanted) {
+                let full = is_page && wanted.refusal == 0 && wanted.numbers.first() == Some(&0);
+                all.push(((wanted.refusal, full), line));
             }
         });
     }

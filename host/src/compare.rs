@@ -1,131 +1,169 @@
-//! Our answers against theirs.
-use crate::case::{difference, Input, Output};
+//! Our answers against what they have to be.
+use crate::case::{Input, Output};
+use crate::fault::{self, Saying};
+use crate::judge::{expected, wrong};
+use crate::lent::{Lent, Placing};
 use crate::rng::Rng;
-use crate::table::{functions, Function, FRONT};
+use crate::table::{functions, Function};
+use std::collections::BTreeMap;
 use std::io::{IsTerminal, Write};
 use std::time::{Duration, Instant};
 
-/// Differences that are known: the function, what docs/DIFFERENCES.md calls it, and which inputs it is about.
-const KNOWN: &[(&str, &str, fn(&Input) -> bool)] = &[
-    ("slab_cap", "slab_cap-shift", |i| i.numbers[0] >= 32),
-    ("slab_bytes", "slab_bytes-shift", |i| i.numbers[0] >= 64),
-    ("push_free_head", "free-checked", |i| !is_block(i.numbers[0], i.numbers[1], body_end(i))),
-    ("pop_free_head", "free-checked", |i| {
-        let head = i.list.get(i.numbers[0] as usize).copied().unwrap_or(0);
-        head != 0 && !is_block(i.numbers[0], head, i.numbers[1].min(body_end(i)))
-    }),
-    ("carve_gap_into_freelist", "free-checked", |i| {
-        let (from, to) = (i.numbers[0], i.numbers[1]);
-        from < to && (from % 16 != 0 || from < 4096 || to > body_end(i))
-    }),
-];
-
-/// The end of the body of a call on free lists.
-fn body_end(input: &Input) -> u64 {
-    (FRONT + input.bytes.len()) as u64
-}
-
-/// Whether a block of a class from 0 to 8 can stand at an offset, below an end.
-fn is_block(class: u64, off: u64, end: u64) -> bool {
-    let unit = if class == 8 { 4096 } else { 16 };
-    class <= 8 && off % unit == 0 && off >= 4096 && off.checked_add(16 << class).is_some_and(|e| e <= end)
-}
-
-/// What comparing a function found.
-#[derive(Default)]
-struct Found {
-    compared: u64,
-    listed: u64,
-    differ: u64,
-}
-
-/// How a run goes on: its seed, how long, and what docs/DIFFERENCES.md says.
+/// How a run goes on: its seed, for how long in all, whether again without end, and what alone is compared.
 pub struct Run {
     pub seed: u64,
+    pub seconds: u64,
     pub long: bool,
     pub only: Option<String>,
-    pub listed: String,
 }
 
-/// The name of the difference that is known of an input, if there is one.
-pub fn known(function: &Function, input: &Input) -> Option<&'static str> {
-    KNOWN.iter().find(|k| k.0 == function.name && (k.2)(input)).map(|k| k.1)
+/// What comparing a part found: how many inputs and calls of ours, how many inputs differ, and how many are answered by each listed
+/// difference; and of those that differ the smallest.
+#[derive(Default)]
+pub struct Found {
+    pub inputs: u64,
+    pub calls: u64,
+    pub differ: u64,
+    pub listed: BTreeMap<&'static str, u64>,
+    pub smallest: Option<Smallest>,
 }
 
-/// Whether the difference that an input shows is one that the document lists.
-fn is_listed(run: &Run, function: &Function, input: &Input) -> bool {
-    known(function, input).is_some_and(|name| run.listed.contains(&format!("`{name}`")))
+/// The smallest input that differs: its size, what is wrong, in which round it came, and the input.
+pub struct Smallest {
+    pub size: (usize, u64),
+    pub what: String,
+    pub round: u64,
+    pub input: String,
 }
 
-/// An input cut to what fits a few lines.
-fn shown(input: &Input) -> String {
-    let text = format!("{input:02x?}");
-    if text.len() > 600 { format!("{}..", text.chars().take(600).collect::<String>()) } else { text }
+impl Found {
+    /// Notes an input that differs.
+    pub fn differs(&mut self, smallest: Smallest) {
+        self.differ += 1;
+        if self.smallest.as_ref().is_none_or(|s| smallest.size < s.size) {
+            self.smallest = Some(smallest);
+        }
+    }
 }
 
-/// Compares a function on the inputs of a round.
-fn compare_round(run: &Run, function: &Function, round: u64, found: &mut Found) {
-    let place = functions().position(|f| f.name == function.name).unwrap() as u64;
-    let mut rng = Rng(run.seed ^ place << 56 ^ round << 24);
-    let (mut ours, mut theirs) = (Output::default(), Output::default());
-    (function.inputs)(&mut rng, round, &mut |input| {
-        ours.start(input);
-        (function.ours)(input, &mut ours);
-        theirs.start(input);
-        (function.theirs)(input, &mut theirs);
-        found.compared += 1;
-        if let Some(what) = difference(input, &ours, &theirs) {
-            if is_listed(run, function, input) {
-                found.listed += 1;
-                return;
+/// A part of the comparison: a function, the calls on slices of 2^32 elements, or the book.
+pub struct Part {
+    pub name: &'static str,
+    round: Round,
+    /// How many shares of the time the part has.
+    shares: u32,
+}
+
+/// What compares a round of a part.
+enum Round {
+    Function(&'static Function, u64),
+    Huge,
+}
+
+/// Every part, by name.
+pub fn parts() -> Vec<Part> {
+    let of = |(place, f): (usize, &'static Function)| Part { name: f.name, round: Round::Function(f, place as u64), shares: 1 };
+    let mut out: Vec<Part> = functions().enumerate().map(of).collect();
+    out.push(Part { name: "huge", round: Round::Huge, shares: 0 });
+    out
+}
+
+/// A call of ours on an input.
+struct OnInput<'a>(&'a Function, &'a Input, u64);
+
+impl Saying for OnInput<'_> {
+    fn say(&self) -> String {
+        format!("{}, round {}: touches memory that it wasn't lent; {}", self.0.name, self.2, self.1.shown())
+    }
+}
+
+/// Compares a function on one input, in each placing of what it is lent.
+fn compare_input(function: &Function, input: &Input, round: u64, lent: &Lent, wanted: &mut Output, found: &mut Found) {
+    if let Some(name) = expected(function, input, wanted) {
+        *found.listed.entry(name).or_default() += 1;
+    }
+    found.inputs += 1;
+    for placing in [Placing::End, Placing::Start, Placing::Null] {
+        if placing == Placing::Null && !lent.asked_for_none() {
+            break;
+        }
+        lent.lend(input, placing);
+        let refusal = fault::during(&OnInput(function, input, round), || (function.ours)(input, lent));
+        found.calls += 1;
+        if let Some(what) = wrong(wanted, refusal, lent) {
+            found.differs(Smallest { size: input.size(), what, round, input: input.shown() });
+            return;
+        }
+    }
+}
+
+impl Part {
+    /// Compares a round.
+    fn compare(&self, run: &Run, round: u64, lent: &Lent, found: &mut Found) {
+        match self.round {
+            Round::Function(function, place) => {
+                let mut rng = Rng(run.seed ^ place << 56 ^ round << 24);
+                let mut wanted = Output::default();
+                (function.inputs)(&mut rng, round, &mut |input| compare_input(function, input, round, lent, &mut wanted, found));
             }
-            found.differ += 1;
-            if found.differ <= 5 {
-                println!("\n{}: {what}\n    {}", function.name, shown(input));
+            Round::Huge => crate::huge::compare(found),
+        }
+    }
+
+    /// Compares rounds from one on for a time, and tells which is the next.
+    fn compare_rounds(&self, run: &Run, first: u64, share: Duration, lent: &Lent, found: &mut Found) -> u64 {
+        let start = Instant::now();
+        let mut round = first;
+        while round == first || start.elapsed() < share * self.shares {
+            let before = found.inputs;
+            self.compare(run, round, lent, found);
+            round += 1;
+            if found.inputs == before {
+                break;
+            }
+            if std::io::stdout().is_terminal() {
+                print!("\r{} {} compared, {} differ   ", self.name, found.inputs, found.differ);
+                let _ = std::io::stdout().flush();
             }
         }
-    });
+        let listed: String = found.listed.iter().map(|(name, n)| format!(", {n} by {name}")).collect();
+        println!("\r{}: {} compared in {} calls, {} differ{listed}", self.name, found.inputs, found.calls, found.differ);
+        if let Some(s) = &found.smallest {
+            println!("smallest of {}, round {}: {}; {}", self.name, s.round, s.what, s.input);
+        }
+        round
+    }
 }
 
-/// Compares every function, round 0 first and then random rounds for its share of the time, and again without end where the run is long.
+/// Compares every part, round 0 first and then random rounds for its share of the time, and again without end where the run is long.
 /// Tells whether no difference was found that isn't listed.
 pub fn compare(run: &Run) -> bool {
-    let chosen: Vec<&Function> = functions().filter(|f| run.only.as_deref().is_none_or(|n| n == f.name)).collect();
-    let share = Duration::from_secs(100) / chosen.len().max(1) as u32;
+    let chosen: Vec<Part> = parts().into_iter().filter(|p| run.only.as_deref().is_none_or(|n| n == p.name)).collect();
+    let share = Duration::from_secs(run.seconds) / chosen.iter().map(|p| p.shares).sum::<u32>().max(1);
     let mut all: Vec<Found> = chosen.iter().map(|_| Found::default()).collect();
+    let lent = Lent::default();
     let mut first = 0;
+    fault::watch();
     println!("seed {}", run.seed);
     loop {
         let mut next = first;
-        for (function, found) in chosen.iter().zip(&mut all) {
-            let start = Instant::now();
-            let mut round = first;
-            while round == first || start.elapsed() < share {
-                compare_round(run, function, round, found);
-                round += 1;
-                if std::io::stdout().is_terminal() {
-                    print!("\r{} {} compared, {} differ   ", function.name, found.compared, found.differ);
-                    let _ = std::io::stdout().flush();
-                }
-            }
-            next = next.max(round);
-            println!("\r{}: {} compared, {} differ, {} as listed", function.name, found.compared, found.differ, found.listed);
+        for (part, found) in chosen.iter().zip(&mut all) {
+            next = next.max(part.compare_rounds(run, first, share, &lent, found));
         }
         first = next;
+        let right = total(&all);
         if !run.long {
-            break;
+            return right;
         }
-        total(&all);
     }
-    total(&all)
 }
 
 /// Prints the totals, and tells whether nothing differs.
 fn total(all: &[Found]) -> bool {
-    let compared: u64 = all.iter().map(|f| f.compared).sum();
-    let differ: u64 = all.iter().map(|f| f.differ).sum();
-    let listed: u64 = all.iter().map(|f| f.listed).sum();
-    println!("{listed} differ as docs/DIFFERENCES.md lists");
-    println!("{compared} compared, {differ} differ");
+    let sum = |of: fn(&Found) -> u64| all.iter().map(of).sum::<u64>();
+    let listed = sum(|f| f.listed.values().sum());
+    let (calls, differ) = (sum(|f| f.calls), sum(|f| f.differ));
+    println!("{calls} calls of ours; {listed} answers are those that docs/DIFFERENCES.md names");
+    println!("{} compared, {differ} differ", sum(|f| f.inputs));
     differ == 0
 }

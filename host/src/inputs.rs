@@ -7,7 +7,7 @@ use crate::table::Each;
 /// Random inputs in a round.
 pub const ROUND: usize = 256;
 /// What a buffer holds before a call, so that bytes that a call leaves are seen.
-const FILL: u8 = 0xa5;
+pub const FILL: u8 = 0xa5;
 /// What a lent list holds before a call.
 pub const FILL_NUMBER: u64 = 0xa5a5_a5a5_a5a5_a5a5;
 
@@ -119,7 +119,7 @@ pub fn forms(rng: &mut Rng, round: u64, each: Each) {
     for _ in 0..ROUND {
         let mut bytes = match rng.below(3) {
             0 => (0..rng.below(14)).map(|_| rng.next() as u8 | 0x80).collect(),
-            _ => form(number(rng), rng.pick(&[0, 0, 1, 2, 9])),
+            _ => form(number(rng), rng.pick(&[0, 0, 1, 2, 5, 7, 9])),
         };
         let more = rng.below(4) as usize;
         bytes.extend(rng.bytes(more));
@@ -167,6 +167,11 @@ pub fn head_values(rng: &mut Rng, round: u64, each: Each) {
     }
 }
 
+/// Head values, and eight bytes to pack them into.
+pub fn head_values_and_room(rng: &mut Rng, round: u64, each: Each) {
+    head_values(rng, round, &mut |input| each(&Input::new(&input.numbers, &[FILL; 8], &[])));
+}
+
 /// Stored words: each mode with fields at each bound.
 pub fn words(rng: &mut Rng, round: u64, each: Each) {
     let mut give = |w: u64| each(&Input::new(&[w], &[], &[]));
@@ -184,6 +189,11 @@ pub fn words(rng: &mut Rng, round: u64, each: Each) {
     for _ in 0..ROUND {
         give(rng.next());
     }
+}
+
+/// Stored words, as eight bytes.
+pub fn words_in_bytes(rng: &mut Rng, round: u64, each: Each) {
+    words(rng, round, &mut |input| each(&Input::new(&[], &input.numbers[0].to_le_bytes(), &[])));
 }
 
 /// A rising list of a length whose differences are drawn as told.
@@ -228,239 +238,37 @@ pub fn list_len(rng: &mut Rng) -> usize {
     }
 }
 
-/// The bytes of the stream of a list, some of its forms padded; differences wrap.
+/// The bytes of the stream of a list, some of its forms padded, by up to two bytes or to any length up to eleven; differences wrap.
 pub fn stream(rng: &mut Rng, fks: &[u64], padded: bool) -> Vec<u8> {
+    let long = rng.below(2) == 0;
     let mut last = 0u64;
     let mut out = Vec::new();
     for &fk in fks {
-        let padding = if padded && rng.below(4) == 0 { rng.below(3) as usize } else { 0 };
-        out.extend(form(fk.wrapping_sub(last), padding));
+        let shortest = form(fk.wrapping_sub(last), 0);
+        let padding = match padded && rng.below(4) == 0 {
+            true if long => rng.below(12 - shortest.len() as u64) as usize,
+            true => rng.below(3) as usize,
+            false => 0,
+        };
+        out.extend(if padding == 0 { shortest } else { form(fk.wrapping_sub(last), padding) });
         last = fk;
     }
     out
 }
 
-/// Offered lists, and a destination of each length around that of the stream.
-pub fn lists_and_room(rng: &mut Rng, round: u64, each: Each) {
-    let mut give = |fks: &[u64], room: usize| each(&Input::new(&[], &vec![FILL; room], fks));
-    if round == 0 {
-        give(&[], 0);
-        let bounds = boundaries();
-        for &a in &bounds {
-            (0..11).for_each(|room| give(&[a], room));
-            for &b in &bounds {
-                [0, 1, 2, 10, 20].iter().for_each(|&room| give(&[a, b], room));
+/// Long lists that don't rise: one of them a fault late, in the middle or early, of each kind.
+pub fn long_bad_lists(rng: &mut Rng, lengths: &[usize], each: &mut dyn FnMut(&[u64])) {
+    for &len in lengths {
+        let bits = rng.pick(&[0, 6, 13, 30]);
+        let good = rising(rng, len, &mut |r| r.bits(bits));
+        for at in [1, len / 2, len - 1] {
+            for bad in [good[at - 1], good[at - 1] - 1, 0, 1 << 63, u64::MAX, good[at] | 1 << 63] {
+                let mut list = good.clone();
+                list[at] = bad;
+                each(&list);
             }
         }
-        for len in [255, 256, 257, 4072, 4088, 65_534, 65_535, 65_536] {
-            let fks: Vec<u64> = (1..=len as u64).collect();
-            [len - 1, len, len + 1].iter().for_each(|&room| give(&fks, room));
-        }
+        each(&vec![good[len - 1]; len]);
+        each(&good.iter().rev().copied().collect::<Vec<u64>>());
     }
-    for _ in 0..ROUND / 4 {
-        let len = list_len(rng);
-        let fks = list(rng, len);
-        let exact = stream(rng, &fks, false).len();
-        for room in [exact.saturating_sub(1), exact, exact + 1, exact + rng.below(40) as usize, rng.below(exact as u64 + 1) as usize] {
-            give(&fks, room);
-        }
-    }
-}
-
-/// Stored streams, how many numbers are asked of them, and a lent list of a length around that.
-pub fn streams(rng: &mut Rng, round: u64, each: Each) {
-    let mut give = |bytes: &[u8], n: usize, room: usize| each(&Input::new(&[n as u64], bytes, &vec![FILL_NUMBER; room]));
-    if round == 0 {
-        for n in 0..4 {
-            for room in 0..4 {
-                give(&[], n, room);
-                (0..=255).for_each(|a| give(&[a], n, room));
-            }
-            (0..=0xffffu16).for_each(|ab| give(&ab.to_be_bytes(), n, 2));
-        }
-        let bounds = boundaries();
-        for &a in &bounds {
-            for &b in &bounds {
-                let bytes = [form(a, 0), form(b, 0)].concat();
-                (1..4).for_each(|n| give(&bytes, n, 3));
-            }
-        }
-        for len in [255, 256, 257, 4072, 4088, 65_534, 65_535] {
-            let bytes = vec![1u8; len];
-            [(len, len), (len + 1, len + 1), (len, len - 1), (len - 1, len)].iter().for_each(|&(n, room)| give(&bytes, n, room));
-        }
-    }
-    for _ in 0..ROUND / 4 {
-        let len = list_len(rng);
-        let fks = list(rng, len);
-        let padded = rng.below(3) == 0;
-        let mut bytes = stream(rng, &fks, padded);
-        if rng.below(2) == 0 {
-            damage(rng, &mut bytes);
-        }
-        let more = rng.below(3) as usize;
-        bytes.extend(rng.bytes(more));
-        for (n, room) in [(fks.len(), fks.len()), (fks.len() + 1, fks.len() + 1), (fks.len(), fks.len() + 3), (fks.len(), fks.len().saturating_sub(1))] {
-            give(&bytes, n, room);
-        }
-    }
-}
-
-/// Offered lists, and a slab's buffer of each length around that of the payload.
-pub fn lists_and_slab_room(rng: &mut Rng, round: u64, each: Each) {
-    lists_and_room(rng, round, &mut |input| {
-        for more in 0..3 {
-            let mut with = input.clone();
-            with.bytes.extend(&[FILL; 2][..more]);
-            each(&with);
-        }
-    });
-}
-
-/// Slab payloads, whole and damaged, with other bytes after them, and a lent list of a length around the count.
-pub fn slabs(rng: &mut Rng, round: u64, each: Each) {
-    if round == 0 {
-        [&[][..], &[0], &[1], &[0, 0], &[1, 0]].iter().for_each(|bytes| each(&Input::new(&[], bytes, &[])));
-        let long: Vec<u8> = [&[0xff, 0xff][..], &[1; 65_535]].concat();
-        [65_534, 65_535, 65_536].iter().for_each(|&room| each(&Input::new(&[], &long, &vec![FILL_NUMBER; room])));
-    }
-    streams(rng, round, &mut |input| {
-        let count = input.numbers[0] as u16;
-        let bytes = [&count.to_le_bytes()[..], &input.bytes].concat();
-        each(&Input::new(&[], &bytes, &input.list));
-    });
-}
-
-/// Lists to cut, rising or not, whose streams are around one, two and three pages, and how many ends are lent.
-pub fn lists_to_cut(rng: &mut Rng, round: u64, each: Each) {
-    let mut give = |list: &[u64], room: u64| each(&Input::new(&[room], &[], list));
-    if round == 0 {
-        (0..3).for_each(|room| give(&[], room));
-        let bounds = boundaries();
-        for &a in &bounds {
-            bounds.iter().for_each(|&b| give(&[a, b], 2));
-            (0..3).for_each(|room| give(&[a], room));
-        }
-        for len in (4060..4100).chain(8150..8180).chain(12_230..12_270).chain([65_534, 65_535, 65_536]) {
-            let list: Vec<u64> = (1..=len).collect();
-            [0, 1, 2, 3, 4, 20].iter().for_each(|&room| give(&list, room));
-        }
-    }
-    for _ in 0..ROUND / 16 {
-        let (list, pages) = some_pages(rng);
-        for room in [pages - 1, pages, pages + 1, pages + 3, list.len() as u64 / 407 + 2] {
-            give(&list, room);
-        }
-    }
-}
-
-/// A list that takes about so many pages, up to three: rising, or in no order.
-fn some_pages(rng: &mut Rng) -> (Vec<u64>, u64) {
-    let bits = rng.pick(&[7, 14, 21, 35, 52]);
-    let bytes = (bits as u64).div_ceil(7);
-    let pages = 1 + rng.below(3);
-    let len = pages * 4080 / bytes + rng.below(40) - 20;
-    let mut list = rising(rng, len as usize, &mut |r| (r.next() >> (64 - bits)) | 1 << (bits - 1));
-    match rng.below(4) {
-        0 => list.iter_mut().for_each(|n| *n = rng.bits(64)),
-        1 => list.sort_by_key(|n| n.rotate_left(7)),
-        _ => {}
-    }
-    (list, pages)
-}
-
-/// Lists with a range of them to be split: the last of so many in a lent list of some length, the range empty, within the list or leaving it.
-pub fn lists_to_split(rng: &mut Rng, round: u64, each: Each) {
-    let mut give = |list: &[u64], numbers: [u64; 4]| each(&Input::new(&numbers, &[], list));
-    if round == 0 {
-        let list: Vec<u64> = (1..=8).map(|n| n * 100).collect();
-        for len in [0, 1, 2, 8] {
-            for start in [0, 1, 2, 7, 8, 9, u64::MAX] {
-                for end in [0, 1, 2, 7, 8, 9, u64::MAX] {
-                    (0..3).for_each(|count| (0..4).for_each(|room| give(&list[..len], [room, count, start, end])));
-                }
-            }
-        }
-        let list: Vec<u64> = (1..=8300).collect();
-        for start in [0, 1, 126, 127, 128, 200] {
-            for len in (4069..4075).chain(4086..4090).chain(8141..8147) {
-                (1..6).for_each(|room| give(&list, [room, 1 + room / 3, start, start + len]));
-            }
-        }
-    }
-    for _ in 0..ROUND / 16 {
-        let (list, pages) = some_pages(rng);
-        let len = list.len() as u64;
-        let inside = rng.below(len);
-        let start = rng.pick(&[0, 1, inside]);
-        let before_end = start + rng.below(len - start);
-        let end = rng.pick(&[len, len, len - 1, before_end, len + 1]);
-        let count = rng.below(3);
-        for room in [count, count + pages - 1, count + pages, count + pages + 2, len / 407 + 4] {
-            give(&list, [room, count, start, end]);
-        }
-    }
-}
-
-/// Offsets on both sides of each bound of a body: its first block, its end, and multiples of 16 and of a page between them.
-fn offsets(end: u64) -> Vec<u64> {
-    let mut out = vec![0, 1, 8, 16, 4080, 4096, 4097, 4104, 4112, 4128, 6144, 8192, 8200, u64::MAX, u64::MAX - 15, 1 << 40];
-    for size in (0..9).map(|c| 16u64 << c).chain([8]) {
-        out.extend([end.wrapping_sub(size), end.wrapping_sub(size) + 1, end.wrapping_sub(size + 16)]);
-    }
-    out.extend([end, end + 16]);
-    out
-}
-
-/// Nine free heads: none, good ones, and now and then one of any kind.
-fn free_heads(rng: &mut Rng, end: u64) -> Vec<u64> {
-    let any = offsets(end);
-    let head = |rng: &mut Rng, c: u64| match rng.below(4) {
-        0 => 0,
-        1 => rng.pick(&any),
-        _ => 4096 + rng.below((end - 4096) / 16) * if c == 8 { 4096 } else { 16 },
-    };
-    (0..9).map(|c| head(rng, c)).collect()
-}
-
-/// The bytes of a body after its front: a page or more of anything.
-fn body(rng: &mut Rng) -> Vec<u8> {
-    let len = rng.pick(&[4096usize, 4096, 8192, 12_288, 16, 5000]);
-    let text = rng.pick(&[16, 64, len]).min(len);
-    let mut out = rng.bytes(text);
-    out.resize(len, 0);
-    out
-}
-
-/// Calls on free lists: every class with offsets at each bound, then random ones. What the second number of a call is, the caller tells.
-fn free_calls(rng: &mut Rng, round: u64, each: Each, numbers: &mut dyn FnMut(&mut Rng, u64) -> Vec<[u64; 2]>) {
-    for _ in 0..if round == 0 { 40 } else { ROUND / 32 } {
-        let bytes = body(rng);
-        let end = 4096 + bytes.len() as u64;
-        let heads = free_heads(rng, end);
-        numbers(rng, end).iter().for_each(|n| each(&Input::new(n, &bytes, &heads)));
-    }
-}
-
-/// Blocks pushed: each class, 9 and above too, with each offset.
-pub fn pushes(rng: &mut Rng, round: u64, each: Each) {
-    free_calls(rng, round, each, &mut |rng, end| {
-        let at = offsets(end);
-        let all = (0..11).chain([24, 25, 255]).flat_map(|c| at.iter().map(move |o| [c, *o]));
-        all.filter(|_| round == 0 || rng.below(16) == 0).collect()
-    });
-}
-
-/// Blocks popped: each class with marks at each bound.
-pub fn pops(rng: &mut Rng, round: u64, each: Each) {
-    pushes(rng, round, each);
-}
-
-/// Gaps carved: between any two offsets.
-pub fn gaps(rng: &mut Rng, round: u64, each: Each) {
-    free_calls(rng, round, each, &mut |rng, end| {
-        let at: Vec<u64> = offsets(end).into_iter().filter(|o| *o < 1 << 20).collect();
-        let all = at.iter().flat_map(|a| at.iter().map(move |b| [*a, *b]));
-        all.filter(|_| round == 0 || rng.below(16) == 0).collect()
-    });
 }

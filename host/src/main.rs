@@ -1,55 +1,81 @@
 //! Our code against the published source: `compare` the answers, `bench` the speed, or write the fixed list of their `answers`.
 mod answers;
 mod bench;
+mod blocks;
 mod case;
 mod compare;
+mod cut_inputs;
 mod errors;
+mod fault;
+mod flags;
+mod free_inputs;
+mod huge;
 mod inputs;
+mod judge;
+mod lent;
 mod page_bench;
 mod page_inputs;
+mod page_stream_inputs;
 mod pages;
 mod rng;
+mod stream_inputs;
 mod table;
 
+use flags::Flags;
 use std::process::ExitCode;
 
-const USAGE: &str = "usage: host compare [--long] [--seed N] [--only FUNCTION] | host bench [--only PHRASE] | host answers FOLDER";
-
-/// The word after a flag.
-fn after<'a>(words: &'a [String], flag: &str) -> Option<&'a str> {
-    let at = words.iter().position(|w| w == flag)?;
-    words.get(at + 1).map(String::as_str)
-}
+const USAGE: &str =
+    "usage: host compare [--seconds N] [--seed N] [--only NAME] [--long] | host bench [--only PHRASE] | host answers FOLDER";
+/// How long a comparison goes on, where nothing else is said.
+const SECONDS: u64 = 160;
 
 /// A seed from the clock.
 fn clock() -> u64 {
     std::time::SystemTime::now().duration_since(std::time::UNIX_EPOCH).map_or(1, |d| d.as_nanos() as u64 >> 10)
 }
 
+/// Compares as flags say; whether nothing differs that isn't listed.
+fn compare(words: &[String]) -> Result<bool, String> {
+    let flags = Flags::of(words, &["--seconds", "--seed", "--only"], &["--long"])?;
+    let names: Vec<&str> = compare::parts().iter().map(|p| p.name).collect();
+    let only = flags.text("--only").map(String::from);
+    if only.as_deref().is_some_and(|n| !names.contains(&n)) {
+        return Err(format!("there is no {} to compare; there are {}", only.unwrap(), names.join(", ")));
+    }
+    let (mut known, mut listed) = (judge::names(), judge::listed());
+    known.sort();
+    known.dedup();
+    listed.sort();
+    if known != listed {
+        return Err(format!("docs/DIFFERENCES.md lists {listed:?}, and the comparison knows {known:?}"));
+    }
+    let seed = flags.number("--seed")?.unwrap_or_else(clock);
+    Ok(compare::compare(&compare::Run { seed, seconds: flags.number("--seconds")?.unwrap_or(SECONDS), long: flags.is_set("--long"), only }))
+}
+
+/// Runs a command, and tells whether it succeeded.
+fn run(words: &[String]) -> Result<bool, String> {
+    match words.split_first() {
+        Some((command, rest)) if command == "compare" => compare(rest),
+        Some((command, rest)) if command == "bench" => {
+            bench::bench(Flags::of(rest, &["--only"], &[])?.text("--only"));
+            Ok(true)
+        }
+        Some((command, rest)) if command == "answers" => {
+            answers::answers(rest.first().ok_or("a folder is wanted")?);
+            Ok(true)
+        }
+        _ => Err("there are the commands compare, bench and answers".into()),
+    }
+}
+
 fn main() -> ExitCode {
     let words: Vec<String> = std::env::args().skip(1).collect();
-    let only = after(&words, "--only").map(String::from);
-    match words.first().map(String::as_str) {
-        Some("compare") => {
-            let listed = concat!(env!("CARGO_MANIFEST_DIR"), "/../docs/DIFFERENCES.md");
-            let run = compare::Run {
-                seed: after(&words, "--seed").map_or_else(clock, |s| s.parse().expect("a seed is a number")),
-                long: words.iter().any(|w| w == "--long"),
-                only,
-                listed: std::fs::read_to_string(listed).unwrap_or_default(),
-            };
-            if compare::compare(&run) { ExitCode::SUCCESS } else { ExitCode::FAILURE }
-        }
-        Some("bench") => {
-            bench::bench(only.as_deref());
-            ExitCode::SUCCESS
-        }
-        Some("answers") => {
-            answers::answers(words.get(1).expect("a folder"));
-            ExitCode::SUCCESS
-        }
-        _ => {
-            eprintln!("{USAGE}");
+    match run(&words) {
+        Ok(true) => ExitCode::SUCCESS,
+        Ok(false) => ExitCode::FAILURE,
+        Err(why) => {
+            eprintln!("{why}\n{USAGE}");
             ExitCode::FAILURE
         }
     }

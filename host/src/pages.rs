@@ -1,12 +1,13 @@
-//! The functions on pages that are compared. Their pages are arrays: a buffer of another length is turned back before the call.
-use crate::case::{Input, Output, BEFORE};
+//! The functions on pages that are compared. Their pages are arrays: an input of another length is a listed difference.
+use crate::case::{Input, Output};
 use crate::errors::{of_store, Side};
-use crate::page_inputs as inputs;
-use crate::table::{lent, Function};
+use crate::lent::Lent;
+use crate::table::{list_theirs, Function};
+use crate::{page_inputs as headers, page_stream_inputs as streams};
 use oracle::error::StoreError;
 use oracle::scripthash_pages::{self as pages, sh_page_as_array, sh_page_as_array_mut, SH_PAGE_SIZE};
 use oracle::{compact, Fk};
-use ouriscado::sys;
+use ouriscado::sys::raw;
 
 /// A page of theirs.
 type Page = [u8; SH_PAGE_SIZE];
@@ -15,231 +16,200 @@ type Page = [u8; SH_PAGE_SIZE];
 pub const FUNCTIONS: &[Function] = &[
     Function {
         name: "sh_page_read_packed",
-        ours: |i, o| {
-            let mut off = BEFORE;
-            flag_ours(o, |last| sys::sh_page_read_packed(&i.bytes, last, &mut off));
-            o.numbers.push(off);
-        },
+        ours: |_, c| page(c, |p, n| unsafe { raw::ouriscado_sh_page_read_packed(p, n, c.flag(), c.out()) }),
         theirs: |i, o| read_theirs(i, o, |page| pages::sh_page_read_packed(page).map(|(last, off)| [last as u64, off])),
-        inputs: inputs::headers,
+        inputs: headers::headers,
     },
     Function {
         name: "sh_page_is_last",
-        ours: |i, o| flag_ours(o, |last| sys::sh_page_is_last(&i.bytes, last)),
+        ours: |_, c| page(c, |p, n| unsafe { raw::ouriscado_sh_page_is_last(p, n, c.flag()) }),
         theirs: |i, o| read_theirs(i, o, |page| pages::sh_page_is_last(page).map(|last| [last as u64])),
-        inputs: inputs::headers,
+        inputs: headers::headers,
     },
     Function {
         name: "sh_page_first_off",
-        ours: |i, o| number_ours(o, |off| sys::sh_page_first_off(&i.bytes, off)),
+        ours: |_, c| page(c, |p, n| unsafe { raw::ouriscado_sh_page_first_off(p, n, c.out()) }),
         theirs: |i, o| read_theirs(i, o, |page| pages::sh_page_first_off(page).map(|off| [off])),
-        inputs: inputs::headers,
+        inputs: headers::headers,
     },
     Function {
         name: "sh_page_next",
-        ours: |i, o| number_ours(o, |off| sys::sh_page_next(&i.bytes, off)),
+        ours: |_, c| page(c, |p, n| unsafe { raw::ouriscado_sh_page_next(p, n, c.out()) }),
         theirs: |i, o| read_theirs(i, o, |page| pages::sh_page_next(page).map(|off| [off])),
-        inputs: inputs::headers,
+        inputs: headers::headers,
     },
     Function {
         name: "sh_page_write_packed",
-        ours: |i, o| o.refusal = sys::sh_page_write_packed(&mut o.bytes, i.numbers[0] != 0, i.numbers[1]),
+        ours: |i, c| page(c, |p, n| unsafe { raw::ouriscado_sh_page_write_packed(p, n, i.numbers[0] != 0, i.numbers[1]) }),
         theirs: |i, o| set_theirs(o, |page| pages::sh_page_write_packed(page, i.numbers[0] != 0, i.numbers[1])),
-        inputs: inputs::links,
+        inputs: headers::links,
     },
     Function {
         name: "sh_page_set_last",
-        ours: |i, o| o.refusal = sys::sh_page_set_last(&mut o.bytes, i.numbers[1]),
+        ours: |i, c| page(c, |p, n| unsafe { raw::ouriscado_sh_page_set_last(p, n, i.numbers[1]) }),
         theirs: |i, o| set_theirs(o, |page| pages::sh_page_set_last(page, i.numbers[1])),
-        inputs: inputs::links,
+        inputs: headers::links,
     },
     Function {
         name: "sh_page_set_next",
-        ours: |i, o| o.refusal = sys::sh_page_set_next(&mut o.bytes, i.numbers[1]),
+        ours: |i, c| page(c, |p, n| unsafe { raw::ouriscado_sh_page_set_next(p, n, i.numbers[1]) }),
         theirs: |i, o| set_theirs(o, |page| pages::sh_page_set_next(page, i.numbers[1])),
-        inputs: inputs::links,
+        inputs: headers::links,
     },
     Function {
         name: "sh_page_stream_off",
-        ours: |i, o| count_ours(o, |off| sys::sh_page_stream_off(&i.bytes, off)),
+        ours: |_, c| page(c, |p, n| unsafe { raw::ouriscado_sh_page_stream_off(p, n, c.out()) }),
         theirs: |i, o| read_theirs(i, o, |page| Ok([pages::sh_page_stream_off(page) as u64])),
-        inputs: inputs::headers,
+        inputs: headers::headers,
     },
     Function {
         name: "sh_page_stream_cap",
-        ours: |i, o| count_ours(o, |cap| sys::sh_page_stream_cap(&i.bytes, cap)),
+        ours: |_, c| page(c, |p, n| unsafe { raw::ouriscado_sh_page_stream_cap(p, n, c.out()) }),
         theirs: |i, o| read_theirs(i, o, |page| Ok([pages::sh_page_stream_cap(page) as u64])),
-        inputs: inputs::headers,
+        inputs: headers::headers,
     },
     Function {
         name: "sh_page_extent",
-        ours: |i, o| {
-            let (mut base, mut n) = (BEFORE, BEFORE as u32);
-            let number = sys::sh_page_extent(&i.bytes, &mut base, &mut n);
-            o.ours(number, &[base, n as u64]);
-        },
+        ours: |_, c| page(c, |p, n| unsafe { raw::ouriscado_sh_page_extent(p, n, c.out(), c.out()) }),
         theirs: |i, o| read_theirs(i, o, |page| pages::sh_page_extent(page).map(|e| e.map_or([0, 0], |(base, n)| [base, n as u64]))),
-        inputs: inputs::headers,
+        inputs: headers::headers,
     },
     Function {
         name: "sh_page_set_extent",
-        ours: |i, o| o.refusal = sys::sh_page_set_extent(&mut o.bytes, i.numbers[0], i.numbers[1] as u32),
+        ours: |i, c| page(c, |p, n| unsafe { raw::ouriscado_sh_page_set_extent(p, n, i.numbers[0], i.numbers[1] as u32) }),
         theirs: |i, o| set_theirs(o, |page| pages::sh_page_set_extent(page, i.numbers[0], i.numbers[1] as u32)),
-        inputs: inputs::extents,
+        inputs: headers::extents,
     },
     Function {
         name: "sh_page_extent_creates",
-        ours: |i, o| {
-            let mut n = BEFORE as u32;
-            let number = sys::sh_page_extent_creates(&i.bytes, &mut n);
-            o.ours(number, &[n as u64]);
-        },
+        ours: |_, c| page(c, |p, n| unsafe { raw::ouriscado_sh_page_extent_creates(p, n, c.out()) }),
         theirs: |i, o| read_theirs(i, o, |page| Ok([pages::sh_page_extent_creates(page) as u64])),
-        inputs: inputs::headers,
+        inputs: headers::headers,
     },
     Function {
         name: "sh_page_set_extent_creates",
-        ours: |i, o| o.refusal = sys::sh_page_set_extent_creates(&mut o.bytes, i.numbers[0] as u32),
-        theirs: |i, o| set_theirs(o, |page| Ok(pages::sh_page_set_extent_creates(page, i.numbers[0] as u32))),
-        inputs: inputs::counts,
+        ours: |i, c| page(c, |p, n| unsafe { raw::ouriscado_sh_page_set_extent_creates(p, n, i.numbers[0] as u32) }),
+        theirs: |i, o| put_theirs(o, |page| pages::sh_page_set_extent_creates(page, i.numbers[0] as u32)),
+        inputs: headers::counts,
     },
     Function {
         name: "sh_page_n_fks",
-        ours: |i, o| count_ours(o, |n| sys::sh_page_n_fks(&i.bytes, n)),
+        ours: |_, c| page(c, |p, n| unsafe { raw::ouriscado_sh_page_n_fks(p, n, c.out()) }),
         theirs: |i, o| read_theirs(i, o, |page| pages::sh_page_n_fks(page).map(|n| [n as u64])),
-        inputs: inputs::headers,
+        inputs: headers::headers,
     },
     Function {
         name: "sh_page_set_n_fks",
-        ours: |i, o| o.refusal = sys::sh_page_set_n_fks(&mut o.bytes, i.numbers[0] as u16),
-        theirs: |i, o| set_theirs(o, |page| Ok(pages::sh_page_set_n_fks(page, i.numbers[0] as u16))),
-        inputs: inputs::counts,
+        ours: |i, c| page(c, |p, n| unsafe { raw::ouriscado_sh_page_set_n_fks(p, n, i.numbers[0] as u16) }),
+        theirs: |i, o| put_theirs(o, |page| pages::sh_page_set_n_fks(page, i.numbers[0] as u16)),
+        inputs: headers::counts,
     },
     Function {
         name: "sh_page_require_delta",
-        ours: |i, o| o.refusal = sys::sh_page_require_delta(&i.bytes),
+        ours: |_, c| page(c, |p, n| unsafe { raw::ouriscado_sh_page_require_delta(p, n) }),
         theirs: |i, o| read_theirs(i, o, |page| pages::sh_page_require_delta(page).map(|()| [])),
-        inputs: inputs::headers,
+        inputs: headers::headers,
     },
     Function {
         name: "sh_page_init_empty",
-        ours: |_, o| o.refusal = sys::sh_page_init_empty(&mut o.bytes),
-        theirs: |_, o| set_theirs(o, |page| Ok(pages::sh_page_init_empty(page))),
-        inputs: inputs::headers,
+        ours: |_, c| page(c, |p, n| unsafe { raw::ouriscado_sh_page_init_empty(p, n) }),
+        theirs: |_, o| put_theirs(o, |page| pages::sh_page_init_empty(page)),
+        inputs: headers::headers,
     },
     Function {
         name: "sh_page_stream_tail",
-        ours: |i, o| {
-            let (mut taken, mut last) = (BEFORE as usize, BEFORE);
-            let number = sys::sh_page_stream_tail(&i.bytes, &mut taken, &mut last);
-            o.ours(number, &[taken as u64, last]);
-        },
+        ours: |_, c| page(c, |p, n| unsafe { raw::ouriscado_sh_page_stream_tail(p, n, c.out(), c.out()) }),
         theirs: |i, o| read_theirs(i, o, |page| pages::sh_page_stream_tail(page).map(|(taken, last)| [taken as u64, fk_or_0(last)])),
-        inputs: inputs::pages,
+        inputs: streams::pages,
     },
     Function {
         name: "sh_page_last_fk",
-        ours: |i, o| number_ours(o, |last| sys::sh_page_last_fk(&i.bytes, last)),
+        ours: |_, c| page(c, |p, n| unsafe { raw::ouriscado_sh_page_last_fk(p, n, c.out()) }),
         theirs: |i, o| read_theirs(i, o, |page| pages::sh_page_last_fk(page).map(|last| [fk_or_0(last)])),
-        inputs: inputs::pages,
+        inputs: streams::pages,
     },
     Function {
         name: "sh_page_entries_into",
-        ours: |i, o| {
-            let mut count = BEFORE as usize;
-            let number = sys::sh_page_entries_into(&i.bytes, &mut o.list, &mut count);
-            o.ours(number, &[count as u64]);
+        ours: |_, c| {
+            let (out, room) = c.list();
+            page(c, |p, n| unsafe { raw::ouriscado_sh_page_entries_into(p, n, out, room, c.out()) })
         },
         theirs: |i, o| {
             let mut read = Vec::new();
             let answer = sh_page_as_array(&i.bytes).and_then(|page| pages::sh_page_entries_into(page, &mut read));
-            o.refusal = lent(answer.map_err(|e| of_store(e, Side::Stored)), &read, &mut o.list);
-            o.numbers.push(read.len() as u64);
+            if list_theirs(o, answer, &read) {
+                o.numbers.push(read.len() as u64);
+            }
         },
-        inputs: inputs::pages_and_room,
+        inputs: streams::pages_and_room,
     },
     Function {
         name: "sh_page_decode_slice_into",
-        ours: |i, o| {
-            let (mut count, mut next) = (BEFORE as usize, BEFORE);
-            let number = sys::sh_page_decode_slice_into(&i.bytes, &mut o.list, &mut count, &mut next);
-            o.ours(number, &[count as u64, next]);
+        ours: |_, c| {
+            let (out, room) = c.list();
+            page(c, |p, n| unsafe { raw::ouriscado_sh_page_decode_slice_into(p, n, out, room, c.out(), c.out()) })
         },
         theirs: |i, o| {
             let mut read = Vec::new();
             let answer = pages::sh_page_decode_slice_into(&i.bytes, &mut read);
             let next = *answer.as_ref().unwrap_or(&0);
-            o.refusal = lent(answer.map(drop).map_err(|e| of_store(e, Side::Stored)), &read, &mut o.list);
-            o.numbers.extend([read.len() as u64, next]);
+            if list_theirs(o, answer.map(drop), &read) {
+                o.numbers.extend([read.len() as u64, next]);
+            }
         },
-        inputs: inputs::pages_and_room,
+        inputs: streams::pages_and_room,
     },
     Function {
         name: "sh_page_try_append",
-        ours: |i, o| {
-            let mut page = std::mem::take(&mut o.bytes);
-            flag_ours(o, |appended| sys::sh_page_try_append(&mut page, i.numbers[0], appended));
-            o.bytes = page;
-        },
+        ours: |i, c| page(c, |p, n| unsafe { raw::ouriscado_sh_page_try_append(p, n, i.numbers[0], c.flag()) }),
         theirs: |i, o| change_theirs(o, Side::Stored, |page| pages::sh_page_try_append(page, Fk(i.numbers[0])).map(|b| [b as u64])),
-        inputs: inputs::pages_and_number,
+        inputs: streams::pages_and_number,
     },
     Function {
         name: "sh_page_write_stream",
-        ours: |i, o| {
-            let mut len = BEFORE as usize;
-            let number = sys::sh_page_write_stream(&mut o.bytes, &i.list, &mut len);
-            o.ours(number, &[len as u64]);
+        ours: |_, c| {
+            let (fks, count) = c.list();
+            page(c, |p, n| unsafe { raw::ouriscado_sh_page_write_stream(p, n, fks, count, c.out()) })
         },
         theirs: |i, o| {
             change_theirs(o, Side::Offered, |page| pages::sh_page_write_stream(page, &i.list).map(|()| [stream_len(&i.list)]));
             count_refused(i, o);
         },
-        inputs: inputs::pages_and_list,
+        inputs: streams::pages_and_list,
     },
     Function {
         name: "sh_page_pack_fks",
-        ours: |i, o| o.refusal = sys::sh_page_pack_fks(&mut o.bytes, &i.list, i.numbers[0]),
+        ours: |i, c| {
+            let (fks, count) = c.list();
+            page(c, |p, n| unsafe { raw::ouriscado_sh_page_pack_fks(p, n, fks, count, i.numbers[0]) })
+        },
         theirs: |i, o| {
             change_theirs(o, Side::Offered, |page| pages::sh_page_pack_fks(page, &i.list, i.numbers[0]).map(|()| []));
             count_refused(i, o);
         },
-        inputs: inputs::lists_and_next,
+        inputs: streams::lists_and_next,
     },
     Function {
         name: "sh_page_pack_extent_last_fks",
-        ours: |i, o| {
-            let n = &i.numbers;
-            o.refusal = sys::sh_page_pack_extent_last_fks(&mut o.bytes, &i.list, n[1], n[2] as u32, n[0]);
+        ours: |i, c| {
+            let ((fks, count), g) = (c.list(), &i.numbers);
+            page(c, |p, n| unsafe { raw::ouriscado_sh_page_pack_extent_last_fks(p, n, fks, count, g[1], g[2] as u32, g[0]) })
         },
         theirs: |i, o| {
-            let n = &i.numbers;
-            change_theirs(o, Side::Offered, |page| pages::sh_page_pack_extent_last_fks(page, &i.list, n[1], n[2] as u32, n[0]).map(|()| []));
+            let g = &i.numbers;
+            change_theirs(o, Side::Offered, |page| {
+                pages::sh_page_pack_extent_last_fks(page, &i.list, g[1], g[2] as u32, g[0]).map(|()| [])
+            });
             count_refused(i, o);
         },
-        inputs: inputs::lists_and_extent,
+        inputs: streams::lists_and_extent,
     },
 ];
 
-/// A number that a call of ours hands out.
-fn number_ours(o: &mut Output, call: impl FnOnce(&mut u64) -> u32) {
-    let mut told = BEFORE;
-    let number = call(&mut told);
-    o.ours(number, &[told]);
-}
-
-/// A count that a call of ours hands out.
-fn count_ours(o: &mut Output, call: impl FnOnce(&mut usize) -> u32) {
-    let mut told = BEFORE as usize;
-    let number = call(&mut told);
-    o.ours(number, &[told as u64]);
-}
-
-/// A flag that a call of ours hands out. It is set before the call, and a refused call must leave it.
-fn flag_ours(o: &mut Output, call: impl FnOnce(&mut bool) -> u32) {
-    let mut told = true;
-    let number = call(&mut told);
-    o.ours(number, &[if number != 0 && told { BEFORE } else { told as u64 }]);
+/// A call of ours on the page that it is lent.
+fn page(c: &Lent, call: impl FnOnce(*mut u8, usize) -> u32) -> u32 {
+    let (at, len) = c.bytes();
+    call(at, len)
 }
 
 /// What a call of theirs answers.
@@ -266,6 +236,14 @@ fn set_theirs(o: &mut Output, call: impl FnOnce(&mut Page) -> Result<(), StoreEr
     change_theirs(o, Side::Stored, |page| call(page).map(|()| []));
 }
 
+/// A call of theirs that writes to a page and turns nothing back.
+fn put_theirs(o: &mut Output, call: impl FnOnce(&mut Page)) {
+    change_theirs(o, Side::Stored, |page| {
+        call(page);
+        Ok([])
+    });
+}
+
 /// Tells the two refusals apart for which they have one text: too many numbers, and a stream that doesn't fit.
 fn count_refused(i: &Input, o: &mut Output) {
     if o.refusal == 33 && i.list.len() > u16::MAX as usize {
@@ -287,6 +265,7 @@ fn fk_or_0(fk: Option<Fk>) -> u64 {
 #[cfg(test)]
 mod tests {
     use super::*;
+    use crate::judge::expected;
     use crate::rng::Rng;
 
     /// The refusals that the first round of a function's inputs reaches, with 0 for acceptance.
@@ -295,8 +274,7 @@ mod tests {
         let mut out = std::collections::BTreeSet::new();
         let mut theirs = Output::default();
         (function.inputs)(&mut Rng(1), 0, &mut |input| {
-            theirs.start(input);
-            (function.theirs)(input, &mut theirs);
+            expected(function, input, &mut theirs);
             out.insert(theirs.refusal);
         });
         out.into_iter().collect()

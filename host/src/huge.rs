@@ -1,0 +1,275 @@
+//! Calls of ours on slices of 2^32 elements and more, as far as they are cheap. Most of such a slice is memory that may be read and not
+//! written; where a call is refused by the length alone, the slice is memory that can't be touched at all.
+use crate::compare::{Found, Smallest};
+use crate::errors::{of_pack, of_store, Side};
+use crate::fault::{during, Saying};
+use crate::lent::{Area, Placing, NONE, PAGE, READ, READ_WRITE};
+use oracle::error::StoreError;
+use oracle::file::TableFile;
+use oracle::{compact, free_lists, scripthash_pages as pages, scripthash_slabs as slabs, Fk};
+use ouriscado::sys::raw;
+use std::cell::Cell;
+
+/// How many elements there are.
+const COUNT: usize = 1 << 32;
+/// What a number that goes out holds before a call.
+const BEFORE: u64 = 0xa5a5_a5a5_a5a5_a5a5;
+
+/// A slice of COUNT elements and some more, of which the first bytes may be written, and those from COUNT on.
+struct Far<T> {
+    area: Area,
+    first: *mut T,
+    len: usize,
+}
+
+/// Bytes at the start of a far slice that may be written.
+const WINDOW: usize = 1 << 16;
+
+impl<T: Copy> Far<T> {
+    fn new(more: usize) -> Far<T> {
+        let far = Far::with_access(more, READ);
+        let (start, end) = (COUNT * size_of::<T>() - PAGE, (COUNT + more) * size_of::<T>());
+        far.area.allow(0, WINDOW, READ_WRITE);
+        far.area.allow(start, end.next_multiple_of(PAGE) - start, READ_WRITE);
+        far
+    }
+
+    /// One that can't be touched.
+    fn untouchable(more: usize) -> Far<T> {
+        Far::with_access(more, NONE)
+    }
+
+    fn with_access(more: usize, access: i32) -> Far<T> {
+        let area = Area::with_access((COUNT + more) * size_of::<T>(), access);
+        let first = area.place(COUNT + more, Placing::Start);
+        Far { area, first, len: COUNT + more }
+    }
+
+    #[allow(clippy::mut_from_ref)]
+    fn slice(&self) -> &mut [T] {
+        self.area.slice(self.len, Placing::Start)
+    }
+
+    /// What may have been written.
+    fn windows(&self) -> Vec<T> {
+        let (all, last) = (self.slice(), COUNT - PAGE / size_of::<T>());
+        [&all[..WINDOW / size_of::<T>()], &all[last..]].concat()
+    }
+}
+
+/// A call by its name.
+struct Named(&'static str);
+
+impl Saying for Named {
+    fn say(&self) -> String {
+        format!("huge, round 0: {} touches memory that it wasn't lent", self.0)
+    }
+}
+
+/// What the calls found.
+struct Judge<'a>(&'a mut Found);
+
+impl Judge<'_> {
+    /// Compares an answer of ours, its refusal and what it hands out, and whether both sides left the same.
+    fn same(&mut self, name: &'static str, ours: (u32, &[u64]), theirs: Result<Vec<u64>, u32>, left: bool) {
+        let wanted = match &theirs {
+            Ok(told) => (0, told.clone()),
+            Err(number) => (*number, vec![0; ours.1.len()]),
+        };
+        self.0.inputs += 1;
+        self.0.calls += 1;
+        if (ours.0, ours.1) != (wanted.0, &wanted.1[..]) || !left {
+            let what =
+                format!("{name} answers {} and {:x?} in place of {} and {:x?}, left alike {left}", ours.0, ours.1, wanted.0, wanted.1);
+            self.0.differs(Smallest { size: (COUNT, 0), what, round: 0, input: "a slice of 2^32 elements".into() });
+        }
+    }
+}
+
+fn stored<T>(answer: Result<T, StoreError>, told: impl FnOnce(T) -> Vec<u64>) -> Result<Vec<u64>, u32> {
+    answer.map(told).map_err(|e| of_store(e, Side::Stored))
+}
+
+fn offered(answer: Result<usize, StoreError>) -> Result<Vec<u64>, u32> {
+    answer.map(|n| vec![n as u64]).map_err(|e| of_store(e, Side::Offered))
+}
+
+/// One number, read from far bytes and written to them.
+fn numbers(judge: &mut Judge) {
+    for bytes in [&[0x80, 0x01][..], &[0x80; 40], &[0xff; 9], &[5]] {
+        let buf = Far::<u8>::new(0);
+        buf.slice()[..bytes.len()].copy_from_slice(bytes);
+        let (mut value, mut len) = (BEFORE, BEFORE as usize);
+        let ours = during(&Named("read_uleb128"), || unsafe { raw::ouriscado_read_uleb128(buf.first, COUNT, &mut value, &mut len) });
+        let theirs = compact::read_uleb128(buf.slice()).map(|(v, l)| vec![v, l as u64]).map_err(of_pack);
+        judge.same("read_uleb128", (ours, &[value, len as u64]), theirs, true);
+    }
+    for n in [0, 300, u64::MAX] {
+        let (a, b) = (Far::<u8>::new(0), Far::<u8>::new(0));
+        let mut len = BEFORE as usize;
+        let ours = during(&Named("write_uleb128_into"), || unsafe { raw::ouriscado_write_uleb128_into(a.first, COUNT, n, &mut len) });
+        let theirs = compact::write_uleb128_into(b.slice(), n).map(|l| vec![l as u64]).map_err(of_pack);
+        judge.same("write_uleb128_into", (ours, &[len as u64]), theirs, a.windows() == b.windows());
+    }
+}
+
+/// Streams and slabs: written to far bytes, of far lists, and read from far bytes into far lists.
+fn streams(judge: &mut Judge) {
+    let fks = [5u64, 300, 301];
+    let (a, b, mut len) = (Far::<u8>::new(0), Far::<u8>::new(0), BEFORE as usize);
+    let ours = during(&Named("encode_fk_delta_stream_into"), || unsafe {
+        raw::ouriscado_encode_fk_delta_stream_into(a.first, COUNT, fks.as_ptr(), 3, &mut len)
+    });
+    let theirs = offered(slabs::encode_fk_delta_stream_into(b.slice(), &fks));
+    judge.same("encode_fk_delta_stream_into", (ours, &[len as u64]), theirs, a.windows() == b.windows());
+    let ours = during(&Named("encode_slab_payload_into"), || unsafe {
+        raw::ouriscado_encode_slab_payload_into(a.first, COUNT, fks.as_ptr(), 3, &mut len)
+    });
+    let theirs = offered(slabs::encode_slab_payload_into(b.slice(), &fks));
+    judge.same("encode_slab_payload_into", (ours, &[len as u64]), theirs, a.windows() == b.windows());
+    let (list, far) = (Far::<u64>::untouchable(3), Far::<u8>::untouchable(0));
+    len = BEFORE as usize;
+    let ours = during(&Named("encode_slab_payload_into"), || unsafe {
+        raw::ouriscado_encode_slab_payload_into(far.first, COUNT, list.first, list.len, &mut len)
+    });
+    let theirs = offered(slabs::encode_slab_payload_into(far.slice(), list.slice()));
+    judge.same("encode_slab_payload_into", (ours, &[len as u64]), theirs, true);
+    let (out, mut read) = (Far::<u64>::new(0), Vec::new());
+    let (mut used, mut taken) = (BEFORE as usize, BEFORE as usize);
+    let ours = during(&Named("decode_slab_payload_into"), || unsafe {
+        raw::ouriscado_decode_slab_payload_into(a.first, COUNT, out.first, COUNT, &mut used, &mut taken)
+    });
+    let theirs = stored(slabs::decode_slab_payload_into(a.slice(), &mut read), |()| vec![3, 6]);
+    let left = |out: &Far<u64>| out.slice()[..3] == fks && out.windows()[3..].iter().all(|n| *n == 0) && read == fks.map(Fk);
+    judge.same("decode_slab_payload_into", (ours, &[used as u64, taken as u64]), theirs, left(&out));
+    let (out, mut taken) = (Far::<u64>::new(0), BEFORE as usize);
+    let ours = during(&Named("decode_fk_delta_stream_into"), || unsafe {
+        raw::ouriscado_decode_fk_delta_stream_into(a.first.add(2), COUNT - 2, 3, out.first, COUNT, &mut taken)
+    });
+    judge.same("decode_fk_delta_stream_into", (ours, &[taken as u64]), Ok(vec![4]), left(&out));
+}
+
+/// Buffers of 2^32 bytes and of a page more aren't pages, by their length alone.
+fn pages_by_length(judge: &mut Judge) {
+    type Call = (&'static str, fn(*mut u8, usize, &mut [u64; 2]) -> u32);
+    let calls: [Call; 14] = [
+        ("sh_page_is_last", |p, n, o| unsafe { raw::ouriscado_sh_page_is_last(p, n, flag(o)) }),
+        ("sh_page_next", |p, n, o| unsafe { raw::ouriscado_sh_page_next(p, n, &mut o[0]) }),
+        ("sh_page_set_last", |p, n, _| unsafe { raw::ouriscado_sh_page_set_last(p, n, 4096) }),
+        ("sh_page_set_next", |p, n, _| unsafe { raw::ouriscado_sh_page_set_next(p, n, 4096) }),
+        ("sh_page_set_extent", |p, n, _| unsafe { raw::ouriscado_sh_page_set_extent(p, n, 4096, 1) }),
+        ("sh_page_set_extent_creates", |p, n, _| unsafe { raw::ouriscado_sh_page_set_extent_creates(p, n, 1) }),
+        ("sh_page_set_n_fks", |p, n, _| unsafe { raw::ouriscado_sh_page_set_n_fks(p, n, 1) }),
+        ("sh_page_require_delta", |p, n, _| unsafe { raw::ouriscado_sh_page_require_delta(p, n) }),
+        ("sh_page_init_empty", |p, n, _| unsafe { raw::ouriscado_sh_page_init_empty(p, n) }),
+        ("sh_page_last_fk", |p, n, o| unsafe { raw::ouriscado_sh_page_last_fk(p, n, &mut o[0]) }),
+        ("sh_page_try_append", |p, n, o| unsafe { raw::ouriscado_sh_page_try_append(p, n, 5, flag(o)) }),
+        ("sh_page_pack_fks", |p, n, _| unsafe { raw::ouriscado_sh_page_pack_fks(p, n, [5].as_ptr(), 1, 0) }),
+        ("sh_page_pack_extent_last_fks", |p, n, _| unsafe {
+            raw::ouriscado_sh_page_pack_extent_last_fks(p, n, [5].as_ptr(), 1, 4096, 1, 0)
+        }),
+        ("sh_page_stream_off", |p, n, o| {
+            let mut off = BEFORE as usize;
+            let number = unsafe { raw::ouriscado_sh_page_stream_off(p, n, &mut off) };
+            o[0] = off as u64;
+            number
+        }),
+    ];
+    for more in [0, PAGE] {
+        let page = Far::<u8>::untouchable(more);
+        for (name, call) in calls {
+            let mut out = [0xa5a5_a5a5_a5a5_a501, BEFORE];
+            let before = out;
+            let ours = during(&Named(name), || call(page.first, page.len, &mut out));
+            // A flag is one byte of its number, and some calls hand out nothing.
+            let told = if out == before || out[0] == before[0] & !0xff { 0 } else { out[0] };
+            judge.same(name, (ours, &[told]), Err(4), out[1] == BEFORE);
+        }
+    }
+}
+
+/// The flag in the first byte of a number.
+fn flag(out: &mut [u64; 2]) -> &mut bool {
+    unsafe { &mut *out.as_mut_ptr().cast() }
+}
+
+/// Lists of 2^32 numbers are too many for a page, by their length alone; and a page is read into a list of so many.
+fn pages_and_lists(judge: &mut Judge) {
+    let list = Far::<u64>::untouchable(7);
+    let mut page = [0u8; PAGE];
+    let (at, mut len) = (page.as_mut_ptr(), BEFORE as usize);
+    let ours =
+        during(&Named("sh_page_write_stream"), || unsafe { raw::ouriscado_sh_page_write_stream(at, PAGE, list.first, list.len, &mut len) });
+    judge.same("sh_page_write_stream", (ours, &[len as u64]), Err(10), page == [0; PAGE]);
+    let at = page.as_mut_ptr();
+    let ours = during(&Named("sh_page_pack_fks"), || unsafe { raw::ouriscado_sh_page_pack_fks(at, PAGE, list.first, list.len, 4096) });
+    judge.same("sh_page_pack_fks", (ours, &[]), Err(10), page == [0; PAGE]);
+    let at = page.as_mut_ptr();
+    let ours = during(&Named("sh_page_pack_extent_last_fks"), || unsafe {
+        raw::ouriscado_sh_page_pack_extent_last_fks(at, PAGE, list.first, list.len, 4096, 1, 0)
+    });
+    judge.same("sh_page_pack_extent_last_fks", (ours, &[]), Err(10), page == [0; PAGE]);
+    pages::sh_page_pack_fks(&mut page, &[5, 300, 301], 8192).unwrap();
+    let (out, mut count, mut next) = (Far::<u64>::new(0), BEFORE as usize, BEFORE);
+    let ours = during(&Named("sh_page_decode_slice_into"), || unsafe {
+        raw::ouriscado_sh_page_decode_slice_into(page.as_ptr(), PAGE, out.first, COUNT, &mut count, &mut next)
+    });
+    let left = out.slice()[..3] == [5, 300, 301] && out.windows()[3..].iter().all(|n| *n == 0);
+    judge.same("sh_page_decode_slice_into", (ours, &[count as u64, next]), Ok(vec![3, 8192]), left);
+}
+
+/// Ranges in lists of 2^32: a list is cut, and the last of so many ranges stays, as it fits.
+fn cuts(judge: &mut Judge) {
+    let (fks, out, mut parts) = ([5u64, 300, 301], Far::<[usize; 2]>::new(1), BEFORE as usize);
+    let ours = during(&Named("sh_page_chunk_ranges"), || unsafe {
+        raw::ouriscado_sh_page_chunk_ranges(fks.as_ptr(), 3, out.first, out.len, &mut parts)
+    });
+    judge.same("sh_page_chunk_ranges", (ours, &[parts as u64]), Ok(vec![1]), out.slice()[..2] == [[0, 3], [0, 0]]);
+    out.slice()[COUNT - 1] = [1, 3];
+    for (count, wanted) in [(COUNT, Ok(vec![COUNT as u64])), (COUNT + 2, Err(34))] {
+        let before = out.windows();
+        parts = BEFORE as usize;
+        let ours = during(&Named("split_last_chunk_for_extent"), || unsafe {
+            raw::ouriscado_split_last_chunk_for_extent(fks.as_ptr(), 3, out.first, out.len, count, &mut parts)
+        });
+        judge.same("split_last_chunk_for_extent", (ours, &[parts as u64]), wanted, out.windows() == before);
+    }
+}
+
+/// Blocks behind the first 2^32 bytes of a body, and the last one that isn't quite within it.
+fn free(judge: &mut Judge) {
+    let (a, b) = (Far::<u8>::new(2 * PAGE), Far::<u8>::new(2 * PAGE));
+    let end = a.len as u64;
+    let (mut ours, mut theirs) = ([0u64; 9], [0u64; 25]);
+    let file = TableFile(Cell::from_mut(b.slice()).as_slice_of_cells());
+    for (class, off) in [(8, COUNT as u64), (0, COUNT as u64 + 16), (0, end - 16), (8, end - 4096), (0, end), (8, end), (1, end - 16)] {
+        let number = during(&Named("push_free_head"), || unsafe { raw::ouriscado_push_free_head(a.first, a.len, &mut ours, class, off) });
+        let fits = off + (16 << class) <= end;
+        let wanted = if fits { stored(free_lists::push_free_head(&file, &mut theirs, class, off), |()| vec![]) } else { Err(35) };
+        judge.same("push_free_head", (number, &[]), wanted, ours == theirs[..9] && a.windows() == b.windows());
+    }
+    for (from, to, fits) in [(COUNT as u64 + 4096, end - 16, true), (COUNT as u64, end + 16, false)] {
+        let number = during(&Named("carve_gap_into_freelist"), || unsafe {
+            raw::ouriscado_carve_gap_into_freelist(a.first, a.len, &mut ours, from, to)
+        });
+        let wanted = if fits { stored(free_lists::carve_gap_into_freelist(&file, &mut theirs, from, to), |()| vec![]) } else { Err(35) };
+        judge.same("carve_gap_into_freelist", (number, &[]), wanted, ours == theirs[..9] && a.windows() == b.windows());
+    }
+    for (class, mark) in [(8, end), (8, COUNT as u64 + 4096), (8, COUNT as u64 + 4096), (0, end), (7, COUNT as u64), (9, end)] {
+        let mut off = BEFORE;
+        let fits = theirs.get(class as usize).is_none_or(|&head| head == 0 || head + (16 << class) <= mark);
+        let number =
+            during(&Named("pop_free_head"), || unsafe { raw::ouriscado_pop_free_head(a.first, a.len, &mut ours, class, mark, &mut off) });
+        let wanted =
+            if fits { stored(free_lists::pop_free_head(&file, &mut theirs, class), |off| vec![off.unwrap_or(0)]) } else { Err(35) };
+        judge.same("pop_free_head", (number, &[off]), wanted, ours == theirs[..9] && a.windows() == b.windows());
+    }
+}
+
+/// Compares all of them.
+pub fn compare(found: &mut Found) {
+    let mut judge = Judge(found);
+    for part in [numbers, streams, pages_by_length, pages_and_lists, cuts, free] {
+        part(&mut judge);
+    }
+}
