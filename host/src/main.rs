@@ -18,6 +18,7 @@ mod page_inputs;
 mod page_stream_inputs;
 mod pages;
 mod rng;
+mod second_book;
 mod stream_inputs;
 mod table;
 

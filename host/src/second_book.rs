@@ -1,0 +1,296 @@
+//! A second account book, to hold ours against: document 01's rules over the published source's functions on head words, streams, slabs,
+//! pages, free lists and cutting. It judges everything before it writes anything, so that a refused call has changed nothing.
+pub mod keys;
+pub mod space;
+
+use crate::second_book::keys::{Ground, Held, Key};
+use crate::second_book::space::{release, take, take_run, State, PAGE, PAGE_CLASS};
+use oracle::scripthash_layout::{pack8, slab_bytes, slab_cap, ShHeadValue};
+use oracle::scripthash_pages as pages;
+use oracle::scripthash_slabs::{encode_slab_payload_into, slab_class_for_n_fks_with_slack, slab_class_for_packed_len};
+use oracle::{uleb128_len, write_uleb128_into, Fk};
+
+/// The most numbers that one load offers, that a slab holds, and the most bytes of a slab's payload.
+const MOST_LOADED: usize = 65_535;
+const MOST_IN_SLAB: usize = 256;
+const MOST_PAYLOAD: usize = 2048;
+/// Numbers in a book are below this.
+pub const LIMIT: u64 = 1 << 62;
+
+/// Why a call is turned back: a number of document 01, and for 31 on what ground.
+#[derive(Clone, Copy, Debug, PartialEq, Eq)]
+pub enum Refused {
+    Number(u32),
+    Unsound(Ground),
+}
+
+impl Refused {
+    pub fn number(self) -> u32 {
+        match self {
+            Refused::Number(number) => number,
+            Refused::Unsound(_) => 31,
+        }
+    }
+}
+
+impl From<Ground> for Refused {
+    fn from(ground: Ground) -> Refused {
+        Refused::Unsound(ground)
+    }
+}
+
+/// What an append answers: the key's new place, and the records rewritten.
+#[derive(Clone, Debug, PartialEq, Eq)]
+pub struct Appended {
+    pub place: ShHeadValue,
+    pub rewritten: u64,
+}
+
+/// What a read answers; the list itself is in the book's key.
+#[derive(Clone, Copy, Debug, PartialEq, Eq)]
+pub struct Listed {
+    pub length: u64,
+    pub pages: u64,
+}
+
+/// The book's own memory: what the key that a call is about holds.
+#[derive(Default)]
+pub struct SecondBook {
+    pub key: Key,
+    list: Vec<u64>,
+}
+
+/// 1: the lengths of body and heads.
+fn lengths(body: &[u8], heads: &[u64]) -> Result<(), Refused> {
+    let good = body.len().is_multiple_of(4096) && (8192..=1 << 30).contains(&body.len()) && (1..=65_536).contains(&heads.len());
+    if good { Ok(()) } else { Err(Refused::Number(1)) }
+}
+
+/// 1 and 2: the shape of the book, and the key.
+fn shape(body: &[u8], heads: &[u64], state: &State, key: u64) -> Result<(), Refused> {
+    lengths(body, heads)?;
+    let mark = state[0];
+    if !mark.is_multiple_of(16) || mark < 4096 || mark > body.len() as u64 {
+        return Err(Refused::Number(1));
+    }
+    if key >= heads.len() as u64 { Err(Refused::Number(2)) } else { Ok(()) }
+}
+
+/// 12 to 14: a first or only number that is offered.
+fn first_number(fk: u64) -> Result<(), Refused> {
+    match fk {
+        0 => Err(Refused::Number(12)),
+        _ => next_number(fk),
+    }
+}
+
+/// 13 and 14: any number that is offered.
+fn next_number(fk: u64) -> Result<(), Refused> {
+    match fk {
+        _ if fk >> 63 != 0 => Err(Refused::Number(13)),
+        _ if fk >= LIMIT => Err(Refused::Number(14)),
+        _ => Ok(()),
+    }
+}
+
+/// 32: a number must be above the one before.
+fn rises(fk: u64, before: u64) -> Result<(), Refused> {
+    if fk > before { Ok(()) } else { Err(Refused::Number(32)) }
+}
+
+/// The bytes of a list's payload in a slab, in shortest forms.
+fn payload_len(fks: &[u64]) -> usize {
+    let before = std::iter::once(&0).chain(fks);
+    2 + fks.iter().zip(before).map(|(fk, last)| uleb128_len(fk - last)).sum::<usize>()
+}
+
+/// The page of a body at an offset.
+pub fn page_mut(body: &mut [u8], off: u64) -> &mut [u8; PAGE] {
+    pages::sh_page_as_array_mut(&mut body[off as usize..off as usize + PAGE]).expect("a page of a body")
+}
+
+/// The word of a place that a book chose.
+fn word(place: &ShHeadValue) -> u64 {
+    pack8(place).expect("a place within a body has a word")
+}
+
+/// Writes a list that moved to a last page of its own.
+fn put_only_page(body: &mut [u8], off: u64, fks: &[u64]) {
+    let page = page_mut(body, off);
+    pages::sh_page_pack_extent_last_fks(page, fks, off, 1, 0).expect("a moved list fits a page");
+    pages::sh_page_set_extent_creates(page, fks.len() as u32);
+}
+
+impl SecondBook {
+    /// Makes a book fresh: heads and free heads 0, the mark 4,096, the body as it is.
+    pub fn fresh(&mut self, body: &[u8], heads: &mut [u64], state: &mut State) -> Result<(), Refused> {
+        lengths(body, heads)?;
+        heads.fill(0);
+        *state = [4096, 0, 0, 0, 0, 0, 0, 0, 0, 0];
+        Ok(())
+    }
+
+    /// Loads a list onto an empty key, and tells how many pages it takes.
+    pub fn load(&mut self, body: &mut [u8], heads: &mut [u64], state: &mut State, key: u64, fks: &[u64]) -> Result<u64, Refused> {
+        shape(body, heads, state, key)?;
+        let head = &mut heads[key as usize];
+        if *head != 0 {
+            return Err(Refused::Number(3));
+        }
+        if fks.len() > MOST_LOADED {
+            return Err(Refused::Number(10));
+        }
+        for (k, &fk) in fks.iter().enumerate() {
+            if k == 0 {
+                first_number(fk)?;
+            } else {
+                next_number(fk)?;
+                rises(fk, fks[k - 1])?;
+            }
+        }
+        match fks {
+            [] => Ok(0),
+            [fk] => {
+                *head = word(&ShHeadValue::inline_one(Fk(*fk)));
+                Ok(0)
+            }
+            _ if fks.len() <= MOST_IN_SLAB && payload_len(fks) <= MOST_PAYLOAD => {
+                let class = slab_class_for_packed_len(payload_len(fks)).expect("a class of so many bytes");
+                *head = word(&put_slab(body, state, class, fks)?);
+                Ok(0)
+            }
+            _ => {
+                let (last, count) = put_run(body, state, fks)?;
+                *head = word(&ShHeadValue::extent(last));
+                Ok(count)
+            }
+        }
+    }
+
+    /// Appends a number to a key.
+    pub fn append(&mut self, body: &mut [u8], heads: &mut [u64], state: &mut State, key: u64, fk: u64) -> Result<Appended, Refused> {
+        shape(body, heads, state, key)?;
+        first_number(fk)?;
+        let held = self.key.end(body, state[0], heads[key as usize])?;
+        let stayed = |place| Ok(Appended { place, rewritten: 0 });
+        let answer = match held {
+            Held::Empty => stayed(ShHeadValue::inline_one(Fk(fk))),
+            Held::Inline => self.moves(body, state, fk, None),
+            Held::Slab { class, off, taken } => {
+                let last = self.key.last();
+                rises(fk, last)?;
+                let (n, len) = (self.key.fks.len() + 1, uleb128_len(fk - last));
+                let fits = n <= MOST_IN_SLAB && n <= slab_cap(class) as usize && 2 + taken + len <= slab_bytes(class) as usize;
+                if fits {
+                    let slab = &mut body[off as usize..][..slab_bytes(class) as usize];
+                    slab[..2].copy_from_slice(&(n as u16).to_le_bytes());
+                    write_uleb128_into(&mut slab[2 + taken..], fk - last).expect("the number fits");
+                    stayed(ShHeadValue::slab(class, n as u16, off))
+                } else {
+                    self.moves(body, state, fk, Some((class, off)))
+                }
+            }
+            Held::Pages { last: off } => {
+                rises(fk, self.key.last())?;
+                append_page(body, state, off, fk).and_then(|last| stayed(ShHeadValue::extent(last)))
+            }
+        }?;
+        heads[key as usize] = word(&answer.place);
+        Ok(answer)
+    }
+
+    /// Moves the key's list, with a number more, to a slab or a page; the old slab is freed last.
+    fn moves(&mut self, body: &mut [u8], state: &mut State, fk: u64, old: Option<(u8, u64)>) -> Result<Appended, Refused> {
+        rises(fk, self.key.last())?;
+        let rewritten = self.key.fks.len() as u64;
+        self.list.clear();
+        self.list.extend(self.key.fks.iter().map(|fk| fk.0));
+        self.list.push(fk);
+        let (n, len) = (self.list.len(), payload_len(&self.list));
+        let place = if n > MOST_IN_SLAB || len > MOST_PAYLOAD {
+            let off = take(body, state, PAGE_CLASS)?;
+            put_only_page(body, off, &self.list);
+            ShHeadValue::extent(off)
+        } else {
+            let by_count = slab_class_for_n_fks_with_slack(n as u32).expect("a class of so many numbers");
+            let by_bytes = slab_class_for_packed_len(len).expect("a class of so many bytes");
+            put_slab(body, state, by_count.max(by_bytes), &self.list)?
+        };
+        if let Some((class, off)) = old {
+            release(body, state, class, off);
+        }
+        Ok(Appended { place, rewritten })
+    }
+
+    /// Reads a key: its list is then in `key`, and goes to the start of what is lent.
+    pub fn read(&mut self, body: &[u8], heads: &[u64], state: &State, key: u64, out: &mut [u64]) -> Result<Listed, Refused> {
+        shape(body, heads, state, key)?;
+        self.key.whole(body, state[0], heads[key as usize])?;
+        if out.len() < self.key.fks.len() {
+            return Err(Refused::Number(34));
+        }
+        out.iter_mut().zip(&self.key.fks).for_each(|(place, fk)| *place = fk.0);
+        Ok(Listed { length: self.key.fks.len() as u64, pages: self.key.pages.len() as u64 })
+    }
+
+    /// Drops a key, and tells how many numbers it had.
+    pub fn drop(&mut self, body: &mut [u8], heads: &mut [u64], state: &mut State, key: u64) -> Result<u64, Refused> {
+        shape(body, heads, state, key)?;
+        let held = self.key.whole(body, state[0], heads[key as usize])?;
+        match held {
+            Held::Slab { class, off, .. } => release(body, state, class, off),
+            _ => self.key.pages.iter().for_each(|&off| release(body, state, PAGE_CLASS, off)),
+        }
+        heads[key as usize] = 0;
+        Ok(self.key.fks.len() as u64)
+    }
+}
+
+/// Takes a slab of a class and fills it; what is behind the payload stays.
+fn put_slab(body: &mut [u8], state: &mut State, class: u8, fks: &[u64]) -> Result<ShHeadValue, Refused> {
+    let off = take(body, state, class)?;
+    encode_slab_payload_into(&mut body[off as usize..][..slab_bytes(class) as usize], fks).expect("the list fits its slab");
+    Ok(ShHeadValue::slab(class, fks.len() as u16, off))
+}
+
+/// Writes a list to a run of pages, each linked to the next, and tells the last one and how many there are.
+fn put_run(body: &mut [u8], state: &mut State, fks: &[u64]) -> Result<(u64, u64), Refused> {
+    let numbers: Vec<Fk> = fks.iter().map(|fk| Fk(*fk)).collect();
+    let parts = pages::sh_page_chunk_ranges(&numbers).expect("a list that can be cut");
+    let base = take_run(body, state, parts.len() as u64)?;
+    let mut off = base;
+    for (k, &(start, end)) in parts.iter().enumerate() {
+        let page = page_mut(body, off);
+        if k + 1 < parts.len() {
+            off += PAGE as u64;
+            pages::sh_page_pack_fks(page, &fks[start..end], off).expect("a part fits its page");
+        } else {
+            pages::sh_page_pack_extent_last_fks(page, &fks[start..end], base, parts.len() as u32, 0).expect("the last part fits its page");
+            pages::sh_page_set_extent_creates(page, fks.len() as u32);
+        }
+    }
+    Ok((off, parts.len() as u64))
+}
+
+/// Appends a number to the last page of a chain, or where that is full to a page that is taken, and tells which is the last one then.
+fn append_page(body: &mut [u8], state: &mut State, off: u64, fk: u64) -> Result<u64, Refused> {
+    let page = page_mut(body, off);
+    let creates = pages::sh_page_extent_creates(page) + 1;
+    if pages::sh_page_try_append(page, Fk(fk)).expect("a sound page") {
+        pages::sh_page_set_extent_creates(page, creates);
+        return Ok(off);
+    }
+    let first = pages::sh_page_first_off(page).expect("a last page");
+    let new = take(body, state, PAGE_CLASS)?;
+    let old = page_mut(body, off);
+    pages::sh_page_set_next(old, new).expect("a page of the body");
+    pages::sh_page_set_extent_creates(old, 0);
+    let page = page_mut(body, new);
+    pages::sh_page_pack_extent_last_fks(page, &[fk], new, 1, 0).expect("one number fits a page");
+    pages::sh_page_set_last(page, first).expect("a page that a link named");
+    pages::sh_page_set_extent_creates(page, creates);
+    Ok(new)
+}
+
+#[cfg(test)]
+mod tests;

@@ -1,0 +1,110 @@
+//! Document 01's run case on the second book, and what it says of loads, chains and refusals.
+use super::*;
+use crate::table::numbers_theirs;
+
+/// A fresh book.
+struct Book {
+    book: SecondBook,
+    body: Vec<u8>,
+    heads: Vec<u64>,
+    state: State,
+}
+
+impl Book {
+    fn new(body: usize, heads: usize) -> Book {
+        let mut out = Book { book: SecondBook::default(), body: vec![0xa5; body], heads: vec![7; heads], state: [9; 10] };
+        out.book.fresh(&out.body, &mut out.heads, &mut out.state).unwrap();
+        assert_eq!((out.heads[0], out.state), (0, [4096, 0, 0, 0, 0, 0, 0, 0, 0, 0]));
+        out
+    }
+
+    fn load(&mut self, key: u64, fks: &[u64]) -> Result<u64, u32> {
+        self.book.load(&mut self.body, &mut self.heads, &mut self.state, key, fks).map_err(Refused::number)
+    }
+
+    /// The four numbers of the new place, and the records rewritten.
+    fn append(&mut self, key: u64, fk: u64) -> Result<([u64; 4], u64), u32> {
+        let answer = self.book.append(&mut self.body, &mut self.heads, &mut self.state, key, fk);
+        answer.map(|a| (numbers_theirs(&a.place), a.rewritten)).map_err(Refused::number)
+    }
+
+    fn read(&mut self, key: u64, room: usize) -> Result<(Vec<u64>, u64), u32> {
+        let mut out = vec![0; room];
+        let listed = self.book.read(&self.body, &self.heads, &self.state, key, &mut out).map_err(Refused::number)?;
+        out.truncate(listed.length as usize);
+        Ok((out, listed.pages))
+    }
+
+    fn drop(&mut self, key: u64) -> Result<u64, u32> {
+        self.book.drop(&mut self.body, &mut self.heads, &mut self.state, key).map_err(Refused::number)
+    }
+}
+
+#[test]
+fn run_case() {
+    let mut b = Book::new(8192, 2);
+    assert_eq!(b.append(0, 5), Ok(([1, 0, 1, 5], 0)));
+    assert_eq!(b.append(0, 300), Ok(([2, 0, 2, 4096], 1)));
+    assert_eq!(b.append(0, 301), Ok(([2, 0, 3, 4096], 0)));
+    assert_eq!(b.append(0, 302), Ok(([2, 0, 4, 4096], 0)));
+    assert_eq!(b.append(0, 303), Ok(([2, 1, 5, 4112], 4)));
+    assert_eq!(b.append(1, 9), Ok(([1, 0, 1, 9], 0)));
+    assert_eq!(b.append(1, 10), Ok(([2, 0, 2, 4096], 1)));
+    assert_eq!(b.read(0, 5), Ok((vec![5, 300, 301, 302, 303], 0)));
+    assert_eq!(b.read(0, 4), Err(34));
+    assert_eq!(b.body[4096..4100], [2, 0, 9, 1]);
+    assert_eq!(b.drop(0), Ok(5));
+    assert_eq!(b.state[2], 4112);
+}
+
+#[test]
+fn a_loaded_run_grows_by_a_page() {
+    let mut b = Book::new(32_768, 1);
+    let fks: Vec<u64> = (1..=4088 + 4071).collect();
+    assert_eq!(b.load(0, &fks), Ok(2));
+    assert_eq!(b.read(0, fks.len()), Ok((fks.clone(), 2)));
+    assert_eq!(b.append(0, 9000), Ok(([3, 0, 0, 12_288], 0)));
+    assert_eq!(b.read(0, 9000).unwrap().1, 3);
+    assert_eq!(b.drop(0), Ok(fks.len() as u64 + 1));
+    assert_eq!((b.state[0], b.state[9]), (16_384, 12_288));
+    assert_eq!(b.load(0, &fks), Ok(2));
+    assert_eq!(b.state[0], 24_576);
+}
+
+#[test]
+fn a_list_moves_from_slab_to_slab_to_page() {
+    let mut b = Book::new(65_536, 1);
+    let mut moves = Vec::new();
+    for n in 1..=300 {
+        let (place, rewritten) = b.append(0, n * 2).unwrap();
+        if rewritten > 0 {
+            moves.push((n, place[0], place[1], rewritten));
+        }
+    }
+    let slabs = [(2, 0, 1), (5, 1, 4), (9, 2, 8), (17, 3, 16), (33, 4, 32), (65, 5, 64), (129, 6, 128)];
+    let mut wanted: Vec<(u64, u64, u64, u64)> = slabs.iter().map(|&(n, class, rewritten)| (n, 2, class, rewritten)).collect();
+    wanted.push((257, 3, 0, 256));
+    assert_eq!(moves, wanted);
+}
+
+#[test]
+fn refusals_come_in_order() {
+    let mut b = Book::new(8192, 1);
+    assert_eq!(b.load(1, &[0]), Err(2));
+    assert_eq!(b.load(0, &vec![0; 65_536]), Err(10));
+    assert_eq!(b.load(0, &[5, 3, 1 << 63]), Err(32));
+    assert_eq!(b.load(0, &[5, 1 << 62, 0]), Err(14));
+    assert_eq!(b.load(0, &[5, 1 << 63]), Err(13));
+    assert_eq!(b.load(0, &[0, 5]), Err(12));
+    assert_eq!(b.load(0, &(1..=4089).collect::<Vec<u64>>()), Err(36));
+    assert_eq!(b.load(0, &[5, 6]), Ok(0));
+    assert_eq!(b.load(0, &[]), Err(3));
+    assert_eq!(b.append(0, 0), Err(12));
+    assert_eq!(b.append(0, 6), Err(32));
+    b.body[4096] = 3;
+    assert_eq!(b.append(0, 6), Err(31));
+    assert_eq!(b.append(0, 1 << 62), Err(14));
+    assert_eq!(b.read(0, 0), Err(31));
+    b.state[0] = 4100;
+    assert_eq!(b.drop(0), Err(1));
+}
