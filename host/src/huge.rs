@@ -1,5 +1,6 @@
 //! Calls of ours on slices of 2^32 elements and more, as far as they are cheap. Most of such a slice is memory that may be read and not
 //! written; where a call is refused by the length alone, the slice is memory that can't be touched at all.
+use crate::book_sys as book;
 use crate::compare::{Found, Smallest};
 use crate::errors::{of_pack, of_store, Side};
 use crate::fault::{during, Saying};
@@ -266,10 +267,56 @@ fn free(judge: &mut Judge) {
     }
 }
 
+/// Books whose bodies or heads are beyond the limits, by their lengths alone.
+fn books_by_length(judge: &mut Judge) {
+    let (body, heads) = (Far::<u8>::untouchable(8192), Far::<u64>::untouchable(1));
+    let lengths =
+        [((1 << 30) + 4096, 1), (COUNT, 1), (COUNT + 8192, 1), (8192, 65_537), (8192, COUNT), (8192, COUNT + 1), (COUNT + 8192, COUNT + 1)];
+    for (b, h) in lengths {
+        let (mut state, mut told) = ([4096, 0, 0, 0, 0, 0, 0, 0, 0, 0], [BEFORE; 2]);
+        let (at, words) = (body.first, heads.first);
+        let ours = during(&Named("book_fresh"), || unsafe { book::ouriscado_book_fresh(at, b, words, h, &mut state) });
+        judge.same("book_fresh", (ours, &[]), Err(1), state[0] == 4096);
+        let [pages, other] = &mut told;
+        let ours = during(&Named("book_load"), || unsafe { book::ouriscado_book_load(at, b, words, h, &mut state, 0, words, 2, pages) });
+        judge.same("book_load", (ours, &[*pages]), Err(1), state[0] == 4096);
+        let (mut kind, mut class, mut used, mut place) = (1, 1, 1, BEFORE);
+        let ours = during(&Named("book_append"), || unsafe {
+            book::ouriscado_book_append(at, b, words, h, &mut state, 0, 5, &mut kind, &mut class, &mut used, &mut place, other)
+        });
+        judge.same("book_append", (ours, &[kind as u64, class as u64, used as u64, place, *other]), Err(1), state[0] == 4096);
+        told = [BEFORE; 2];
+        let [length, pages] = &mut told;
+        let ours =
+            during(&Named("book_read"), || unsafe { book::ouriscado_book_read(at, b, words, h, &state, 0, words, COUNT, length, pages) });
+        judge.same("book_read", (ours, &[*length, *pages]), Err(1), true);
+        *length = BEFORE;
+        let ours = during(&Named("book_drop"), || unsafe { book::ouriscado_book_drop(at, b, words, h, &mut state, 0, length) });
+        judge.same("book_drop", (ours, &[*length]), Err(1), state[0] == 4096);
+    }
+}
+
+/// A small book that is offered 2^32 numbers, and one that is read into a list of so many.
+fn books_and_lists(judge: &mut Judge) {
+    let (mut body, mut heads, mut state, mut pages) = (vec![0u8; 8192], [0u64, 7], [4096, 0, 0, 0, 0, 0, 0, 0, 0, 0], BEFORE);
+    let (list, out) = (Far::<u64>::untouchable(1), Far::<u64>::new(0));
+    let at = body.as_mut_ptr();
+    let ours = during(&Named("book_load"), || unsafe {
+        book::ouriscado_book_load(at, 8192, heads.as_mut_ptr(), 2, &mut state, 0, list.first, list.len, &mut pages)
+    });
+    judge.same("book_load", (ours, &[pages]), Err(10), heads == [0, 7] && state[0] == 4096);
+    let mut length = BEFORE;
+    pages = BEFORE;
+    let ours = during(&Named("book_read"), || unsafe {
+        book::ouriscado_book_read(at, 8192, heads.as_ptr(), 2, &state, 1, out.first, COUNT, &mut length, &mut pages)
+    });
+    judge.same("book_read", (ours, &[length, pages]), Ok(vec![1, 0]), out.slice()[..2] == [7, 0]);
+}
+
 /// Compares all of them.
 pub fn compare(found: &mut Found) {
     let mut judge = Judge(found);
-    for part in [numbers, streams, pages_by_length, pages_and_lists, cuts, free] {
+    for part in [numbers, streams, pages_by_length, pages_and_lists, cuts, free, books_by_length, books_and_lists] {
         part(&mut judge);
     }
 }

@@ -2,6 +2,7 @@
 mod answers;
 mod bench;
 mod blocks;
+mod book_sys;
 mod case;
 mod compare;
 mod cut_inputs;
@@ -13,6 +14,7 @@ mod huge;
 mod inputs;
 mod judge;
 mod lent;
+mod lockstep;
 mod page_bench;
 mod page_inputs;
 mod page_stream_inputs;

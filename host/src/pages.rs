@@ -113,7 +113,7 @@ pub const FUNCTIONS: &[Function] = &[
     Function {
         name: "sh_page_init_empty",
         ours: |_, c| page(c, |p, n| unsafe { raw::ouriscado_sh_page_init_empty(p, n) }),
-        theirs: |_, o| put_theirs(o, |page| pages::sh_page_init_empty(page)),
+        theirs: |_, o| put_theirs(o, pages::sh_page_init_empty),
         inputs: headers::headers,
     },
     Function {

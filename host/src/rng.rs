@@ -33,6 +33,11 @@ impl Rng {
         of[self.below(of.len() as u64) as usize]
     }
 
+    /// A copy of one of some values.
+    pub fn pick_one<T: Clone>(&mut self, of: &[T]) -> T {
+        of[self.below(of.len() as u64) as usize].clone()
+    }
+
     /// Some random bytes.
     pub fn bytes(&mut self, len: usize) -> Vec<u8> {
         (0..len).map(|_| self.next() as u8).collect()

@@ -57,13 +57,18 @@ pub struct Listed {
 #[derive(Default)]
 pub struct SecondBook {
     pub key: Key,
-    list: Vec<u64>,
+    /// The list that moved last, or was to.
+    pub list: Vec<u64>,
 }
 
 /// 1: the lengths of body and heads.
 fn lengths(body: &[u8], heads: &[u64]) -> Result<(), Refused> {
     let good = body.len().is_multiple_of(4096) && (8192..=1 << 30).contains(&body.len()) && (1..=65_536).contains(&heads.len());
-    if good { Ok(()) } else { Err(Refused::Number(1)) }
+    if good {
+        Ok(())
+    } else {
+        Err(Refused::Number(1))
+    }
 }
 
 /// 1 and 2: the shape of the book, and the key.
@@ -73,7 +78,11 @@ fn shape(body: &[u8], heads: &[u64], state: &State, key: u64) -> Result<(), Refu
     if !mark.is_multiple_of(16) || mark < 4096 || mark > body.len() as u64 {
         return Err(Refused::Number(1));
     }
-    if key >= heads.len() as u64 { Err(Refused::Number(2)) } else { Ok(()) }
+    if key >= heads.len() as u64 {
+        Err(Refused::Number(2))
+    } else {
+        Ok(())
+    }
 }
 
 /// 12 to 14: a first or only number that is offered.
@@ -95,13 +104,22 @@ fn next_number(fk: u64) -> Result<(), Refused> {
 
 /// 32: a number must be above the one before.
 fn rises(fk: u64, before: u64) -> Result<(), Refused> {
-    if fk > before { Ok(()) } else { Err(Refused::Number(32)) }
+    if fk > before {
+        Ok(())
+    } else {
+        Err(Refused::Number(32))
+    }
 }
 
 /// The bytes of a list's payload in a slab, in shortest forms.
 fn payload_len(fks: &[u64]) -> usize {
     let before = std::iter::once(&0).chain(fks);
     2 + fks.iter().zip(before).map(|(fk, last)| uleb128_len(fk - last)).sum::<usize>()
+}
+
+/// Whether a list goes to pages: it has more than 256 numbers, or its payload more than 2,048 bytes.
+pub fn goes_to_pages(fks: &[u64]) -> bool {
+    fks.len() > MOST_IN_SLAB || payload_len(fks) > MOST_PAYLOAD
 }
 
 /// The page of a body at an offset.
@@ -154,15 +172,15 @@ impl SecondBook {
                 *head = word(&ShHeadValue::inline_one(Fk(*fk)));
                 Ok(0)
             }
-            _ if fks.len() <= MOST_IN_SLAB && payload_len(fks) <= MOST_PAYLOAD => {
-                let class = slab_class_for_packed_len(payload_len(fks)).expect("a class of so many bytes");
-                *head = word(&put_slab(body, state, class, fks)?);
-                Ok(0)
-            }
-            _ => {
+            _ if goes_to_pages(fks) => {
                 let (last, count) = put_run(body, state, fks)?;
                 *head = word(&ShHeadValue::extent(last));
                 Ok(count)
+            }
+            _ => {
+                let class = slab_class_for_packed_len(payload_len(fks)).expect("a class of so many bytes");
+                *head = word(&put_slab(body, state, class, fks)?);
+                Ok(0)
             }
         }
     }
@@ -206,14 +224,13 @@ impl SecondBook {
         self.list.clear();
         self.list.extend(self.key.fks.iter().map(|fk| fk.0));
         self.list.push(fk);
-        let (n, len) = (self.list.len(), payload_len(&self.list));
-        let place = if n > MOST_IN_SLAB || len > MOST_PAYLOAD {
+        let place = if goes_to_pages(&self.list) {
             let off = take(body, state, PAGE_CLASS)?;
             put_only_page(body, off, &self.list);
             ShHeadValue::extent(off)
         } else {
-            let by_count = slab_class_for_n_fks_with_slack(n as u32).expect("a class of so many numbers");
-            let by_bytes = slab_class_for_packed_len(len).expect("a class of so many bytes");
+            let by_count = slab_class_for_n_fks_with_slack(self.list.len() as u32).expect("a class of so many numbers");
+            let by_bytes = slab_class_for_packed_len(payload_len(&self.list)).expect("a class of so many bytes");
             put_slab(body, state, by_count.max(by_bytes), &self.list)?
         };
         if let Some((class, off)) = old {

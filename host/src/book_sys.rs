@@ -1,0 +1,52 @@
+//! The exported calls of the book, until the crate in rust/ declares them. The state is the mark and the nine free heads.
+use crate::second_book::space::State;
+
+extern "C" {
+    pub fn ouriscado_book_fresh(body: *const u8, body_len: usize, heads: *mut u64, heads_len: usize, state: &mut State) -> u32;
+    pub fn ouriscado_book_load(
+        body: *mut u8,
+        body_len: usize,
+        heads: *mut u64,
+        heads_len: usize,
+        state: &mut State,
+        key: u64,
+        fks: *const u64,
+        fks_len: usize,
+        pages: &mut u64,
+    ) -> u32;
+    pub fn ouriscado_book_append(
+        body: *mut u8,
+        body_len: usize,
+        heads: *mut u64,
+        heads_len: usize,
+        state: &mut State,
+        key: u64,
+        fk: u64,
+        kind: &mut u8,
+        class: &mut u8,
+        used: &mut u16,
+        place: &mut u64,
+        rewritten: &mut u64,
+    ) -> u32;
+    pub fn ouriscado_book_read(
+        body: *const u8,
+        body_len: usize,
+        heads: *const u64,
+        heads_len: usize,
+        state: &State,
+        key: u64,
+        out: *mut u64,
+        out_len: usize,
+        length: &mut u64,
+        pages: &mut u64,
+    ) -> u32;
+    pub fn ouriscado_book_drop(
+        body: *mut u8,
+        body_len: usize,
+        heads: *mut u64,
+        heads_len: usize,
+        state: &mut State,
+        key: u64,
+        length: &mut u64,
+    ) -> u32;
+}

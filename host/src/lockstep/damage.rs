@@ -1,0 +1,219 @@
+//! What becomes of a book when somebody else writes it: bits flipped, words, mark and free heads set. What is written into slabs and pages
+//! stands in `spoil`.
+use crate::lockstep::spoil::*;
+use crate::rng::Rng;
+use crate::second_book::page_mut;
+use crate::second_book::space::{State, PAGE};
+use oracle::scripthash_layout::{pack8, slab_bytes, unpack8, ShHeadValue};
+use oracle::scripthash_pages as pages;
+
+/// A book that is damaged, and the key that is aimed at.
+pub struct Damaged<'a> {
+    pub body: &'a mut [u8],
+    pub heads: &'a mut [u64],
+    pub state: &'a mut State,
+    pub key: usize,
+}
+
+/// A kind of damage: its name, and what does it; it tells whether it could.
+type Damage = (&'static str, fn(&mut Damaged, &mut Rng) -> bool);
+
+const DAMAGES: &[Damage] = &[
+    ("a bit of the body", flip_body),
+    ("a bit of the key's block", flip_block),
+    ("a bit of the word", flip_word),
+    ("the word", set_word),
+    ("the slab's word, a field", set_slab_word),
+    ("the page's word", set_page_word),
+    ("the mark", set_mark),
+    ("a free head", set_free_head),
+    ("a freed block's link", set_free_link),
+    ("a padded slab", pad_slab),
+    ("a slab's bad stream", spoil_slab),
+    ("a padded page", pad_page),
+    ("a page's bad stream", spoil_page),
+    ("a page's version", set_version),
+    ("a page's count", set_count),
+    ("a page's link", set_link),
+    ("a chain that comes back", make_loop),
+    ("a page's extent", set_extent),
+    ("creates", set_creates),
+];
+
+/// Damages a book in one way, and tells its name.
+pub fn damage(book: &mut Damaged, rng: &mut Rng) -> &'static str {
+    loop {
+        let (name, does) = rng.pick(DAMAGES);
+        if does(book, rng) {
+            return name;
+        }
+    }
+}
+
+impl Damaged<'_> {
+    pub fn mark(&self) -> u64 {
+        self.state[0].clamp(4096, self.body.len() as u64)
+    }
+
+    /// The key's place, as far as its word has one within the body.
+    pub fn place(&self) -> Option<ShHeadValue> {
+        let place = unpack8(self.heads[self.key]).ok()?;
+        let end = match place {
+            ShHeadValue::Slab { class, off, .. } if class < 8 => off + slab_bytes(class),
+            ShHeadValue::Extent { last_page } if last_page.is_multiple_of(4096) => last_page + PAGE as u64,
+            _ => return None,
+        };
+        (end <= self.body.len() as u64).then_some(place)
+    }
+
+    /// The key's slab: class, offset.
+    pub fn slab(&self) -> Option<(u8, u64)> {
+        match self.place()? {
+            ShHeadValue::Slab { class, off, .. } => Some((class, off)),
+            _ => None,
+        }
+    }
+
+    /// One of the key's pages: the last, or one that links lead to from the first.
+    pub fn page(&self, rng: &mut Rng) -> Option<u64> {
+        let ShHeadValue::Extent { last_page } = self.place()? else {
+            return None;
+        };
+        let page = |off: u64| pages::sh_page_as_array(self.body.get(off as usize..off as usize + PAGE)?).ok();
+        let mut off = pages::sh_page_read_packed(page(last_page)?).ok()?.1;
+        let steps = rng.pick(&[0, 0, 1, 2, 40]);
+        for _ in 0..steps {
+            off = pages::sh_page_read_packed(page(off)?).ok()?.1;
+        }
+        let off = rng.pick(&[off, last_page]);
+        page(off).map(|_| off)
+    }
+
+    /// One of the key's pages, to be written.
+    pub fn page_mut(&mut self, rng: &mut Rng) -> Option<(u64, &mut [u8; PAGE])> {
+        let off = self.page(rng)?;
+        Some((off, page_mut(self.body, off)))
+    }
+
+    /// Makes the key that of a slab.
+    pub fn put_word(&mut self, class: u8, used: usize, off: u64) {
+        self.heads[self.key] = pack8(&ShHeadValue::slab(class, used as u16, off)).expect("a slab within the body");
+    }
+}
+
+/// Flips a bit of a number.
+fn flipped(rng: &mut Rng, n: u64) -> u64 {
+    n ^ 1 << rng.below(64)
+}
+
+fn flip_body(book: &mut Damaged, rng: &mut Rng) -> bool {
+    let at = rng.below(book.mark()) as usize;
+    book.body[at] ^= 1 << rng.below(8);
+    true
+}
+
+fn flip_block(book: &mut Damaged, rng: &mut Rng) -> bool {
+    let (from, len) = match book.place() {
+        Some(ShHeadValue::Slab { class, off, .. }) => (off, slab_bytes(class)),
+        Some(ShHeadValue::Extent { last_page }) => (last_page, rng.pick(&[24, 40, PAGE as u64])),
+        _ => return false,
+    };
+    let reach = rng.pick(&[3, 16, PAGE as u64]).min(len);
+    let at = from + rng.below(reach);
+    book.body[at as usize] ^= 1 << rng.below(8);
+    true
+}
+
+fn flip_word(book: &mut Damaged, rng: &mut Rng) -> bool {
+    book.heads[book.key] = flipped(rng, book.heads[book.key]);
+    true
+}
+
+/// Another key's word, a word of any kind, or one of those that don't unpack.
+fn set_word(book: &mut Damaged, rng: &mut Rng) -> bool {
+    let other = book.heads[rng.below(book.heads.len() as u64) as usize];
+    let any = rng.next();
+    book.heads[book.key] = rng.pick(&[other, other, any, 3 << 62, 1 << 62, 1 << 62 | 1 << 40 | 4096, 2 << 62 | any >> 2]);
+    true
+}
+
+/// A field of a slab's word: class, used or offset.
+fn set_slab_word(book: &mut Damaged, rng: &mut Rng) -> bool {
+    let Ok(ShHeadValue::Slab { class, used, off }) = unpack8(book.heads[book.key]) else {
+        return false;
+    };
+    let (mark, any) = (book.mark(), 16 * rng.below(book.body.len() as u64 / 16));
+    let (class, used, off) = match rng.below(3) {
+        0 => (rng.pick(&[0, 1, class.wrapping_sub(1) & 63, (class + 1) & 63, 7, 8, 63]), used, off),
+        1 => (class, rng.pick(&[2, used - 1, used.wrapping_add(1), 255, 256, 257, 65_535]), off),
+        _ => {
+            let end = mark.saturating_sub(16 << class.min(8));
+            (class, used, rng.pick(&[any, any, off + 8, off - off % 4096 + 4096, 0, 16, 4080, end, end + 16, mark, (1 << 40) - 16]))
+        }
+    };
+    book.heads[book.key] = 1 << 62 | (class as u64) << 56 | (used as u64) << 40 | off & 0xff_ffff_ffff;
+    true
+}
+
+/// The page of a page's word.
+fn set_page_word(book: &mut Damaged, rng: &mut Rng) -> bool {
+    let Ok(ShHeadValue::Extent { last_page }) = unpack8(book.heads[book.key]) else {
+        return false;
+    };
+    let any = 4096 * rng.below(book.body.len() as u64 / 4096 + 2);
+    let off = rng.pick(&[any, any, last_page + 4096, last_page.saturating_sub(4096), last_page + 16, 2048, book.mark(), (1 << 62) - 4096]);
+    book.heads[book.key] = 3 << 62 | off & ((1 << 62) - 1);
+    true
+}
+
+fn set_mark(book: &mut Damaged, rng: &mut Rng) -> bool {
+    let (mark, len) = (book.state[0], book.body.len() as u64);
+    let any = 16 * rng.below(len / 16 + 1);
+    let flipped = flipped(rng, mark);
+    book.state[0] = rng.pick(&[
+        any,
+        any,
+        any,
+        mark.wrapping_add(16),
+        mark.wrapping_sub(16),
+        mark ^ 8,
+        0,
+        4080,
+        4096,
+        len,
+        len + 16,
+        len - 16,
+        flipped,
+        u64::MAX,
+    ]);
+    true
+}
+
+/// A free head: none, any block, one in use, unaligned, and around the bounds.
+fn set_free_head(book: &mut Damaged, rng: &mut Rng) -> bool {
+    let (mark, class) = (book.mark(), rng.below(9));
+    let unit = if class == 8 { 4096 } else { 16 };
+    let any = 4096 + unit * rng.below((mark - 4096) / unit + 1);
+    let in_use = match unpack8(book.heads[rng.below(book.heads.len() as u64) as usize]) {
+        Ok(ShHeadValue::Slab { off, .. }) => off,
+        Ok(ShHeadValue::Extent { last_page }) => last_page,
+        _ => any,
+    };
+    let end = mark.saturating_sub(16 << class);
+    let flipped = flipped(rng, book.state[1 + class as usize]);
+    book.state[1 + class as usize] =
+        rng.pick(&[0, any, any, any, in_use, in_use, any + 8, 2048, 4080, end, end + 16, end + 4096, mark, flipped, u64::MAX]);
+    true
+}
+
+/// The link in a freed block: the block itself, none, or any number.
+fn set_free_link(book: &mut Damaged, rng: &mut Rng) -> bool {
+    let head = book.state[1 + rng.below(9) as usize];
+    let any = 16 * rng.below(book.body.len() as u64 / 16);
+    let next = rng.pick(&[head, 0, any, any, any + 1, u64::MAX]);
+    match book.body.get_mut(head as usize..).and_then(|b| b.get_mut(..8)) {
+        Some(link) if head >= 4096 => link.copy_from_slice(&next.to_le_bytes()),
+        _ => return false,
+    }
+    true
+}

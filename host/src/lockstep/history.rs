@@ -1,0 +1,331 @@
+//! Random histories: a book of some shape, calls that grow, load, read and drop keys, odd calls between them, and damage.
+use crate::inputs::rising;
+use crate::lent::Placing;
+use crate::lockstep::damage::{damage, Damaged};
+use crate::lockstep::pair::{Answer, Call, Pair, MOST_BODY, MOST_HEADS};
+use crate::lockstep::tally::{Before, Tally};
+use crate::rng::Rng;
+use crate::second_book::space::State;
+use crate::second_book::LIMIT;
+
+/// How a history goes: the book's shape, how many calls, how long the runs of appends to one key are, of which lengths their differences are
+/// in bits, the shares of loads and drops in a hundred calls, the longest load, and in how many calls there is one damage, 0 for never.
+#[derive(Clone, Copy, Debug)]
+struct Plan {
+    keys: usize,
+    body: usize,
+    calls: usize,
+    run: u64,
+    bits: &'static [u32],
+    loads: u64,
+    drops: u64,
+    longest: usize,
+    damaged: u64,
+}
+
+/// Lengths of differences in bits: any, and such that a page holds some hundred numbers.
+const ANY: &[u32] = &[0, 0, 3, 6, 7, 8, 13, 14, 20, 28, 35, 42, 49, 56];
+const LONG: &[u32] = &[42, 47];
+
+/// Draws a plan.
+fn plan(rng: &mut Rng) -> Plan {
+    let damaged = rng.pick(&[0, 4, 12, 60]);
+    let common = Plan { keys: 1, body: 8192, calls: 1500, run: 3, bits: ANY, loads: 12, drops: 8, longest: 300, damaged };
+    match rng.below(40) {
+        // Many keys in a small body, which is soon full.
+        0..10 => Plan { keys: rng.pick(&[2, 5, 20, 64, 200]), body: rng.pick(&[8192, 8192, 12_288, 20_480]), ..common },
+        // Few keys that grow through every class into pages.
+        10..20 => {
+            let (keys, body, run, drops) =
+                (rng.pick(&[1, 2, 4]), rng.pick(&[16_384, 32_768, 65_536]), rng.pick(&[40, 300, 900]), rng.pick(&[2, 8]));
+            Plan { keys, body, run, drops, ..common }
+        }
+        // One or two keys that grow over many pages.
+        20..24 => Plan { keys: rng.pick(&[1, 2]), body: 65_536, calls: 5000, run: 4000, bits: LONG, loads: 2, drops: 1, ..common },
+        // Lists that take pages, loaded and dropped.
+        24..37 => {
+            let (keys, body) = (rng.pick(&[2, 6]), rng.pick(&[32_768, 32_768, 65_536, 131_072]));
+            Plan { keys, body, calls: 500, run: 30, loads: 25, drops: 15, longest: 5000, ..common }
+        }
+        // As many numbers as can be loaded.
+        37 => Plan { keys: 4, body: rng.pick(&[262_144, MOST_BODY]), calls: 60, run: 20, loads: 40, drops: 20, longest: 65_535, ..common },
+        // As many keys as there can be.
+        38 => Plan { keys: MOST_HEADS, calls: 60, ..common },
+        _ => Plan { keys: 3, body: 262_144, calls: 300, run: 100, longest: 20_000, ..common },
+    }
+}
+
+/// What was before a damage, to be put back after some calls.
+struct Kept {
+    body: Vec<u8>,
+    heads: Vec<u64>,
+    state: State,
+    lasts: Vec<(u64, usize)>,
+}
+
+/// A history that runs. Of each key it has the last number and the length, as far as they are known.
+pub struct History<'a> {
+    rng: Rng,
+    pair: &'a mut Pair,
+    tally: &'a mut Tally,
+    plan: Plan,
+    name: String,
+    lasts: Vec<(u64, usize)>,
+    bits: u32,
+    /// The key that appends go to, and how many are still to come.
+    run: (usize, u64),
+    /// The key that was damaged, and how many calls still look at it.
+    aimed: (usize, u64),
+    kept: Option<Kept>,
+    /// How many calls there still are.
+    left: usize,
+}
+
+/// What went wrong in a history: how many calls there were, and what.
+pub type Ended = Result<u64, (u64, String)>;
+
+impl<'a> History<'a> {
+    /// A fresh book whose body, heads and state held anything.
+    pub fn new(mut rng: Rng, pair: &'a mut Pair, tally: &'a mut Tally, name: String) -> History<'a> {
+        let plan = plan(&mut rng);
+        let fill = rng.pick(&[0u8, 0xa5, 0xff]);
+        let placing = rng.pick(&[Placing::End, Placing::Start]);
+        pair.begin(vec![fill; plan.body], vec![rng.next(); plan.keys], [rng.next(); 10], placing);
+        let lasts = vec![(0, 0); plan.keys];
+        History { rng, pair, tally, plan, name, lasts, bits: 7, run: (0, 0), aimed: (0, 0), kept: None, left: plan.calls }
+    }
+
+    /// Runs the history, and tells how many calls there were.
+    pub fn run(mut self) -> Ended {
+        let mut made = 1;
+        self.call(&Call::Fresh, self.plan.body, self.plan.keys).map_err(|what| (made, what))?;
+        while self.left > 0 {
+            self.left -= 1;
+            self.damage_now_and_then();
+            let call = self.next_call();
+            let (body, heads) = self.shape(&call);
+            made += 1;
+            self.call(&call, body, heads).map_err(|what| (made, what))?;
+        }
+        Ok(made)
+    }
+
+    /// Calls both books, and learns from the answer.
+    fn call(&mut self, call: &Call, body: usize, heads: usize) -> Result<(), String> {
+        let word = call.key().and_then(|key| self.pair.heads.get(key as usize)).copied().unwrap_or(0);
+        let before = Before { state: self.pair.state, word };
+        let answer: Answer = self.pair.call(call, body, heads, &self.name)?;
+        self.tally.count(call, &before, &answer, self.pair);
+        if answer.refusal == 0 {
+            match call {
+                Call::Fresh => self.lasts.fill((0, 0)),
+                Call::Load { key, fks } => self.lasts[*key as usize] = (fks.last().copied().unwrap_or(0), fks.len()),
+                Call::Append { key, fk } => {
+                    let last = &mut self.lasts[*key as usize];
+                    *last = (*fk, last.1 + 1);
+                }
+                Call::Read { key, .. } => self.lasts[*key as usize].1 = answer.told[0] as usize,
+                Call::Drop { key } => self.lasts[*key as usize] = (0, 0),
+            }
+        }
+        Ok(())
+    }
+
+    /// How much of body and heads a call is lent: all, and now and then less; most often where the book would become fresh.
+    fn shape(&mut self, call: &Call) -> (usize, usize) {
+        let (body, heads) = (self.plan.body, self.plan.keys);
+        match self.rng.below(if matches!(call, Call::Fresh) { 3 } else { 400 }) {
+            0 => (self.rng.pick(&[0, 1, 4095, 4096, 8191, body - 1, body - 16, body - 4096]), heads),
+            1 => (body, self.rng.pick(&[0, heads - 1, 1])),
+            _ => (body, heads),
+        }
+    }
+
+    /// Damages the book, or puts back what was before.
+    fn damage_now_and_then(&mut self) {
+        if self.aimed.1 > 0 {
+            self.aimed.1 -= 1;
+            return;
+        }
+        if let Some(kept) = self.kept.take() {
+            (self.pair.body, self.pair.heads, self.pair.state, self.lasts) = (kept.body, kept.heads, kept.state, kept.lasts);
+            self.pair.copy();
+        }
+        if self.plan.damaged == 0 || self.rng.below(self.plan.damaged) != 0 {
+            return;
+        }
+        if self.rng.below(8) != 0 {
+            let (body, heads) = (self.pair.body.clone(), self.pair.heads.clone());
+            self.kept = Some(Kept { body, heads, state: self.pair.state, lasts: self.lasts.clone() });
+        } else {
+            // It stays damaged, and soon there isn't much to see.
+            self.left = self.left.min(200);
+        }
+        let key = if self.rng.below(2) == 0 { self.page_key() } else { self.some_key() };
+        let Pair { body, heads, state, .. } = &mut *self.pair;
+        let mut book = Damaged { body, heads, state, key };
+        for _ in 0..self.rng.pick(&[1, 1, 1, 2]) {
+            let name = damage(&mut book, &mut self.rng);
+            *self.tally.damages.entry(name).or_default() += 1;
+        }
+        self.pair.copy();
+        let word = self.pair.heads[key];
+        if self.pair.second.key.end(&self.pair.body, self.pair.state[0].min(self.plan.body as u64), word).is_ok() {
+            let key_now = &self.pair.second.key;
+            self.lasts[key] = (key_now.fks.last().map_or(0, |fk| fk.0), self.lasts[key].1.max(key_now.fks.len()));
+        }
+        self.aimed = (key, 1 + self.rng.below(6));
+        self.run.1 = 0;
+    }
+
+    /// Any key, of very many one of the first.
+    fn any_key(&mut self) -> usize {
+        self.rng.below(if self.plan.keys > 200 { 50 } else { self.plan.keys as u64 }) as usize
+    }
+
+    /// A key, rather one in use.
+    fn some_key(&mut self) -> usize {
+        let (key, other) = (self.any_key(), self.any_key());
+        if self.pair.heads[key] != 0 {
+            key
+        } else {
+            other
+        }
+    }
+
+    /// A key in pages, if one is found.
+    fn page_key(&mut self) -> usize {
+        let mut key = self.some_key();
+        for _ in 0..6 {
+            if self.pair.heads[key] >> 62 == 3 {
+                break;
+            }
+            key = self.some_key();
+        }
+        key
+    }
+
+    /// A key that is empty, if one is found.
+    fn empty_key(&mut self) -> usize {
+        let mut key = self.any_key();
+        for _ in 0..6 {
+            if self.pair.heads[key] == 0 {
+                break;
+            }
+            key = self.any_key();
+        }
+        key
+    }
+
+    fn next_call(&mut self) -> Call {
+        if self.aimed.1 > 0 && self.rng.below(8) != 0 {
+            let key = self.aimed.0;
+            return match self.rng.below(8) {
+                0..3 => self.read(key),
+                3..6 => self.append(key),
+                6 => self.load(),
+                _ => Call::Drop { key: key as u64 },
+            };
+        }
+        if self.run.1 > 0 && self.rng.below(12) != 0 {
+            self.run.1 -= 1;
+            return self.append(self.run.0);
+        }
+        let share = self.rng.below(100);
+        match share {
+            _ if share < self.plan.loads => self.load(),
+            _ if share < self.plan.loads + self.plan.drops => Call::Drop { key: self.some_key() as u64 },
+            80..97 => {
+                let key = self.some_key();
+                self.read(key)
+            }
+            97.. => self.odd(),
+            _ => {
+                let key = self.some_key();
+                self.run = (key, self.rng.below(self.plan.run + 1));
+                self.bits = self.rng.pick(self.plan.bits);
+                self.append(key)
+            }
+        }
+    }
+
+    /// An append of a number that rises, by a difference of the history's length in bits.
+    fn append(&mut self, key: usize) -> Call {
+        let last = self.lasts[key].0;
+        let fk = last + 1 + self.rng.bits(self.bits);
+        let fk = if fk < LIMIT { fk } else { last + 1 };
+        if fk >= LIMIT {
+            Call::Drop { key: key as u64 }
+        } else {
+            Call::Append { key: key as u64, fk }
+        }
+    }
+
+    /// A read into a list that is long enough, or one short.
+    fn read(&mut self, key: usize) -> Call {
+        let n = self.lasts[key].1;
+        Call::Read { key: key as u64, room: self.rng.pick(&[n, n, n, n, n + 1, n + 9, n.saturating_sub(1), 0]) }
+    }
+
+    /// A load onto an empty key: none, one, a slab of each class, or pages.
+    fn load(&mut self) -> Call {
+        let key = self.empty_key() as u64;
+        let longest = self.plan.longest as u64;
+        let len = match self.rng.below(12) {
+            0 if longest > 4096 => return self.almost_full(key),
+            1..6 if longest > 10_000 => self.rng.below(longest) + 1,
+            0..6 => self.rng.below(30),
+            6 => self.rng.pick(&[0, 1, 254, 255, 256, 257]),
+            7..10 => self.rng.below(300),
+            _ => self.rng.below(longest) + 1,
+        };
+        let most = 61 - (64 - len.leading_zeros());
+        let bits = self.rng.pick(&[0, 3, 7, 8, 14, 20, 35, 49, 56]).min(most);
+        Call::Load { key, fks: rising(&mut self.rng, len as usize, &mut |r| r.bits(bits)) }
+    }
+
+    /// A load whose last page is full, or has room for some bytes.
+    fn almost_full(&mut self, key: u64) -> Call {
+        let before = 4088 * self.rng.below((self.plan.body as u64 / 4096).min(8)) as usize;
+        let len = before + 4072 - self.rng.pick(&[0, 0, 1, 2, 9, 20]);
+        Call::Load { key, fks: rising(&mut self.rng, len, &mut |r| 1 + r.below(3)) }
+    }
+
+    /// A call that is turned back for what it is given.
+    fn odd(&mut self) -> Call {
+        let key = self.some_key();
+        let (last, n) = self.lasts[key];
+        let beyond = self.plan.keys as u64 + self.rng.pick(&[0, 1, 1 << 32, u64::MAX / 2]);
+        let empty = self.empty_key() as u64;
+        let at = key as u64;
+        match self.rng.below(9) {
+            0 => Call::Append { key: at, fk: self.rng.pick(&[0, LIMIT, LIMIT - 1, 1 << 63, u64::MAX, last, last.saturating_sub(1)]) },
+            1 => self.rng.pick_one(&[
+                Call::Load { key: beyond, fks: vec![5] },
+                Call::Append { key: beyond, fk: 5 },
+                Call::Read { key: beyond, room: 9 },
+                Call::Drop { key: beyond },
+            ]),
+            2 => Call::Load { key: at, fks: vec![5, 6, 7] },
+            3 => {
+                let bad = self.rng.pick(&[0, LIMIT, 1 << 63, u64::MAX, 5, 4]);
+                let lists = [vec![bad], vec![5, bad], vec![1, 5, bad, 0], vec![0, 1 << 63], vec![bad, 5, 9]];
+                Call::Load { key: empty, fks: self.rng.pick_one(&lists) }
+            }
+            4 if self.rng.below(20) == 0 => {
+                let count = self.rng.pick(&[65_535, 65_536, 65_537]);
+                Call::Load { key: empty, fks: (1..=count).collect() }
+            }
+            5 if self.rng.below(4) == 0 => {
+                // A long list that doesn't rise at one place.
+                let len = 2 + self.rng.below(3000);
+                let mut fks: Vec<u64> = (1..=len).collect();
+                let from = 1 + self.rng.below(len - 1) as usize;
+                fks[from] = self.rng.pick(&[from as u64, 0, 1, LIMIT, 1 << 63]);
+                Call::Load { key: empty, fks }
+            }
+            6 if self.rng.below(10) == 0 => Call::Fresh,
+            _ => Call::Read { key: at, room: self.rng.pick(&[0, 1, n.saturating_sub(1), n / 2]) },
+        }
+    }
+}

@@ -1,0 +1,236 @@
+//! What the histories met, and how often: calls, refusals and their grounds, moves between classes, blocks taken and given back, chains.
+use crate::lockstep::pair::{Answer, Call, Pair, KINDS};
+use crate::second_book::keys::{Ground, GROUNDS};
+use crate::second_book::space::State;
+use crate::second_book::{goes_to_pages, Refused};
+use oracle::scripthash_layout::{unpack8, ShHeadValue};
+use std::collections::BTreeMap;
+
+/// The refusals that each kind of call can give, and 0 for accepted.
+const REFUSALS: [&[u32]; 5] =
+    [&[0, 1], &[0, 1, 2, 3, 10, 12, 13, 14, 32, 35, 36], &[0, 1, 2, 12, 13, 14, 31, 32, 35, 36], &[0, 1, 2, 31, 34], &[0, 1, 2, 31]];
+
+/// The moves that lists can make: from inline (0) or a class (1 to 8), to classes and pages (8). Two numbers have at most 20 bytes of payload.
+/// A slab that was loaded by its bytes has up to 16 numbers for every 4 slots, so that it goes up by one class or two; with padded forms it
+/// may stay in its class or go down by one. More than 256 numbers, or 2,048 bytes, come from classes 5 to 7 alone.
+const MOVES: [&[usize]; 9] =
+    [&[0, 1], &[0, 1, 2], &[1, 2, 3], &[1, 2, 3, 4], &[2, 3, 4, 5], &[3, 4, 5, 6], &[4, 5, 6, 8], &[5, 6, 7, 8], &[6, 7, 8]];
+
+/// Bounds of the numbers of pages by which chains are told apart.
+const CHAINS: [u64; 7] = [1, 2, 3, 5, 9, 17, 33];
+
+/// The name of a class.
+fn class_name(class: usize) -> String {
+    if class == 8 {
+        "page".into()
+    } else {
+        format!("class {class}")
+    }
+}
+
+/// Where a list was before a move.
+fn from_name(from: usize) -> String {
+    if from == 0 {
+        "inline".into()
+    } else {
+        class_name(from - 1)
+    }
+}
+
+/// The last bound that a number of pages reaches.
+fn chain_name(pages: u64) -> String {
+    let at = CHAINS.iter().rposition(|c| *c <= pages).expect("a chain has a page");
+    match CHAINS.get(at + 1) {
+        Some(next) if next - 1 == CHAINS[at] => format!("{}", CHAINS[at]),
+        Some(next) => format!("{} to {}", CHAINS[at], next - 1),
+        None => format!("{} and more", CHAINS[at]),
+    }
+}
+
+/// Counts of what was met.
+#[derive(Default)]
+pub struct Tally {
+    refusals: [BTreeMap<u32, u64>; 5],
+    grounds: BTreeMap<(Ground, &'static str), u64>,
+    moves: [[u64; 9]; 9],
+    stays: [u64; 9],
+    at_mark: [u64; 9],
+    reused: [u64; 9],
+    carved: [u64; 9],
+    dropped: [u64; 9],
+    grown: u64,
+    read: BTreeMap<String, u64>,
+    loaded: BTreeMap<String, u64>,
+    full: BTreeMap<&'static str, u64>,
+    pub damages: BTreeMap<&'static str, u64>,
+}
+
+/// What a book was before a call: its state, and the word of the key.
+pub struct Before {
+    pub state: State,
+    pub word: u64,
+}
+
+impl Tally {
+    /// Counts a call by what was before it and what it answered.
+    pub fn count(&mut self, call: &Call, before: &Before, answer: &Answer, pair: &Pair) {
+        let kind = call.kind();
+        *self.refusals[kind].entry(answer.refusal).or_default() += 1;
+        if let Some(Refused::Unsound(ground)) = pair.refused {
+            *self.grounds.entry((ground, KINDS[kind])).or_default() += 1;
+        }
+        if answer.refusal == 36 {
+            *self.full.entry(Tally::wanted(call, before, pair)).or_default() += 1;
+        }
+        if answer.refusal != 0 {
+            return;
+        }
+        match call {
+            Call::Load { key, .. } => self.loaded(answer.told[0], before, pair.heads[*key as usize]),
+            Call::Append { .. } => self.appended(before, answer),
+            Call::Read { .. } if answer.told[1] > 0 => *self.read.entry(chain_name(answer.told[1])).or_default() += 1,
+            Call::Drop { .. } => self.dropped(before, pair),
+            _ => {}
+        }
+    }
+
+    /// What there was no room for.
+    fn wanted(call: &Call, before: &Before, pair: &Pair) -> &'static str {
+        let in_pages = matches!(unpack8(before.word), Ok(ShHeadValue::Extent { .. }));
+        match call {
+            Call::Append { .. } if in_pages => "a page for a chain",
+            Call::Append { .. } if goes_to_pages(&pair.second.list) => "a page for a list that moves",
+            Call::Append { .. } => "a slab for a list that moves",
+            Call::Load { fks, .. } if goes_to_pages(fks) => "a run for a load",
+            _ => "a slab for a load",
+        }
+    }
+
+    /// Counts where a block of a class came from.
+    fn took(&mut self, class: usize, before: &Before) {
+        if before.state[1 + class] != 0 {
+            self.reused[class] += 1;
+        } else {
+            self.at_mark(class, before);
+        }
+    }
+
+    /// Counts a block or a run at the mark, and what the gap before pages was carved into.
+    fn at_mark(&mut self, class: usize, before: &Before) {
+        self.at_mark[class] += 1;
+        if class == 8 {
+            self.carved(before.state[0].next_multiple_of(4096) - before.state[0]);
+        }
+    }
+
+    /// Counts the blocks of a gap.
+    fn carved(&mut self, gap: u64) {
+        let mut left = gap;
+        for class in (0..8).rev() {
+            self.carved[class] += left / (16 << class);
+            left %= 16 << class;
+        }
+    }
+
+    fn loaded(&mut self, pages: u64, before: &Before, word: u64) {
+        match unpack8(word) {
+            Ok(ShHeadValue::Slab { class, .. }) => self.took(class as usize, before),
+            Ok(ShHeadValue::Extent { .. }) => {
+                self.at_mark(8, before);
+                *self.loaded.entry(chain_name(pages)).or_default() += 1;
+            }
+            _ => {}
+        }
+    }
+
+    fn appended(&mut self, before: &Before, answer: &Answer) {
+        let [kind, class, _, place, rewritten] = answer.told;
+        let to = if kind == 3 { 8 } else { class as usize };
+        match unpack8(before.word) {
+            Ok(ShHeadValue::Slab { class: from, .. }) if rewritten > 0 => {
+                self.moves[1 + from as usize][to] += 1;
+                self.took(to, before);
+            }
+            Ok(ShHeadValue::Inline { .. }) => {
+                self.moves[0][to] += 1;
+                self.took(to, before);
+            }
+            Ok(ShHeadValue::Slab { class, .. }) => self.stays[class as usize] += 1,
+            Ok(ShHeadValue::Extent { last_page }) if last_page != place => {
+                self.grown += 1;
+                self.took(8, before);
+            }
+            Ok(ShHeadValue::Extent { .. }) => self.stays[8] += 1,
+            _ => {}
+        }
+    }
+
+    fn dropped(&mut self, before: &Before, pair: &Pair) {
+        match unpack8(before.word) {
+            Ok(ShHeadValue::Slab { class, .. }) => self.dropped[class as usize] += 1,
+            Ok(ShHeadValue::Extent { .. }) => self.dropped[8] += pair.second.key.pages.len() as u64,
+            _ => {}
+        }
+    }
+
+    /// All that must be met, with how often it was.
+    fn kinds(&self) -> Vec<(String, u64)> {
+        let mut out = Vec::new();
+        for (kind, refusals) in REFUSALS.iter().enumerate() {
+            for &refusal in *refusals {
+                let what = if refusal == 0 { "accepted".into() } else { format!("refused by {refusal}") };
+                out.push((format!("{} {what}", KINDS[kind]), self.refusals[kind].get(&refusal).copied().unwrap_or(0)));
+            }
+        }
+        for ground in GROUNDS {
+            let of_ground = self.grounds.iter().filter(|((g, _), _)| g == ground).map(|(_, n)| n);
+            out.push((format!("31: {ground}"), of_ground.sum()));
+        }
+        for (from, to) in MOVES.iter().enumerate() {
+            to.iter().for_each(|&to| out.push((format!("moves from {} to {}", from_name(from), class_name(to)), self.moves[from][to])));
+        }
+        for class in 0..9 {
+            let name = class_name(class);
+            let place = if class == 8 { "in pages".into() } else { format!("in a slab of {name}") };
+            out.push((format!("appends that stay {place}"), self.stays[class]));
+            out.push((format!("taken at the mark, alone or in a run: {name}"), self.at_mark[class]));
+            out.push((format!("taken of those freed: {name}"), self.reused[class]));
+            out.push((format!("given back by a drop: {name}"), self.dropped[class]));
+            if class < 8 {
+                out.push((format!("carved from a gap: {name}"), self.carved[class]));
+            }
+        }
+        out.push(("chains that grow by a page".into(), self.grown));
+        for bound in CHAINS {
+            let name = chain_name(bound);
+            out.push((format!("pages walked by a read: {name}"), self.read.get(&name).copied().unwrap_or(0)));
+            out.push((format!("pages of a load: {name}"), self.loaded.get(&name).copied().unwrap_or(0)));
+        }
+        for what in
+            ["a slab for a load", "a run for a load", "a slab for a list that moves", "a page for a list that moves", "a page for a chain"]
+        {
+            out.push((format!("no room for {what}"), self.full.get(what).copied().unwrap_or(0)));
+        }
+        out
+    }
+
+    /// Prints how often each was met, and tells how many that must be weren't.
+    pub fn print(&self) -> u64 {
+        let kinds = self.kinds();
+        kinds.iter().for_each(|(name, n)| println!("  {n:>10} {name}"));
+        for (from, to) in (0..9).flat_map(|from| (0..9).map(move |to| (from, to))) {
+            if self.moves[from][to] > 0 && !MOVES[from].contains(&to) {
+                println!("  {:>10} moves from {} to {}, by a damaged word", self.moves[from][to], from_name(from), class_name(to));
+            }
+        }
+        for (refusals, (known, name)) in self.refusals.iter().zip(REFUSALS.iter().zip(KINDS)) {
+            let others = refusals.iter().filter(|(r, _)| !known.contains(r));
+            others.for_each(|(r, n)| println!("  {n:>10} {name} refused by {r}, which it never should be"));
+        }
+        self.damages.iter().for_each(|(name, n)| println!("  {n:>10} damaged: {name}"));
+        let unmet: Vec<&str> = kinds.iter().filter(|k| k.1 == 0).map(|k| &k.0[..]).collect();
+        unmet.iter().for_each(|name| println!("not met: {name}"));
+        println!("{} of {} kinds met", kinds.len() - unmet.len(), kinds.len());
+        unmet.len() as u64
+    }
+}
