@@ -9,7 +9,7 @@ use borrow.Author.Tests.{le-ltb, ne-eqb}
 use lib.ListN.{length, drop, getD, length-drop}
 use lib.Seq.{getD-drop}
 use Rattle.error.specs.Refusal.{accepted}
-use Rattle.compact.specs.Uleb128.{passes, readUleb}
+use Rattle.compact.specs.Uleb128.{piece, passes, readUleb}
 use Rattle.compact.proofs.LawsReadFrom.{readFrom, from-start, at-last, at-more}
 use Rattle.scripthash_stream.specs.Steps.{QuickForm}
 
@@ -42,11 +42,15 @@ module _ {buf : List ℕ} {off j acc place : ℕ} (m : Carried buf off j acc) (i
   stays b = rw (le-ltb 9 j (omega arith), ne-eqb j 9 (λ (e : j ≡ 9). omega arith))
 
   -- goes on
+  pub form-on : 128 ≤ getD buf place 0 → Carried buf off (j + 1) (acc + piece (getD buf place 0) * 2 ^ (7 * j))
+  form-on g = record { reads = sym (rw here at (at-more (drop off buf) j acc inside (stays (getD (drop off buf) j 0)) (rw here g))) ∙ m .reads }
+
+  -- the same for a byte, whose piece is what it has above 128
   pub form-more : (value : ℕ) → 128 ≤ getD buf place 0 → getD buf place 0 < 256 → value ≡ acc + (getD buf place 0 - 128) * 2 ^ (7 * j)
       → Carried buf off (j + 1) value
   form-more value g t e =
-      let piece : getD buf place 0 % 128 ≡ getD buf place 0 - 128 = omega arith in
-      record { reads = rw (e, ← piece) (sym (rw here at (at-more (drop off buf) j acc inside (stays (getD (drop off buf) j 0)) (rw here g))) ∙ m .reads) }
+      let above : getD buf place 0 % 128 ≡ getD buf place 0 - 128 = omega arith in
+      rw (e, ← above) (form-on g)
 
   -- is its last
   pub form-last : (value len : ℕ) → getD buf place 0 < 128 → value ≡ acc + getD buf place 0 * 2 ^ (7 * j) → len ≡ j + 1

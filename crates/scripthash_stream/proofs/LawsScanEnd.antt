@@ -1,5 +1,5 @@
 -- Where a scan ends, when it goes on in the middle of a stream, one law for each way on. Assumes nothing.
-use Prim.Native.Nat.{ℕ, suc, _+_, _-_, _≤_, _<_}
+use Prim.Native.Nat.{ℕ, zero, suc, _+_, _-_, _≤_, _<_}
 use mathlib.Core.List.{List}
 use mathlib.Core.Path.{_≡_, sym, _∙_, ap}
 use native.Mathlib.Nat.{sub-zero, zero-add, add-zero, add-assoc, not-suc-le-zero}
@@ -7,14 +7,11 @@ use native.Mathlib.Omega.{arith}
 use lib.ListN.{drop}
 use lib.Seq.{drop-drop}
 use Rattle.error.specs.Refusal.{Answer, accepted, refused, answered}
-use Rattle.error.proofs.LawsAnswer.{answered-then, answered-no, then-yes, then-no}
+use Rattle.error.proofs.LawsAnswer.{accepted-inj, was-accepted, answered-then, answered-no, then-yes, then-no}
 use Rattle.compact.specs.Uleb128.{Reading}
-use Rattle.scripthash_stream.specs.Stream.{lastFrom, nextNumber, scanFrom, scan, End, endFrom}
-use Rattle.scripthash_stream.specs.Steps.{QuickEnd}
-
--- k numbers behind `prev` are left to scan, and those before took `off` bytes: where the whole scan ends.
-unfoldable pub endsFrom : ℕ → ℕ → ℕ → List ℕ → Answer End
-endsFrom off prev k bs = answered (λ s. record { taken = off + s .taken; last = lastFrom prev (s .numbers) }) (scanFrom prev k bs)
+use Rattle.scripthash_stream.specs.Stream.{lastFrom, nextNumber, Scan, scanFrom, scan, End, endFrom}
+use Rattle.scripthash_stream.specs.Steps.{QuickEnd, endsFrom}
+use Rattle.scripthash_stream.proofs.LawsScan.{Step, scan-step}
 
 pub ends-start : (n : ℕ) (bs : List ℕ) → endsFrom 0 0 (n - 0) bs ≡ answered (endFrom 0) (scan n bs)
 unfolding endsFrom
@@ -47,6 +44,23 @@ module _ (buf : List ℕ) (n off prev k : ℕ) where
       let more : n - k ≡ suc (n - (k + 1)) = omega arith in
       rw more (answered-no _ (scanFrom prev (suc (n - (k + 1))) (drop off buf)) (then-no (nextNumber prev (drop off buf)) _ e))
 
+-- the numbers that were scanned, and those behind them
+pub ends-parts : (off prev k m : ℕ) (bs : List ℕ) (s : Scan) → scanFrom prev k bs ≡ accepted s
+    → endsFrom off prev (k + m) bs ≡ endsFrom (off + s .taken) (lastFrom prev (s .numbers)) m (drop (s .taken) bs)
+unfolding scanFrom lastFrom
+ends-parts off prev zero m bs s e = rw (sym (accepted-inj e), add-zero off, zero-add m)
+ends-parts off prev (suc k) m bs s e = behind (scan-step prev k bs s e) (λ o r t f. ends-parts o (r .value) k m (drop (r .len) bs) t f)
+  where
+    behind : (w : Step prev k bs s) → ((o : ℕ) (r : Reading) (t : Scan) → scanFrom (r .value) k (drop (r .len) bs) ≡ accepted t
+        → endsFrom o (r .value) (k + m) (drop (r .len) bs) ≡ endsFrom (o + t .taken) (lastFrom (r .value) (t .numbers)) m (drop (t .taken) (drop (r .len) bs)))
+        → endsFrom off prev (suc k + m) bs ≡ endsFrom (off + s .taken) (lastFrom prev (s .numbers)) m (drop (s .taken) bs)
+    behind w ih =
+        let r = w .first in
+        let t = w .rest in
+        let count : suc k + m ≡ suc (k + m) = omega arith in
+        rw (w .whole, count, ← (drop-drop (t .taken) (r .len) bs), ← (add-assoc off (r .len) (t .taken)))
+        (ends-more off prev (k + m) bs r (w .next) ∙ ih (off + r .len) r t (w .more))
+
 -- ---- a scan that was made quickly
 
 -- no bytes tell nothing
@@ -58,3 +72,18 @@ quick-end-none a h = absurd (not-suc-le-zero h)
 pub quick-end-some : (taken last : ℕ) (a : Answer End) → QuickEnd taken last a → 0 < taken → accepted (record { taken = taken; last = last }) ≡ a
 unfolding QuickEnd
 quick-end-some taken last a q h = sym (q h)
+
+-- a quick scan of the first numbers, and one of those behind them
+pub quick-end-parts : (n lead from prev taken last : ℕ) (buf : List ℕ) → lead ≤ n → 0 < from → QuickEnd from prev (answered (endFrom 0) (scan lead buf))
+    → QuickEnd taken last (endsFrom from prev (n - lead) (drop from buf)) → QuickEnd taken last (answered (endFrom 0) (scan n buf))
+unfolding QuickEnd
+quick-end-parts n lead from prev taken last buf few some q r h =
+    let was = was-accepted (endFrom 0) (scan lead buf) (q some) in
+    let s = was .0 in
+    let at : s .taken ≡ from = ap (λ (e : End). e .taken) (was .2) in
+    let before : lastFrom 0 (s .numbers) ≡ prev = ap (λ (e : End). e .last) (was .2) in
+    let all : lead + (n - lead) ≡ n = omega arith in
+    let parts : endsFrom 0 0 n buf ≡ endsFrom from prev (n - lead) (drop from buf) =
+    rw (all, zero-add, at, before) at (ends-parts 0 0 lead (n - lead) buf s (was .1)) in
+    let whole : endsFrom 0 0 n buf ≡ answered (endFrom 0) (scan n buf) = rw (sub-zero n) at (ends-start n buf) in
+    sym whole ∙ parts ∙ r h

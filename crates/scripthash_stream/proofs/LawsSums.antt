@@ -11,10 +11,10 @@ use Rattle.error.specs.Refusal.{accepted, answered}
 use Rattle.compact.specs.Uleb128.{Reading}
 use Rattle.compact.proofs.LawsReadFrom.{read-byte-at}
 use Rattle.scripthash_stream.specs.Stream.{nextNumber, Scan, scanFrom, scan, endFrom}
-use Rattle.scripthash_stream.specs.Steps.{OneByteForms, QuickForm, QuickEnd, QuickSum}
+use Rattle.scripthash_stream.specs.Steps.{OneByteForms, QuickForm, QuickEnd, QuickSum, endsFrom}
 use Rattle.scripthash_stream.proofs.LawsForms.{quick-form}
 use Rattle.scripthash_stream.proofs.LawsScan.{stored-sum, next-is, scan-cons}
-use Rattle.scripthash_stream.proofs.LawsScanEnd.{endsFrom, ends-start, ends-next, ends-now, quick-end-none}
+use Rattle.scripthash_stream.proofs.LawsScanEnd.{ends-start, ends-next, ends-now, quick-end-none}
 
 -- ---- one number
 

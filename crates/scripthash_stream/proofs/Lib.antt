@@ -6,3 +6,6 @@ pub mod LawsSums
 pub mod LawsDecode
 pub mod LawsEncode
 pub mod LawsLent
+pub mod LawsTotals
+pub mod LawsWeigh
+pub mod LawsLongest

@@ -1,12 +1,13 @@
 -- What the steps of reading a stream quickly promise each other: no answer of a public function is defined here.
-use Prim.Native.Nat.{ℕ, _≤_, _<_}
+use Prim.Native.Nat.{ℕ, zero, suc, _+_, _-_, _*_, _≤_, _<_}
+use mathlib.Core.Bool.{Bool, false, cond, _&&_}
 use mathlib.Core.List.{List}
 use mathlib.Core.Logic.{_⊎_}
 use mathlib.Core.Path.{_≡_}
 use lib.ListN.{length, getD, take}
 use Rattle.error.specs.Refusal.{Answer, accepted, answered}
-use Rattle.compact.specs.Uleb128.{readUleb}
-use Rattle.scripthash_stream.specs.Stream.{maxOffered, Scan, scan, End, endFrom, afterDecode}
+use Rattle.compact.specs.Uleb128.{goesOn, piece, readUleb}
+use Rattle.scripthash_stream.specs.Stream.{maxOffered, lastFrom, Scan, scanFrom, scan, End, endFrom, afterDecode}
 
 -- The first n bytes, of some but no more than are ever offered, are forms of one byte each, and none is 0.
 pub record OneByteForms (bs : List ℕ) (n : ℕ) : Type 0 where
@@ -32,3 +33,65 @@ QuickEnd taken last a = (0 < taken) → a ≡ accepted (record { taken = taken; 
 pub record QuickSum (taken last n : ℕ) (bs space : List ℕ) : Type 0 where
   pub ends : QuickEnd taken last (answered (endFrom 0) (scan n bs))
   pub numbers : n ≤ length space → 0 < taken → scan n bs ≡ accepted (record { numbers = take n space; taken = taken })
+
+-- k numbers behind `prev` are left to scan, and those before took `off` bytes: where the whole scan ends.
+unfoldable pub endsFrom : ℕ → ℕ → ℕ → List ℕ → Answer End
+endsFrom off prev k bs = answered (λ s. record { taken = off + s .taken; last = lastFrom prev (s .numbers) }) (scanFrom prev k bs)
+
+-- ---- forms weighed together
+
+-- The sum of what f gives for the places before i.
+unfoldable pub total : (ℕ → ℕ) → ℕ → ℕ
+total f zero = 0
+total f (suc i) = total f i + f i
+
+-- 1 where the byte ends its form, else 0.
+abbrev pub endOne : ℕ → ℕ
+endOne b = cond (goesOn b) 0 1
+
+-- 1 where the byte at place i ends its form, else 0: the total counts the forms that end before a place.
+abbrev pub endAt : List ℕ → ℕ → ℕ
+endAt bs i = endOne (getD bs i 0)
+
+-- The byte before place i goes on; the two before it do; the three before it do.
+abbrev pub oneBefore : List ℕ → ℕ → Bool
+oneBefore bs i = goesOn (getD bs (i - 1) 0)
+
+abbrev pub twoBefore : List ℕ → ℕ → Bool
+twoBefore bs i = oneBefore bs i && goesOn (getD bs (i - 2) 0)
+
+abbrev pub threeBefore : List ℕ → ℕ → Bool
+threeBefore bs i = twoBefore bs i && goesOn (getD bs (i - 3) 0)
+
+-- The piece of a byte where a condition holds, else 0.
+abbrev pub pieceIf : Bool → ℕ → ℕ
+pieceIf c b = cond c (piece b) 0
+
+-- The piece of the byte at place i; the same where one byte of its form stands before it, else 0; where two do; where three do.
+abbrev pub pieceAt : List ℕ → ℕ → ℕ
+pieceAt bs i = piece (getD bs i 0)
+
+abbrev pub behindOne : List ℕ → ℕ → ℕ
+behindOne bs i = pieceIf (oneBefore bs i) (getD bs i 0)
+
+abbrev pub behindTwo : List ℕ → ℕ → ℕ
+behindTwo bs i = pieceIf (twoBefore bs i) (getD bs i 0)
+
+abbrev pub behindThree : List ℕ → ℕ → ℕ
+behindThree bs i = pieceIf (threeBefore bs i) (getD bs i 0)
+
+-- The differences whose forms stand before place i, where none has more than two bytes, than three, than four: the weights add up to powers of 128.
+abbrev pub weighedTwo : List ℕ → ℕ → ℕ
+weighedTwo bs i = total (pieceAt bs) i + 127 * total (behindOne bs) i
+
+abbrev pub weighedThree : List ℕ → ℕ → ℕ
+weighedThree bs i = weighedTwo bs i + 16256 * total (behindTwo bs) i
+
+abbrev pub weighed : List ℕ → ℕ → ℕ
+weighed bs i = weighedThree bs i + 2080768 * total (behindThree bs) i
+
+-- What is told of the bytes from one place to another: nothing where 0 is told, else that none is 0, and that no form has more bytes than are told.
+pub record Longest (bs : List ℕ) (from to longest : ℕ) : Type 0 where
+  pub each : 0 < longest → (i : ℕ) → from ≤ i → i < to → (0 < getD bs i 0) × (threeBefore bs i && goesOn (getD bs i 0) ≡ false)
+  pub two : 0 < longest → longest ≤ 2 → (i : ℕ) → from ≤ i → i < to → twoBefore bs i ≡ false
+  pub three : 0 < longest → longest ≤ 3 → (i : ℕ) → from ≤ i → i < to → threeBefore bs i ≡ false

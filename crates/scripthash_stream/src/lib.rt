@@ -2,6 +2,7 @@
 mod encode;
 mod quick;
 mod stream;
+mod weigh;
 
 pub use encode::encode_fk_delta_stream_into;
 pub use encode::put_form;

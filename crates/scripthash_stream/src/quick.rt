@@ -1,17 +1,21 @@
 // Streams read or scanned in one pass: all bytes together where each is a form, else form by form. What is read goes through a list that holds the
 // numbers until the last is there.
 ghost use mathlib.Core.Path.{_≡_};
-ghost use mathlib.Core.Bool.{true};
+ghost use mathlib.Core.Bool.{true, _&&_};
 ghost use Prim.Native.Nat.{_+_, _-_, _*_, _^_, _≤_, _<_};
 ghost use lib.ListN.{length, take, drop, set};
 ghost use Rattle.error.specs.Refusal.{answered};
 ghost use Rattle.buffer.specs.Bytes.{overwrite};
+ghost use Rattle.compact.specs.Uleb128.{goesOn};
 ghost use Rattle.scripthash_stream.specs.Stream.{scan, endFrom, decodeStream};
 ghost use Rattle.scripthash_stream.specs.Steps.{OneByteForms, QuickForm, QuickSum, Quick, QuickEnd};
 use crate::stream::BIT_63;
 use crate::stream::MAX_OFFERED;
 use crate::stream::wide;
 use compact::ReadUleb128;
+
+// From how many numbers on a scan weighs forms together.
+const MANY: usize = 32;
 
 // What was read of a form: its value, 0 where that tells nothing, and how many bytes it takes.
 struct Form {
@@ -102,7 +106,7 @@ fn keep(space: &mut [u64], k: usize, fk: u64)
 
 // Sums up the first n forms of buf and keeps the numbers in space as far as that has room: tells their bytes and the last number, or 0 bytes
 // where a form is 0 or can't be read, or a number would have bit 63. It alone calls short_form, which so becomes part of the loop.
-fn sum_forms(buf: &[u8], n: usize, space: &mut [u64]) -> StreamEnd
+pub fn sum_forms(buf: &[u8], n: usize, space: &mut [u64]) -> StreamEnd
     ensures { λ r. ⌜ QuickSum (r .taken) (r .last) n (now (buf .entry)) (now (space .exit)) ⌝ }
 {
     let mut sum: u64 = 0;
@@ -189,7 +193,7 @@ fn decode_4096(buf: &[u8], n: usize, out: &mut [u64]) -> usize
 }
 
 // The larger of two bytes.
-fn larger(a: u8, b: u8) -> u8
+pub fn larger(a: u8, b: u8) -> u8
     ensures { λ r. ⌜ (a ≤ r) × (b ≤ r) ⌝ }
 {
     if a < b {
@@ -198,9 +202,9 @@ fn larger(a: u8, b: u8) -> u8
     a
 }
 
-// The smaller of two bytes.
-fn smaller(a: u8, b: u8) -> u8
-    ensures { λ r. ⌜ (r ≤ a) × (r ≤ b) ⌝ }
+// The smaller of two bytes, which goes on where both do.
+pub fn smaller(a: u8, b: u8) -> u8
+    ensures { λ r. ⌜ (r ≤ a) × (r ≤ b) × (goesOn r ≡ goesOn a && goesOn b) ⌝ }
 {
     if a < b {
         return a;
@@ -220,6 +224,9 @@ fn one_byte_forms(buf: &[u8], n: usize) -> bool
         return false;
     }
     if buf.len() < n {
+        return false;
+    }
+    if 128 <= buf[0] {
         return false;
     }
     let mut low: u8 = 255;
@@ -290,8 +297,8 @@ fn sum_of_bytes(buf: &[u8], n: usize) -> u64
     sum
 }
 
-// Scans a stream of n numbers in one pass, with room for one number, which nobody reads: tells where it ends, or 0 bytes where it can't be
-// scanned so.
+// Scans a stream of n numbers: all bytes together where each is a form, or where there are many; else form by form, with room for one number, which
+// nobody reads. Tells where it ends, or 0 bytes where it can't be scanned so.
 pub fn scan_quickly(buf: &[u8], n: usize) -> StreamEnd
     ensures { λ r. ⌜ QuickEnd (r .taken) (r .last) (answered (endFrom 0) (scan n (now (buf .entry)))) ⌝ }
 {
@@ -300,6 +307,12 @@ pub fn scan_quickly(buf: &[u8], n: usize) -> StreamEnd
             taken: n,
             last: sum_of_bytes(buf, n),
         };
+    }
+    if MANY <= n {
+        let end = crate::weigh::scan_by_weights(buf, n);
+        if 0 < end.taken {
+            return end;
+        }
     }
     let mut space = [0u64; 1];
     sum_forms(buf, n, &mut space)

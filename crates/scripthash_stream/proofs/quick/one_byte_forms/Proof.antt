@@ -39,6 +39,12 @@ returns-2 c h = absurd (false≢true h)
 returns-3 : tie.Need-returns-3 Inv-loop μ-loop
 returns-3 c h = absurd (false≢true h)
 
+shared-slice-read-if4 : tie.Need-shared-slice-read-if4 Inv-loop μ-loop
+shared-slice-read-if4 c = search needs
+
+returns-4 : tie.Need-returns-4 Inv-loop μ-loop
+returns-4 c h = absurd (false≢true h)
+
 loop-holds : tie.Need-loop-holds Inv-loop μ-loop
 loop-holds c = (search needs, search needs, search needs, search needs, λ i h. absurd (omega arith))
 
@@ -61,19 +67,19 @@ loop-again : tie.Need-loop-again Inv-loop μ-loop
 loop-again c =
     let w = c .before .before .before .before in
     let l = w .loop in
-    let buf = w .before .before .before .before .before .args .buf .now in (
+    let buf = w .before .before .before .before .before .before .before .args .buf .now in (
       search needs,
       l .inv .1,
       l .inv .2,
       l .inv .3,
-      one-more buf (l .low) (l .high) (l .k) (c .before .smaller .result) (c .larger .result) (l .inv .4) (c .before .smaller .ensures) (c .larger .ensures),
+      one-more buf (l .low) (l .high) (l .k) (c .before .smaller .result) (c .larger .result) (l .inv .4) (c .before .smaller .ensures .0, c .before .smaller .ensures .1) (c .larger .ensures),
     )
 
-returns-4 : tie.Need-returns-4 Inv-loop μ-loop
-returns-4 c h = absurd (false≢true h)
-
 returns-5 : tie.Need-returns-5 Inv-loop μ-loop
-returns-5 c h =
+returns-5 c h = absurd (false≢true h)
+
+returns-6 : tie.Need-returns-6 Inv-loop μ-loop
+returns-6 c h =
     let l = c .before .before .loop in
     let few : l .high < 128 = ltb-true (l .high) 128 h in
     record {
@@ -92,6 +98,8 @@ one-byte-forms-spec =
     returns
     returns-2
     returns-3
+    shared-slice-read-if4
+    returns-4
     loop-holds
     shared-slice-read-b
     smaller-requires
@@ -99,5 +107,5 @@ one-byte-forms-spec =
     add-k
     loop-less
     loop-again
-    returns-4
-    returns-5)
+    returns-5
+    returns-6)

@@ -12,14 +12,20 @@ sum-of-bytes-requires c κs = c .before .one-byte-forms .ensures (c .if1 .taken)
 returns : tie.Need-returns
 returns c = search needs
 
+scan-by-weights-requires : tie.Need-scan-by-weights-requires
+scan-by-weights-requires c κs = search needs
+
+returns-2 : tie.Need-returns-2
+returns-2 c = search needs
+
 slice-aggregate-sum-forms : tie.Need-slice-aggregate-sum-forms
 slice-aggregate-sum-forms c = search needs
 
 sum-forms-requires : tie.Need-sum-forms-requires
 sum-forms-requires c κs = search needs
 
-returns-2 : tie.Need-returns-2
-returns-2 c = search needs
+returns-3 : tie.Need-returns-3
+returns-3 c = search needs
 
 pub scan-quickly-spec : {M : Type 1} → statement M
 scan-quickly-spec =
@@ -28,6 +34,8 @@ scan-quickly-spec =
     one-byte-forms-requires
     sum-of-bytes-requires
     returns
+    scan-by-weights-requires
+    returns-2
     slice-aggregate-sum-forms
     sum-forms-requires
-    returns-2)
+    returns-3)

@@ -6,8 +6,8 @@ use borrow.Author.Needs.{needs}
 use lib.ListN.{drop}
 use Rattle.error.specs.Refusal.{answered}
 use Rattle.scripthash_stream.specs.Stream.{scan, endFrom}
-use Rattle.scripthash_stream.specs.Steps.{OneByteForms, QuickEnd}
-use Rattle.scripthash_stream.proofs.LawsScanEnd.{endsFrom, ends-start, ends-next, ends-now}
+use Rattle.scripthash_stream.specs.Steps.{OneByteForms, QuickEnd, endsFrom}
+use Rattle.scripthash_stream.proofs.LawsScanEnd.{ends-start, ends-next, ends-now}
 use Rattle.scripthash_stream.proofs.LawsSums.{next-byte}
 use Rattle.scripthash_stream.proofs.quick.sum_of_bytes.Statement.{statement}
 use Rattle.scripthash_stream.proofs.quick.sum_of_bytes.Tie as tie

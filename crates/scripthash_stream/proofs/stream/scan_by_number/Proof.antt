@@ -12,7 +12,8 @@ use Rattle.scripthash_stream.specs.Stream.{nextNumber, scan, endFrom}
 use Rattle.scripthash_stream.specs.Answers.{nextAnswer}
 use Rattle.scripthash_stream.specs.declared.stream.NextFk.{NextFk}
 use Rattle.scripthash_stream.proofs.LawsScan.{Next, next-accepted}
-use Rattle.scripthash_stream.proofs.LawsScanEnd.{endsFrom, ends-start, ends-now, ends-next, ends-refused}
+use Rattle.scripthash_stream.specs.Steps.{endsFrom}
+use Rattle.scripthash_stream.proofs.LawsScanEnd.{ends-start, ends-now, ends-next, ends-refused}
 use Rattle.scripthash_stream.proofs.stream.scan_by_number.Statement.{statement}
 use Rattle.scripthash_stream.proofs.stream.scan_by_number.Tie as tie
 
