@@ -14,7 +14,7 @@ use Rattle.error.specs.Refusal.{Answer, accepted}
 use Rattle.buffer.proofs.LawsOrder.{lt-or-ge}
 use Rattle.compact.specs.Uleb128.{goesOn, piece}
 use Rattle.scripthash_stream.specs.Stream.{End}
-use Rattle.scripthash_stream.specs.Steps.{endsFrom, total, endAt, oneBefore, twoBefore, threeBefore, pieceAt, behindOne, behindTwo, behindThree, weighed, Longest}
+use Rattle.scripthash_stream.specs.Steps.{endsFrom, total, endAt, oneBefore, twoBefore, threeBefore, fourBefore, pieceAt, behindOne, behindTwo, behindThree, behindFour, weighed, Longest}
 use Rattle.scripthash_stream.proofs.LawsForms.{Carried, form-start, form-on, form-last}
 use Rattle.scripthash_stream.proofs.LawsScanEnd.{ends-next, ends-now}
 use Rattle.scripthash_stream.proofs.LawsSums.{next-sum}
@@ -25,33 +25,43 @@ pub data Within (bs : List ℕ) (i : ℕ) : ℕ → Type 0 where
   first : oneBefore bs i ≡ false → Within bs i 0
   second : oneBefore bs i ≡ true → goesOn (getD bs (i - 2) 0) ≡ false → Within bs i 1
   third : oneBefore bs i ≡ true → goesOn (getD bs (i - 2) 0) ≡ true → goesOn (getD bs (i - 3) 0) ≡ false → Within bs i 2
-  fourth : oneBefore bs i ≡ true → goesOn (getD bs (i - 2) 0) ≡ true → goesOn (getD bs (i - 3) 0) ≡ true → Within bs i 3
+  fourth : oneBefore bs i ≡ true → goesOn (getD bs (i - 2) 0) ≡ true → goesOn (getD bs (i - 3) 0) ≡ true → goesOn (getD bs (i - 4) 0) ≡ false → Within bs i 3
+  fifth : oneBefore bs i ≡ true → goesOn (getD bs (i - 2) 0) ≡ true → goesOn (getD bs (i - 3) 0) ≡ true → goesOn (getD bs (i - 4) 0) ≡ true → Within bs i 4
 
 -- What the byte at place i adds.
 abbrev weightAt : List ℕ → ℕ → ℕ
-weightAt bs i = pieceAt bs i + 127 * behindOne bs i + 16256 * behindTwo bs i + 2080768 * behindThree bs i
+weightAt bs i = pieceAt bs i + 127 * behindOne bs i + 16256 * behindTwo bs i + 2080768 * behindThree bs i + 266338304 * behindFour bs i
 
 -- the weights add up to a power of 128
 weight-at : (bs : List ℕ) (i j : ℕ) → Within bs i j → weightAt bs i ≡ piece (getD bs i 0) * 2 ^ (7 * j)
 weight-at bs i _ (first e) = rw e (omega arith)
 weight-at bs i _ (second e f) = rw (e, f) (omega arith)
 weight-at bs i _ (third e f g) = rw (e, f, g) (omega arith)
-weight-at bs i _ (fourth e f g) = rw (e, f, g) (omega arith)
+weight-at bs i _ (fourth e f g h) = rw (e, f, g, h) (omega arith)
+weight-at bs i _ (fifth e f g h) = rw (e, f, g, h) (omega arith)
 
--- an index is at most 3
-index-most : (bs : List ℕ) (i j : ℕ) → Within bs i j → j ≤ 3
+-- an index is at most 4
+index-most : (bs : List ℕ) (i j : ℕ) → Within bs i j → j ≤ 4
 index-most bs i _ (first e) = omega arith
 index-most bs i _ (second e f) = omega arith
 index-most bs i _ (third e f g) = omega arith
-index-most bs i _ (fourth e f g) = omega arith
+index-most bs i _ (fourth e f g h) = omega arith
+index-most bs i _ (fifth e f g h) = omega arith
 
 -- the weights of one place more
 weighed-next : (bs : List ℕ) (i : ℕ) → weighed bs (i + 1) ≡ weighed bs i + weightAt bs i
 weighed-next bs i =
-    omega (arith, total-next (pieceAt bs) i, total-next (behindOne bs) i, total-next (behindTwo bs) i, total-next (behindThree bs) i)
+    omega (
+      arith,
+      total-next (pieceAt bs) i,
+      total-next (behindOne bs) i,
+      total-next (behindTwo bs) i,
+      total-next (behindThree bs) i,
+      total-next (behindFour bs) i,
+    )
 
 -- behind a byte that goes on
-module _ (bs : List ℕ) (i : ℕ) (l : 3 ≤ i) where
+module _ (bs : List ℕ) (i : ℕ) (l : 4 ≤ i) where
   back-1 : goesOn (getD bs (i + 1 - 1) 0) ≡ goesOn (getD bs i 0)
   back-1 = let e : i + 1 - 1 ≡ i = omega arith in ap (λ (x : ℕ). goesOn (getD bs x 0)) e
 
@@ -61,11 +71,15 @@ module _ (bs : List ℕ) (i : ℕ) (l : 3 ≤ i) where
   back-3 : goesOn (getD bs (i + 1 - 3) 0) ≡ goesOn (getD bs (i - 2) 0)
   back-3 = let e : i + 1 - 3 ≡ i - 2 = omega arith in ap (λ (x : ℕ). goesOn (getD bs x 0)) e
 
-  within-on : goesOn (getD bs i 0) ≡ true → threeBefore bs i && goesOn (getD bs i 0) ≡ false → (j : ℕ) → Within bs i j → Within bs (i + 1) (j + 1)
+  back-4 : goesOn (getD bs (i + 1 - 4) 0) ≡ goesOn (getD bs (i - 3) 0)
+  back-4 = let e : i + 1 - 4 ≡ i - 3 = omega arith in ap (λ (x : ℕ). goesOn (getD bs x 0)) e
+
+  within-on : goesOn (getD bs i 0) ≡ true → fourBefore bs i && goesOn (getD bs i 0) ≡ false → (j : ℕ) → Within bs i j → Within bs (i + 1) (j + 1)
   within-on g s _ (first e) = second (back-1 ∙ g) (back-2 ∙ e)
   within-on g s _ (second e f) = third (back-1 ∙ g) (back-2 ∙ e) (back-3 ∙ f)
-  within-on g s _ (third e f h) = fourth (back-1 ∙ g) (back-2 ∙ e) (back-3 ∙ f)
-  within-on g s _ (fourth e f h) = absurd (false≢true (sym (rw (e, f, h, g) at s)))
+  within-on g s _ (third e f h) = fourth (back-1 ∙ g) (back-2 ∙ e) (back-3 ∙ f) (back-4 ∙ h)
+  within-on g s _ (fourth e f h k) = fifth (back-1 ∙ g) (back-2 ∙ e) (back-3 ∙ f) (back-4 ∙ h)
+  within-on g s _ (fifth e f h k) = absurd (false≢true (sym (rw (e, f, h, k, g) at s)))
 
 -- Bytes are weighed from a place on, with a sum before them, and place i is next: what is known of the form there, which begins at `off` and has j bytes
 -- before i, and that k forms ended.
@@ -101,7 +115,7 @@ midway-start buf from sum count h =
       none = λ e. refl;
     }
 
-module _ (buf : List ℕ) (from sum count i : ℕ) (a : Answer End) (w : Midway buf from sum count i a) (l : 3 ≤ i) (h : i < length buf) where
+module _ (buf : List ℕ) (from sum count i : ℕ) (a : Answer End) (w : Midway buf from sum count i a) (l : 4 ≤ i) (h : i < length buf) where
   abbrev byte : ℕ
   byte = getD buf i 0
 
@@ -112,7 +126,7 @@ module _ (buf : List ℕ) (from sum count i : ℕ) (a : Answer End) (w : Midway 
   is-added = weighed-next buf i ∙ ap (λ (x : ℕ). weighed buf i + x) (weight-at buf i (w .j) (w .within))
 
   -- a byte that goes on
-  midway-on : 128 ≤ byte → threeBefore buf i && goesOn byte ≡ false → Midway buf from sum count (i + 1) a
+  midway-on : 128 ≤ byte → fourBefore buf i && goesOn byte ≡ false → Midway buf from sum count (i + 1) a
   midway-on g s =
       let on : goesOn byte ≡ true = le-leb 128 byte g in
       let index = index-most buf i (w .j) (w .within) in
@@ -169,15 +183,23 @@ at-start : (bs : List ℕ) (i j : ℕ) → getD bs (i - 1) 0 < 128 → Within bs
 at-start bs i _ h (first e) = refl
 at-start bs i _ h (second e f) = absurd (false≢true (sym (lt-leb 128 (getD bs (i - 1) 0) h) ∙ e))
 at-start bs i _ h (third e f g) = absurd (false≢true (sym (lt-leb 128 (getD bs (i - 1) 0) h) ∙ e))
-at-start bs i _ h (fourth e f g) = absurd (false≢true (sym (lt-leb 128 (getD bs (i - 1) 0) h) ∙ e))
+at-start bs i _ h (fifth e f g k) = absurd (false≢true (sym (lt-leb 128 (getD bs (i - 1) 0) h) ∙ e))
+at-start bs i _ h (fourth e f g k) = absurd (false≢true (sym (lt-leb 128 (getD bs (i - 1) 0) h) ∙ e))
 
 -- weights never fall
 weighed-rises : (bs : List ℕ) (a b : ℕ) → a ≤ b → weighed bs a ≤ weighed bs b
 weighed-rises bs a b h =
-    omega (arith, total-rises (pieceAt bs) a b h, total-rises (behindOne bs) a b h, total-rises (behindTwo bs) a b h, total-rises (behindThree bs) a b h)
+    omega (
+      arith,
+      total-rises (pieceAt bs) a b h,
+      total-rises (behindOne bs) a b h,
+      total-rises (behindTwo bs) a b h,
+      total-rises (behindThree bs) a b h,
+      total-rises (behindFour bs) a b h,
+    )
 
--- bytes without a 0 and without a form of five bytes, in which so many forms end, and whose weights are `more`
-module _ (buf : List ℕ) (from sum count to longest more : ℕ) (l : 3 ≤ from) (r : from ≤ to) (inside : to ≤ length buf) (s : 0 < longest)
+-- bytes without a 0 and without a form of six bytes, in which so many forms end, and whose weights are `more`
+module _ (buf : List ℕ) (from sum count to longest more : ℕ) (l : 4 ≤ from) (r : from ≤ to) (inside : to ≤ length buf) (s : 0 < longest)
     (plain : Longest buf from to longest) (counts : total (endAt buf) from + count ≡ total (endAt buf) to)
     (weighs : weighed buf from + more ≡ weighed buf to) (low : sum + more < 2 ^ 63) where
   midway-next : (i : ℕ) (a : Answer End) → from ≤ i → i < to → Midway buf from sum count i a → Midway buf from sum count (i + 1) a

@@ -15,7 +15,7 @@ use crate::stream::wide;
 use compact::ReadUleb128;
 
 // From how many numbers on a scan weighs forms together.
-const MANY: usize = 32;
+const MANY: usize = 64;
 
 // What was read of a form: its value, 0 where that tells nothing, and how many bytes it takes.
 struct Form {

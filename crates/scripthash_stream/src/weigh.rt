@@ -1,5 +1,5 @@
-// Streams scanned without reading each form by itself: the bytes of many forms are counted, tested and weighed in plain loops, each with one
-// simple job, of which the compiler makes loops over many bytes at a time.
+// Streams scanned without reading each form by itself: the bytes of many forms are counted, tested and weighed in plain loops, each with
+// one simple job, of which the compiler makes loops over many bytes at a time.
 ghost use mathlib.Core.Path.{_≡_};
 ghost use mathlib.Core.Bool.{_&&_};
 ghost use Prim.Native.Nat.{_+_, _-_, _*_, _^_, _≤_, _<_};
@@ -65,7 +65,8 @@ fn step_of(left: usize) -> usize
     left / 16 * 16
 }
 
-// Counts forms that end from a place on, until fewer than 16 of those wanted are left or too few bytes follow.
+// Counts forms that end from a place on, until fewer than 16 of those wanted are left; stops before where too few bytes follow, or where forms
+// of six bytes and more are met.
 fn count_forms(buf: &[u8], from: usize, want: usize) -> Counted
     requires { ⌜ from ≤ length (now buf) ⌝ }
     ensures { λ r. ⌜ (total (endAt (now (buf .entry))) from + want ≡ total (endAt (now (buf .entry))) (r .at) + r .left) × (from ≤ r .at) × (r .at ≤ length (now (buf .entry))) ⌝ }
@@ -77,13 +78,17 @@ fn count_forms(buf: &[u8], from: usize, want: usize) -> Counted
         if buf.len() - at < step {
             return Counted { at, left };
         }
-        left -= forms(ends_in(buf, at, at + step));
+        let count = forms(ends_in(buf, at, at + step));
+        if 6 * count < step {
+            return Counted { at, left };
+        }
+        left -= count;
         at += step;
     }
     Counted { at, left }
 }
 
-// The place behind so many forms from another place on, or 0 where the bytes end first.
+// The place behind so many forms from another place on, or 0 where the bytes end first or the forms are long.
 fn end_of(buf: &[u8], from: usize, want: usize) -> usize
     requires { ⌜ from ≤ length (now buf) ⌝ }
     ensures { λ r. ⌜ (0 < r → (total (endAt (now (buf .entry))) from + want ≡ total (endAt (now (buf .entry))) r) × (from ≤ r) × (r ≤ length (now (buf .entry)))) ⌝ }
@@ -91,6 +96,9 @@ fn end_of(buf: &[u8], from: usize, want: usize) -> usize
     let counted = count_forms(buf, from, want);
     let mut at = counted.at;
     let mut left = counted.left;
+    if 16 <= left {
+        return 0;
+    }
     while 0 < left {
         if at == buf.len() {
             return 0;
@@ -101,34 +109,36 @@ fn end_of(buf: &[u8], from: usize, want: usize) -> usize
     at
 }
 
-// The bytes of the longest form, at least 2, where no byte is 0 and no form has more than four bytes, else 0. The form of the first byte begins with it.
+// The bytes of the longest form as far as it matters, 2, 3 or 5, where no byte is 0 and no form has more than five bytes, else 0. A form begins
+// with the first byte.
 fn longest_form(buf: &[u8], from: usize, to: usize) -> usize
-    requires { ⌜ (3 ≤ from) × (from ≤ to) × (to ≤ length (now buf)) ⌝ }
+    requires { ⌜ (4 ≤ from) × (from ≤ to) × (to ≤ length (now buf)) ⌝ }
     ensures { λ r. ⌜ Longest (now (buf .entry)) from to r ⌝ }
 {
     let mut least: u8 = 255;
     let mut two: u8 = 0;
     let mut three: u8 = 0;
-    let mut four: u8 = 0;
+    let mut five: u8 = 0;
     let mut i = from;
     while i < to {
         let b = buf[i];
         let m2 = smaller(buf[i - 1], buf[i - 2]);
         let m3 = smaller(m2, buf[i - 3]);
+        let m4 = smaller(m3, buf[i - 4]);
         least = smaller(least, b);
         two = larger(two, m2);
         three = larger(three, m3);
-        four = larger(four, smaller(m3, b));
+        five = larger(five, smaller(m4, b));
         i += 1;
     }
     if least == 0 {
         return 0;
     }
-    if 128 <= four {
+    if 128 <= five {
         return 0;
     }
     if 128 <= three {
-        return 4;
+        return 5;
     }
     if 128 <= two {
         return 3;
@@ -155,8 +165,8 @@ fn summed(sum: u16) -> u64
 
 // The weights of at most 512 bytes of forms of up to two bytes.
 fn weigh_two(buf: &[u8], from: usize, to: usize) -> u64
-    requires { ⌜ (3 ≤ from) × (from ≤ to) × (to ≤ length (now buf)) × (to ≤ from + 512) ⌝ }
-    ensures { λ r. ⌜ (weighedTwo (now (buf .entry)) from + r ≡ weighedTwo (now (buf .entry)) to) × (r < 2 ^ 40) ⌝ }
+    requires { ⌜ (4 ≤ from) × (from ≤ to) × (to ≤ length (now buf)) × (to ≤ from + 512) ⌝ }
+    ensures { λ r. ⌜ (weighedTwo (now (buf .entry)) from + r ≡ weighedTwo (now (buf .entry)) to) × (r + 2 ^ 35 * from ≤ 2 ^ 35 * to) ⌝ }
 {
     let mut a0: u16 = 0;
     let mut a1: u16 = 0;
@@ -172,8 +182,8 @@ fn weigh_two(buf: &[u8], from: usize, to: usize) -> u64
 
 // The weights of at most 512 bytes of forms of up to three bytes.
 fn weigh_three(buf: &[u8], from: usize, to: usize) -> u64
-    requires { ⌜ (3 ≤ from) × (from ≤ to) × (to ≤ length (now buf)) × (to ≤ from + 512) ⌝ }
-    ensures { λ r. ⌜ (weighedThree (now (buf .entry)) from + r ≡ weighedThree (now (buf .entry)) to) × (r < 2 ^ 40) ⌝ }
+    requires { ⌜ (4 ≤ from) × (from ≤ to) × (to ≤ length (now buf)) × (to ≤ from + 512) ⌝ }
+    ensures { λ r. ⌜ (weighedThree (now (buf .entry)) from + r ≡ weighedThree (now (buf .entry)) to) × (r + 2 ^ 35 * from ≤ 2 ^ 35 * to) ⌝ }
 {
     let mut a0: u16 = 0;
     let mut a1: u16 = 0;
@@ -190,33 +200,40 @@ fn weigh_three(buf: &[u8], from: usize, to: usize) -> u64
     summed(a0) + 127 * summed(a1) + 16256 * summed(a2)
 }
 
-// The weights of at most 512 bytes of forms of up to four bytes.
-fn weigh_four(buf: &[u8], from: usize, to: usize) -> u64
-    requires { ⌜ (3 ≤ from) × (from ≤ to) × (to ≤ length (now buf)) × (to ≤ from + 512) ⌝ }
-    ensures { λ r. ⌜ (weighed (now (buf .entry)) from + r ≡ weighed (now (buf .entry)) to) × (r < 2 ^ 40) ⌝ }
+// The weights of at most 512 bytes of forms of up to five bytes.
+fn weigh_five(buf: &[u8], from: usize, to: usize) -> u64
+    requires { ⌜ (4 ≤ from) × (from ≤ to) × (to ≤ length (now buf)) × (to ≤ from + 512) ⌝ }
+    ensures { λ r. ⌜ (weighed (now (buf .entry)) from + r ≡ weighed (now (buf .entry)) to) × (r + 2 ^ 35 * from ≤ 2 ^ 35 * to) ⌝ }
 {
     let mut a0: u16 = 0;
     let mut a1: u16 = 0;
     let mut a2: u16 = 0;
     let mut a3: u16 = 0;
+    let mut a4: u16 = 0;
     let mut i = from;
     while i < to {
         let b = buf[i];
         let b1 = buf[i - 1];
         let m2 = smaller(b1, buf[i - 2]);
+        let m3 = smaller(m2, buf[i - 3]);
         a0 += piece_behind(b, 255);
         a1 += piece_behind(b, b1);
         a2 += piece_behind(b, m2);
-        a3 += piece_behind(b, smaller(m2, buf[i - 3]));
+        a3 += piece_behind(b, m3);
+        a4 += piece_behind(b, smaller(m3, buf[i - 4]));
         i += 1;
     }
-    summed(a0) + 127 * summed(a1) + 16256 * summed(a2) + 2080768 * summed(a3)
+    summed(a0)
+        + 127 * summed(a1)
+        + 16256 * summed(a2)
+        + 2080768 * summed(a3)
+        + 266338304 * summed(a4)
 }
 
 // The weights of at most 512 bytes of forms, by the longest.
 fn weigh_block(buf: &[u8], from: usize, to: usize, longest: usize) -> u64
-    requires { ⌜ (3 ≤ from) × (from ≤ to) × (to ≤ length (now buf)) × (to ≤ from + 512) × (0 < longest) × Longest (now buf) from to longest ⌝ }
-    ensures { λ r. ⌜ (weighed (now (buf .entry)) from + r ≡ weighed (now (buf .entry)) to) × (r < 2 ^ 40) ⌝ }
+    requires { ⌜ (4 ≤ from) × (from ≤ to) × (to ≤ length (now buf)) × (to ≤ from + 512) × (0 < longest) × Longest (now buf) from to longest ⌝ }
+    ensures { λ r. ⌜ (weighed (now (buf .entry)) from + r ≡ weighed (now (buf .entry)) to) × (r + 2 ^ 35 * from ≤ 2 ^ 35 * to) ⌝ }
 {
     if longest <= 2 {
         return weigh_two(buf, from, to);
@@ -224,7 +241,7 @@ fn weigh_block(buf: &[u8], from: usize, to: usize, longest: usize) -> u64
     if longest <= 3 {
         return weigh_three(buf, from, to);
     }
-    weigh_four(buf, from, to)
+    weigh_five(buf, from, to)
 }
 
 // Where a block of at most 512 bytes ends.
@@ -240,7 +257,7 @@ fn block_end(from: usize, to: usize) -> usize
 
 // The weights of forms: the sum of their differences.
 fn weigh_all(buf: &[u8], from: usize, to: usize, longest: usize) -> u64
-    requires { ⌜ (3 ≤ from) × (from ≤ to) × (to ≤ length (now buf)) × (to ≤ from + 2 ^ 20) × (0 < longest) × Longest (now buf) from to longest ⌝ }
+    requires { ⌜ (4 ≤ from) × (from ≤ to) × (to ≤ length (now buf)) × (to ≤ from + 2 ^ 20) × (0 < longest) × Longest (now buf) from to longest ⌝ }
     ensures { λ r. ⌜ weighed (now (buf .entry)) from + r ≡ weighed (now (buf .entry)) to ⌝ }
 {
     let mut sum: u64 = 0;
@@ -255,7 +272,7 @@ fn weigh_all(buf: &[u8], from: usize, to: usize, longest: usize) -> u64
 
 // Scans so many forms behind prev, from a place with a form's end before it: tells where they end, or 0 bytes where they can't be weighed.
 fn scan_rest(buf: &[u8], from: usize, prev: u64, count: usize) -> StreamEnd
-    requires { ⌜ (3 ≤ from) × (from ≤ length (now buf)) × (getD (now buf) (from - 1) 0 < 128) × (prev < 2 ^ 63) ⌝ }
+    requires { ⌜ (4 ≤ from) × (from ≤ length (now buf)) × (getD (now buf) (from - 1) 0 < 128) × (prev < 2 ^ 63) ⌝ }
     ensures { λ r. ⌜ QuickEnd (r .taken) (r .last) (endsFrom from prev count (drop from (now (buf .entry)))) ⌝ }
 {
     let to = end_of(buf, from, count);
@@ -282,23 +299,22 @@ fn scan_rest(buf: &[u8], from: usize, prev: u64, count: usize) -> StreamEnd
     }
 }
 
-// How many forms to read singly, so that three bytes lie behind: one where the first number has three bytes or more.
+// How many forms to read singly, so that four bytes lie behind: one where the first number has four bytes or more.
 fn leading(buf: &[u8]) -> usize
-    ensures { λ r. ⌜ (1 ≤ r) × (r ≤ 3) ⌝ }
+    ensures { λ r. ⌜ (1 ≤ r) × (r ≤ 4) ⌝ }
 {
-    if 2 <= buf.len() {
-        if 128 <= buf[0] {
-            if 128 <= buf[1] {
-                return 1;
-            }
+    if 3 <= buf.len() {
+        if 128 <= smaller(smaller(buf[0], buf[1]), buf[2]) {
+            return 1;
         }
     }
-    3
+    4
 }
 
-// Scans a stream of n numbers, three at least, by reading its first forms and weighing the others: tells where it ends, or 0 bytes where it can't be scanned so.
+// Scans a stream of n numbers, four at least, by reading its first forms and weighing the others: tells where it ends, or 0 bytes where it can't
+// be scanned so.
 pub fn scan_by_weights(buf: &[u8], n: usize) -> StreamEnd
-    requires { ⌜ 3 ≤ n ⌝ }
+    requires { ⌜ 4 ≤ n ⌝ }
     ensures { λ r. ⌜ QuickEnd (r .taken) (r .last) (answered (endFrom 0) (scan n (now (buf .entry)))) ⌝ }
 {
     let lead = leading(buf);
@@ -306,7 +322,7 @@ pub fn scan_by_weights(buf: &[u8], n: usize) -> StreamEnd
     let first = sum_forms(buf, lead, &mut space);
     let from = first.taken;
     let prev = first.last;
-    if from < 3 {
+    if from < 4 {
         return StreamEnd { taken: 0, last: 0 };
     }
     if buf.len() < from {

@@ -38,23 +38,31 @@ ends-in-requires c κs = (omega arith, omega (arith, c .before .step-of .ensures
 forms-requires : tie.Need-forms-requires Inv-loop μ-loop
 forms-requires c κs = search needs
 
-sub-left : tie.Need-sub-left Inv-loop μ-loop
-sub-left c = omega (arith, c .forms .ensures, c .before .ends-in .ensures, c .before .before .before .step-of .ensures)
-
-add-at : tie.Need-add-at Inv-loop μ-loop
-add-at c = omega (arith, c .before .before .before .step-of .ensures)
-
-loop-less : tie.Need-loop-less Inv-loop μ-loop
-loop-less c = omega (arith, c .before .before .before .step-of .ensures)
-
-loop-again : tie.Need-loop-again Inv-loop μ-loop
-loop-again c =
-    let l = c .before .before .before .before .before .loop in
-    let step = c .before .before .before .step-of .ensures in
-    (omega arith, omega arith, omega (arith, l .inv .2, c .forms .ensures, c .before .ends-in .ensures, step))
+mul-if2 : tie.Need-mul-if2 Inv-loop μ-loop
+mul-if2 c = omega (arith, c .forms .ensures, c .before .ends-in .ensures, c .before .before .before .step-of .ensures)
 
 returns-2 : tie.Need-returns-2 Inv-loop μ-loop
 returns-2 c =
+    let l = c .before .before .before .before .before .before .loop in
+    (l .inv .2, l .inv .0, l .inv .1)
+
+sub-left : tie.Need-sub-left Inv-loop μ-loop
+sub-left c = omega (arith, c .before .forms .ensures, c .before .before .ends-in .ensures, c .before .before .before .before .step-of .ensures)
+
+add-at : tie.Need-add-at Inv-loop μ-loop
+add-at c = omega (arith, c .before .before .before .before .step-of .ensures)
+
+loop-less : tie.Need-loop-less Inv-loop μ-loop
+loop-less c = omega (arith, c .before .before .before .before .step-of .ensures)
+
+loop-again : tie.Need-loop-again Inv-loop μ-loop
+loop-again c =
+    let l = c .before .before .before .before .before .before .loop in
+    let step = c .before .before .before .before .step-of .ensures in
+    (omega arith, omega arith, omega (arith, l .inv .2, c .before .forms .ensures, c .before .before .ends-in .ensures, step))
+
+returns-3 : tie.Need-returns-3 Inv-loop μ-loop
+returns-3 c =
     let l = c .before .loop in
     (l .inv .2, l .inv .0, l .inv .1)
 
@@ -71,8 +79,10 @@ count-forms-spec =
     add-ends-in
     ends-in-requires
     forms-requires
+    mul-if2
+    returns-2
     sub-left
     add-at
     loop-less
     loop-again
-    returns-2)
+    returns-3)

@@ -20,13 +20,16 @@ abbrev μ-loop : tie.MeasureT-loop
 count-forms-requires : tie.Need-count-forms-requires Inv-loop μ-loop
 count-forms-requires c κs = search needs
 
-loop-holds : tie.Need-loop-holds Inv-loop μ-loop
-loop-holds c =
-    let r = c .count-forms .ensures in
-    (r .1, r .2, r .0)
-
 returns : tie.Need-returns Inv-loop μ-loop
 returns c = λ h. absurd (not-suc-le-zero h)
+
+loop-holds : tie.Need-loop-holds Inv-loop μ-loop
+loop-holds c =
+    let r = c .before .count-forms .ensures in
+    (r .1, r .2, r .0)
+
+returns-2 : tie.Need-returns-2 Inv-loop μ-loop
+returns-2 c = λ h. absurd (not-suc-le-zero h)
 
 shared-slice-read-ended : tie.Need-shared-slice-read-ended Inv-loop μ-loop
 shared-slice-read-ended c = search needs
@@ -49,11 +52,11 @@ loop-less c = search needs
 loop-again : tie.Need-loop-again Inv-loop μ-loop
 loop-again c =
     let l = c .before .before .before .before .before .loop in
-    let next = total-next (endAt (c .before .before .before .before .before .before .before .before .args .buf .now)) (l .at) in
+    let next = total-next (endAt (c .before .before .before .before .before .before .before .before .before .args .buf .now)) (l .at) in
     (search needs, search needs, omega (arith, l .inv .2, next, c .forms .ensures, c .before .ended .ensures))
 
-returns-2 : tie.Need-returns-2 Inv-loop μ-loop
-returns-2 c =
+returns-3 : tie.Need-returns-3 Inv-loop μ-loop
+returns-3 c =
     let l = c .before .loop in
     λ h. (omega (arith, l .inv .2), l .inv .0, l .inv .1)
 
@@ -64,8 +67,9 @@ end-of-spec =
     Inv-loop
     μ-loop
     count-forms-requires
-    loop-holds
     returns
+    loop-holds
+    returns-2
     shared-slice-read-ended
     ended-requires
     forms-requires
@@ -73,4 +77,4 @@ end-of-spec =
     add-at
     loop-less
     loop-again
-    returns-2)
+    returns-3)

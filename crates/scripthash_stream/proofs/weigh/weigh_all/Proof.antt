@@ -12,8 +12,8 @@ use Rattle.scripthash_stream.proofs.weigh.weigh_all.Tie as tie
 
 abbrev Inv-loop : tie.InvT-loop
 Inv-loop buf from to longest sum₀ i₀ sum i =
-    (3 ≤ from) × (from ≤ i) × (i ≤ to) × (to ≤ length buf) × (to ≤ from + 2 ^ 20) × (0 < longest) × Longest buf from to longest
-    × (sum + 2 ^ 40 * from ≤ 2 ^ 40 * i) × (weighed buf from + sum ≡ weighed buf i)
+    (4 ≤ from) × (from ≤ i) × (i ≤ to) × (to ≤ length buf) × (to ≤ from + 2 ^ 20) × (0 < longest) × Longest buf from to longest
+    × (sum + 2 ^ 35 * from ≤ 2 ^ 35 * i) × (weighed buf from + sum ≡ weighed buf i)
 
 abbrev μ-loop : tie.MeasureT-loop
 μ-loop buf from to longest sum₀ i₀ sum i = to - i
@@ -34,7 +34,7 @@ weigh-block-requires c κs =
     (omega arith, omega arith, omega arith, omega arith, omega arith, longest-part (a .buf .now) (a .from) (a .to) (a .longest) (l .i) (c .block-end .result) (l .inv .6) (omega arith) (omega arith))
 
 add-sum : tie.Need-add-sum Inv-loop μ-loop
-add-sum c = omega (arith, c .weigh-block .ensures .1, c .before .before .before .loop .inv .7)
+add-sum c = omega (arith, c .weigh-block .ensures .1, c .before .block-end .ensures, c .before .before .before .loop .inv .7)
 
 loop-less : tie.Need-loop-less Inv-loop μ-loop
 loop-less c = omega (arith, c .before .block-end .ensures)
@@ -44,7 +44,7 @@ loop-again c =
     let l = c .before .before .before .loop in
     let end = c .before .block-end .ensures in
     let more = c .weigh-block .ensures in
-    (l .inv .0, omega arith, omega arith, l .inv .3, l .inv .4, l .inv .5, l .inv .6, omega (arith, l .inv .7), omega (arith, l .inv .8, more .0))
+    (l .inv .0, omega arith, omega arith, l .inv .3, l .inv .4, l .inv .5, l .inv .6, omega (arith, l .inv .7, more .1), omega (arith, l .inv .8, more .0))
 
 returns : tie.Need-returns Inv-loop μ-loop
 returns c =

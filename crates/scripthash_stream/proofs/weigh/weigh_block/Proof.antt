@@ -1,6 +1,6 @@
 -- `weigh_block` meets its contract: what longer forms would add is 0. Assumes nothing.
 use native.Mathlib.Omega.{arith}
-use Rattle.scripthash_stream.proofs.LawsLongest.{no-thirds, no-fourths}
+use Rattle.scripthash_stream.proofs.LawsLongest.{no-thirds, no-fourths, no-fifths}
 use borrow.Author.Needs.{needs}
 use Rattle.scripthash_stream.proofs.weigh.weigh_block.Statement.{statement}
 use Rattle.scripthash_stream.proofs.weigh.weigh_block.Tie as tie
@@ -10,22 +10,26 @@ weigh-two-requires c κs = search needs
 
 returns : tie.Need-returns
 returns c =
-    let a = c .before .before .before .args in
-    let two = no-thirds (a .buf .now) (a .from) (a .to) (a .longest) (c .before .before .before .pre .5) (omega arith) (omega arith) (omega arith) in
-    let three = no-fourths (a .buf .now) (a .from) (a .to) (a .longest) (c .before .before .before .pre .5) (omega arith) (omega arith) (omega arith) in
-    (omega (arith, two, three, c .weigh-two .ensures .0), c .weigh-two .ensures .1)
+    let start = c .before .before .before in
+    let a = start .args in
+    let two = no-thirds (a .buf .now) (a .from) (a .to) (a .longest) (start .pre .5) (omega arith) (omega arith) (omega arith) in
+    let three = no-fourths (a .buf .now) (a .from) (a .to) (a .longest) (start .pre .5) (omega arith) (omega arith) (omega arith) in
+    let four = no-fifths (a .buf .now) (a .from) (a .to) (a .longest) (start .pre .5) (omega arith) (omega arith) (omega arith) in
+    (omega (arith, two, three, four, c .weigh-two .ensures .0), c .weigh-two .ensures .1)
 
 weigh-three-requires : tie.Need-weigh-three-requires
 weigh-three-requires c κs = search needs
 
 returns-2 : tie.Need-returns-2
 returns-2 c =
-    let a = c .before .before .before .before .args in
-    let three = no-fourths (a .buf .now) (a .from) (a .to) (a .longest) (c .before .before .before .before .pre .5) (omega arith) (omega arith) (omega arith) in
-    (omega (arith, three, c .weigh-three .ensures .0), c .weigh-three .ensures .1)
+    let start = c .before .before .before .before in
+    let a = start .args in
+    let three = no-fourths (a .buf .now) (a .from) (a .to) (a .longest) (start .pre .5) (omega arith) (omega arith) (omega arith) in
+    let four = no-fifths (a .buf .now) (a .from) (a .to) (a .longest) (start .pre .5) (omega arith) (omega arith) (omega arith) in
+    (omega (arith, three, four, c .weigh-three .ensures .0), c .weigh-three .ensures .1)
 
-weigh-four-requires : tie.Need-weigh-four-requires
-weigh-four-requires c κs = search needs
+weigh-five-requires : tie.Need-weigh-five-requires
+weigh-five-requires c κs = search needs
 
 returns-3 : tie.Need-returns-3
 returns-3 c = search needs
@@ -38,5 +42,5 @@ weigh-block-spec =
     returns
     weigh-three-requires
     returns-2
-    weigh-four-requires
+    weigh-five-requires
     returns-3)
