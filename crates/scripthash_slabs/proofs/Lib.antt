@@ -1,3 +1,2 @@
 pub mod LawsClass
-pub mod LawsTable
 pub mod LawsSlab

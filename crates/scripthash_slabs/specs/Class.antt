@@ -41,11 +41,6 @@ classByBytes n = classFor byBytes n
 abbrev pub classByCount : ℕ → Option ℕ
 classByCount n = classFor byCount n
 
--- A choice as an entry of a table: the class, or 15 for none.
-abbrev pub entryOf : Option ℕ → ℕ
-entryOf (some c) = c
-entryOf none = 15
-
 -- The first of two choices, where it is a class, else the second.
 abbrev pub orElse : Option ℕ → Option ℕ → Option ℕ
 orElse (some c) other = some c

@@ -1,11 +1,12 @@
-// The class of slab that a list moves to, chosen by its count or by its bytes.
+// The class of slab that a list moves to, chosen by its count or by its bytes: one rule for two sizes.
 ghost use mathlib.Core.Path.{_≡_};
-ghost use Rattle.scripthash_slabs.specs.Class.{classByBytes, classByCount, classWithSlack};
+ghost use Prim.Native.Nat.{_*_, _^_, _≤_, _<_};
+ghost use Rattle.scripthash_layout.specs.Sizes.{maxSlabClass};
+ghost use Rattle.scripthash_slabs.specs.Class.{classFor, classByBytes, classByCount, classWithSlack};
 ghost use Rattle.scripthash_slabs.specs.Answers.{chosen};
-
-mod table;
-
 use scripthash_layout::SH_MAX_SLAB_BYTES;
+use scripthash_layout::SH_SLAB_BASE;
+use scripthash_layout::SH_SLAB_BASE_BYTES;
 
 // The class that was chosen, or none.
 pub enum SlabClass {
@@ -16,32 +17,35 @@ pub enum SlabClass {
 // The first count that goes to pages.
 pub const SH_MEGAKEY_MIN_FKS: u32 = 257;
 
-// The smallest class whose bytes hold len bytes: none for 0 or more than the largest slab has. From class 1 on, class c starts past
-// 8 * 2 ^ c bytes, so the class is the length in bits of (len - 1) / 16.
-pub fn slab_class_for_packed_len(len: usize) -> SlabClass
-    ensures { λ r. ⌜ chosen r ≡ classByBytes len ⌝ }
+// The smallest class that holds n, where class c holds unit * 2 ^ c: none below least or above most. From class 1 on, class c starts past
+// unit * 2 ^ (c - 1), so the class is the length in bits of (n - 1) / unit.
+fn smallest_class(n: usize, unit: usize, least: usize, most: usize) -> SlabClass
+    requires { ⌜ (0 < unit) × (0 < least) × (most ≤ unit * 2 ^ maxSlabClass) ⌝ }
+    ensures { λ r. ⌜ chosen r ≡ classFor (record { size = λ c. unit * 2 ^ c; least = least; most = most }) n ⌝ }
 {
-    if len == 0 {
+    if n < least {
         return SlabClass::Nothing;
     }
-    if len > SH_MAX_SLAB_BYTES {
+    if n > most {
         return SlabClass::Nothing;
     }
-    let zeros = usize::leading_zeros((len - 1) / 16);
+    let zeros = usize::leading_zeros((n - 1) / unit);
     SlabClass::Class((64 - zeros) as u8)
 }
 
-// The smallest class whose slots hold n numbers, which the table has: none for 0, 1 or from 257 on.
+// The smallest class whose bytes hold len bytes: none for 0 or more than the largest slab has.
+pub fn slab_class_for_packed_len(len: usize) -> SlabClass
+    ensures { λ r. ⌜ chosen r ≡ classByBytes len ⌝ }
+{
+    smallest_class(len, SH_SLAB_BASE_BYTES as usize, 1, SH_MAX_SLAB_BYTES)
+}
+
+// The smallest class whose slots hold n numbers: none for 0, 1 or from 257 on.
 pub fn slab_class_for_n_fks(n: u32) -> SlabClass
     ensures { λ r. ⌜ chosen r ≡ classByCount n ⌝ }
 {
-    if n < 2 {
-        return SlabClass::Nothing;
-    }
-    if n >= SH_MEGAKEY_MIN_FKS {
-        return SlabClass::Nothing;
-    }
-    SlabClass::Class(table::entry(n) as u8)
+    let most = SH_MEGAKEY_MIN_FKS as usize - 1;
+    smallest_class(n as usize, SH_SLAB_BASE as usize, 2, most)
 }
 
 // The count whose class is looked up with slack: one number more than n, and n where no slab takes more.
