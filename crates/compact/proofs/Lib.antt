@@ -3,3 +3,4 @@ pub mod LawsForm
 pub mod LawsRead
 pub mod LawsReadFrom
 pub mod LawsWrite
+pub mod LawsPrefix

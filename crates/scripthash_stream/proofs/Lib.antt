@@ -9,3 +9,4 @@ pub mod LawsLent
 pub mod LawsTotals
 pub mod LawsWeigh
 pub mod LawsLongest
+pub mod LawsPrefixFree

@@ -1,3 +1,4 @@
 pub mod Stream
 pub mod Steps
 pub mod Answers
+pub mod PrefixFree
