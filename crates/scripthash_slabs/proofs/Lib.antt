@@ -1,2 +1,3 @@
 pub mod LawsClass
 pub mod LawsSlab
+pub mod LawsPrefixFree
