@@ -6,3 +6,4 @@ pub mod LawsWritten
 pub mod LawsPack
 pub mod LawsPacked
 pub mod LawsPlace
+pub mod LawsPrefixFree
