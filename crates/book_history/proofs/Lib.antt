@@ -25,3 +25,4 @@ pub mod LawsWrites
 pub mod LawsWritesWords
 pub mod Demand1
 pub mod ExamplesWrites
+pub mod SameBytes
