@@ -65,7 +65,8 @@ fixed-free bytes fixed =
         λ (xs, e). different (fixed ms ns xs [] same (e ∙ sym (append-nil (bytes ns))) .0),
         λ (ys, e). different (fixed ms ns [] ys same (append-nil (bytes ms) ∙ sym e) .0),
       );
-      fixed = fixed;
+      -- whichever way round the equation stands
+      fixed = λ ms ns xs ys same e. let d : bytes ms ++ xs ≡ bytes ns ++ ys = cc in fixed ms ns xs ys same d;
     }
 
 stream-fixed : (ms ns xs ys : List ℕ) → SameLength ms ns → stream ms ++ xs ≡ stream ns ++ ys → (ms ≡ ns) × (xs ≡ ys)
@@ -114,4 +115,4 @@ scan-begun ns bs s h (rest, begins) e = accepted-inj (sym e ∙ ap (scan (length
 
 pub mistaken : Mistaken
 unfolding refuseIf andThen isForm value formAt overflows readForm readUleb divided shortest streamFrom storedNumber nextNumber scanFrom
-mistaken = record { lengths = (167 ∷ 2 ∷ [], refl); falling = refl; padded = (refl, refl) }
+mistaken = record { lengths = (167 ∷ 2 ∷ [], refl); falling = refl; before = refl; padded = (refl, refl) }

@@ -35,5 +35,7 @@ pub record Mistaken : Type 0 where
   pub lengths : IsPrefix (stream (5 ∷ [])) (stream (5 ∷ 300 ∷ []))
   -- Numbers that don't rise: 5, 3 would have the stream of 5, 4, which is 05 00.
   pub falling : stream (5 ∷ 3 ∷ []) ≡ stream (5 ∷ 4 ∷ [])
+  -- Other bytes before it: 80 and the stream of 1, which is 01, are the stream of 128.
+  pub before : 128 ∷ stream (1 ∷ []) ≡ stream (128 ∷ [])
   -- Streams that were written elsewhere: 05 and the padded 85 00 both read as the list 5.
   pub padded : ReadsOne (5 ∷ []) 5 1 × ReadsOne (133 ∷ 0 ∷ []) 5 2
