@@ -76,7 +76,12 @@ fn measure(case: &mut Case) -> f64 {
     }
     [&mut ratios, &mut us, &mut them].into_iter().for_each(|v| v.sort_by(f64::total_cmp));
     let (mid, low, high) = (ratios[ROUNDS / 2], ratios[ROUNDS / 10], ratios[ROUNDS - 1 - ROUNDS / 10]);
-    println!("{:<50} {mid:>5.2}  ({low:.2} to {high:.2})  {:>9.0} ns against {:>9.0} ns", case.name, us[ROUNDS / 2] * 1e9, them[ROUNDS / 2] * 1e9);
+    println!(
+        "{:<50} {mid:>5.2}  ({low:.2} to {high:.2})  {:>9.0} ns against {:>9.0} ns",
+        case.name,
+        us[ROUNDS / 2] * 1e9,
+        them[ROUNDS / 2] * 1e9
+    );
     mid
 }
 
@@ -249,8 +254,18 @@ type Choose = fn(u32, &mut u8) -> bool;
 fn classes(cases: &mut Vec<Case>) {
     let sides: [(&str, u64, Choose, Choose); 3] = [
         ("class by count", 260, |n, c| sys::slab_class_for_n_fks(n, c), |n, c| boundary::slab_class_for_n_fks(n, c)),
-        ("class with slack", 260, |n, c| sys::slab_class_for_n_fks_with_slack(n, c), |n, c| boundary::slab_class_for_n_fks_with_slack(n, c)),
-        ("class by bytes", 2060, |n, c| sys::slab_class_for_packed_len(n as usize, c), |n, c| boundary::slab_class_for_packed_len(n as usize, c)),
+        (
+            "class with slack",
+            260,
+            |n, c| sys::slab_class_for_n_fks_with_slack(n, c),
+            |n, c| boundary::slab_class_for_n_fks_with_slack(n, c),
+        ),
+        (
+            "class by bytes",
+            2060,
+            |n, c| sys::slab_class_for_packed_len(n as usize, c),
+            |n, c| boundary::slab_class_for_packed_len(n as usize, c),
+        ),
     ];
     for (name, most, ours, theirs) in sides {
         let mut rng = Rng(most);
@@ -340,6 +355,7 @@ pub fn bench(only: Option<&str>) {
     cutting(&mut cases);
     free(&mut cases);
     crate::page_bench::cases(&mut cases);
+    crate::book_bench::cases(&mut cases);
     println!("Our time over theirs: the median of {ROUNDS} rounds in turns (a tenth and nine tenths of them), and the time of a batch.");
     println!("Destinations are reused and not cleared between calls; their lists keep their capacity.");
     let mut worst = (0.0, String::new());

@@ -2,6 +2,7 @@
 mod answers;
 mod bench;
 mod blocks;
+mod book_bench;
 mod book_sys;
 mod case;
 mod compare;

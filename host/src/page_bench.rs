@@ -110,10 +110,22 @@ macro_rules! told_theirs {
 
 /// The fields of a page, each side behind the same kind of boundary.
 const FIELDS: &[(&str, Field, Field)] = &[
-    ("link of a page", |p, _| told!(sys::sh_page_read_packed, p, last: bool, off: u64), |p, _| told_theirs!(boundary::sh_page_read_packed, p, last: bool, off: u64)),
+    (
+        "link of a page",
+        |p, _| told!(sys::sh_page_read_packed, p, last: bool, off: u64),
+        |p, _| told_theirs!(boundary::sh_page_read_packed, p, last: bool, off: u64),
+    ),
     ("next of a page", |p, _| told!(sys::sh_page_next, p, off: u64), |p, _| told_theirs!(boundary::sh_page_next, p, off: u64)),
-    ("extent of a page", |p, _| told!(sys::sh_page_extent, p, base: u64, n: u32), |p, _| told_theirs!(boundary::sh_page_extent, p, base: u64, n: u32)),
-    ("creates of a page", |p, _| told!(sys::sh_page_extent_creates, p, n: u32), |p, _| told_theirs!(boundary::sh_page_extent_creates, p, n: u32)),
+    (
+        "extent of a page",
+        |p, _| told!(sys::sh_page_extent, p, base: u64, n: u32),
+        |p, _| told_theirs!(boundary::sh_page_extent, p, base: u64, n: u32),
+    ),
+    (
+        "creates of a page",
+        |p, _| told!(sys::sh_page_extent_creates, p, n: u32),
+        |p, _| told_theirs!(boundary::sh_page_extent_creates, p, n: u32),
+    ),
     ("count of a page", |p, _| told!(sys::sh_page_n_fks, p, n: usize), |p, _| told_theirs!(boundary::sh_page_n_fks, p, n: usize)),
     ("test of a page", |p, _| told!(sys::sh_page_require_delta, p), |p, _| told_theirs!(boundary::sh_page_require_delta, p)),
     (
@@ -136,7 +148,11 @@ const FIELDS: &[(&str, Field, Field)] = &[
         |p, n| sys::sh_page_set_n_fks(p, n as u16) as u64,
         |p, n| unsafe { boundary::sh_page_set_n_fks(p.as_mut_ptr(), SH_PAGE_SIZE, n as u16) as u64 },
     ),
-    ("make a page empty", |p, _| sys::sh_page_init_empty(p) as u64, |p, _| unsafe { boundary::sh_page_init_empty(p.as_mut_ptr(), SH_PAGE_SIZE) as u64 }),
+    (
+        "make a page empty",
+        |p, _| sys::sh_page_init_empty(p) as u64,
+        |p, _| unsafe { boundary::sh_page_init_empty(p.as_mut_ptr(), SH_PAGE_SIZE) as u64 },
+    ),
 ];
 
 /// Fields of a page of version 2, whose numbers change.
