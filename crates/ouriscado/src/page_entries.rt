@@ -8,12 +8,12 @@ ghost use Rattle.scripthash_stream.specs.Answers.{scanAnswer, bytesAnswer};
 ghost use Rattle.scripthash_fields.specs.Page.{nextOff};
 ghost use Rattle.scripthash_pages.specs.Entries.{pageScan, lastOf, pageEntries, readCount, appendSpot, hasSpot, afterAppend, writeStream, afterWriteStream};
 ghost use Rattle.scripthash_answers.specs.EntryAnswers.{tryAnswer};
+use crate::stream::put_bytes;
 use scripthash_answers::PageEntries;
 use scripthash_answers::PageLastFk;
 use scripthash_answers::PageSlice;
 use scripthash_answers::TryAppend;
 use scripthash_stream::ScanStream;
-use scripthash_stream::StreamBytes;
 
 // How many bytes a page's stream takes, and its last number, 0 where it has none. Refuses 4, 15 to 18, 20 to 23.
 #[no_mangle]
@@ -136,10 +136,5 @@ pub extern "C" fn ouriscado_sh_page_write_stream(
     ensures len { λ r. ⌜ now (len .exit) ≡ told (λ x. x) (writeStream (now (page .entry)) (now (fks .entry))) 0 ⌝ }
 {
     let got = scripthash_pages::sh_page_write_stream(page, fks);
-    let StreamBytes::Bytes(w) = got else {
-        *len = 0;
-        return got.refusal();
-    };
-    *len = w;
-    0
+    put_bytes(got, len)
 }

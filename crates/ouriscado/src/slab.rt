@@ -5,8 +5,8 @@ ghost use lib.ListN.{length};
 ghost use Rattle.error.specs.Refusal.{refusalOf, told};
 ghost use Rattle.scripthash_stream.specs.Stream.{afterDecode};
 ghost use Rattle.scripthash_slabs.specs.Slab.{encodeSlab, afterEncodeSlab, decodeSlab};
+use crate::stream::put_bytes;
 use scripthash_slabs::SlabPayload;
-use scripthash_stream::StreamBytes;
 
 // Writes the payload of a rising list to the start of out, and tells its length. Refuses 10 to 13, 32, 33.
 #[no_mangle]
@@ -20,12 +20,7 @@ pub extern "C" fn ouriscado_encode_slab_payload_into(
     ensures len { λ r. ⌜ now (len .exit) ≡ told (λ x. x) (encodeSlab (length (now (out .entry))) (now (fks .entry))) 0 ⌝ }
 {
     let got = scripthash_slabs::encode_slab_payload_into(out, fks);
-    let StreamBytes::Bytes(w) = got else {
-        *len = 0;
-        return got.refusal();
-    };
-    *len = w;
-    0
+    put_bytes(got, len)
 }
 
 // Reads the payload at the start of buf into the start of out, and tells how many numbers it has and how many bytes it takes. Refuses

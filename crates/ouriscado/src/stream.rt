@@ -3,7 +3,25 @@ ghost use mathlib.Core.Path.{_≡_};
 ghost use lib.ListN.{length};
 ghost use Rattle.error.specs.Refusal.{refusalOf, told};
 ghost use Rattle.scripthash_stream.specs.Stream.{encodeStream, afterEncode, decodeStream, afterDecode};
+ghost use Rattle.scripthash_stream.specs.Answers.{bytesAnswer};
 use scripthash_stream::StreamBytes;
+
+// Hands out how many bytes a stream takes.
+pub fn put_bytes(got: StreamBytes, len: &mut usize) -> u32
+    ensures number { λ r. ⌜ r ≡ refusalOf (bytesAnswer got) ⌝ }
+    ensures len { λ r. ⌜ now (len .exit) ≡ told (λ x. x) (bytesAnswer got) 0 ⌝ }
+{
+    match got {
+        StreamBytes::Bytes(n) => {
+            *len = n;
+            0
+        }
+        StreamBytes::Refused(number) => {
+            *len = 0;
+            number
+        }
+    }
+}
 
 // Writes the stream of a rising list to the start of out, and tells its length. Refuses 12, 13, 32, 33.
 #[no_mangle]
@@ -17,12 +35,7 @@ pub extern "C" fn ouriscado_encode_fk_delta_stream_into(
     ensures len { λ r. ⌜ now (len .exit) ≡ told (λ x. x) (encodeStream (length (now (out .entry))) (now (fks .entry))) 0 ⌝ }
 {
     let got = scripthash_stream::encode_fk_delta_stream_into(out, fks);
-    let StreamBytes::Bytes(w) = got else {
-        *len = 0;
-        return got.refusal();
-    };
-    *len = w;
-    0
+    put_bytes(got, len)
 }
 
 // Reads a stream of n numbers at the start of buf into the start of out, and tells how many bytes it takes. Refuses 17, 18, 20 to 23, 34.
@@ -38,10 +51,5 @@ pub extern "C" fn ouriscado_decode_fk_delta_stream_into(
     ensures taken { λ r. ⌜ now (taken .exit) ≡ told (λ s. s .taken) (decodeStream (length (now (out .entry))) n (now (buf .entry))) 0 ⌝ }
 {
     let got = scripthash_stream::decode_fk_delta_stream_into(buf, n, out);
-    let StreamBytes::Bytes(l) = got else {
-        *taken = 0;
-        return got.refusal();
-    };
-    *taken = l;
-    0
+    put_bytes(got, taken)
 }
