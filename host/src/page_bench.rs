@@ -3,7 +3,7 @@ use crate::bench::{case, seen, Case, BATCH};
 use crate::inputs::rising;
 use crate::rng::Rng;
 use oracle::scripthash_pages::{self as pages, SH_PAGE_SIZE};
-use oracle::{page_boundary as boundary, Fk};
+use oracle::{page_boundary as boundary, scripthash_slabs as slabs, Fk};
 use ouriscado::sys;
 
 /// A page.
@@ -166,6 +166,116 @@ fn fields(cases: &mut Vec<Case>) {
     }
 }
 
+/// Lists as a book holds them: a first number from 2^20 to 2^40, and differences of a kind. No two are alike, so that no branch is learnt.
+fn like_a_book(lists: usize, len: usize, difference: fn(&mut Rng) -> u64) -> Vec<Vec<u64>> {
+    let mut rng = Rng(lists as u64 + len as u64);
+    (0..lists)
+        .map(|_| {
+            let mut first = Some((1 << 20) + rng.bits(40));
+            rising(&mut rng, len, &mut |r| first.take().unwrap_or_else(|| difference(r)))
+        })
+        .collect()
+}
+
+/// As much of a list as a page takes.
+fn fitted(mut list: Vec<u64>) -> Vec<u64> {
+    while pages::sh_page_pack_fks(&mut EMPTY.clone(), &list, 0).is_err() {
+        list.pop();
+    }
+    list
+}
+
+/// The kinds of differences in a book, and the numbers that fill a page with room to spare.
+const KINDS: &[(&str, usize, fn(&mut Rng) -> u64)] = &[
+    ("one-byte", 4088, |r| 1 + r.below(127)),
+    ("two-byte", 2044, |r| 128 + r.below(16_000)),
+    ("up to 300", 4088, |r| 1 + r.below(300)),
+    ("up to 2^20", 2044, |r| 1 + r.below(1 << 20)),
+];
+
+/// Pages with as many numbers as slabs have, and full ones: last number, all numbers, one number more.
+fn pages_of_a_book(cases: &mut Vec<Case>, name: &str, lists: &[Vec<u64>]) {
+    let packed = |list: &Vec<u64>| {
+        let mut page = EMPTY;
+        pages::sh_page_pack_fks(&mut page, list, 0).unwrap();
+        (page, list.len() as u16, list[list.len() - 1] + 5)
+    };
+    let ours: Vec<(Page, u16, u64)> = lists.iter().map(packed).collect();
+    let theirs = ours.clone();
+    cases.push(case(
+        format!("last number of pages of {name}"),
+        move || ours.iter().for_each(|(p, _, _)| seen(sys::sh_page_last_fk(p, &mut 0))),
+        move || theirs.iter().for_each(|(p, _, _)| seen(pages::sh_page_last_fk(p))),
+    ));
+    let ours: Vec<(Page, u16, u64)> = lists.iter().map(packed).collect();
+    let (theirs, mut ours_to, mut theirs_to) = (ours.clone(), vec![0u64; 4096], Vec::<Fk>::with_capacity(4096));
+    cases.push(case(
+        format!("read pages of {name}"),
+        move || ours.iter().for_each(|(p, _, _)| seen(sys::sh_page_entries_into(p, &mut ours_to, &mut 0))),
+        move || {
+            theirs.iter().for_each(|(p, _, _)| {
+                theirs_to.clear();
+                seen(pages::sh_page_entries_into(p, &mut theirs_to));
+            })
+        },
+    ));
+    // The count is set back after each append; what lies behind the stream doesn't matter.
+    let mut ours: Vec<(Page, u16, u64)> = lists.iter().map(packed).collect();
+    let mut theirs = ours.clone();
+    let set_back = |page: &mut Page, n: u16| page[1..3].copy_from_slice(&n.to_le_bytes());
+    cases.push(case(
+        format!("append to pages of {name}"),
+        move || {
+            ours.iter_mut().for_each(|(p, n, fk)| {
+                seen(sys::sh_page_try_append(p, *fk, &mut false));
+                set_back(p, *n);
+            })
+        },
+        move || {
+            theirs.iter_mut().for_each(|(p, n, fk)| {
+                seen(pages::sh_page_try_append(p, Fk(*fk)));
+                set_back(p, *n);
+            })
+        },
+    ));
+}
+
+/// Slabs of a book decoded.
+fn slabs_of_a_book(cases: &mut Vec<Case>, name: &str, lists: &[Vec<u64>]) {
+    let packed = |list: &Vec<u64>| {
+        let mut bytes = vec![0u8; 2048];
+        let mut len = 0;
+        assert_eq!(sys::encode_slab_payload_into(&mut bytes, list, &mut len), 0);
+        bytes.truncate(len);
+        bytes
+    };
+    let ours: Vec<Vec<u8>> = lists.iter().map(packed).collect();
+    let (theirs, mut ours_to, mut theirs_to) = (ours.clone(), vec![0u64; 256], Vec::<Fk>::with_capacity(256));
+    cases.push(case(
+        format!("decode slabs of {name}"),
+        move || ours.iter().for_each(|b| seen(sys::decode_slab_payload_into(b, &mut ours_to, &mut 0, &mut 0))),
+        move || {
+            theirs.iter().for_each(|b| {
+                theirs_to.clear();
+                seen(slabs::decode_slab_payload_into(b, &mut theirs_to));
+            })
+        },
+    ));
+}
+
+/// Cases like a book's.
+fn book(cases: &mut Vec<Case>) {
+    for &(kind, most, difference) in KINDS {
+        for len in [6, 30, 119, 256] {
+            let lists = like_a_book(512, len, difference);
+            pages_of_a_book(cases, &format!("{len}, {kind} differences, as in a book"), &lists);
+            slabs_of_a_book(cases, &format!("{len}, {kind} differences, as in a book"), &lists);
+        }
+        let lists: Vec<Vec<u64>> = like_a_book(32, most, difference).into_iter().map(fitted).collect();
+        pages_of_a_book(cases, &format!("all they hold, {kind} differences, as in a book"), &lists);
+    }
+}
+
 /// Every case on pages.
 pub fn cases(cases: &mut Vec<Case>) {
     for (name, list) in lists() {
@@ -173,4 +283,5 @@ pub fn cases(cases: &mut Vec<Case>) {
         whole(cases, name, &list);
     }
     fields(cases);
+    book(cases);
 }
