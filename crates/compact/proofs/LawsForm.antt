@@ -2,14 +2,14 @@
 -- Assumes nothing.
 use Prim.Native.Nat.{ℕ, zero, suc, _+_, _*_, _/_, _%_, _^_, _≤_, _<_, zero-le, suc-le-suc}
 use mathlib.Core.Bool.{Bool, true, false, cond, false≢true}
-use mathlib.Core.List.{List, [], _∷_, _++_}
+use mathlib.Core.List.{List, [], _∷_, _++_, append-assoc}
 use mathlib.Core.Logic.{_⊎_, ⊎-elim}
 use mathlib.Core.Path.{_≡_, refl, sym, ap, _∙_, subst}
 use native.Mathlib.Nat.{le-trans, zero-div, zero-mod, pow-succ', div-div-eq-div-mul, mul-assoc, mul-add, add-assoc, div-one, mul-comm}
 use native.Mathlib.Omega.{arith}
 use borrow.Author.Tests.{lt-leb, le-leb}
 use lib.Dec.{leb}
-use lib.ListN.{length, take, drop, getD}
+use lib.ListN.{length, take, drop, getD, take-append-drop}
 use Rattle.buffer.proofs.LawsOrder.{lt-or-ge}
 use Rattle.compact.specs.Uleb128.{piece, isNil, isForm, value, formAt, ulebLen, shortest}
 use Rattle.compact.proofs.LawsLength.{by-sevens, shortest-small, shortest-large, len-small, len-large}
@@ -51,6 +51,14 @@ formAt-append (b ∷ c ∷ f) rest h =
     ⊎-elim (λ (p : b < 128). absurd (false≢true (rw (lt-leb 128 b p) at h)))
     (λ (q : 128 ≤ b). let k : isForm (c ∷ f) ≡ true = rw (le-leb 128 b q) at h in rw (le-leb 128 b q) (ap (λ (l : List ℕ). b ∷ l) (formAt-append (c ∷ f) rest k)))
     (lt-or-ge b 128)
+
+-- the form at the start of some bytes, where it is whole, is that of the bytes with anything behind them
+pub formAt-whole : (bs rest : List ℕ) → isForm (formAt bs) ≡ true → formAt (bs ++ rest) ≡ formAt bs
+formAt-whole bs rest e =
+    let k = length (formAt bs) in
+    let split : bs ≡ formAt bs ++ drop k bs = sym (take-append-drop k bs) ∙ ap (λ (f : List ℕ). f ++ drop k bs) (sym (formAt-take bs)) in
+    ap (λ (l : List ℕ). formAt (l ++ rest)) split ∙ ap formAt (append-assoc (formAt bs) (drop k bs) rest)
+    ∙ formAt-append (formAt bs) (drop k bs ++ rest) e
 
 -- a form has a byte
 pub form-pos : (f : List ℕ) → isForm f ≡ true → 1 ≤ length f

@@ -5,17 +5,18 @@ use mathlib.Core.Bool.{Bool, true, false, cond, _&&_, _||_, not}
 use mathlib.Core.List.{List, [], _∷_, _++_}
 use mathlib.Core.Logic.{_⊎_, inl, inr, ⊎-elim}
 use mathlib.Core.Path.{_≡_, refl, sym, ap, _∙_, subst}
-use native.Mathlib.Nat.{le-trans, div-lt-iff-lt-mul, pow-le-pow-right}
+use native.Mathlib.Nat.{le-trans, lt-irrefl, div-lt-iff-lt-mul, pow-le-pow-right}
 use native.Mathlib.Omega.{arith}
 use borrow.Author.Tests.{lt-leb, le-leb, lt-ltb, le-ltb, ltb-false, not-false}
 use lib.Dec.{leb, ltb, lit<}
 use lib.ListN.{length, take, drop, getD, length-take}
 use Rattle.error.specs.Refusal.{Answer, accepted, refused, refuseIf, refusalOf, ulebCutShort, ulebOverflow}
-use Rattle.error.proofs.LawsAnswer.{passed, accepted-inj, refused≢accepted, neither}
+use Rattle.error.proofs.LawsAnswer.{passed, accepted-inj, refused≢accepted, refuse-yes, refuse-no, neither}
 use Rattle.buffer.proofs.LawsOrder.{lt-or-ge}
 use Rattle.compact.specs.Uleb128.{Reading, piece, isForm, value, formAt, overflows, readForm, readUleb, ulebLen, shortest}
 use Rattle.compact.proofs.LawsLength.{len-at-most, length-shortest}
-use Rattle.compact.proofs.LawsForm.{value-below, piece-of-value, formAt-take, formAt-append, form-pos, value-shortest, form-shortest, len-least}
+use Rattle.compact.proofs.LawsForm.{value-below, piece-of-value, formAt-take, formAt-append, formAt-whole, form-pos}
+use Rattle.compact.proofs.LawsForm.{value-shortest, form-shortest, len-least}
 
 -- ---- overflow
 
@@ -108,3 +109,18 @@ read-same bs rest r e =
 -- no form that reads as a number is shorter than its shortest
 pub read-least : (bs : List ℕ) (r : Reading) → readUleb bs ≡ accepted r → ulebLen (r .value) ≤ r .len
 read-least bs r e = let a = read-accepted bs r e in rw (a .value-is, a .len-is) at (len-least (formAt bs) (a .form))
+
+-- bytes that end before the form at their start does, whatever follows, are cut short or overflow
+pub read-cut : (bs rest : List ℕ) → length bs < length (formAt (bs ++ rest))
+    → (readUleb bs ≡ refused ulebCutShort) ⊎ (readUleb bs ≡ refused ulebOverflow)
+unfolding readUleb readForm
+read-cut bs rest h = go (isForm (formAt bs)) refl (overflows (formAt bs)) refl
+  where
+    go : (whole : Bool) → isForm (formAt bs) ≡ whole → (over : Bool) → overflows (formAt bs) ≡ over
+        → (readUleb bs ≡ refused ulebCutShort) ⊎ (readUleb bs ≡ refused ulebOverflow)
+    go whole e true o = inr (refuse-yes (overflows (formAt bs)) _ _ o)
+    go false e false o = inl (refuse-no (overflows (formAt bs)) _ _ o ∙ refuse-yes (not (isForm (formAt bs))) _ _ (ap not e))
+    go true e false o =
+        let same = formAt-whole bs rest e in
+        let cut = simp length-take at (ap length (formAt-take bs)) in
+        absurd (lt-irrefl 0 (omega (arith, ap length same)))

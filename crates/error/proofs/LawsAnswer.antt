@@ -2,8 +2,8 @@
 use Prim.Native.Nat.{ℕ}
 use native.Mathlib.Omega.{arith}
 use mathlib.Core.Bool.{Bool, true, false, _||_, true≢false}
-use mathlib.Core.Path.{_≡_, refl, sym}
-use Rattle.error.specs.Refusal.{Answer, accepted, refused, refuseIf, andThen, answered}
+use mathlib.Core.Path.{_≡_, refl, sym, ap}
+use Rattle.error.specs.Refusal.{Answer, accepted, refused, refuseIf, andThen, answered, refusalOf}
 
 module _ {A : Type 0} where
   -- a refusal is no acceptance
@@ -59,6 +59,26 @@ module _ {A B : Type 0} where
   pub answered-no : (f : A → B) (a : Answer A) {number : ℕ} → a ≡ refused number → answered f a ≡ refused number
   unfolding answered
   answered-no f a e = rw e
+
+-- ---- a number that a call never refuses with
+
+module _ {A : Type 0} {n : ℕ} where
+  -- it is neither a test's number nor one of what comes after it
+  pub never-if : (test : Bool) (number : ℕ) (after : Answer A) → (number ≡ n → ⊥) → (after ≡ refused n → ⊥)
+      → refuseIf test number after ≡ refused n → ⊥
+  unfolding refuseIf
+  never-if true number after f g e = f (ap refusalOf e)
+  never-if false number after f g e = g e
+
+module _ {A B : Type 0} {n : ℕ} where
+  -- it is neither one of a part nor of what comes after it
+  pub never-then : (part : Answer A) (after : A → Answer B) → (part ≡ refused n → ⊥) → ((x : A) → after x ≡ refused n → ⊥)
+      → andThen part after ≡ refused n → ⊥
+  unfolding andThen
+  never-then (accepted x) after f g e = g x e
+  never-then (refused number) after f g e = f (ap refused (ap refusalOf e))
+
+-- ---- other words
 
 module _ {A B : Type 0} where
   -- an answer in other words was the answer

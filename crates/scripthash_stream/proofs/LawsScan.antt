@@ -4,11 +4,12 @@ use mathlib.Core.Bool.{Bool, true, false, cond, _&&_}
 use mathlib.Core.List.{List, [], _∷_, _++_, append-assoc}
 use mathlib.Core.Logic.{_⊎_, ⊎-elim}
 use mathlib.Core.Path.{_≡_, refl, sym, ap, _∙_, subst}
+use native.Mathlib.Nat.{not-suc-le-zero, le-of-suc-le-suc}
 use native.Mathlib.Omega.{arith}
 use borrow.Author.Tests.{leb-false, eqb-false, lt-leb, ne-eqb}
 use lib.Dec.{leb, eqb}
 use lib.ListN.{length, take, drop, length-drop}
-use lib.Seq.{take-add, drop-at, length-take-le}
+use lib.Seq.{take-add, drop-at, drop-drop, length-take-le}
 use Rattle.error.specs.Refusal.{Answer, accepted, refused, refuseIf, andThen, answered, storedFirstZero, storedDifferenceZero, storedSumOverflow, storedBit63}
 use Rattle.error.proofs.LawsAnswer.{accepted-inj, passed, went-on, then-yes, then-no}
 use Rattle.buffer.proofs.LawsOrder.{lt-or-ge}
@@ -104,6 +105,24 @@ pub scan-cons : (prev k : ℕ) (bs : List ℕ) (r : Reading) (s : Scan) → next
     → scanFrom prev (suc k) bs ≡ accepted (record { numbers = r .value ∷ s .numbers; taken = r .len + s .taken })
 unfolding scanFrom andThen
 scan-cons prev k bs r s e f = rw (e, f)
+
+-- a number that is refused behind k numbers that scan is the refusal of every longer scan
+pub scan-stops : (prev k n : ℕ) (bs : List ℕ) (s : Scan) {number : ℕ} → k < n → scanFrom prev k bs ≡ accepted s
+    → nextNumber (lastFrom prev (s .numbers)) (drop (s .taken) bs) ≡ refused number → scanFrom prev n bs ≡ refused number
+unfolding scanFrom lastFrom
+scan-stops prev k zero bs s h e f = absurd (not-suc-le-zero h)
+scan-stops prev zero (suc n) bs s h e f =
+    let none : s ≡ record { numbers = []; taken = 0 } = sym (accepted-inj e) in
+    then-no (nextNumber prev bs) _ (rw none at f)
+scan-stops prev (suc k) (suc n) bs s {number} h e f =
+    let w = scan-step prev k bs s e in
+    let l = w .first .len in
+    let split : drop (l + w .rest .taken) bs ≡ drop (w .rest .taken) (drop l bs) = sym (drop-drop (w .rest .taken) l bs) in
+    let last = lastFrom (w .first .value) (w .rest .numbers) in
+    let here : nextNumber last (drop (l + w .rest .taken) bs) ≡ refused number = rw (w .whole) at f in
+    then-yes (nextNumber prev bs) _ (w .next)
+    ∙ then-no (scanFrom (w .first .value) n (drop l bs)) _
+    (scan-stops (w .first .value) k n (drop l bs) (w .rest) (le-of-suc-le-suc h) (w .more) (rw split at here))
 
 -- What is known of a scan: it has as many numbers as were asked for, they rise and stay below 2 ^ 63, and it takes bytes that are there.
 pub record Scanned (prev k : ℕ) (bs : List ℕ) (s : Scan) : Type 0 where
