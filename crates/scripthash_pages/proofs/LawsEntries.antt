@@ -6,8 +6,8 @@ use mathlib.Core.Path.{_≡_, refl, sym, ap, _∙_}
 use native.Mathlib.Omega.{arith}
 use borrow.Author.Tests.{eqb-true, not-false, eq-eqb, ne-eqb, lt-ltb, le-ltb, ltb-false}
 use lib.Dec.{ltb, eqb}
-use lib.ListN.{length, drop, getD, length-drop}
-use Rattle.error.specs.Refusal.{Answer, accepted, refused, refuseIf, andThen, pageLength, countAboveCapacity, versionBad, streamPastCapacity, listTooShort}
+use lib.ListN.{length, drop, getD}
+use Rattle.error.specs.Refusal.{Answer, accepted, refused, refuseIf, andThen, pageLength, countAboveCapacity, versionBad, listTooShort}
 use Rattle.error.proofs.LawsAnswer.{accepted-inj, passed, went-on, refuse-yes, refuse-no, then-yes, then-no}
 use Rattle.buffer.specs.Bytes.{part}
 use Rattle.buffer.specs.LittleEndian.{littleEndian, AreBytes}
@@ -101,25 +101,15 @@ place-accepted page p e =
 
 -- ---- scanned
 
-never-past : (cap : ℕ) (a : Answer Scan) → ((s : Scan) → a ≡ accepted s → s .taken ≤ cap)
-    → andThen a (λ s. refuseIf (ltb cap (s .taken)) streamPastCapacity (accepted s)) ≡ a
-unfolding andThen
-never-past cap (accepted s) h = refuse-no (ltb cap (s .taken)) _ _ (le-ltb cap (s .taken) (h s refl))
-never-past cap (refused number) h = refl
-
 -- a page without a place is refused
 pub scan-no : (page : List ℕ) {number : ℕ} → streamPlace page ≡ refused number → pageScan page ≡ refused number
 unfolding pageScan
 scan-no page e = then-no (streamPlace page) _ e
 
--- and else the stream's scan decides: it never passes the capacity
+-- and else the stream's scan decides
 pub scan-yes : (page : List ℕ) (p : Place) → streamPlace page ≡ accepted p → pageScan page ≡ scan (p .count) (drop (p .off) page)
 unfolding pageScan
-scan-yes page p e =
-    let placed = place-accepted page p e in
-    then-yes (streamPlace page) _ e
-    ∙ never-past (pageSize - p .off) (scan (p .count) (drop (p .off) page))
-    (λ s f. omega (arith, scan-accepted 0 (p .count) (drop (p .off) page) s f .within, length-drop (p .off) page, placed .long))
+scan-yes page p e = then-yes (streamPlace page) _ e
 
 -- a page that scans has a place
 pub scan-placed : (page : List ℕ) (s : Scan) → pageScan page ≡ accepted s → (p : Place) × (streamPlace page ≡ accepted p) × (scan (p .count) (drop (p .off) page) ≡ accepted s)

@@ -1,4 +1,5 @@
 pub mod LawsEntries
+pub mod LawsCapacity
 pub mod LawsAppend
 pub mod LawsAppended
 pub mod LawsHeld

@@ -5,10 +5,10 @@ use mathlib.Core.List.{List}
 use mathlib.Core.Option.{Option, none, some}
 use lib.Dec.{leb, ltb, eqb}
 use lib.ListN.{length, drop}
-use Rattle.error.specs.Refusal.{Answer, accepted, refused, refuseIf, andThen, streamPastCapacity, listTooShort, offeredFirstZero, tooManyOffered, offeredBit63, offeredNotRising}
+use Rattle.error.specs.Refusal.{Answer, accepted, refused, refuseIf, andThen, listTooShort}
+use Rattle.error.specs.Refusal.{offeredFirstZero, tooManyOffered, offeredBit63, offeredNotRising}
 use Rattle.buffer.specs.Bytes.{overwrite}
 use Rattle.compact.specs.Uleb128.{ulebLen, shortest}
-use Rattle.scripthash_layout.specs.Sizes.{pageSize}
 use Rattle.scripthash_stream.specs.Stream.{Scan, scan, lastFrom, stream, encodeStream}
 use Rattle.scripthash_stream.specs.Stream.{maxOffered}
 use Rattle.scripthash_answers.specs.EntryAnswers.{PageRead}
@@ -23,11 +23,9 @@ pub record Place : Type 0 where
 unfoldable pub streamPlace : List ℕ → Answer Place
 streamPlace page = onPage page (onDelta page (accepted (record { off = streamOff page; count = countOf page })))
 
--- Scanning the stream of a page, which ends within the page's capacity.
+-- Scanning the stream of a page.
 unfoldable pub pageScan : List ℕ → Answer Scan
-pageScan page =
-    andThen (streamPlace page)
-    (λ p. andThen (scan (p .count) (drop (p .off) page)) (λ s. refuseIf (ltb (pageSize - p .off) (s .taken)) streamPastCapacity (accepted s)))
+pageScan page = andThen (streamPlace page) (λ p. scan (p .count) (drop (p .off) page))
 
 -- The last number of a scanned stream, 0 where it has none.
 abbrev pub lastOf : Scan → ℕ
