@@ -175,7 +175,6 @@ impl Refusal {
         Refusal::VersionBad,
         Refusal::UlebCutShort,
         Refusal::UlebOverflow,
-        Refusal::StreamPastCapacity,
         Refusal::StoredFirstZero,
         Refusal::StoredDifferenceZero,
         Refusal::StoredSumOverflow,

@@ -103,9 +103,8 @@ ulebCutShort = 17
 abbrev pub ulebOverflow : ℕ
 ulebOverflow = 18
 
--- A page stream passes its capacity.
-abbrev pub streamPastCapacity : ℕ
-streamPastCapacity = 19
+-- 19 is retired: the stream of a page never passes the page's capacity (`scripthash_pages/proofs/LawsCapacity`).
+-- No refusal takes this number.
 
 -- A stored first number is 0.
 abbrev pub storedFirstZero : ℕ

@@ -40,8 +40,9 @@ pub const VERSION_BAD: Refusal = 16;
 pub const ULEB_CUT_SHORT: Refusal = 17;
 // A ULEB128 form overflows 64 bits.
 pub const ULEB_OVERFLOW: Refusal = 18;
-// A page stream passes its capacity.
-pub const STREAM_PAST_CAPACITY: Refusal = 19;
+
+// 19 is retired: the stream of a page never passes the page's capacity. No refusal takes this number.
+
 // A stored first number is 0.
 pub const STORED_FIRST_ZERO: Refusal = 20;
 // A stored difference is 0.
