@@ -26,6 +26,7 @@ MADE = "Made by host/bindings.py from the exports and host/boundary: change thos
 def made(exported):
     """Each file with its text."""
     turned_back = refusals()
+    named_only(exported, turned_back)
     book, of_book = c.header("book.h.in", MADE, exported, turned_back)
     codec, of_codec = c.header("codec.h.in", MADE, exported, turned_back)
     if apart := {f.name for f in exported} ^ {*of_book, *of_codec}:
@@ -37,6 +38,16 @@ def made(exported):
         "rust/src/refusal.rs": rust.enum(MADE, turned_back),
         "rust/src/limits.rs": rust.limits(MADE),
     }
+
+
+def named_only(exported, turned_back):
+    """Fails where a number below the largest is missing from the table of refusals, or an export says that it refuses a number that has no name."""
+    if [r.number for r in turned_back] != [*range(1, len(turned_back) + 1)]:
+        fail("docs/FORMAT.md doesn't list each number once")
+    retired = {r.number for r in turned_back if not r.name}
+    for f in exported:
+        if wrong := retired.intersection(f.refuses):
+            fail(f"{f.name} says that it refuses {sorted(wrong)}, which no refusal has any more")
 
 
 def documented(exported):

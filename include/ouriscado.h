@@ -184,9 +184,9 @@ enum ouriscado_refusal {
 
 /* Makes a fresh book, in which every key is empty: all heads become 0, and state that of a book from which
    nothing was taken; the body isn't written. A book is these three: a body, whose length is a multiple of
-   4,096 bytes from 8,192 to 2^30; heads, one word for each key, 1 to 65,536 of them; and state, ten words,
-   the mark up to which the body was ever used and the first freed block of each of nine sizes. What body,
-   heads and state held before doesn't matter. Refuses 1, where the lengths are others.
+   4,096 bytes from 8,192 to 2^30; heads, a word for each key, 1 to 65,536 of them; and state, ten words,
+   which are the mark up to which the body was ever used and the first freed block of each of nine sizes. What
+   they held before doesn't matter. Refuses 1.
 
    The body may hold anything, since nothing is read of it before it is written: there is no need to clear it.
    Making a book fresh in place of one that is in use forgets all its records.
@@ -196,11 +196,9 @@ uint32_t ouriscado_book_fresh(
     const uint8_t *body, size_t body_len, uint64_t *heads, size_t heads_len,
     uint64_t state[OURISCADO_STATE_WORDS]);
 
-/* Loads a list onto an empty key, counted from 0: record numbers from 1 to 2^62 - 1 that rise strictly,
-   65,535 at most. An empty list changes nothing. Hands out pages, how many pages of 4,096 bytes hold the
-   list, 0 where it needs none. Refuses 1 and 2, where the book's shape or the key is beyond the limits; 3,
-   where the key is in use; 10, 12 to 14 and 32, where the list isn't such a list; 35, where a freed block is
-   damaged; and 36, where the body has no room.
+/* Loads a list of record numbers onto an empty key; keys count from 0. The numbers rise strictly, from 1 to
+   2^62 - 1, and there are 65,535 at most; with none, nothing changes. Hands out pages: how many pages of
+   4,096 bytes hold the list, 0 where it needs none. Refuses 1 to 3, 10, 12 to 14, 32, 35, 36.
 
    This is how to fill a book from another one or from an archive: a loaded list stands in the fewest pages
    that can hold it. A load of a longer list is a load of its first OURISCADO_MOST_LOADED numbers, and appends
@@ -214,13 +212,12 @@ uint32_t ouriscado_book_load(
     uint8_t *body, size_t body_len, uint64_t *heads, size_t heads_len, uint64_t state[OURISCADO_STATE_WORDS],
     uint64_t key, const uint64_t *fks, size_t fks_len, uint64_t *pages);
 
-/* Appends a record number to the list of a key: from 1 to 2^62 - 1, and above the last of the list. Hands out
-   where the list then stands, and rewritten, how many record numbers a move of the list wrote anew, 0 where
-   it stayed. kind is 1 where the number stands in the head word itself, 2 for a slab, 3 for pages; class is a
-   slab's class, else 0; used is how many numbers a slab or head word holds, 0 for pages; place is the number
-   itself, or the offset of the slab or of the last page in the body. Refuses 1 and 2, where the book's shape
-   or the key is beyond the limits; 12 to 14 and 32, where the number isn't such a number; 31, where the key
-   is damaged; 35, where a freed block is; and 36, where the body has no room.
+/* Appends a record number to the list of a key: a number from 1 to 2^62 - 1, above the last of the list.
+   Hands out where the list now stands: kind is 1 where its only number stands in the head word, 2 for a slab,
+   3 for pages; class is the slab's, else 0; used is how many numbers head word or slab hold, 0 for pages;
+   place is the number itself, or the offset in the body, in bytes, of the slab or of the last page. Hands out
+   rewritten: how many numbers a move of the list wrote anew, 0 where it stayed. Refuses 1, 2, 12 to 14, 31,
+   32, 35, 36.
 
    A number that isn't above the last is refused, so that no deposit stands in a list twice. When an append is
    refused with 36, the number is not recorded; keep it until there is room. From empty to drop a list moves
@@ -234,11 +231,10 @@ uint32_t ouriscado_book_append(
     uint64_t key, uint64_t fk, uint8_t *kind, uint8_t *class_, uint16_t *used, uint64_t *place,
     uint64_t *rewritten);
 
-/* Reads the list of a key into the start of out; what stood behind it there stays. Hands out length, how many
-   record numbers the list has, and pages, how many pages of 4,096 bytes it stands in. An accepted read with
-   length 0 means that nothing is recorded for the key. Refuses 1 and 2, where the book's shape or the key is
-   beyond the limits; 31, where the key is damaged; and 34, where out is too short for the whole list: then
-   length is 0 too, and out is as it was.
+/* Reads the list of a key into the start of out; what stands behind it there stays. Hands out length, how
+   many record numbers the list has, and pages, how many pages of 4,096 bytes were walked. A read that is
+   accepted with length 0 means that nothing is recorded for the key; of one that is refused length is 0 too,
+   and says nothing of the key. Refuses 1, 2, 31, 34.
 
    How long the list must be that you lend: an inline number needs 1; a slab needs the number that an append
    told as used, at most OURISCADO_MOST_IN_SLAB; a list in pages has at most OURISCADO_MOST_IN_PAGE numbers
@@ -252,9 +248,8 @@ uint32_t ouriscado_book_read(
     const uint64_t state[OURISCADO_STATE_WORDS], uint64_t key, uint64_t *out, size_t out_len,
     uint64_t *length, uint64_t *pages);
 
-/* Drops the list of a key, which is then empty, and gives its slab or pages back to the book. Hands out
-   length, how many record numbers the list had. Refuses 1 and 2, where the book's shape or the key is beyond
-   the limits, and 31, where the key is damaged.
+/* Drops the list of a key: the key is empty then, and the book can use the list's slab or pages again. Hands
+   out length, how many record numbers the list had. Refuses 1, 2, 31.
 
    Afterwards the key reads as empty, and other keys may be given its blocks. Dropping a key that is empty is
    accepted and tells 0.

@@ -57,9 +57,7 @@ enum ouriscado_codec_refusal {
     /* A ULEB128 form has more than 64 bits, or more than ten bytes.
        Operator: the bytes are damaged. */
     OURISCADO_ULEB_OVERFLOW = 18,
-    /* A page's stream passes the page's end.
-       Met by nobody: no input gives it (17 comes first). */
-    OURISCADO_STREAM_PAST_CAPACITY = 19,
+    /* 19: a page's stream passes the page's end. */
     /* A stream begins with 0.
        Operator: the bytes are damaged. */
     OURISCADO_STORED_FIRST_ZERO = 20,

@@ -76,10 +76,7 @@ pub enum Refusal {
     ///
     /// Operator: the bytes are damaged.
     UlebOverflow,
-    /// 19: a page's stream passes the page's end.
-    ///
-    /// Met by nobody: no input gives it (17 comes first).
-    StreamPastCapacity,
+    // 19: a page's stream passes the page's end.
     /// 20: a stream begins with 0.
     ///
     /// Operator: the bytes are damaged.
@@ -216,7 +213,6 @@ impl Refusal {
             Refusal::VersionBad => 16,
             Refusal::UlebCutShort => 17,
             Refusal::UlebOverflow => 18,
-            Refusal::StreamPastCapacity => 19,
             Refusal::StoredFirstZero => 20,
             Refusal::StoredDifferenceZero => 21,
             Refusal::StoredSumOverflow => 22,
@@ -260,7 +256,6 @@ impl Refusal {
             Refusal::VersionBad => "the version is another, or 0 with a count",
             Refusal::UlebCutShort => "the bytes end before a ULEB128 form does",
             Refusal::UlebOverflow => "a ULEB128 form overflows 64 bits",
-            Refusal::StreamPastCapacity => "a page stream passes its capacity",
             Refusal::StoredFirstZero => "a stored first number is 0",
             Refusal::StoredDifferenceZero => "a stored difference is 0",
             Refusal::StoredSumOverflow => "a stored sum passes 2^64 - 1",

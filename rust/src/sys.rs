@@ -8,14 +8,13 @@
 pub mod raw {
     extern "C" {
         /// Makes a fresh book, in which every key is empty: all heads become 0, and state that of a book from which nothing was taken; the
-        /// body isn't written. A book is these three: a body, whose length is a multiple of 4,096 bytes from 8,192 to 2^30; heads, one word
-        /// for each key, 1 to 65,536 of them; and state, ten words, the mark up to which the body was ever used and the first freed block
-        /// of each of nine sizes. What body, heads and state held before doesn't matter. Refuses 1, where the lengths are others.
+        /// body isn't written. A book is these three: a body, whose length is a multiple of 4,096 bytes from 8,192 to 2^30; heads, a word
+        /// for each key, 1 to 65,536 of them; and state, ten words, which are the mark up to which the body was ever used and the first
+        /// freed block of each of nine sizes. What they held before doesn't matter. Refuses 1.
         pub fn ouriscado_book_fresh(body: *const u8, body_len: usize, heads: *mut u64, heads_len: usize, state: &mut [u64; 10]) -> u32;
-        /// Loads a list onto an empty key, counted from 0: record numbers from 1 to 2^62 - 1 that rise strictly, 65,535 at most. An empty
-        /// list changes nothing. Hands out pages, how many pages of 4,096 bytes hold the list, 0 where it needs none. Refuses 1 and 2,
-        /// where the book's shape or the key is beyond the limits; 3, where the key is in use; 10, 12 to 14 and 32, where the list isn't
-        /// such a list; 35, where a freed block is damaged; and 36, where the body has no room.
+        /// Loads a list of record numbers onto an empty key; keys count from 0. The numbers rise strictly, from 1 to 2^62 - 1, and there
+        /// are 65,535 at most; with none, nothing changes. Hands out pages: how many pages of 4,096 bytes hold the list, 0 where it needs
+        /// none. Refuses 1 to 3, 10, 12 to 14, 32, 35, 36.
         pub fn ouriscado_book_load(
             body: *mut u8,
             body_len: usize,
@@ -27,12 +26,11 @@ pub mod raw {
             fks_len: usize,
             pages: &mut u64,
         ) -> u32;
-        /// Appends a record number to the list of a key: from 1 to 2^62 - 1, and above the last of the list. Hands out where the list then
-        /// stands, and rewritten, how many record numbers a move of the list wrote anew, 0 where it stayed. kind is 1 where the number
-        /// stands in the head word itself, 2 for a slab, 3 for pages; class is a slab's class, else 0; used is how many numbers a slab or
-        /// head word holds, 0 for pages; place is the number itself, or the offset of the slab or of the last page in the body. Refuses 1
-        /// and 2, where the book's shape or the key is beyond the limits; 12 to 14 and 32, where the number isn't such a number; 31, where
-        /// the key is damaged; 35, where a freed block is; and 36, where the body has no room.
+        /// Appends a record number to the list of a key: a number from 1 to 2^62 - 1, above the last of the list. Hands out where the list
+        /// now stands: kind is 1 where its only number stands in the head word, 2 for a slab, 3 for pages; class is the slab's, else 0;
+        /// used is how many numbers head word or slab hold, 0 for pages; place is the number itself, or the offset in the body, in bytes,
+        /// of the slab or of the last page. Hands out rewritten: how many numbers a move of the list wrote anew, 0 where it stayed. Refuses
+        /// 1, 2, 12 to 14, 31, 32, 35, 36.
         pub fn ouriscado_book_append(
             body: *mut u8,
             body_len: usize,
@@ -47,10 +45,9 @@ pub mod raw {
             place: &mut u64,
             rewritten: &mut u64,
         ) -> u32;
-        /// Reads the list of a key into the start of out; what stood behind it there stays. Hands out length, how many record numbers the
-        /// list has, and pages, how many pages of 4,096 bytes it stands in. An accepted read with length 0 means that nothing is recorded
-        /// for the key. Refuses 1 and 2, where the book's shape or the key is beyond the limits; 31, where the key is damaged; and 34,
-        /// where out is too short for the whole list: then length is 0 too, and out is as it was.
+        /// Reads the list of a key into the start of out; what stands behind it there stays. Hands out length, how many record numbers the
+        /// list has, and pages, how many pages of 4,096 bytes were walked. A read that is accepted with length 0 means that nothing is
+        /// recorded for the key; of one that is refused length is 0 too, and says nothing of the key. Refuses 1, 2, 31, 34.
         pub fn ouriscado_book_read(
             body: *const u8,
             body_len: usize,
@@ -63,8 +60,8 @@ pub mod raw {
             length: &mut u64,
             pages: &mut u64,
         ) -> u32;
-        /// Drops the list of a key, which is then empty, and gives its slab or pages back to the book. Hands out length, how many record
-        /// numbers the list had. Refuses 1 and 2, where the book's shape or the key is beyond the limits, and 31, where the key is damaged.
+        /// Drops the list of a key: the key is empty then, and the book can use the list's slab or pages again. Hands out length, how many
+        /// record numbers the list had. Refuses 1, 2, 31.
         pub fn ouriscado_book_drop(
             body: *mut u8,
             body_len: usize,
@@ -236,19 +233,18 @@ pub mod raw {
 }
 
 /// Makes a fresh book, in which every key is empty: all heads become 0, and state that of a book from which nothing was taken; the body
-/// isn't written. A book is these three: a body, whose length is a multiple of 4,096 bytes from 8,192 to 2^30; heads, one word for each
-/// key, 1 to 65,536 of them; and state, ten words, the mark up to which the body was ever used and the first freed block of each of nine
-/// sizes. What body, heads and state held before doesn't matter. Refuses 1, where the lengths are others.
+/// isn't written. A book is these three: a body, whose length is a multiple of 4,096 bytes from 8,192 to 2^30; heads, a word for each key,
+/// 1 to 65,536 of them; and state, ten words, which are the mark up to which the body was ever used and the first freed block of each of
+/// nine sizes. What they held before doesn't matter. Refuses 1.
 #[inline]
 #[must_use]
 pub fn book_fresh(body: &[u8], heads: &mut [u64], state: &mut [u64; 10]) -> u32 {
     unsafe { raw::ouriscado_book_fresh(body.as_ptr(), body.len(), heads.as_mut_ptr(), heads.len(), state) }
 }
 
-/// Loads a list onto an empty key, counted from 0: record numbers from 1 to 2^62 - 1 that rise strictly, 65,535 at most. An empty list
-/// changes nothing. Hands out pages, how many pages of 4,096 bytes hold the list, 0 where it needs none. Refuses 1 and 2, where the book's
-/// shape or the key is beyond the limits; 3, where the key is in use; 10, 12 to 14 and 32, where the list isn't such a list; 35, where a
-/// freed block is damaged; and 36, where the body has no room.
+/// Loads a list of record numbers onto an empty key; keys count from 0. The numbers rise strictly, from 1 to 2^62 - 1, and there are 65,535
+/// at most; with none, nothing changes. Hands out pages: how many pages of 4,096 bytes hold the list, 0 where it needs none. Refuses 1 to
+/// 3, 10, 12 to 14, 32, 35, 36.
 #[inline]
 #[must_use]
 pub fn book_load(body: &mut [u8], heads: &mut [u64], state: &mut [u64; 10], key: u64, fks: &[u64], pages: &mut u64) -> u32 {
@@ -257,12 +253,11 @@ pub fn book_load(body: &mut [u8], heads: &mut [u64], state: &mut [u64; 10], key:
     }
 }
 
-/// Appends a record number to the list of a key: from 1 to 2^62 - 1, and above the last of the list. Hands out where the list then stands,
-/// and rewritten, how many record numbers a move of the list wrote anew, 0 where it stayed. kind is 1 where the number stands in the head
-/// word itself, 2 for a slab, 3 for pages; class is a slab's class, else 0; used is how many numbers a slab or head word holds, 0 for
-/// pages; place is the number itself, or the offset of the slab or of the last page in the body. Refuses 1 and 2, where the book's shape or
-/// the key is beyond the limits; 12 to 14 and 32, where the number isn't such a number; 31, where the key is damaged; 35, where a freed
-/// block is; and 36, where the body has no room.
+/// Appends a record number to the list of a key: a number from 1 to 2^62 - 1, above the last of the list. Hands out where the list now
+/// stands: kind is 1 where its only number stands in the head word, 2 for a slab, 3 for pages; class is the slab's, else 0; used is how
+/// many numbers head word or slab hold, 0 for pages; place is the number itself, or the offset in the body, in bytes, of the slab or of the
+/// last page. Hands out rewritten: how many numbers a move of the list wrote anew, 0 where it stayed. Refuses 1, 2, 12 to 14, 31, 32, 35,
+/// 36.
 #[inline]
 #[must_use]
 pub fn book_append(
@@ -295,10 +290,9 @@ pub fn book_append(
     }
 }
 
-/// Reads the list of a key into the start of out; what stood behind it there stays. Hands out length, how many record numbers the list has,
-/// and pages, how many pages of 4,096 bytes it stands in. An accepted read with length 0 means that nothing is recorded for the key.
-/// Refuses 1 and 2, where the book's shape or the key is beyond the limits; 31, where the key is damaged; and 34, where out is too short
-/// for the whole list: then length is 0 too, and out is as it was.
+/// Reads the list of a key into the start of out; what stands behind it there stays. Hands out length, how many record numbers the list
+/// has, and pages, how many pages of 4,096 bytes were walked. A read that is accepted with length 0 means that nothing is recorded for the
+/// key; of one that is refused length is 0 too, and says nothing of the key. Refuses 1, 2, 31, 34.
 #[inline]
 #[must_use]
 pub fn book_read(body: &[u8], heads: &[u64], state: &[u64; 10], key: u64, out: &mut [u64], length: &mut u64, pages: &mut u64) -> u32 {
@@ -318,8 +312,8 @@ pub fn book_read(body: &[u8], heads: &[u64], state: &[u64; 10], key: u64, out: &
     }
 }
 
-/// Drops the list of a key, which is then empty, and gives its slab or pages back to the book. Hands out length, how many record numbers
-/// the list had. Refuses 1 and 2, where the book's shape or the key is beyond the limits, and 31, where the key is damaged.
+/// Drops the list of a key: the key is empty then, and the book can use the list's slab or pages again. Hands out length, how many record
+/// numbers the list had. Refuses 1, 2, 31.
 #[inline]
 #[must_use]
 pub fn book_drop(body: &mut [u8], heads: &mut [u64], state: &mut [u64; 10], key: u64, length: &mut u64) -> u32 {
