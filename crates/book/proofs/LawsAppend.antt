@@ -8,7 +8,8 @@ use native.Mathlib.Omega.{arith}
 use borrow.Author.Tests.{le-leb, lt-leb, ltb-true, leb-false, eqb-false}
 use lib.Dec.{leb, ltb, eqb}
 use lib.ListN.{length, set, take as firsts, length-append}
-use Rattle.error.specs.Refusal.{Answer, accepted, refused, refuseIf, andThen, answered, refusalOf, shapeBad, keyBeyond, offeredNotRising, keyUnsound}
+use Rattle.error.specs.Refusal.{Answer, accepted, refused, refuseIf, andThen, answered, refusalOf, shapeBad, keyBeyond, offeredNotRising}
+use Rattle.error.specs.Refusal.{keyUnsound}
 use Rattle.error.specs.Refusal.{slabUsedTooSmall, modeTwo, extentPayloadZero}
 use Rattle.error.proofs.LawsAnswer.{accepted-inj, passed, went-on, refuse-yes, refuse-no, then-yes, then-no, was-accepted, was-refused}
 use Rattle.buffer.specs.Bytes.{part, overwrite}
@@ -47,7 +48,8 @@ use Rattle.book.proofs.LawsPlace.{stream-at-most}
 -- ---- what an append does
 
 -- What an append does by one answer, it does by another that is the same.
-pub does-as : {a same : Answer Outcome} {before after : Book} {tells : Answer Told} → a ≡ same → Does same before after tells → Does a before after tells
+pub does-as : {a same : Answer Outcome} {before after : Book} {tells : Answer Told} → a ≡ same → Does same before after tells
+    → Does a before after tells
 does-as e d = rw e d
 
 -- What it does from one space, it does from another that is the same.
@@ -90,7 +92,8 @@ module _ (body : List ℕ) (mark : ℕ) (free : List ℕ) where
   tail-free last = refl
 
   -- A slab's end was told: the slab is sound, with a scan of that end.
-  pub slab-told : (class used off : ℕ) {taken last : ℕ} {told : Answer End} → told ≡ answered (endFrom 0) (soundly (slabScan (keySpace body mark) class used off))
+  pub slab-told : (class used off : ℕ) {taken last : ℕ} {told : Answer End}
+      → told ≡ answered (endFrom 0) (soundly (slabScan (keySpace body mark) class used off))
       → told ≡ accepted (record { taken = taken; last = last }) → SlabTold (space body mark free) class used off taken last
   slab-told class used off e t =
       let (c, is, ends) = was-accepted (endFrom 0) _ (sym e ∙ t) in
@@ -102,14 +105,16 @@ module _ (body : List ℕ) (mark : ℕ) (free : List ℕ) where
       }
 
   -- A refusal was told: the slab isn't sound.
-  pub slab-untold : (class used off : ℕ) {number : ℕ} {told : Answer End} → told ≡ answered (endFrom 0) (soundly (slabScan (keySpace body mark) class used off))
+  pub slab-untold : (class used off : ℕ) {number : ℕ} {told : Answer End}
+      → told ≡ answered (endFrom 0) (soundly (slabScan (keySpace body mark) class used off))
       → told ≡ refused number → (m : ℕ) × (slabScan (space body mark free) class used off ≡ refused m)
   slab-untold class used off e t =
       let (m, is) = was-unsound _ (was-refused (endFrom 0) _ (sym e ∙ t)) in
       (m, sym (slab-free class used off) ∙ is)
 
   -- A last page's end was told: the page is sound, with a tail of that end.
-  pub tail-told : (last : ℕ) {end : TailEndOf} {told : Answer TailEndOf} → told ≡ answered tailEndOf (soundly (tailAt (keySpace body mark) last))
+  pub tail-told : (last : ℕ) {end : TailEndOf} {told : Answer TailEndOf}
+      → told ≡ answered tailEndOf (soundly (tailAt (keySpace body mark) last))
       → told ≡ accepted end → TailTold (space body mark free) last (end .taken) (end .fk) (end .first) (end .creates)
   tail-told last e t =
       let (tail, is, ends) = was-accepted tailEndOf _ (sym e ∙ t) in
@@ -123,13 +128,15 @@ module _ (body : List ℕ) (mark : ℕ) (free : List ℕ) where
       }
 
   -- A refusal was told: the page isn't sound.
-  pub tail-untold : (last : ℕ) {number : ℕ} {told : Answer TailEndOf} → told ≡ answered tailEndOf (soundly (tailAt (keySpace body mark) last))
+  pub tail-untold : (last : ℕ) {number : ℕ} {told : Answer TailEndOf}
+      → told ≡ answered tailEndOf (soundly (tailAt (keySpace body mark) last))
       → told ≡ refused number → (m : ℕ) × (tailAt (space body mark free) last ≡ refused m)
   tail-untold last e t =
       let (m, is) = was-unsound _ (was-refused tailEndOf _ (sym e ∙ t)) in
       (m, sym (tail-free last) ∙ is)
 
--- What is known of a sound last page: where it stands, that it is version 2, that it counts few numbers, that its stream ends within it, and
+-- What is known of a sound last page: where it stands, that it is version 2, that it counts few numbers, that its stream ends within it,
+-- and
 -- that creates can be one more.
 pub record SoundTail (s : Space) (last : ℕ) (t : Tail) : Type 0 where
   pub stands : isBlock pageClass last (s .mark) ≡ true
@@ -168,7 +175,8 @@ tail-sound s last t e =
 -- ---- moving
 
 -- What comes after a part that comes after another.
-then-then : {A B C : Type 0} (a : Answer A) (f : A → B) (g : B → C) → andThen a (λ x. accepted (g (f x))) ≡ andThen (andThen a (λ x. accepted (f x))) (λ y. accepted (g y))
+then-then : {A B C : Type 0} (a : Answer A) (f : A → B) (g : B → C)
+    → andThen a (λ x. accepted (g (f x))) ≡ andThen (andThen a (λ x. accepted (f x))) (λ y. accepted (g y))
 unfolding andThen
 then-then (accepted x) f g = refl
 then-then (refused number) f g = refl
@@ -207,7 +215,8 @@ module _ (s after : Space) (a : Answer Placed) {told : Answer ShHeadValue} (told
 -- A list and one number more, as it is placed.
 module _ (b : Book) (key : ℕ) (ns : List ℕ) (n : ℕ) (old : List Block) (list : List ℕ) (is : list ≡ ns ++ (n ∷ [])) where
   -- It moves to where it was placed, and the old blocks are pushed.
-  moves-yes : {p : Placed} → placesFor (b .space) list ≡ accepted p → moves b key ns n old ≡ accepted (appending key (p .place) (length ns) (release old (p .space)) b)
+  moves-yes : {p : Placed} → placesFor (b .space) list ≡ accepted p
+      → moves b key ns n old ≡ accepted (appending key (p .place) (length ns) (release old (p .space)) b)
   unfolding moves
   moves-yes e = moves-as-placed b key ns n old _ ∙ then-yes (placesFor (b .space) (ns ++ (n ∷ []))) _ (ap (placesFor (b .space)) (sym is) ∙ e)
 
@@ -253,23 +262,27 @@ module _ (b : Book) (key n : ℕ) where
     inline-moves h = refuse-no (leb n entry) _ _ (lt-leb n entry h)
 
     -- It moves to where both are placed.
-    pub inline-yes : entry < n → {place : ShHeadValue} {after : Space} → placesFor (b .space) (entry ∷ n ∷ []) ≡ accepted (record { place = place; space = after })
+    pub inline-yes : entry < n → {place : ShHeadValue} {after : Space}
+        → placesFor (b .space) (entry ∷ n ∷ []) ≡ accepted (record { place = place; space = after })
         → appendAt b key n (Inline entry used) ≡ accepted (appending key place 1 after b)
     inline-yes h {place} {after} e =
         inline-moves h ∙ moves-yes b key (entry ∷ []) n [] (entry ∷ n ∷ []) refl e ∙ ap (λ (s : Space). accepted (appending key place 1 s b)) (release-none after)
 
     -- It is refused where both can't be placed.
-    pub inline-no : entry < n → {number : ℕ} → placesFor (b .space) (entry ∷ n ∷ []) ≡ refused number → appendAt b key n (Inline entry used) ≡ refused number
+    pub inline-no : entry < n → {number : ℕ} → placesFor (b .space) (entry ∷ n ∷ []) ≡ refused number
+        → appendAt b key n (Inline entry used) ≡ refused number
     inline-no h e = inline-moves h ∙ moves-no b key (entry ∷ []) n [] (entry ∷ n ∷ []) refl e
 
   module _ (class used off : ℕ) where
     -- A slab that isn't sound.
-    pub slab-unsound : {number : ℕ} → slabScan (b .space) class used off ≡ refused number → appendAt b key n (Slab class used off) ≡ refused keyUnsound
+    pub slab-unsound : {number : ℕ} → slabScan (b .space) class used off ≡ refused number
+        → appendAt b key n (Slab class used off) ≡ refused keyUnsound
     unfolding appendAt
     slab-unsound e = then-no _ _ (soundly-no _ e)
 
     -- A number above the last of a sound slab goes on.
-    slab-above : (c : Scan) → slabScan (b .space) class used off ≡ accepted c → lastOf c < n → appendAt b key n (Slab class used off) ≡ appendSlab b key n class off c
+    slab-above : (c : Scan) → slabScan (b .space) class used off ≡ accepted c → lastOf c < n
+        → appendAt b key n (Slab class used off) ≡ appendSlab b key n class off c
     unfolding appendAt
     slab-above c sound h = then-yes _ _ (soundly-yes _ sound) ∙ refuse-no (leb n (lastOf c)) _ _ (lt-leb n (lastOf c) h)
 
@@ -283,7 +296,8 @@ module _ (b : Book) (key n : ℕ) where
           slab-above (m .scan) (m .sound) (m .above) ∙ rw (counted, m .leaves)
 
       -- It moves to where the list is placed, and the slab is given back.
-      pub slab-moved : {place : ShHeadValue} {after : Space} (freed : Space) → placesFor (b .space) list ≡ accepted (record { place = place; space = after })
+      pub slab-moved : {place : ShHeadValue} {after : Space} (freed : Space)
+          → placesFor (b .space) list ≡ accepted (record { place = place; space = after })
           → freed ≡ release (record { class = class; off = off } ∷ []) after → appendAt b key n (Slab class used off) ≡ accepted (appending key place used freed b)
       slab-moved freed e given =
           let counted = slab-sound (b .space) class used off (m .scan) (m .sound) .counted in
@@ -372,7 +386,8 @@ module _ (b : Book) (key n : ℕ) where
     chain-no e = growing ∙ then-no (takeBlock pageClass (b .space)) _ e
 
     -- It does so by a taken page: the old last page is linked to it, and it is written.
-    pub chain-yes : {off : ℕ} {after : Space} (linked written : List ℕ) → takeBlock pageClass (b .space) ≡ accepted (record { off = off; space = after })
+    pub chain-yes : {off : ℕ} {after : Space} (linked written : List ℕ)
+        → takeBlock pageClass (b .space) ≡ accepted (record { off = off; space = after })
         → linked ≡ overwrite (after .body) last (pageBefore (part (after .body) last pageSize) off)
         → written ≡ overwrite linked off (lastPageOf first off 1 (creates + 1) (n ∷ []))
         → appendAt b key n (Extent last) ≡ accepted (appending key (Extent off) 0 (space written (after .mark) (after .free)) b)
@@ -382,7 +397,8 @@ module _ (b : Book) (key n : ℕ) where
 -- ---- a number by itself
 
 -- A test that refuses by a number other than 0 didn't hold where the refusal is 0.
-not-refused : (test : Bool) (number : ℕ) (after : Answer ℕ) → (number ≡ 0 → ⊥) → refusalOf (refuseIf test number after) ≡ 0 → (test ≡ false) × (refusalOf after ≡ 0)
+not-refused : (test : Bool) (number : ℕ) (after : Answer ℕ) → (number ≡ 0 → ⊥) → refusalOf (refuseIf test number after) ≡ 0
+    → (test ≡ false) × (refusalOf after ≡ 0)
 unfolding refuseIf
 not-refused true number after other e = absurd (other e)
 not-refused false number after other e = (refl, e)

@@ -55,7 +55,8 @@ module _ (b : Book) (key : ℕ) (place : ShHeadValue) where
   drop-no e = then-no (soundly (contentAt (b .space) place)) _ (soundly-no (contentAt (b .space) place) e)
 
   -- A sound one is emptied, in the space with its blocks given back.
-  pub drop-yes : (c : Content) (count : ℕ) (s : Space) → contentAt (b .space) place ≡ accepted c → length (c .numbers) ≡ count → s ≡ release (c .blocks) (b .space)
+  pub drop-yes : (c : Content) (count : ℕ) (s : Space) → contentAt (b .space) place ≡ accepted c → length (c .numbers) ≡ count
+      → s ≡ release (c .blocks) (b .space)
       → accepted (placing (dropped (record { length = count })) key Empty s b) ≡ dropsAt b key place
   unfolding dropsAt
   drop-yes c count s e n r =
@@ -117,7 +118,8 @@ module _ (s : Space) (within : s .mark ≤ length (s .body)) (prev off : ℕ) (c
   pub given-same : SameBehind s (given off s) (lastFrom prev (c .numbers))
   given-same = record { mark = release-mark _ s; pages = same }
     where
-      same : (later o : ℕ) (d : Scan) → lastFrom prev (c .numbers) ≤ later → linkScan s later o ≡ accepted d → pageAt (given off s) o ≡ pageAt s o
+      same : (later o : ℕ) (d : Scan) → lastFrom prev (c .numbers) ≤ later → linkScan s later o ≡ accepted d
+          → pageAt (given off s) o ≡ pageAt s o
       same later o d h e =
           let here = block-stands pageClass off (length (s .body)) page-stands in
           let there = block-stands pageClass o (s .mark) (link-sound s later o d e .stands) in
@@ -125,7 +127,8 @@ module _ (s : Space) (within : s .mark ≤ length (s .body)) (prev off : ℕ) (c
           (apart-pages o off (there .aligned) (here .aligned) (page-once s prev off c is later o d e h))
 
 -- All pages of a sound chain are left, from its first on.
-pub chain-left : (s : Space) (last : ℕ) (c : Chain) (end : ChainEndOf) → s .mark ≤ length (s .body) → chainAt s last ≡ accepted c → chainEndOf c ≡ end
+pub chain-left : (s : Space) (last : ℕ) (c : Chain) (end : ChainEndOf) → s .mark ≤ length (s .body) → chainAt s last ≡ accepted c
+    → chainEndOf c ≡ end
     → PagesLeft s (end .first) (end .pages) (c .offs)
 chain-left s last c end within e told =
     let k = chain-sound s last c e in
@@ -211,7 +214,8 @@ pub record Giving (s : Space) (off left : ℕ) (done : Space) : Type 0 where
   pub gives : release (pageBlocks offs) s ≡ done
 
 -- The first of them given back, the others make the same.
-pub giving-turn : (s : Space) (off left : ℕ) (done : Space) → 0 < left → Giving s off left done → Giving (given off s) (linkOffset (linkOf (pageAt s off))) (left - 1) done
+pub giving-turn : (s : Space) (off left : ℕ) (done : Space) → 0 < left → Giving s off left done
+    → Giving (given off s) (linkOffset (linkOf (pageAt s off))) (left - 1) done
 giving-turn s off left done h g =
     let t = page-turn s off left (g .offs) h (g .pages) in record { offs = t .behind; pages = t .rest; gives = t .gives ∙ g .gives }
 

@@ -47,5 +47,6 @@ module _ (before after : Book) (tells : Answer Told) (a : Answer Outcome) where
   does-no e t l = record { told = t ∙ sym (answered-no (λ (x : Outcome). x .told) a e); left = rw e l }
 
 -- A call that does what an answer says does what the same answer says in other words.
-pub does-same : {a c : Answer Outcome} {before after : Book} {tells : Answer Told} → a ≡ c → Does a before after tells → Does c before after tells
+pub does-same : {a c : Answer Outcome} {before after : Book} {tells : Answer Told} → a ≡ c → Does a before after tells
+    → Does c before after tells
 does-same e d = rw e at d

@@ -41,7 +41,8 @@ module _ (b : Book) (outcome : Answer Outcome) (answer : Answer Told) (after : S
   ends-refused e a is = rw (e, is) record { told = a; left = refl }
 
   -- An accepted load tells its pages, leaves its space, and gives the key its place.
-  pub ends-loaded : (key : ℕ) (place : ShHeadValue) (pages : ℕ) (heads : List ℕ) {s : Space} → outcome ≡ accepted (loading key place pages s b)
+  pub ends-loaded : (key : ℕ) (place : ShHeadValue) (pages : ℕ) (heads : List ℕ) {s : Space}
+      → outcome ≡ accepted (loading key place pages s b)
       → answer ≡ accepted (loaded (record { pages = pages })) → heads ≡ set (b .heads) key (headWord place) → after ≡ s
       → Does outcome b (record { heads = heads; space = after }) answer
   unfolding bookAfter answered
@@ -72,11 +73,13 @@ module _ (b : Book) (key : ℕ) (ns : List ℕ) (class : ℕ) where
       (λ (p : Placed). loading key (p .place) 0 (p .space) b)
 
   -- A list that is placed is loaded.
-  pub slab-loaded : {p : Placed} → placesInto (b .space) ns (some class) ≡ accepted p → loadInto b key ns (some class) ≡ accepted (loading key (p .place) 0 (p .space) b)
+  pub slab-loaded : {p : Placed} → placesInto (b .space) ns (some class) ≡ accepted p
+      → loadInto b key ns (some class) ≡ accepted (loading key (p .place) 0 (p .space) b)
   slab-loaded e = slab-load ∙ then-yes (placesInto (b .space) ns (some class)) (λ p. accepted (loading key (p .place) 0 (p .space) b)) e
 
   -- One that isn't placed is refused.
-  pub slab-not-loaded : {number : ℕ} → placesInto (b .space) ns (some class) ≡ refused number → loadInto b key ns (some class) ≡ refused number
+  pub slab-not-loaded : {number : ℕ} → placesInto (b .space) ns (some class) ≡ refused number
+      → loadInto b key ns (some class) ≡ refused number
   slab-not-loaded e = slab-load ∙ then-no (placesInto (b .space) ns (some class)) (λ p. accepted (loading key (p .place) 0 (p .space) b)) e
 
 -- ---- a run
@@ -149,7 +152,8 @@ module _ (b : Book) (key : ℕ) where
 
 module _ {A B : Type 0} where
   -- A list that is refused number by number is refused whatever comes after it.
-  pub refused-all : (first : Bool) (prev : ℕ) (ns : List ℕ) (x : A) (after : Answer B) {m : ℕ} → offeredList first prev ns (accepted x) ≡ refused m
+  pub refused-all : (first : Bool) (prev : ℕ) (ns : List ℕ) (x : A) (after : Answer B) {m : ℕ}
+      → offeredList first prev ns (accepted x) ≡ refused m
       → offeredList first prev ns after ≡ refused m
   unfolding offeredList offeredNumber
   refused-all first prev [] x after e = absurd (refused≢accepted (sym e))
@@ -193,7 +197,8 @@ module _ (b : Book) (key : ℕ) (ns : List ℕ) where
 
         module _ (few : length ns ≤ maxOffered) where
           -- A number that is turned back.
-          pub loads-offered : {number : ℕ} → offeredList true 0 ns (accepted (streamLen ns)) ≡ refused number → loads b key ns ≡ refused number
+          pub loads-offered : {number : ℕ} → offeredList true 0 ns (accepted (streamLen ns)) ≡ refused number
+              → loads b key ns ≡ refused number
           loads-offered e =
               emptied ∙ refuse-no _ _ _ (le-ltb maxOffered (length ns) few) ∙ refused-all true 0 ns (streamLen ns) (loadAt b key ns) e
 

@@ -57,14 +57,16 @@ pub record Lies (class off : ℕ) (s : Space) : Type 0 where
   pub small : length (s .body) ≤ 2 ^ 30
 
 -- A block that was taken from a space in shape lies so.
-pub block-lies : (class off : ℕ) (s after : Space) → InShape s → class ≤ pageClass → takeBlock class s ≡ accepted (record { off = off; space = after }) → Lies class off after
+pub block-lies : (class off : ℕ) (s after : Space) → InShape s → class ≤ pageClass
+    → takeBlock class s ≡ accepted (record { off = off; space = after }) → Lies class off after
 block-lies class off s after i low e =
     let t = take-took class s low i e in
     let b = block-stands class off (after .mark) (t .stands) in
     record { begins = b .begins; ends = omega (arith, b .ends, t .kept .shape .within); small = t .kept .shape .most }
 
 -- A page that was taken from a space in shape can be named by a link.
-pub page-named : (off : ℕ) (s after : Space) → InShape s → takeBlock pageClass s ≡ accepted (record { off = off; space = after }) → PageNamed off
+pub page-named : (off : ℕ) (s after : Space) → InShape s → takeBlock pageClass s ≡ accepted (record { off = off; space = after })
+    → PageNamed off
 page-named off s after i e =
     let t = take-took pageClass s (omega arith) i e in
     let b = block-stands pageClass off (after .mark) (t .stands) in
@@ -80,7 +82,8 @@ PlacedAs answer after s a = (answer ≡ answered (λ (p : Placed). p .place) a) 
 -- What was told of a placing, the place or its refusal and the space afterwards.
 module _ (s after : Space) (a : Answer Placed) (space-is : after ≡ spaceWith s a) where
   -- A place was told: it is of that place, and leaves that space.
-  pub placed-at : {place : ShHeadValue} → answered (λ (p : Placed). p .place) a ≡ accepted place → a ≡ accepted (record { place = place; space = after })
+  pub placed-at : {place : ShHeadValue} → answered (λ (p : Placed). p .place) a ≡ accepted place
+      → a ≡ accepted (record { place = place; space = after })
   unfolding spaceWith
   placed-at {place} e =
       let (p, is, o) = was-accepted (λ (p : Placed). p .place) a e in
@@ -95,23 +98,27 @@ module _ (s after : Space) (a : Answer Placed) (space-is : after ≡ spaceWith s
 -- A list placed in a space, by what the take tells.
 module _ (s : Space) (list : List ℕ) (after : Space) where
   -- A refused take refuses it, and the space stays.
-  pub slab-refused : (class : ℕ) {number : ℕ} → (takeBlock class s ≡ refused number) × (after ≡ s) → PlacedAs (refused number) after s (placesInto s list (some class))
+  pub slab-refused : (class : ℕ) {number : ℕ} → (takeBlock class s ≡ refused number) × (after ≡ s)
+      → PlacedAs (refused number) after s (placesInto s list (some class))
   unfolding placesInto spaceWith andThen answered
   slab-refused class e = rw (e .0, e .1) (refl, refl)
 
   -- So it is for a page.
-  pub page-refused : {number : ℕ} → (takeBlock pageClass s ≡ refused number) × (after ≡ s) → PlacedAs (refused number) after s (placesInto s list none)
+  pub page-refused : {number : ℕ} → (takeBlock pageClass s ≡ refused number) × (after ≡ s)
+      → PlacedAs (refused number) after s (placesInto s list none)
   unfolding placesInto spaceWith andThen answered
   page-refused e = rw (e .0, e .1) (refl, refl)
 
   -- A slab that was taken and filled is its place.
-  pub slab-placed : (class : ℕ) {off : ℕ} → takeBlock class s ≡ accepted (record { off = off; space = after }) → (body : List ℕ) → body ≡ overwrite (after .body) off (slabPayload list)
+  pub slab-placed : (class : ℕ) {off : ℕ} → takeBlock class s ≡ accepted (record { off = off; space = after }) → (body : List ℕ)
+      → body ≡ overwrite (after .body) off (slabPayload list)
       → PlacedAs (accepted (Slab class (length list) off)) (space body (after .mark) (after .free)) s (placesInto s list (some class))
   unfolding placesInto spaceWith andThen answered
   slab-placed class e body is = rw (e, is) (refl, refl)
 
   -- A page that was taken and filled is its place.
-  pub page-placed : {off : ℕ} → takeBlock pageClass s ≡ accepted (record { off = off; space = after }) → (body : List ℕ) → body ≡ overwrite (after .body) off (lastPageOf off off 1 (length list) list)
+  pub page-placed : {off : ℕ} → takeBlock pageClass s ≡ accepted (record { off = off; space = after }) → (body : List ℕ)
+      → body ≡ overwrite (after .body) off (lastPageOf off off 1 (length list) list)
       → PlacedAs (accepted (Extent off)) (space body (after .mark) (after .free)) s (placesInto s list none)
   unfolding placesInto spaceWith andThen answered
   page-placed e body is = rw (e, is) (refl, refl)

@@ -66,7 +66,8 @@ unfolding answered listAfter
 read-no a out e = (rw e, rw e)
 
 -- A read that tells how long the list is, and writes it to the lent one's start.
-pub read-yes : (a : Answer Outcome) (b : Book) (c : Content) (counts : Counts) (before after : List ℕ) → a ≡ accepted (reading c b) → countsOf c ≡ counts
+pub read-yes : (a : Answer Outcome) (b : Book) (c : Content) (counts : Counts) (before after : List ℕ) → a ≡ accepted (reading c b)
+    → countsOf c ≡ counts
     → after ≡ overwrite before 0 (c .numbers) → ReadDoes a before after (accepted (record { length = counts .length; pages = counts .pages }))
 unfolding answered listAfter
 read-yes a b c counts before after e n w = (rw (e, ← n), rw e w)

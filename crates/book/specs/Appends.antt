@@ -39,7 +39,8 @@ movesInto b key ns n old (some class) =
 movesInto b key ns n old none =
     let list = ns ++ (n ∷ []) in
     andThen (takeBlock pageClass (b .space))
-    (λ t. accepted (appending key (Extent (t .off)) (length ns) (release old (filled t (lastPageOf (t .off) (t .off) 1 (length list) list))) b))
+    (λ t. accepted (appending key (Extent (t .off)) (length ns)
+    (release old (filled t (lastPageOf (t .off) (t .off) 1 (length list) list))) b))
 
 -- A list with one number more moves to the class for it, in shortest forms.
 unfoldable pub moves : Book → ℕ → List ℕ → ℕ → List Block → Answer Outcome
@@ -54,7 +55,8 @@ appendSlab b key n class off c =
     let difference = n - lastOf c in
     cond (stays class (used + 1) (c .taken + ulebLen difference))
     (accepted (appending key (Slab class (used + 1) off) 0
-    (space (overwrite (b .space .body) off (slabWith (blockAt (b .space) class off) used (c .taken) difference)) (b .space .mark) (b .space .free)) b))
+    (space (overwrite (b .space .body) off (slabWith (blockAt (b .space) class off) used (c .taken) difference))
+    (b .space .mark) (b .space .free)) b))
     (moves b key (c .numbers) n (record { class = class; off = off } ∷ []))
 
 -- ---- pages
@@ -65,7 +67,8 @@ growChain b key n last t =
     andThen (takeBlock pageClass (b .space))
     (λ p. let body = overwrite (p .space .body) last (pageBefore (pageAt (p .space) last) (p .off)) in
     accepted (appending key (Extent (p .off)) 0
-    (space (overwrite body (p .off) (lastPageOf (t .last .first) (p .off) 1 (t .last .creates + 1) (n ∷ []))) (p .space .mark) (p .space .free)) b))
+    (space (overwrite body (p .off) (lastPageOf (t .last .first) (p .off) 1 (t .last .creates + 1) (n ∷ [])))
+    (p .space .mark) (p .space .free)) b))
 
 -- A number behind a key's last page: at its spot, or else in a page more.
 unfoldable pub appendPage : Book → ℕ → ℕ → ℕ → Tail → Option Spot → Answer Outcome
@@ -81,10 +84,12 @@ unfoldable pub appendAt : Book → ℕ → ℕ → ShHeadValue → Answer Outcom
 appendAt b key n Empty = accepted (appending key (Inline n 1) 0 (b .space) b)
 appendAt b key n (Inline entry used) = refuseIf (leb n entry) offeredNotRising (moves b key (entry ∷ []) n [])
 appendAt b key n (Slab class used off) =
-    andThen (soundly (slabScan (b .space) class used off)) (λ c. refuseIf (leb n (lastOf c)) offeredNotRising (appendSlab b key n class off c))
+    andThen (soundly (slabScan (b .space) class used off))
+    (λ c. refuseIf (leb n (lastOf c)) offeredNotRising (appendSlab b key n class off c))
 appendAt b key n (Extent last) =
     andThen (soundly (tailAt (b .space) last))
-    (λ t. refuseIf (leb n (lastOf (t .scan))) offeredNotRising (appendPage b key n last t (spotBehind (pageAt (b .space) last) n (t .scan))))
+    (λ t. refuseIf (leb n (lastOf (t .scan))) offeredNotRising
+    (appendPage b key n last t (spotBehind (pageAt (b .space) last) n (t .scan))))
 
 -- An append of a number to a key: the number is judged by itself, then the key, then whether the number is above its last.
 unfoldable pub appends : Book → ℕ → ℕ → Answer Outcome

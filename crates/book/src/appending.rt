@@ -36,7 +36,8 @@ const MOST_MOVED: usize = 257;
 
 // A refused append leaves the state.
 fn refuse_append(state: State, number: Refusal) -> AfterAppend
-    ensures { λ r. ⌜ ((body heads : List ℕ) (a : Answer Outcome) → a ≡ refused number → Does a (bookOf body heads state) (bookOf body heads (r .state)) (appendAnswer (r .answer))) ⌝ }
+    ensures { λ r. ⌜ ((body heads : List ℕ) (a : Answer Outcome) → a ≡ refused number
+        → Does a (bookOf body heads state) (bookOf body heads (r .state)) (appendAnswer (r .answer))) ⌝ }
 {
     AfterAppend {
         answer: BookAppend::Refused(number),
@@ -53,7 +54,9 @@ fn accept_append(
     rewritten: u64,
 ) -> AfterAppend
     requires { ⌜ key < length (now heads) ⌝ }
-    ensures { λ r. ⌜ ((b : Book) (body : List ℕ) → b .heads ≡ now (heads .entry) → Does (accepted (appending key place rewritten (spaceOf body state) b)) b (bookOf body (now (heads .exit)) (r .state)) (appendAnswer (r .answer))) ⌝ }
+    ensures { λ r. ⌜ ((b : Book) (body : List ℕ) → b .heads ≡ now (heads .entry)
+        → Does (accepted (appending key place rewritten (spaceOf body state) b)) b (bookOf body (now (heads .exit)) (r .state))
+        (appendAnswer (r .answer))) ⌝ }
 {
     put_head(heads, key, place);
     AfterAppend {
@@ -72,7 +75,10 @@ fn append_inline(
     entry: u64,
 ) -> AfterAppend
     requires { ⌜ ToAppend (bookOf (now body) (now heads) state) key n × (0 < entry) ⌝ }
-    ensures { λ r. ⌜ ((used : ℕ) → Does (appendAt (bookOf (now (body .entry)) (now (heads .entry)) state) key n (Inline entry used)) (bookOf (now (body .entry)) (now (heads .entry)) state) (bookOf (now (body .exit)) (now (heads .exit)) (r .state)) (appendAnswer (r .answer))) ⌝ }
+    ensures { λ r. ⌜ ((used : ℕ)
+        → Does (appendAt (bookOf (now (body .entry)) (now (heads .entry)) state) key n (Inline entry used))
+        (bookOf (now (body .entry)) (now (heads .entry)) state) (bookOf (now (body .exit)) (now (heads .exit)) (r .state))
+        (appendAnswer (r .answer))) ⌝ }
 {
     if n <= entry {
         return refuse_append(state, error::OFFERED_NOT_RISING);
@@ -99,7 +105,9 @@ fn move_slab(
     off: u64,
 ) -> AfterAppend
     requires { ⌜ ToAppend (bookOf (now body) (now heads) state) key n × SlabMoves (spaceOf (now body) state) n class used off ⌝ }
-    ensures { λ r. ⌜ Does (appendAt (bookOf (now (body .entry)) (now (heads .entry)) state) key n (Slab class used off)) (bookOf (now (body .entry)) (now (heads .entry)) state) (bookOf (now (body .exit)) (now (heads .exit)) (r .state)) (appendAnswer (r .answer)) ⌝ }
+    ensures { λ r. ⌜ Does (appendAt (bookOf (now (body .entry)) (now (heads .entry)) state) key n (Slab class used off))
+        (bookOf (now (body .entry)) (now (heads .entry)) state) (bookOf (now (body .exit)) (now (heads .exit)) (r .state))
+        (appendAnswer (r .answer)) ⌝ }
 {
     let mut list = [0; MOST_MOVED];
     book_keys::slab_into(body, class, off, &mut list);
@@ -129,7 +137,9 @@ fn append_slab(
     off: u64,
 ) -> AfterAppend
     requires { ⌜ ToAppend (bookOf (now body) (now heads) state) key n ⌝ }
-    ensures { λ r. ⌜ Does (appendAt (bookOf (now (body .entry)) (now (heads .entry)) state) key n (Slab class used off)) (bookOf (now (body .entry)) (now (heads .entry)) state) (bookOf (now (body .exit)) (now (heads .exit)) (r .state)) (appendAnswer (r .answer)) ⌝ }
+    ensures { λ r. ⌜ Does (appendAt (bookOf (now (body .entry)) (now (heads .entry)) state) key n (Slab class used off))
+        (bookOf (now (body .entry)) (now (heads .entry)) state) (bookOf (now (body .exit)) (now (heads .exit)) (r .state))
+        (appendAnswer (r .answer)) ⌝ }
 {
     let end = book_keys::slab_end(body, state.mark, class, used, off);
     let ScanStream::Scanned { taken, last } = end else {
@@ -164,7 +174,9 @@ fn grow_chain(
     creates: u32,
 ) -> AfterAppend
     requires { ⌜ ToAppend (bookOf (now body) (now heads) state) key n × ChainGrows (spaceOf (now body) state) n last first creates ⌝ }
-    ensures { λ r. ⌜ Does (appendAt (bookOf (now (body .entry)) (now (heads .entry)) state) key n (Extent last)) (bookOf (now (body .entry)) (now (heads .entry)) state) (bookOf (now (body .exit)) (now (heads .exit)) (r .state)) (appendAnswer (r .answer)) ⌝ }
+    ensures { λ r. ⌜ Does (appendAt (bookOf (now (body .entry)) (now (heads .entry)) state) key n (Extent last))
+        (bookOf (now (body .entry)) (now (heads .entry)) state) (bookOf (now (body .exit)) (now (heads .exit)) (r .state))
+        (appendAnswer (r .answer)) ⌝ }
 {
     let taken = book_space::take_block(body, state, SH_PAGE_SLAB_CLASS);
     let after = taken.state;
@@ -188,7 +200,9 @@ fn append_page(
     last: u64,
 ) -> AfterAppend
     requires { ⌜ ToAppend (bookOf (now body) (now heads) state) key n ⌝ }
-    ensures { λ r. ⌜ Does (appendAt (bookOf (now (body .entry)) (now (heads .entry)) state) key n (Extent last)) (bookOf (now (body .entry)) (now (heads .entry)) state) (bookOf (now (body .exit)) (now (heads .exit)) (r .state)) (appendAnswer (r .answer)) ⌝ }
+    ensures { λ r. ⌜ Does (appendAt (bookOf (now (body .entry)) (now (heads .entry)) state) key n (Extent last))
+        (bookOf (now (body .entry)) (now (heads .entry)) state) (bookOf (now (body .exit)) (now (heads .exit)) (r .state))
+        (appendAnswer (r .answer)) ⌝ }
 {
     let end = book_keys::tail_end(body, state.mark, last);
     let TailEnd::Tail {
@@ -227,7 +241,9 @@ fn append_at(
     place: ShHeadValue,
 ) -> AfterAppend
     requires { ⌜ ToAppend (bookOf (now body) (now heads) state) key n × (unpackHead (getD (now heads) key 0) ≡ accepted place) ⌝ }
-    ensures { λ r. ⌜ Does (appendAt (bookOf (now (body .entry)) (now (heads .entry)) state) key n place) (bookOf (now (body .entry)) (now (heads .entry)) state) (bookOf (now (body .exit)) (now (heads .exit)) (r .state)) (appendAnswer (r .answer)) ⌝ }
+    ensures { λ r. ⌜ Does (appendAt (bookOf (now (body .entry)) (now (heads .entry)) state) key n place)
+        (bookOf (now (body .entry)) (now (heads .entry)) state) (bookOf (now (body .exit)) (now (heads .exit)) (r .state))
+        (appendAnswer (r .answer)) ⌝ }
 {
     match place {
         ShHeadValue::Empty => accept_append(
@@ -255,7 +271,9 @@ fn append_at(
 // Appends a number to a key: the number is judged by itself, then the key, then whether the number is above its last.
 pub fn append(body: &mut [u8], heads: &mut [u64], state: State, key: u64, n: u64) -> AfterAppend
     ensures answer { λ r. ⌜ appendAnswer (r .answer) ≡ answerOf (appends (bookOf (now (body .entry)) (now (heads .entry)) state) key n) ⌝ }
-    ensures book { λ r. ⌜ bookOf (now (body .exit)) (now (heads .exit)) (r .state) ≡ bookAfter (bookOf (now (body .entry)) (now (heads .entry)) state) (appends (bookOf (now (body .entry)) (now (heads .entry)) state) key n) ⌝ }
+    ensures book { λ r. ⌜ bookOf (now (body .exit)) (now (heads .exit)) (r .state)
+        ≡ bookAfter (bookOf (now (body .entry)) (now (heads .entry)) state)
+        (appends (bookOf (now (body .entry)) (now (heads .entry)) state) key n) ⌝ }
 {
     if book_space::shape_broken(body, heads.len(), state) {
         return refuse_append(state, error::SHAPE_BAD);

@@ -73,8 +73,11 @@ fn load_slab(
     fks: &[u64],
     class: u8,
 ) -> AfterLoad
-    requires { ⌜ InShape (spaceOf (now body) state) × (key < length (now heads)) × (class ≤ maxSlabClass) × (length (now fks) ≤ 256) × Rising (2 ^ 62) 0 (now fks) × (payloadLen (streamLen (now fks)) ≤ slabBytes class) ⌝ }
-    ensures { λ r. ⌜ Does (loadInto (bookOf (now (body .entry)) (now (heads .entry)) state) key (now (fks .entry)) (some class)) (bookOf (now (body .entry)) (now (heads .entry)) state) (bookOf (now (body .exit)) (now (heads .exit)) (r .state)) (loadAnswer (r .answer)) ⌝ }
+    requires { ⌜ InShape (spaceOf (now body) state) × (key < length (now heads)) × (class ≤ maxSlabClass) × (length (now fks) ≤ 256)
+        × Rising (2 ^ 62) 0 (now fks) × (payloadLen (streamLen (now fks)) ≤ slabBytes class) ⌝ }
+    ensures { λ r. ⌜ Does (loadInto (bookOf (now (body .entry)) (now (heads .entry)) state) key (now (fks .entry)) (some class))
+        (bookOf (now (body .entry)) (now (heads .entry)) state) (bookOf (now (body .exit)) (now (heads .exit)) (r .state))
+        (loadAnswer (r .answer)) ⌝ }
 {
     let placed = place_in_slab(body, state, fks, class);
     let after = placed.state;
@@ -96,7 +99,9 @@ fn load_parts(
     count: usize,
 ) -> AfterLoad
     requires { ⌜ InShape (spaceOf (now body) state) × (key < length (now heads)) × Parts (now fks) (now ranges) count ⌝ }
-    ensures { λ r. ⌜ Does (loadInto (bookOf (now (body .entry)) (now (heads .entry)) state) key (now (fks .entry)) none) (bookOf (now (body .entry)) (now (heads .entry)) state) (bookOf (now (body .exit)) (now (heads .exit)) (r .state)) (loadAnswer (r .answer)) ⌝ }
+    ensures { λ r. ⌜ Does (loadInto (bookOf (now (body .entry)) (now (heads .entry)) state) key (now (fks .entry)) none)
+        (bookOf (now (body .entry)) (now (heads .entry)) state) (bookOf (now (body .exit)) (now (heads .exit)) (r .state))
+        (loadAnswer (r .answer)) ⌝ }
 {
     let taken = book_space::take_run(body, state, count as u64);
     let after = taken.state;
@@ -118,7 +123,9 @@ fn load_parts(
 // Loads a list into a run of pages, a part of its cutting in each.
 fn load_run(body: &mut [u8], heads: &mut [u64], state: State, key: usize, fks: &[u64]) -> AfterLoad
     requires { ⌜ InShape (spaceOf (now body) state) × (key < length (now heads)) × (0 < length (now fks)) × Judged (now fks) ⌝ }
-    ensures { λ r. ⌜ Does (loadInto (bookOf (now (body .entry)) (now (heads .entry)) state) key (now (fks .entry)) none) (bookOf (now (body .entry)) (now (heads .entry)) state) (bookOf (now (body .exit)) (now (heads .exit)) (r .state)) (loadAnswer (r .answer)) ⌝ }
+    ensures { λ r. ⌜ Does (loadInto (bookOf (now (body .entry)) (now (heads .entry)) state) key (now (fks .entry)) none)
+        (bookOf (now (body .entry)) (now (heads .entry)) state) (bookOf (now (body .exit)) (now (heads .exit)) (r .state))
+        (loadAnswer (r .answer)) ⌝ }
 {
     let mut ranges = [[0; 2]; MOST_PAGES];
     let cut = scripthash_cutting::sh_page_chunk_ranges(fks, &mut ranges);
@@ -137,8 +144,11 @@ fn load_list(
     fks: &[u64],
     bytes: usize,
 ) -> AfterLoad
-    requires { ⌜ InShape (spaceOf (now body) state) × (key < length (now heads)) × (2 ≤ length (now fks)) × Judged (now fks) × (bytes ≡ streamLen (now fks)) ⌝ }
-    ensures { λ r. ⌜ Does (loadInto (bookOf (now (body .entry)) (now (heads .entry)) state) key (now (fks .entry)) (loadsTo (length (now (fks .entry))) (streamLen (now (fks .entry))))) (bookOf (now (body .entry)) (now (heads .entry)) state) (bookOf (now (body .exit)) (now (heads .exit)) (r .state)) (loadAnswer (r .answer)) ⌝ }
+    requires { ⌜ InShape (spaceOf (now body) state) × (key < length (now heads)) × (2 ≤ length (now fks)) × Judged (now fks)
+        × (bytes ≡ streamLen (now fks)) ⌝ }
+    ensures { λ r. ⌜ Does (loadInto (bookOf (now (body .entry)) (now (heads .entry)) state) key (now (fks .entry))
+        (loadsTo (length (now (fks .entry))) (streamLen (now (fks .entry))))) (bookOf (now (body .entry)) (now (heads .entry)) state)
+        (bookOf (now (body .exit)) (now (heads .exit)) (r .state)) (loadAnswer (r .answer)) ⌝ }
 {
     let class = book_rules::loads_to(fks.len(), bytes);
     match class {
@@ -157,7 +167,9 @@ fn load_judged(
     bytes: usize,
 ) -> AfterLoad
     requires { ⌜ InShape (spaceOf (now body) state) × (key < length (now heads)) × Judged (now fks) × (bytes ≡ streamLen (now fks)) ⌝ }
-    ensures { λ r. ⌜ Does (loadAt (bookOf (now (body .entry)) (now (heads .entry)) state) key (now (fks .entry))) (bookOf (now (body .entry)) (now (heads .entry)) state) (bookOf (now (body .exit)) (now (heads .exit)) (r .state)) (loadAnswer (r .answer)) ⌝ }
+    ensures { λ r. ⌜ Does (loadAt (bookOf (now (body .entry)) (now (heads .entry)) state) key (now (fks .entry)))
+        (bookOf (now (body .entry)) (now (heads .entry)) state) (bookOf (now (body .exit)) (now (heads .exit)) (r .state))
+        (loadAnswer (r .answer)) ⌝ }
 {
     if fks.len() == 0 {
         return AfterLoad {
@@ -174,8 +186,11 @@ fn load_judged(
 
 // Loads a list onto an empty key.
 pub fn load(body: &mut [u8], heads: &mut [u64], state: State, key: u64, fks: &[u64]) -> AfterLoad
-    ensures answer { λ r. ⌜ loadAnswer (r .answer) ≡ answerOf (loads (bookOf (now (body .entry)) (now (heads .entry)) state) key (now (fks .entry))) ⌝ }
-    ensures book { λ r. ⌜ bookOf (now (body .exit)) (now (heads .exit)) (r .state) ≡ bookAfter (bookOf (now (body .entry)) (now (heads .entry)) state) (loads (bookOf (now (body .entry)) (now (heads .entry)) state) key (now (fks .entry))) ⌝ }
+    ensures answer { λ r. ⌜ loadAnswer (r .answer)
+        ≡ answerOf (loads (bookOf (now (body .entry)) (now (heads .entry)) state) key (now (fks .entry))) ⌝ }
+    ensures book { λ r. ⌜ bookOf (now (body .exit)) (now (heads .exit)) (r .state)
+        ≡ bookAfter (bookOf (now (body .entry)) (now (heads .entry)) state)
+        (loads (bookOf (now (body .entry)) (now (heads .entry)) state) key (now (fks .entry))) ⌝ }
 {
     if book_space::shape_broken(body, heads.len(), state) {
         return refuse_load(state, error::SHAPE_BAD);

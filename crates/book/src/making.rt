@@ -22,8 +22,11 @@ fn clear_words(words: &mut [u64])
 
 // Makes a book fresh over a body, which stays as it is: heads and free heads become 0, and the mark 4,096.
 pub fn fresh(body: &[u8], heads: &mut [u64], state: State) -> AfterFresh
-    ensures answer { λ r. ⌜ freshAnswer (r .answer) ≡ answered (λ (b : Book). tt) (makesFresh (bookOf (now (body .entry)) (now (heads .entry)) state)) ⌝ }
-    ensures book { λ r. ⌜ bookOf (now (body .entry)) (now (heads .exit)) (r .state) ≡ madeAfter (bookOf (now (body .entry)) (now (heads .entry)) state) (makesFresh (bookOf (now (body .entry)) (now (heads .entry)) state)) ⌝ }
+    ensures answer { λ r. ⌜ freshAnswer (r .answer)
+        ≡ answered (λ (b : Book). tt) (makesFresh (bookOf (now (body .entry)) (now (heads .entry)) state)) ⌝ }
+    ensures book { λ r. ⌜ bookOf (now (body .entry)) (now (heads .exit)) (r .state)
+        ≡ madeAfter (bookOf (now (body .entry)) (now (heads .entry)) state)
+        (makesFresh (bookOf (now (body .entry)) (now (heads .entry)) state)) ⌝ }
 {
     if book_space::out_of_shape(body.len(), heads.len()) {
         return AfterFresh {

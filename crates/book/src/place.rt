@@ -32,9 +32,12 @@ pub struct AfterPlace {
 
 // Writes a list to a taken slab of a class that has bytes for its payload.
 pub fn place_in_slab(body: &mut [u8], state: State, fks: &[u64], class: u8) -> AfterPlace
-    requires { ⌜ InShape (spaceOf (now body) state) × (class ≤ maxSlabClass) × (length (now fks) ≤ 256) × Rising (2 ^ 62) 0 (now fks) × (payloadLen (streamLen (now fks)) ≤ slabBytes class) ⌝ }
-    ensures answer { λ r. ⌜ placeAnswer (r .answer) ≡ answered (λ (p : Placed). p .place) (placesInto (spaceOf (now (body .entry)) state) (now (fks .entry)) (some class)) ⌝ }
-    ensures space { λ r. ⌜ spaceOf (now (body .exit)) (r .state) ≡ spaceWith (spaceOf (now (body .entry)) state) (placesInto (spaceOf (now (body .entry)) state) (now (fks .entry)) (some class)) ⌝ }
+    requires { ⌜ InShape (spaceOf (now body) state) × (class ≤ maxSlabClass) × (length (now fks) ≤ 256) × Rising (2 ^ 62) 0 (now fks)
+        × (payloadLen (streamLen (now fks)) ≤ slabBytes class) ⌝ }
+    ensures answer { λ r. ⌜ placeAnswer (r .answer)
+        ≡ answered (λ (p : Placed). p .place) (placesInto (spaceOf (now (body .entry)) state) (now (fks .entry)) (some class)) ⌝ }
+    ensures space { λ r. ⌜ spaceOf (now (body .exit)) (r .state)
+        ≡ spaceWith (spaceOf (now (body .entry)) state) (placesInto (spaceOf (now (body .entry)) state) (now (fks .entry)) (some class)) ⌝ }
 {
     let taken = book_space::take_block(body, state, class);
     let state = taken.state;
@@ -56,9 +59,12 @@ pub fn place_in_slab(body: &mut [u8], state: State, fks: &[u64], class: u8) -> A
 
 // Writes a list to a taken page, the only one of its key.
 pub fn place_in_page(body: &mut [u8], state: State, fks: &[u64]) -> AfterPlace
-    requires { ⌜ InShape (spaceOf (now body) state) × (length (now fks) ≤ 257) × Rising (2 ^ 62) 0 (now fks) × (streamLen (now fks) ≤ 4072) ⌝ }
-    ensures answer { λ r. ⌜ placeAnswer (r .answer) ≡ answered (λ (p : Placed). p .place) (placesInto (spaceOf (now (body .entry)) state) (now (fks .entry)) none) ⌝ }
-    ensures space { λ r. ⌜ spaceOf (now (body .exit)) (r .state) ≡ spaceWith (spaceOf (now (body .entry)) state) (placesInto (spaceOf (now (body .entry)) state) (now (fks .entry)) none) ⌝ }
+    requires { ⌜ InShape (spaceOf (now body) state) × (length (now fks) ≤ 257) × Rising (2 ^ 62) 0 (now fks) × (streamLen (now fks) ≤ 4072)
+        ⌝ }
+    ensures answer { λ r. ⌜ placeAnswer (r .answer)
+        ≡ answered (λ (p : Placed). p .place) (placesInto (spaceOf (now (body .entry)) state) (now (fks .entry)) none) ⌝ }
+    ensures space { λ r. ⌜ spaceOf (now (body .exit)) (r .state)
+        ≡ spaceWith (spaceOf (now (body .entry)) state) (placesInto (spaceOf (now (body .entry)) state) (now (fks .entry)) none) ⌝ }
 {
     let taken = book_space::take_block(body, state, SH_PAGE_SLAB_CLASS);
     let state = taken.state;
@@ -80,8 +86,12 @@ pub fn place_in_page(body: &mut [u8], state: State, fks: &[u64]) -> AfterPlace
 // Writes a list of 2 to 257 numbers to where lists move: a taken slab of the class for it, or else a taken page.
 pub fn move_list(body: &mut [u8], state: State, fks: &[u64]) -> AfterPlace
     requires { ⌜ InShape (spaceOf (now body) state) × (2 ≤ length (now fks)) × (length (now fks) ≤ 257) × Rising (2 ^ 62) 0 (now fks) ⌝ }
-    ensures answer { λ r. ⌜ placeAnswer (r .answer) ≡ answered (λ (p : Placed). p .place) (placesInto (spaceOf (now (body .entry)) state) (now (fks .entry)) (movesTo (length (now (fks .entry))) (streamLen (now (fks .entry))))) ⌝ }
-    ensures space { λ r. ⌜ spaceOf (now (body .exit)) (r .state) ≡ spaceWith (spaceOf (now (body .entry)) state) (placesInto (spaceOf (now (body .entry)) state) (now (fks .entry)) (movesTo (length (now (fks .entry))) (streamLen (now (fks .entry))))) ⌝ }
+    ensures answer { λ r. ⌜ placeAnswer (r .answer) ≡ answered (λ (p : Placed). p .place)
+        (placesInto (spaceOf (now (body .entry)) state) (now (fks .entry))
+        (movesTo (length (now (fks .entry))) (streamLen (now (fks .entry))))) ⌝ }
+    ensures space { λ r. ⌜ spaceOf (now (body .exit)) (r .state) ≡ spaceWith (spaceOf (now (body .entry)) state)
+        (placesInto (spaceOf (now (body .entry)) state) (now (fks .entry))
+        (movesTo (length (now (fks .entry))) (streamLen (now (fks .entry))))) ⌝ }
 {
     let bytes = compact_len(fks);
     let class = book_rules::moves_to(fks.len() as u32, bytes);

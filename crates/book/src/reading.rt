@@ -9,10 +9,13 @@ use crate::answers::BookRead;
 use book_keys::KeyCounts;
 use book_space::State;
 
-// Reads the list of a key into the start of a lent list: all of the key is judged before the lent list, which is left where the read is refused.
+// Reads the list of a key into the start of a lent list: all of the key is judged before the lent list, which is left where the read is
+// refused.
 pub fn read(body: &[u8], heads: &[u64], state: State, key: u64, out: &mut [u64]) -> BookRead
-    ensures answer { λ r. ⌜ readAnswer r ≡ answered countedOf (answerOf (reads (bookOf (now (body .entry)) (now (heads .entry)) state) key (length (now (out .entry))))) ⌝ }
-    ensures list { λ r. ⌜ now (out .exit) ≡ listAfter (now (out .entry)) (reads (bookOf (now (body .entry)) (now (heads .entry)) state) key (length (now (out .entry)))) ⌝ }
+    ensures answer { λ r. ⌜ readAnswer r
+        ≡ answered countedOf (answerOf (reads (bookOf (now (body .entry)) (now (heads .entry)) state) key (length (now (out .entry))))) ⌝ }
+    ensures list { λ r. ⌜ now (out .exit)
+        ≡ listAfter (now (out .entry)) (reads (bookOf (now (body .entry)) (now (heads .entry)) state) key (length (now (out .entry)))) ⌝ }
 {
     if book_space::shape_broken(body, heads.len(), state) {
         return BookRead::Refused(error::SHAPE_BAD);

@@ -15,7 +15,8 @@ use Rattle.buffer.proofs.LawsOrder.{lt-or-ge}
 use Rattle.compact.specs.Uleb128.{ulebLen}
 use Rattle.scripthash_layout.specs.Sizes.{pageSize}
 use Rattle.scripthash_stream.specs.Stream.{Scan, scan}
-use Rattle.scripthash_fields.specs.Page.{field, setField, versionOf, linkOf, extentBaseOf, extentCountOf, createsFieldOf, namesExtent, streamOff, streamCap}
+use Rattle.scripthash_fields.specs.Page.{field, setField, versionOf, linkOf, extentBaseOf, extentCountOf, createsFieldOf, namesExtent}
+use Rattle.scripthash_fields.specs.Page.{streamOff, streamCap}
 use Rattle.scripthash_fields.specs.Page.{isLastLink, linkOffset, linkTo, extentNamed}
 use Rattle.scripthash_fields.proofs.LawsPage.{length-setField, field-set, field-apart, drop-setField, link-fits}
 use Rattle.scripthash_fields.proofs.LawsFields.{stream-off-within}
@@ -142,7 +143,8 @@ module _ (page : List ℕ) (n creates : ℕ) (s : Scan) (w : Spot) (scans : page
       }
 
 -- so a key's last page stays one
-pub last-more : {page : List ℕ} {s : Scan} {first creates : ℕ} → LastReads page s first creates → (n : ℕ) (w : Spot) → lastOf s < n → n < 2 ^ 63
+pub last-more : {page : List ℕ} {s : Scan} {first creates : ℕ} → LastReads page s first creates → (n : ℕ) (w : Spot) → lastOf s < n
+    → n < 2 ^ 63
     → spotBehind page n s ≡ some w → creates + 1 < 2 ^ 32 → LastReads (pageWith page w creates) (withLast 0 s n) first (creates + 1)
 last-more {page} {s} {first} {creates} r n w above below spot small =
     let m = page-more page n creates s w (r .scans) (r .names) above below spot small in

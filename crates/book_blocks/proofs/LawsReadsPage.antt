@@ -13,7 +13,8 @@ use Rattle.scripthash_stream.proofs.LawsStream.{length-stream}
 use Rattle.scripthash_fields.specs.Page.{versionOf, linkOf, extentBaseOf, extentCountOf, createsFieldOf, namesExtent, streamCap}
 use Rattle.scripthash_fields.specs.Page.{isLastLink, linkOffset, linkTo, extentNamed}
 use Rattle.scripthash_fields.proofs.LawsPage.{link-last, link-offset, link-fits}
-use Rattle.scripthash_fields.proofs.LawsPage.{length-delta, delta-version, delta-link, length-extent, extent-version, extent-link, extent-base, extent-pages, extent-creates}
+use Rattle.scripthash_fields.proofs.LawsPage.{length-delta, delta-version, delta-link, length-extent, extent-version, extent-link}
+use Rattle.scripthash_fields.proofs.LawsPage.{extent-base, extent-pages, extent-creates}
 use Rattle.scripthash_fields.proofs.LawsFields.{extent-good, stream-off-extent, stream-off-other}
 use Rattle.scripthash_pages.specs.Entries.{pageScan}
 use Rattle.scripthash_pages.proofs.LawsPacked.{delta-scan, extent-scan}

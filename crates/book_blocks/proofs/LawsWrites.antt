@@ -28,7 +28,8 @@ use Rattle.scripthash_fields.specs.Page.{setField, versionOf, streamOff, linkTo
 use Rattle.scripthash_fields.specs.Fields.{afterSet}
 use Rattle.scripthash_fields.proofs.LawsPage.{length-setField, length-delta, length-extent}
 use Rattle.scripthash_fields.proofs.LawsFields.{stream-off-extent}
-use Rattle.scripthash_cutting.specs.Cutting.{pageRoom, lastPageRoom, cutting, rangeOf, rangesFrom, chunkRanges, afterChunkRanges, joined, Fit}
+use Rattle.scripthash_cutting.specs.Cutting.{pageRoom, lastPageRoom, cutting, rangeOf, rangesFrom, chunkRanges, afterChunkRanges, joined}
+use Rattle.scripthash_cutting.specs.Cutting.{Fit}
 use Rattle.scripthash_cutting.proofs.LawsPages.{pages-allowed}
 use Rattle.scripthash_cutting.proofs.LawsRising.{rising-words, rising-left, rising-right}
 use Rattle.scripthash_pages.specs.Pack.{packPage, packExtent}
@@ -51,7 +52,8 @@ pub length-lent-block : (b : List ℕ) (o k : ℕ) → o + k ≤ length b → le
 length-lent-block b o k h = ap length (lent-is b o k) ∙ length-part b o k h
 
 -- a block that comes back as another is a write of that one into the body
-pub block-back : (b : List ℕ) (o k : ℕ) (out block : List ℕ) → length block ≡ k → out ≡ block → putMid o (o + k - o) b out ≡ overwrite b o block
+pub block-back : (b : List ℕ) (o k : ℕ) (out block : List ℕ) → length block ≡ k → out ≡ block
+    → putMid o (o + k - o) b out ≡ overwrite b o block
 unfolding overwrite
 block-back b o k out block long is = let size : o + k - o ≡ length block = omega arith in rw (is, size, drop-drop (length block) o b)
 
@@ -109,7 +111,8 @@ unfolding setField overwrite pageOf extentHeader
 creates-again count link base extents creates stream other = refl
 
 -- a last page is as long as a page
-pub length-lastPage : (first base extents creates : ℕ) (ns : List ℕ) → streamLen ns ≤ lastPageRoom → length (lastPageOf first base extents creates ns) ≡ pageSize
+pub length-lastPage : (first base extents creates : ℕ) (ns : List ℕ) → streamLen ns ≤ lastPageRoom
+    → length (lastPageOf first base extents creates ns) ≡ pageSize
 length-lastPage first base extents creates ns fits =
     length-extent (length ns) (linkTo true first) base extents creates (stream ns) (omega (arith, length-stream 0 ns))
 
@@ -118,7 +121,8 @@ pub length-pageTo : (next : ℕ) (ns : List ℕ) → streamLen ns ≤ pageRoom �
 length-pageTo next ns fits = length-delta (length ns) (linkTo false next) (stream ns) (omega (arith, length-stream 0 ns))
 
 -- a page packed with its extent, with the first page's offset and creates written then, is the last page
-pub last-written : (page ns packed linked out : List ℕ) (first base extents creates link : ℕ) → length page ≡ pageSize → LastPage ns base extents
+pub last-written : (page ns packed linked out : List ℕ) (first base extents creates link : ℕ) → length page ≡ pageSize
+    → LastPage ns base extents
     → packed ≡ afterSet page (packExtent page ns base extents 0) → link ≡ linkTo true first → linked ≡ overwrite packed 3 (bytesOf 5 link)
     → out ≡ overwrite linked 20 (bytesOf 4 creates) → out ≡ lastPageOf first base extents creates ns
 unfolding setField
@@ -132,7 +136,8 @@ last-written page ns packed linked out first base extents creates link long l pa
     ∙ creates-again (length ns) (linkTo true first) base extents 0 (stream ns) creates)
 
 -- a list that can be packed is packed as a page before another
-pub page-written : (page ns : List ℕ) (next : ℕ) → length page ≡ pageSize → LinkedPage ns next → afterSet page (packPage page ns next) ≡ pageTo next ns
+pub page-written : (page ns : List ℕ) (next : ℕ) → length page ≡ pageSize → LinkedPage ns next
+    → afterSet page (packPage page ns next) ≡ pageTo next ns
 page-written page ns next long l =
     let named = l .next-named in
     ap (afterSet page)
@@ -140,14 +145,16 @@ page-written page ns next long l =
     ∙ ap (λ (last : Bool). pageOf (deltaHeader (length ns) (linkTo last next)) (stream ns)) (ne-eqb next 0 (λ (z : next ≡ 0). omega (arith, named .some)))
 
 -- a page that names an extent counts one number more without its version being written
-counted : (page : List ℕ) (n : ℕ) → 3 ≤ length page → versionOf page ≡ 2 → n ≡ littleEndian (part page 1 2) → overwrite page 1 (bytesOf 2 (n + 1)) ≡ oneMore page
+counted : (page : List ℕ) (n : ℕ) → 3 ≤ length page → versionOf page ≡ 2 → n ≡ littleEndian (part page 1 2)
+    → overwrite page 1 (bytesOf 2 (n + 1)) ≡ oneMore page
 counted page n h version is =
     let byte : getD page 0 0 ≡ 2 = sym (version-byte page (omega arith)) ∙ version in
     let same : set page 0 2 ≡ page = ap (set page 0) (sym byte) ∙ set-getD page 0 0 in
     ap (λ (b : List ℕ). overwrite b 1 (bytesOf 2 (n + 1))) (sym same) ∙ one-more-is page 2 n h (sym (kept-extent (getD page 0 0) byte)) is
 
 -- the count, the form and creates written into such a page
-pub grown-written : (page : List ℕ) (n taken difference creates : ℕ) → 3 ≤ length page → versionOf page ≡ 2 → n ≡ littleEndian (part page 1 2)
+pub grown-written : (page : List ℕ) (n taken difference creates : ℕ) → 3 ≤ length page → versionOf page ≡ 2
+    → n ≡ littleEndian (part page 1 2)
     → overwrite (overwrite (overwrite page 1 (bytesOf 2 (n + 1))) (24 + taken) (shortest difference)) 20 (bytesOf 4 (creates + 1))
     ≡ pageWith page (record { at = streamOff page + taken; difference = difference }) creates
 unfolding pageWith withAppended setField
@@ -184,7 +191,8 @@ pub record RunLeft (fks : List ℕ) (ranges : List (List ℕ)) (k from : ℕ) (p
   pub fit : Fit lastPageRoom pageRoom parts
   pub ranges-are : drop k ranges ≡ rangesFrom from parts
 
--- What is known of the next part of a run, up to an index, where it isn't the last: it fits a page, and is written to one before the others.
+-- What is known of the next part of a run, up to an index, where it isn't the last: it fits a page, and is written to one before the
+-- others.
 pub record RunTurn (fks : List ℕ) (ranges : List (List ℕ)) (k from to : ℕ) (parts : List (List ℕ)) : Type 0 where
   pub ranged : k < length ranges
   pub later : from ≤ to
@@ -209,7 +217,8 @@ rising-cut fks from to r =
     (behind, rising-left (2 ^ 62) 0 (cut fks from to) (drop (to - from) (drop from fks)) (rw (take-append-drop (to - from) (drop from fks)) behind))
 
 -- the next part of a run that isn't the last ends where its range says
-pub run-turn : (fks : List ℕ) (ranges : List (List ℕ)) (k from : ℕ) (parts : List (List ℕ)) → 1 < length parts → RunLeft fks ranges k from parts
+pub run-turn : (fks : List ℕ) (ranges : List (List ℕ)) (k from : ℕ) (parts : List (List ℕ)) → 1 < length parts
+    → RunLeft fks ranges k from parts
     → RunTurn fks ranges k from (getD (getD ranges k []) 1 0) parts
 unfolding writeRun joined Fit rangesFrom
 run-turn fks ranges k from [] h l = absurd (omega arith)
@@ -239,7 +248,8 @@ run-turn fks ranges k from (p ∷ q ∷ ps) h l =
     }
 
 -- the last part of a run
-pub run-end : (fks : List ℕ) (ranges : List (List ℕ)) (k from : ℕ) (parts : List (List ℕ)) → length parts ≡ 1 → RunLeft fks ranges k from parts
+pub run-end : (fks : List ℕ) (ranges : List (List ℕ)) (k from : ℕ) (parts : List (List ℕ)) → length parts ≡ 1
+    → RunLeft fks ranges k from parts
     → RunEnd fks from parts
 unfolding writeRun joined Fit
 run-end fks ranges k from [] h l = absurd (omega arith)

@@ -15,7 +15,8 @@ use Rattle.scripthash_pages.specs.Entries.{Spot, withAppended}
 unfoldable pub slabWith : List ℕ → ℕ → ℕ → ℕ → List ℕ
 slabWith block used taken difference = overwrite (overwrite block 0 (bytesOf 2 (used + 1))) (2 + taken) (shortest difference)
 
--- A page that is a key's last: version 2, with LAST, a first page's offset, an extent and creates; its stream is that of a list, the rest is 0.
+-- A page that is a key's last: version 2, with LAST, a first page's offset, an extent and creates; its stream is that of a list, the rest
+-- is 0.
 abbrev pub lastPageOf : ℕ → ℕ → ℕ → ℕ → List ℕ → List ℕ
 lastPageOf first base extents creates ns = pageOf (extentHeader (length ns) (linkTo true first) base extents creates) (stream ns)
 
@@ -31,7 +32,8 @@ pageBefore page next = setField (setField page 3 5 (linkTo false next)) 20 4 0
 abbrev pub pageTo : ℕ → List ℕ → List ℕ
 pageTo next ns = pageOf (deltaHeader (length ns) (linkTo false next)) (stream ns)
 
--- A body with the parts of a list in pages from an offset on, each linked to the next; the last has LAST, the run's start as first offset and
+-- A body with the parts of a list in pages from an offset on, each linked to the next; the last has LAST, the run's start as first offset
+-- and
 -- extent base, the run's pages as extent count, and the list's length as creates.
 unfoldable pub writeRun : ℕ → ℕ → ℕ → List ℕ → ℕ → List (List ℕ) → List ℕ
 writeRun start count creates body off [] = body

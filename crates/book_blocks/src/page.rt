@@ -55,8 +55,10 @@ pub fn put_page_to(body: &mut [u8], off: usize, fks: &[u64], next: u64)
 
 // Counts one number more in a page that names an extent, and writes its form behind the bytes that its stream takes, and creates, one more.
 fn append_last(page: &mut [u8], taken: usize, difference: u64, creates: u32)
-    requires { ⌜ (length (now page) ≡ pageSize) × (versionOf (now page) ≡ 2) × (countOf (now page) < maxOffered) × (24 + taken + ulebLen difference ≤ pageSize) × (creates + 1 < 2 ^ 32) ⌝ }
-    ensures { λ _. ⌜ now (page .exit) ≡ pageWith (now (page .entry)) (record { at = streamOff (now (page .entry)) + taken; difference = difference }) creates ⌝ }
+    requires { ⌜ (length (now page) ≡ pageSize) × (versionOf (now page) ≡ 2) × (countOf (now page) < maxOffered)
+        × (24 + taken + ulebLen difference ≤ pageSize) × (creates + 1 < 2 ^ 32) ⌝ }
+    ensures { λ _. ⌜ now (page .exit)
+        ≡ pageWith (now (page .entry)) (record { at = streamOff (now (page .entry)) + taken; difference = difference }) creates ⌝ }
 {
     let count = buffer::get_u16(page, SH_PAGE_OFF_N_FKS);
     buffer::put_u16(page, SH_PAGE_OFF_N_FKS, count + 1);
@@ -66,8 +68,13 @@ fn append_last(page: &mut [u8], taken: usize, difference: u64, creates: u32)
 
 // Appends a number, by its difference, to a key's last page in a body: only the count, the new form and creates are written.
 pub fn grow_page(body: &mut [u8], last: usize, taken: usize, difference: u64, creates: u32)
-    requires { ⌜ (last + pageSize ≤ length (now body)) × (versionOf (part (now body) last pageSize) ≡ 2) × (countOf (part (now body) last pageSize) < maxOffered) × (24 + taken + ulebLen difference ≤ pageSize) × (creates + 1 < 2 ^ 32) ⌝ }
-    ensures { λ _. ⌜ now (body .exit) ≡ overwrite (now (body .entry)) last (pageWith (part (now (body .entry)) last pageSize) (record { at = streamOff (part (now (body .entry)) last pageSize) + taken; difference = difference }) creates) ⌝ }
+    requires { ⌜ (last + pageSize ≤ length (now body)) × (versionOf (part (now body) last pageSize) ≡ 2)
+        × (countOf (part (now body) last pageSize) < maxOffered) × (24 + taken + ulebLen difference ≤ pageSize) × (creates + 1 < 2 ^ 32) ⌝ }
+    ensures { λ _. ⌜ now (body .exit) ≡ overwrite (now (body .entry)) last
+        (pageWith (part (now (body .entry)) last pageSize) (record {
+          at = streamOff (part (now (body .entry)) last pageSize) + taken;
+          difference = difference;
+        }) creates) ⌝ }
 {
     let end = last + SH_PAGE_SIZE;
     append_last(&mut body[last..end], taken, difference, creates);

@@ -12,7 +12,8 @@ use scripthash_layout::SH_PAGE_SIZE;
 // Writes a list to the pages of a run from an offset of a body on, by the ranges of its parts. The last part is what is left of the list.
 pub fn put_run(body: &mut [u8], start: usize, fks: &[u64], ranges: &[ChunkRange], count: usize)
     requires { ⌜ Run (length (now body)) start (now fks) (now ranges) count ⌝ }
-    ensures { λ _. ⌜ now (body .exit) ≡ writeRun start count (length (now (fks .entry))) (now (body .entry)) start (cutting (now (fks .entry))) ⌝ }
+    ensures { λ _. ⌜ now (body .exit)
+        ≡ writeRun start count (length (now (fks .entry))) (now (body .entry)) start (cutting (now (fks .entry))) ⌝ }
 {
     let mut off = start;
     let mut from: usize = 0;

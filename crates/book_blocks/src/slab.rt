@@ -10,7 +10,8 @@ ghost use Rattle.book_blocks.specs.Blocks.{slabWith};
 
 // Writes the payload of a list to the block of a size at an offset of a body. What stands behind the payload stays.
 pub fn put_slab(body: &mut [u8], off: usize, size: usize, fks: &[u64])
-    requires { ⌜ (off + size ≤ length (now body)) × (2 + streamLen (now fks) ≤ size) × (length (now fks) ≤ maxOffered) × Rising (2 ^ 62) 0 (now fks) ⌝ }
+    requires { ⌜ (off + size ≤ length (now body)) × (2 + streamLen (now fks) ≤ size) × (length (now fks) ≤ maxOffered)
+        × Rising (2 ^ 62) 0 (now fks) ⌝ }
     ensures { λ _. ⌜ now (body .exit) ≡ overwrite (now (body .entry)) off (slabPayload (now (fks .entry))) ⌝ }
 {
     let end = off + size;
@@ -29,7 +30,8 @@ fn grow_block(block: &mut [u8], used: u16, taken: usize, difference: u64)
 // Appends a number, by its difference, to the slab of a size at an offset of a body: only the count and the new form are written.
 pub fn grow_slab(body: &mut [u8], off: usize, size: usize, used: u16, taken: usize, difference: u64)
     requires { ⌜ (off + size ≤ length (now body)) × (used < maxOffered) × (2 + taken + ulebLen difference ≤ size) ⌝ }
-    ensures { λ _. ⌜ now (body .exit) ≡ overwrite (now (body .entry)) off (slabWith (part (now (body .entry)) off size) used taken difference) ⌝ }
+    ensures { λ _. ⌜ now (body .exit)
+        ≡ overwrite (now (body .entry)) off (slabWith (part (now (body .entry)) off size) used taken difference) ⌝ }
 {
     let end = off + size;
     grow_block(&mut body[off..end], used, taken, difference);

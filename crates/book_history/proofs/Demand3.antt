@@ -28,7 +28,8 @@ module _ (body : List ℕ) (heads : ℕ) (cs : List Call) where
       let (size, keys) = shapes-kept (plainFresh (length body) heads) cs in
       agrees-stands _ _ (calls-good cs (fresh-good (length body) heads)) (books-agree each-alike _ _ cs (fresh-good (length body) heads) (fresh-agrees body heads)) (rw (size, keys) e)
 
-  -- Demand 3, one claim: the whole list of answers is the plain book's, and afterwards both stand alike, whatever the body holds and is called.
+  -- Demand 3, one claim: the whole list of answers is the plain book's, and afterwards both stand alike, whatever the body holds and is
+  -- called.
   pub demand-3 : (answers (fresh body heads) cs ≡ plainAnswers (plainFresh (length body) heads) cs)
       × Standing (plainAfter (plainFresh (length body) heads) cs) (after (fresh body heads) cs)
   demand-3 = (

@@ -20,7 +20,8 @@ use Rattle.book_rules.specs.Calls.{Call, load, append, read, drop, Told, loaded
 use Rattle.book_rules.specs.Limits.{outOfShape, offeredNumber, offeredList}
 use Rattle.book_rules.specs.Places.{stays, larger, movesTo, loadsTo}
 use Rattle.book_space.specs.Space.{markBad, shapeBroken, takeMark, rounded, takeRun, takeFresh, takePopped, takeBlock, release}
-use Rattle.book_keys.specs.Keys.{soundly, sure, goOn, slabScan, linkScan, goodExtent, lastAt, linked, walk, chainAt, pageBlocks, contentAt, content, createsGood, tailAt}
+use Rattle.book_keys.specs.Keys.{soundly, sure, goOn, slabScan, linkScan, goodExtent, lastAt, linked, walk, chainAt, pageBlocks, contentAt}
+use Rattle.book_keys.specs.Keys.{content, createsGood, tailAt}
 use Rattle.book.specs.Book.{Book, book, fresh, headWord, onKey}
 use Rattle.book_blocks.specs.Blocks.{slabWith, pageWith, pageBefore, writeRun}
 use Rattle.book.specs.Appends.{movesInto, moves, appendSlab, growChain, appendPage, appendAt, appends}
@@ -68,7 +69,8 @@ pub turned-back : (runs (fresh (bodyOf 4096) 1) (read 0 0 ∷ []) ≡ refused 1 
 unfolding runs
 turned-back = (refl, refl)
 
--- A page of 4,072 bytes is full, so that the next number begins another. A drop frees the first page first, so that the last one is taken again,
+-- A page of 4,072 bytes is full, so that the next number begins another. A drop frees the first page first, so that the last one is taken
+-- again,
 -- here by a list that moves out of its slab.
 pub full-page : runs (fresh (bodyOf 16384) 2) (load 0 (inARow 1 4072) ∷ append 0 4073 ∷ append 0 4074 ∷ read 0 4074 ∷ drop 0 ∷ load 1 (inARow 1 256) ∷ append 1 257 ∷ read 1 257 ∷ [])
     ≡ loads-in 1 ∷ at (Extent 8192) 0 ∷ at (Extent 8192) 0 ∷ lists-as (inARow 1 4074) 2 ∷ accepted (dropped (record { length = 4074 })) ∷ loads-in 0 ∷ at (Extent 8192) 256
@@ -82,7 +84,8 @@ pub loaded-run : runs (fresh (bodyOf 16384) 3) (append 0 1 ∷ append 0 2 ∷ lo
 unfolding runs inARow
 loaded-run = refl
 
--- What damage gets: a slab whose stored count isn't its head's is no sound key, a free head that no block can have isn't popped, and there is no room
+-- What damage gets: a slab whose stored count isn't its head's is no sound key, a free head that no block can have isn't popped, and there
+-- is no room
 -- behind a mark at the body's end. A number is judged before the key, and the key before its last number.
 pub damaged : (runs (book (bodyOf 8192) (slabWord 0 2 4096 ∷ []) 4112 (replicate 9 0)) (read 0 5 ∷ append 0 9 ∷ drop 0 ∷ append 0 0 ∷ load 0 [] ∷ [])
     ≡ refused 31 ∷ refused 31 ∷ refused 31 ∷ refused 12 ∷ refused 3 ∷ [])

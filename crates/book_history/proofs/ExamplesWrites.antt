@@ -16,7 +16,8 @@ use Rattle.book_rules.specs.Calls.{Call, load, append, drop, bookAfter, afterCa
 use Rattle.book_rules.specs.Limits.{outOfShape, offeredNumber, offeredList}
 use Rattle.book_rules.specs.Places.{stays, larger, movesTo, loadsTo}
 use Rattle.book_space.specs.Space.{markBad, shapeBroken, takeMark, rounded, takeRun, takeFresh, takePopped, takeBlock, release}
-use Rattle.book_keys.specs.Keys.{soundly, sure, goOn, slabScan, linkScan, goodExtent, lastAt, linked, walk, chainAt, pageBlocks, contentAt, content, createsGood, tailAt}
+use Rattle.book_keys.specs.Keys.{soundly, sure, goOn, slabScan, linkScan, goodExtent, lastAt, linked, walk, chainAt, pageBlocks, contentAt}
+use Rattle.book_keys.specs.Keys.{content, createsGood, tailAt}
 use Rattle.book.specs.Book.{Book, fresh, headWord, onKey}
 use Rattle.book_blocks.specs.Blocks.{slabWith, pageWith, pageBefore, writeRun}
 use Rattle.book.specs.Appends.{movesInto, moves, appendSlab, growChain, appendPage, appendAt, appends}
@@ -24,7 +25,8 @@ use Rattle.book.specs.Loads.{loadInto, loadAt, loads}
 use Rattle.book.specs.Reads.{reads, drops}
 use Rattle.book.specs.Calls.{after, does}
 use mathlib.Core.Bool.{Bool, true, false}
-use Rattle.book_history.specs.Writes.{Region, region, CallNames, both, freeingAll, takingPages, taking, filling, writing, moving, growingSlab, growingPage, appendNames, loadNames, names}
+use Rattle.book_history.specs.Writes.{Region, region, CallNames, both, freeingAll, takingPages, taking, filling, writing, moving}
+use Rattle.book_history.specs.Writes.{growingSlab, growingPage, appendNames, loadNames, names}
 use Rattle.book_history.proofs.Examples.{inARow, bodyOf}
 
 -- What a call names after others.
@@ -36,7 +38,8 @@ namedAfter b cs c = names (after b cs) c
 abbrev named : List Region → List Region → List Region → Bool → CallNames
 named body heads free mark = record { heads = heads; space = record { body = body; free = free; mark = mark } }
 
--- The run case: 300 moves to a slab at the mark, 301 stays there, 303 moves to a larger slab and frees the old one, and 10 takes that again.
+-- The run case: 300 moves to a slab at the mark, 301 stays there, 303 moves to a larger slab and frees the old one, and 10 takes that
+-- again.
 pub run-names :
     (namedAfter (fresh (bodyOf 8192) 2) (append 0 5 ∷ []) (append 0 300) ≡ named (region 4096 5 ∷ []) (region 0 1 ∷ []) [] true)
     × (namedAfter (fresh (bodyOf 8192) 2) (append 0 5 ∷ append 0 300 ∷ []) (append 0 301) ≡ named (region 4096 2 ∷ region 4101 1 ∷ []) (region 0 1 ∷ []) [] false)

@@ -26,7 +26,8 @@ use Rattle.book_rules.specs.Calls.{appended}
 use Rattle.book_rules.specs.Limits.{outOfShape}
 use Rattle.book_rules.proofs.LawsLimits.{in-shape}
 use Rattle.plain_book.specs.Space.{Space as PlainSpace, Taken as PlainTaken, takeBlock as plainTake}
-use Rattle.plain_book.specs.Key.{written, longer, Page, Place, pages, lastPage, noPage, headOf, Placed, longerPage, joins, joinedTo, begunAt, beginPage, appendPages, appendPlace}
+use Rattle.plain_book.specs.Key.{written, longer, Page, Place, pages, lastPage, noPage, headOf, Placed, longerPage, joins, joinedTo}
+use Rattle.plain_book.specs.Key.{begunAt, beginPage, appendPages, appendPlace}
 use Rattle.plain_book.specs.Book.{Book as PlainBook, Outcome as PlainOutcome, keyOf, withKey, extended, appends as plainAppends}
 use Rattle.plain_book.specs.Owners.{Owner, hand, stack, slabOf, pageOf, pageAt, pageIn, has, places}
 use Rattle.plain_book.specs.Good.{Good, GoodPlain}
@@ -41,12 +42,15 @@ use Rattle.book_blocks.specs.Blocks.{lastPageOf, pageWith, pageBefore}
 use Rattle.book_blocks.proofs.LawsReadsMore.{spot-fits, spot-none, page-more, page-before}
 use Rattle.book.specs.Book.{Book}
 use Rattle.book.specs.Appends.{appending, growChain, appendPage, appendAt, appends}
-use Rattle.book_history.specs.Agrees.{scanOf, PageReads, LastReads, NextReads, ChainReads, firstOff, SlabIn, PageIn, Reading, contentsOf, AgreesSpace, Agrees}
+use Rattle.book_history.specs.Agrees.{scanOf, PageReads, LastReads, NextReads, ChainReads, firstOff, SlabIn, PageIn, Reading}
+use Rattle.book_history.specs.Agrees.{contentsOf, AgreesSpace, Agrees}
 use Rattle.book_history.proofs.LawsFrame.{block-ends}
 use Rattle.book_history.proofs.LawsStep.{Alike, refused-alike, alike-both, placedContents}
 use Rattle.book_history.proofs.LawsTake.{inHandOf, taken-then, take-agrees}
-use Rattle.book_history.proofs.LawsHand.{agrees-same, agrees-written, Filled, filled-whole, fill-agrees, fill-long, Meanwhile, meanwhile-placed, withHand, placed-page}
-use Rattle.book_history.proofs.LawsContent.{last-written, some-pages, last-page-at, last-reads, last-fits, tail-agrees, append-begins, append-ends}
+use Rattle.book_history.proofs.LawsHand.{agrees-same, agrees-written, Filled, filled-whole, fill-agrees, fill-long, Meanwhile}
+use Rattle.book_history.proofs.LawsHand.{meanwhile-placed, withHand, placed-page}
+use Rattle.book_history.proofs.LawsContent.{last-written, some-pages, last-page-at, last-reads, last-fits, tail-agrees}
+use Rattle.book_history.proofs.LawsContent.{append-begins, append-ends}
 
 -- ---- a chain of pages with a number joined to the last
 
@@ -110,7 +114,8 @@ begun-first [] p l = absurd (omega arith)
 begun-first (q ∷ ps) p l = refl
 
 -- The page that was the last reads as it did, and names the page more.
-begun-next : (first creates i : ℕ) (page : Page) (ps : List Page) (p : Page) (block : List ℕ) → i + 1 ≡ length ps → PageReads (lastPage page ps) block
+begun-next : (first creates i : ℕ) (page : Page) (ps : List Page) (p : Page) (block : List ℕ) → i + 1 ≡ length ps
+    → PageReads (lastPage page ps) block
     → NextReads (p .off) block → ChainReads first creates i (ps ++ (p ∷ [])) block
 unfolding ChainReads lastPage
 begun-next first creates i page [] p block e r l = absurd (omega arith)
@@ -120,7 +125,8 @@ begun-next first creates (suc i) page (q ∷ []) p block e r l = absurd (omega a
 begun-next first creates (suc i) page (q ∷ q' ∷ ps) p block e r l = begun-next first creates i q (q' ∷ ps) p block (omega arith) r l
 
 -- The pages before it read as they did.
-begun-before : (first creates total i : ℕ) (ps : List Page) (p : Page) (x : Block) (block : List ℕ) → i + 1 ≢ length ps → pageAt i ps ≡ some x
+begun-before : (first creates total i : ℕ) (ps : List Page) (p : Page) (x : Block) (block : List ℕ) → i + 1 ≢ length ps
+    → pageAt i ps ≡ some x
     → ChainReads first creates i ps block → ChainReads first total i (ps ++ (p ∷ [])) block
 unfolding ChainReads pageAt
 begun-before first creates total i [] p x block e at r = absurd (none-some at)
@@ -193,7 +199,8 @@ chain-written plain inside s held key ps qs list ys is one g long mine others a 
 -- ---- what a last page reads as once it is changed
 
 -- A last page with a number more is a whole page, reads so, and is the last of one number more.
-more-reads : (p : Page) (page : List ℕ) (first creates n : ℕ) (w : Spot) → PageReads p page → LastReads first creates page → lastFrom 0 (p .part .numbers) < n
+more-reads : (p : Page) (page : List ℕ) (first creates n : ℕ) (w : Spot) → PageReads p page → LastReads first creates page
+    → lastFrom 0 (p .part .numbers) < n
     → n < 2 ^ 62 → creates + 1 < 2 ^ 32 → spotBehind page n (scanOf (p .part)) ≡ some w → let after = pageWith page w creates in
     (length after ≡ pageSize) × (PageReads (longerPage n p) after × LastReads first (creates + 1) after)
 unfolding longer goodExtent
@@ -207,7 +214,8 @@ more-reads p page first creates n w r l above low few spot =
     )
 
 -- A last page that gets a next one is a whole page, reads as it did, and names the next one.
-next-reads : (p : Page) (page : List ℕ) (first creates mark next : ℕ) → PageReads p page → LastReads first creates page → p .room ≡ lastPageRoom
+next-reads : (p : Page) (page : List ℕ) (first creates mark next : ℕ) → PageReads p page → LastReads first creates page
+    → p .room ≡ lastPageRoom
     → mark ≤ 2 ^ 30 → isBlock pageClass next mark ≡ true → let after = pageBefore page next in
     (length after ≡ pageSize) × (PageReads p after × NextReads next after)
 next-reads p page first creates mark next r l room high stands =
@@ -262,7 +270,8 @@ module _ (plain : PlainBook) (b : Book) (g : GoodPlain plain) (a : Agrees plain 
   few = omega (arith, list-few key g (mark-most g shape))
 
   -- the key has the last page, at the last index
-  last-owned : (inside : PlainSpace) (held : Option Block) → has inside (places plain) held (pageOf key (length ps - 1)) ≡ some (record { class = pageClass; off = last })
+  last-owned : (inside : PlainSpace) (held : Option Block)
+      → has inside (places plain) held (pageOf key (length ps - 1)) ≡ some (record { class = pageClass; off = last })
   unfolding has
   last-owned inside held = let l = one in ap (pageIn (length ps - 1)) is ∙ last-page-at (length ps - 1) noPage ps (omega arith)
 
@@ -284,7 +293,8 @@ module _ (plain : PlainBook) (b : Book) (g : GoodPlain plain) (a : Agrees plain 
       length-overwrite (s .body) last ys (rw long (omega (arith, h .within)))
 
   -- What the last page reads as with the number joined.
-  joined-reads : (w : Spot) → spotBehind (pageBytes (b .space) last) n (tail .scan) ≡ some w → let ys = pageWith (pageBytes (b .space) last) w (length list) in
+  joined-reads : (w : Spot) → spotBehind (pageBytes (b .space) last) n (tail .scan) ≡ some w
+      → let ys = pageWith (pageBytes (b .space) last) w (length list) in
       (length ys ≡ pageSize) × (PageReads (longerPage n (lastPage noPage ps)) ys × LastReads (firstOff ps) (length list + 1) ys)
   joined-reads w spot =
       let (r, l) = last-known (plain .space) (b .space) none (a .inside shape .space) in
@@ -309,7 +319,8 @@ module _ (plain : PlainBook) (b : Book) (g : GoodPlain plain) (a : Agrees plain 
           rw (joined-first n ps, more-long)
           (reads-last (firstOff ps) (length list + 1) i noPage (joinedPages n ps) ys (rw (joined-long n ps) e) (rw (joined-last n noPage ps one) reads) ends)
 
-      others : (i : ℕ) (x : Block) (block : List ℕ) → i + 1 ≢ length ps → pageAt i ps ≡ some x → ChainReads (firstOff ps) (length list) i ps block
+      others : (i : ℕ) (x : Block) (block : List ℕ) → i + 1 ≢ length ps → pageAt i ps ≡ some x
+          → ChainReads (firstOff ps) (length list) i ps block
           → ChainReads (firstOff (joinedPages n ps)) (length more) i (joinedPages n ps) block
       others i x block e at r = rw (joined-first n ps) (joined-before (firstOff ps) (length list) (length more) i n ps block e r)
 
@@ -395,7 +406,8 @@ module _ (plain : PlainBook) (b : Book) (g : GoodPlain plain) (a : Agrees plain 
       whole : length ys ≤ slabBytes pageClass
       whole = omega (arith, reads .0)
 
-      mine : (block : List ℕ) → Filled pageClass ys block → ChainReads (firstOff (ps ++ (new ∷ []))) (length more) (length ps) (ps ++ (new ∷ [])) block
+      mine : (block : List ℕ) → Filled pageClass ys block
+          → ChainReads (firstOff (ps ++ (new ∷ []))) (length more) (length ps) (ps ++ (new ∷ [])) block
       mine block f =
           rw (filled-whole pageClass ys block (reads .0) f, begun-first ps new one, more-long)
           (reads-last (firstOff ps) (length list + 1) (length ps) noPage (ps ++ (new ∷ [])) ys (sym (length-append ps (new ∷ []))) (rw (begun-last noPage ps new) (reads .1 .0)) (reads .1 .1))
@@ -414,7 +426,8 @@ module _ (plain : PlainBook) (b : Book) (g : GoodPlain plain) (a : Agrees plain 
       (take-agrees (plain .space) (b .space) (places plain) (contentsOf plain) pageClass (omega arith) (g .space)
       (rw (a .size) (in-shape (plain .size) (length (plain .keys)) shape .paged)) (a .inside shape .space)))
     where
-      go : (t : PlainTaken) (u : Taken) → plainTake (length (b .space .body)) pageClass (plain .space) ≡ accepted t → takes pageClass (b .space) ≡ accepted u → u .off ≡ t .off
+      go : (t : PlainTaken) (u : Taken) → plainTake (length (b .space .body)) pageClass (plain .space) ≡ accepted t
+          → takes pageClass (b .space) ≡ accepted u → u .off ≡ t .off
           → length (u .space .body) ≡ length (b .space .body) → AgreesSpace (t .space) (u .space) (places plain) (some (record { class = pageClass; off = t .off })) (contentsOf plain)
           → Alike (placing (record { place = begunAt (t .off) n ps; space = t .space; rewritten = 0 }))
           (accepted (appending key (Extent (u .off)) 0
@@ -448,7 +461,8 @@ module _ (plain : PlainBook) (b : Book) (g : GoodPlain plain) (a : Agrees plain 
           rw (spot-none (pageBytes (b .space) last) n (tail .scan) (rw room full)) begun-alike
 
 -- The two books answer an append alike, where the key has pages.
-pub append-pages : (plain : PlainBook) (b : Book) (key n : ℕ) (ps : List Page) → GoodPlain plain → Agrees plain b → keyOf key plain .place ≡ pages ps
+pub append-pages : (plain : PlainBook) (b : Book) (key n : ℕ) (ps : List Page) → GoodPlain plain → Agrees plain b
+    → keyOf key plain .place ≡ pages ps
     → Alike (plainAppends plain key n) (appends b key n)
 unfolding appendPlace appendAt headOf
 append-pages plain b key n ps g a is =

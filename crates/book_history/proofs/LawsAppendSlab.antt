@@ -1,4 +1,5 @@
--- The two books answer an append alike, where the key is empty, inline or in a slab: it stays, or moves to a slab or a page. Assumes nothing.
+-- The two books answer an append alike, where the key is empty, inline or in a slab: it stays, or moves to a slab or a page. Assumes
+-- nothing.
 use Prim.Native.Nat.{ℕ, _+_, _-_, _%_, _^_, _≤_, _<_}
 use mathlib.Core.Bool.{Bool, true, false, cond, true≢false}
 use mathlib.Core.List.{List, [], _∷_, _++_}
@@ -27,7 +28,8 @@ use Rattle.book_rules.specs.Places.{stays, movesTo}
 use Rattle.book_rules.proofs.LawsLimits.{in-shape}
 use Rattle.book_rules.proofs.LawsRules.{stays-holds, moves-to}
 use Rattle.plain_book.specs.Space.{Taken as PlainTaken}
-use Rattle.plain_book.specs.Key.{Kept, written, longer, Page, Place, empty, inline, slab, pages, lastPage, headOf, freedPlace, onePage, Placed, moved, appendPlace}
+use Rattle.plain_book.specs.Key.{Kept, written, longer, Page, Place, empty, inline, slab, pages, lastPage, headOf, freedPlace, onePage}
+use Rattle.plain_book.specs.Key.{Placed, moved, appendPlace}
 use Rattle.plain_book.specs.Book.{Book as PlainBook, Outcome as PlainOutcome, keyOf, withKey, extended, appends as plainAppends}
 use Rattle.plain_book.specs.Sound.{Fits}
 use Rattle.plain_book.specs.Owners.{Owner, hand, stack, slabOf, pageOf, slabAt, has, places}
@@ -43,17 +45,21 @@ use Rattle.book_blocks.specs.Blocks.{lastPageOf, slabWith}
 use Rattle.book_blocks.proofs.LawsReadsSlab.{slab-with-long, slab-more}
 use Rattle.book.specs.Book.{Book, Outcome, filled}
 use Rattle.book.specs.Appends.{movesInto, moves, appendSlab, appendAt, appends}
-use Rattle.book_history.specs.Agrees.{scanOf, SlabReads, PageReads, LastReads, SlabIn, Reading, contentsOf, AgreesSpace, AgreesInside, Agrees}
+use Rattle.book_history.specs.Agrees.{scanOf, SlabReads, PageReads, LastReads, SlabIn, Reading, contentsOf, AgreesSpace, AgreesInside}
+use Rattle.book_history.specs.Agrees.{Agrees}
 use Rattle.book_history.proofs.LawsFrame.{block-ends}
 use Rattle.book_history.proofs.LawsStep.{Alike, refused-alike, alike-both, placedContents}
 use Rattle.book_history.proofs.LawsTake.{inHandOf, taken-then, take-agrees}
 use Rattle.book_history.proofs.LawsContent.{blocksOf, none-listed, one-listed, slab-agrees, last-written, append-begins, append-ends}
-use Rattle.book_history.proofs.LawsHand.{agrees-written, withHand, Filled, filled-whole, fill-long, fill-agrees, payload-long, filled-slab}
-use Rattle.book_history.proofs.LawsHand.{meanwhile-first, meanwhile-placed, OthersKept, others-kept, placed-bare, placed-slab, placed-one}
+use Rattle.book_history.proofs.LawsHand.{agrees-written, withHand, Filled, filled-whole, fill-long, fill-agrees, payload-long}
+use Rattle.book_history.proofs.LawsHand.{filled-slab}
+use Rattle.book_history.proofs.LawsHand.{meanwhile-first, meanwhile-placed, OthersKept, others-kept, placed-bare, placed-slab}
+use Rattle.book_history.proofs.LawsHand.{placed-one}
 use Rattle.book_history.proofs.LawsDrop.{Given, place-gone, gone-placed}
 
 -- Both books branch by one test, and then the plain one goes on.
-alike-cond-then : (t t' : Bool) (x y : Answer Placed) (go : Placed → Answer PlainOutcome) (u v : Answer Outcome) → t ≡ t' → (t ≡ true → Alike (andThen x go) u)
+alike-cond-then : (t t' : Bool) (x y : Answer Placed) (go : Placed → Answer PlainOutcome) (u v : Answer Outcome) → t ≡ t'
+    → (t ≡ true → Alike (andThen x go) u)
     → (t ≡ false → Alike (andThen y go) v) → Alike (andThen (cond t x y) go) (cond t' u v)
 alike-cond-then true true x y go u v e yes' no' = yes' refl
 alike-cond-then true false x y go u v e yes' no' = absurd (true≢false e)
@@ -80,7 +86,8 @@ module _ (plain : PlainBook) (b : Book) (key n : ℕ) (g : GoodPlain plain) (a :
   -- ---- moving
 
   -- What was taken is filled, and the old place given up.
-  moved-space : (old : Place) (class : ℕ) (t : PlainTaken) (u : Taken) (ys : List ℕ) → length ys ≤ slabBytes class → places plain key ≡ old → u .off ≡ t .off
+  moved-space : (old : Place) (class : ℕ) (t : PlainTaken) (u : Taken) (ys : List ℕ) → length ys ≤ slabBytes class → places plain key ≡ old
+      → u .off ≡ t .off
       → length (u .space .body) ≡ plain .size → Good (t .space) (places plain) (inHandOf class (t .off))
       → AgreesSpace (t .space) (u .space) (places plain) (inHandOf class (t .off)) (contentsOf plain)
       → Given (freedPlace old (t .space)) (release (blocksOf old) (filled u ys)) (atKey key empty (places plain)) (inHandOf class (t .off))
@@ -104,7 +111,8 @@ module _ (plain : PlainBook) (b : Book) (key n : ℕ) (g : GoodPlain plain) (a :
   onlyPage u = lastPageOf (u .off) (u .off) 1 (length grown) grown
 
   -- It has a page's bytes, and reads as the key's only page.
-  page-reads : (t : PlainTaken) (u : Taken) → u .off ≡ t .off → Good (t .space) (places plain) (inHandOf pageClass (t .off)) → t .space .mark ≤ 2 ^ 30
+  page-reads : (t : PlainTaken) (u : Taken) → u .off ≡ t .off → Good (t .space) (places plain) (inHandOf pageClass (t .off))
+      → t .space .mark ≤ 2 ^ 30
       → Rising (2 ^ 62) 0 grown → streamLen grown ≤ lastPageRoom
       → (length (onlyPage u) ≡ pageSize)
       × ((block : List ℕ) → Filled pageClass (onlyPage u) block
@@ -122,7 +130,8 @@ module _ (plain : PlainBook) (b : Book) (key n : ℕ) (g : GoodPlain plain) (a :
       )
 
   -- The list moves out of its old place in both books.
-  move-alike : (old : Place) (o : Option ℕ) → places plain key ≡ old → Rising (2 ^ 62) 0 grown → streamLen grown ≤ lastPageRoom → movesTo (length grown) (streamLen grown) ≡ o
+  move-alike : (old : Place) (o : Option ℕ) → places plain key ≡ old → Rising (2 ^ 62) 0 grown → streamLen grown ≤ lastPageRoom
+      → movesTo (length grown) (streamLen grown) ≡ o
       → Alike (andThen (moved (plain .size) o (length list) grown old (plain .space)) leaves) (movesInto b key list n (blocksOf old) o)
   unfolding moved movesInto andThen headOf lastPage
   move-alike old (some class) is rises fits q =
@@ -292,7 +301,8 @@ pub append-step : (plain : PlainBook) (b : Book) (key n : ℕ) → GoodPlain pla
     → ((ps : List Page) → keyOf key plain .place ≡ pages ps → Alike (plainAppends plain key n) (appends b key n)) → Alike (plainAppends plain key n) (appends b key n)
 append-step plain b key n g a in-pages = go (keyOf key plain .place) refl
   where
-    begun : (place : Place) → keyOf key plain .place ≡ place → ((ps : List Page) → place ≢ pages ps) → Alike (plainAppends plain key n) (appends b key n)
+    begun : (place : Place) → keyOf key plain .place ≡ place → ((ps : List Page) → place ≢ pages ps)
+        → Alike (plainAppends plain key n) (appends b key n)
     begun place is other =
         append-begins plain b key n g a
         (λ shape h low some' small. place-alike plain b key n g a shape h low small (keyOf key plain .place) refl (λ ps q. other ps (sym is ∙ q)) some')

@@ -1,4 +1,5 @@
--- Lists of calls from single calls: the two books answer alike and agree all along, from any pair that agrees; a fresh pair does. Assumes nothing.
+-- Lists of calls from single calls: the two books answer alike and agree all along, from any pair that agrees; a fresh pair does. Assumes
+-- nothing.
 use Prim.Native.Nat.{ℕ, _^_, _≤_}
 use mathlib.Core.Bool.{true, false}
 use mathlib.Core.List.{List, [], _∷_}
@@ -14,7 +15,8 @@ use Rattle.book_rules.specs.Limits.{outOfShape}
 use Rattle.book_rules.proofs.LawsLimits.{in-shape}
 use Rattle.plain_book.specs.Key.{Key, Place, empty, headOf}
 use Rattle.plain_book.specs.Space.{stackOf}
-use Rattle.plain_book.specs.Book.{Book as PlainBook, Outcome as PlainOutcome, fresh as plainFresh, does as plainDoes, after as plainAfter, answers as plainAnswers, keyOf}
+use Rattle.plain_book.specs.Book.{Book as PlainBook, Outcome as PlainOutcome, fresh as plainFresh, does as plainDoes, after as plainAfter}
+use Rattle.plain_book.specs.Book.{answers as plainAnswers, keyOf}
 use Rattle.plain_book.specs.Owners.{Owner, hand, stack, slabOf, pageOf, atDepth, slabAt, pageIn, has, places}
 use Rattle.plain_book.specs.Good.{GoodPlain}
 use Rattle.plain_book.proofs.LawsOwners.{none-some}
@@ -48,7 +50,8 @@ EachAlike = (plain : PlainBook) (b : Book) (c : Call) → GoodPlain plain → Ag
 
 module _ (each : EachAlike) where
   -- So is each list of calls.
-  pub answers-alike : (plain : PlainBook) (b : Book) (cs : List Call) → GoodPlain plain → Agrees plain b → answers b cs ≡ plainAnswers plain cs
+  pub answers-alike : (plain : PlainBook) (b : Book) (cs : List Call) → GoodPlain plain → Agrees plain b
+      → answers b cs ≡ plainAnswers plain cs
   unfolding answersTo
   answers-alike plain b [] g a = refl
   answers-alike plain b (c ∷ cs) g a =
@@ -57,7 +60,8 @@ module _ (each : EachAlike) where
       (answers-alike (bookAfter plain (plainDoes plain c)) (bookAfter b (does b c)) cs (call-good c g) (alike-books one a))
 
   -- And the books agree afterwards.
-  pub books-agree : (plain : PlainBook) (b : Book) (cs : List Call) → GoodPlain plain → Agrees plain b → Agrees (plainAfter plain cs) (after b cs)
+  pub books-agree : (plain : PlainBook) (b : Book) (cs : List Call) → GoodPlain plain → Agrees plain b
+      → Agrees (plainAfter plain cs) (after b cs)
   unfolding afterCalls
   books-agree plain b [] g a = a
   books-agree plain b (c ∷ cs) g a =
@@ -66,7 +70,8 @@ module _ (each : EachAlike) where
 -- ---- fresh books
 
 -- Nobody has a block of a fresh book.
-pub nobody : (size heads : ℕ) (w : Owner) (x : Block) → has (plainFresh size heads .space) (places (plainFresh size heads)) none w ≡ some x → ⊥
+pub nobody : (size heads : ℕ) (w : Owner) (x : Block) → has (plainFresh size heads .space) (places (plainFresh size heads)) none w ≡ some x
+    → ⊥
 unfolding has atDepth
 nobody size heads hand x e = none-some e
 nobody size heads (stack c d) x e = none-some (ap (atDepth c d) (sym (all-same {A = List ℕ} [] 9 c)) ∙ e)
@@ -93,7 +98,8 @@ fresh-agrees body heads =
     head : (key : ℕ) → getD (replicate heads 0) key 0 ≡ headWord (headOf (keyOf key plain .list) (keyOf key plain .place))
     head key = all-same 0 heads key ∙ sym empty-key-word ∙ sym (ap (λ (k : Key). headWord (headOf (k .list) (k .place))) (fresh-key (length body) heads key))
 
-    space : outOfShape (plain .size) (length (plain .keys)) ≡ false → AgreesSpace (plain .space) (fresh body heads .space) (places plain) none (contentsOf plain)
+    space : outOfShape (plain .size) (length (plain .keys)) ≡ false
+        → AgreesSpace (plain .space) (fresh body heads .space) (places plain) none (contentsOf plain)
     space shape =
         let s = in-shape (plain .size) (length (plain .keys)) shape in
         record {

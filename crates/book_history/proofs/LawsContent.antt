@@ -1,4 +1,5 @@
--- What a key over bytes reads as, where the book stands for a good plain book: its head word, its slab, its last page, and its whole content.
+-- What a key over bytes reads as, where the book stands for a good plain book: its head word, its slab, its last page, and its whole
+-- content.
 -- Assumes nothing.
 use Prim.Native.Nat.{ℕ, zero, suc, _+_, _-_, _/_, _^_, _≤_, _<_}
 use mathlib.Core.Bool.{Bool, true, false, not}
@@ -24,7 +25,8 @@ use Rattle.book_rules.specs.Calls.{read, appended}
 use Rattle.book_rules.specs.Limits.{outOfShape}
 use Rattle.plain_book.specs.Space.{Space as PlainSpace}
 use Rattle.plain_book.specs.Key.{Kept, written, Page, Place, empty, inline, slab, pages, lastPage, noPage, headOf, pagesOf, appendPlace}
-use Rattle.plain_book.specs.Book.{Book as PlainBook, Outcome as PlainOutcome, keyOf, withKey, extended, appends as plainAppends, reads as plainReads, does as plainDoes}
+use Rattle.plain_book.specs.Book.{Book as PlainBook, Outcome as PlainOutcome, keyOf, withKey, extended, appends as plainAppends}
+use Rattle.plain_book.specs.Book.{reads as plainReads, does as plainDoes}
 use Rattle.plain_book.specs.Sound.{held, FitsPage, FitPages, RisesFrom, Fits}
 use Rattle.plain_book.specs.Owners.{pageOf, slabOf, slabAt, pageAt, pageIn, has, places}
 use Rattle.plain_book.specs.Good.{GoodPlain}
@@ -33,7 +35,8 @@ use Rattle.plain_book.proofs.LawsOwners.{depthOf, atKey}
 use Rattle.plain_book.proofs.LawsChain.{pages-few, mark-most, list-few, last-any, part-rises, chain}
 use Rattle.plain_book.proofs.LawsSound.{rising-below}
 use Rattle.book_space.specs.Space.{Space}
-use Rattle.book_keys.specs.Keys.{soundly, sure, goOn, goodExtent, blockAt, slabScan, linkScan, lastAt, linked, walk, chainAt, pageBlocks, contentAt, content, createsGood, tailAt}
+use Rattle.book_keys.specs.Keys.{soundly, sure, goOn, goodExtent, blockAt, slabScan, linkScan, lastAt, linked, walk, chainAt, pageBlocks}
+use Rattle.book_keys.specs.Keys.{contentAt, content, createsGood, tailAt}
 use Rattle.book_keys.specs.Keys.{pageAt as pageBytes}
 use Rattle.book_blocks.specs.Blocks.{lastPageOf}
 use Rattle.book_blocks.proofs.LawsReadsPage.{last-page-reads}
@@ -41,7 +44,8 @@ use Rattle.book.specs.Book.{Book, wordOf, headWord}
 use Rattle.book.specs.Appends.{appending, appendAt, appends}
 use Rattle.book.specs.Reads.{reads}
 use Rattle.book.specs.Calls.{does}
-use Rattle.book_history.specs.Agrees.{scanOf, SlabIn, PageIn, SlabReads, PageReads, LastReads, ChainReads, firstOff, AgreesSpace, AgreesInside, Agrees}
+use Rattle.book_history.specs.Agrees.{scanOf, SlabIn, PageIn, SlabReads, PageReads, LastReads, ChainReads, firstOff, AgreesSpace}
+use Rattle.book_history.specs.Agrees.{AgreesInside, Agrees}
 use Rattle.book_history.proofs.LawsStep.{Alike, told-alike, alike-both, alike-on-key, alike-offered, placedContents, agrees-placed}
 
 -- ---- what is asked of a sound key
@@ -63,7 +67,8 @@ rising-goes-on prev [] r l = absurd (omega arith)
 rising-goes-on prev (n ∷ ns) (a, b, r) l = rw (lt-ltb prev n a, lt-ltb (lastFrom n ns) (2 ^ 62) (last-below (2 ^ 62) n ns b r))
 
 -- A slab that stands below the mark and reads as a kept stream gives it.
-slab-scans : (s : Space) (class off : ℕ) (kept : Kept) → class ≤ maxSlabClass → isBlock class off (s .mark) ≡ true → length (kept .numbers) ≤ maxSlabCount
+slab-scans : (s : Space) (class off : ℕ) (kept : Kept) → class ≤ maxSlabClass → isBlock class off (s .mark) ≡ true
+    → length (kept .numbers) ≤ maxSlabCount
     → SlabReads kept (blockAt s class off) → goOn 0 (kept .numbers) ≡ true → slabScan s class (length (kept .numbers)) off ≡ accepted (scanOf kept)
 unfolding slabScan
 slab-scans s class off kept c stands few r go =
@@ -92,7 +97,8 @@ unfoldable pub offsOf : List Page → List ℕ
 offsOf [] = []
 offsOf (p ∷ ps) = p .off ∷ offsOf ps
 
--- What is known of the page at an index of some pages, by its offset: it stands below the mark, it reads as it should, and only the last page is
+-- What is known of the page at an index of some pages, by its offset: it stands below the mark, it reads as it should, and only the last
+-- page is
 -- where the last one is.
 pub record Stands (s : Space) (first creates last i : ℕ) (ps : List Page) (off : ℕ) : Type 0 where
   pub block : isBlock pageClass off (s .mark) ≡ true
@@ -100,7 +106,8 @@ pub record Stands (s : Space) (first creates last i : ℕ) (ps : List Page) (off
   pub only : off ≡ last → i + 1 ≡ length ps
 
 -- A walk over pages that stand as they should gives their numbers and offsets.
-walks : (k : ℕ) (s : Space) (first creates last prev : ℕ) (page : Page) (ps : List Page) → length ps ≤ k → lastPage page ps .off ≡ last → FitPages ps
+walks : (k : ℕ) (s : Space) (first creates last prev : ℕ) (page : Page) (ps : List Page) → length ps ≤ k → lastPage page ps .off ≡ last
+    → FitPages ps
     → RisesFrom prev ps
     → ((i off : ℕ) → pageAt i ps ≡ some (record { class = pageClass; off = off }) → Stands s first creates last i ps off)
     → walk k s last prev (firstOff ps) ≡ accepted (record { numbers = held ps; offs = offsOf ps })
@@ -131,7 +138,8 @@ some-pages [] f = absurd f
 some-pages (p ∷ ps) f = omega arith
 
 -- The last of some pages is at the last index.
-pub last-page-at : (i : ℕ) (page : Page) (ps : List Page) → i + 1 ≡ length ps → pageAt i ps ≡ some (record { class = pageClass; off = lastPage page ps .off })
+pub last-page-at : (i : ℕ) (page : Page) (ps : List Page) → i + 1 ≡ length ps
+    → pageAt i ps ≡ some (record { class = pageClass; off = lastPage page ps .off })
 unfolding pageAt lastPage
 last-page-at i page [] e = absurd (omega arith)
 last-page-at zero page (p ∷ []) e = refl
@@ -140,7 +148,8 @@ last-page-at (suc i) page (p ∷ []) e = absurd (omega arith)
 last-page-at (suc i) page (p ∷ q ∷ ps) e = last-page-at i p (q ∷ ps) (omega arith)
 
 -- It reads as a last page.
-pub last-reads : (first creates i : ℕ) (page : Page) (ps : List Page) (block : List ℕ) → i + 1 ≡ length ps → ChainReads first creates i ps block
+pub last-reads : (first creates i : ℕ) (page : Page) (ps : List Page) (block : List ℕ) → i + 1 ≡ length ps
+    → ChainReads first creates i ps block
     → PageReads (lastPage page ps) block × LastReads first creates block
 unfolding ChainReads lastPage
 last-reads first creates i page [] block e r = absurd (omega arith)
@@ -157,7 +166,8 @@ last-fits page (p ∷ []) f = f
 last-fits page (p ∷ q ∷ ps) (f, fs) = last-fits p (q ∷ ps) fs
 
 -- Its part of the list rises.
-pub last-rises : (prev : ℕ) (page : Page) (ps : List Page) → FitPages ps → RisesFrom prev ps → Rising (2 ^ 62) 0 (lastPage page ps .part .numbers)
+pub last-rises : (prev : ℕ) (page : Page) (ps : List Page) → FitPages ps → RisesFrom prev ps
+    → Rising (2 ^ 62) 0 (lastPage page ps .part .numbers)
 unfolding FitPages RisesFrom lastPage
 last-rises prev page [] f r = absurd f
 last-rises prev page (p ∷ []) f (some', rises, rest) = part-rises prev (p .part .numbers) rises
@@ -201,7 +211,8 @@ module _ (plain : PlainBook) (b : Book) (g : GoodPlain plain) (shape : outOfShap
       (rising-goes-on 0 (kept .numbers) (rw same (g .keys key .rises)) (rw same (omega arith))))
 
   -- What is known of the pages of a key.
-  pub chain-page : (ps : List Page) → keyOf key plain .place ≡ pages ps → (i off : ℕ) → pageAt i ps ≡ some (record { class = pageClass; off = off })
+  pub chain-page : (ps : List Page) → keyOf key plain .place ≡ pages ps → (i off : ℕ)
+      → pageAt i ps ≡ some (record { class = pageClass; off = off })
       → Stands (b .space) (firstOff ps) (length (keyOf key plain .list)) (lastPage noPage ps .off) i ps off
   unfolding has
   chain-page ps is i off e =
@@ -212,7 +223,8 @@ module _ (plain : PlainBook) (b : Book) (g : GoodPlain plain) (shape : outOfShap
         only = only (eqb (i + 1) (length ps)) refl;
       }
     where
-      mine : (j o : ℕ) → pageAt j ps ≡ some (record { class = pageClass; off = o }) → has (plain .space) (places plain) none (pageOf key j) ≡ some (record { class = pageClass; off = o })
+      mine : (j o : ℕ) → pageAt j ps ≡ some (record { class = pageClass; off = o })
+          → has (plain .space) (places plain) none (pageOf key j) ≡ some (record { class = pageClass; off = o })
       mine j o e = ap (pageIn j) is ∙ e
 
       only : (t : Bool) → eqb (i + 1) (length ps) ≡ t → off ≡ lastPage noPage ps .off → i + 1 ≡ length ps
@@ -250,7 +262,8 @@ module _ (plain : PlainBook) (b : Book) (g : GoodPlain plain) (shape : outOfShap
       last-header (b .space) (lastPage noPage ps .off) (firstOff ps) (length (keyOf key plain .list)) (k .block)
       (last-reads (firstOff ps) (length (keyOf key plain .list)) (length ps - 1) noPage ps _ (omega arith) (k .reads) .1)
 
-  -- As an append looks at it, a key's last page reads as its part of the list, with the first page's offset and how many numbers the key has.
+  -- As an append looks at it, a key's last page reads as its part of the list, with the first page's offset and how many numbers the key
+  -- has.
   pub tail-agrees : (ps : List Page) → keyOf key plain .place ≡ pages ps
       → soundly (tailAt (b .space) (lastPage noPage ps .off))
       ≡ accepted (record { scan = scanOf (lastPage noPage ps .part); last = record { first = firstOff ps; creates = length (keyOf key plain .list) } })
@@ -301,7 +314,8 @@ module _ (plain : PlainBook) (b : Book) (g : GoodPlain plain) (shape : outOfShap
 -- ---- a read
 
 -- The two books answer a read alike.
-pub read-step : (plain : PlainBook) (b : Book) (key room : ℕ) → GoodPlain plain → Agrees plain b → Alike (plainDoes plain (read key room)) (does b (read key room))
+pub read-step : (plain : PlainBook) (b : Book) (key room : ℕ) → GoodPlain plain → Agrees plain b
+    → Alike (plainDoes plain (read key room)) (does b (read key room))
 unfolding plainDoes does plainReads reads
 read-step plain b key room g a =
     alike-on-key plain b key _ _ g a
@@ -312,7 +326,8 @@ read-step plain b key room g a =
 -- ---- a last page that is written
 
 -- A last page as it is written, with a first page and an extent base that stand below the mark, is a whole page, and reads as a last page.
-pub last-written : (mark off first base extents creates : ℕ) (ns : List ℕ) → mark ≤ 2 ^ 30 → isBlock pageClass first mark ≡ true → isBlock pageClass base mark ≡ true
+pub last-written : (mark off first base extents creates : ℕ) (ns : List ℕ) → mark ≤ 2 ^ 30 → isBlock pageClass first mark ≡ true
+    → isBlock pageClass base mark ≡ true
     → 0 < extents → extents < 2 ^ 32 → creates < 2 ^ 32 → Rising (2 ^ 62) 0 ns → streamLen ns ≤ lastPageRoom → let page = lastPageOf first base extents creates ns in
     (length page ≡ pageSize) × (PageReads (record { off = off; room = lastPageRoom; part = written ns }) page × LastReads first creates page)
 unfolding written goodExtent

@@ -34,7 +34,8 @@ use Rattle.book_history.proofs.LawsPush.{FromOther, push-agrees, releas
 use Rattle.book_history.proofs.LawsContent.{offsOf, blocksOf, content-agrees}
 use Rattle.book_history.proofs.LawsHand.{bare-placed, withHand, OthersKept, meanwhile-first, others-kept}
 
--- What stays while a key's place is given up: the other keys' blocks and what is in hand read as before, and of the key's pages nothing is said.
+-- What stays while a key's place is given up: the other keys' blocks and what is in hand read as before, and of the key's pages nothing is
+-- said.
 pub record Gone (key : ℕ) (c c' : Contents) : Type 0 where
   pub others : OthersKept key c c'
   pub inHand : (block : List ℕ) → c .inHand block → c' .inHand block
@@ -65,7 +66,8 @@ module _ (key : ℕ) (held : Option Block) where
   bare-gone plain s at c c' k a = bare-placed plain s at held key empty c c' refl (λ i. refl) (k .others) (k .inHand) a
 
   -- A slab is given up.
-  slab-gone : (plain : PlainSpace) (s : Space) (at : ℕ → Place) (c c' : Contents) (class off : ℕ) → slabAt (at key) ≡ some (record { class = class; off = off }) → Gone key c c'
+  slab-gone : (plain : PlainSpace) (s : Space) (at : ℕ → Place) (c c' : Contents) (class off : ℕ)
+      → slabAt (at key) ≡ some (record { class = class; off = off }) → Gone key c c'
       → Good plain at held → AgreesSpace plain s at held c
       → Given (freed class off plain) (release (record { class = class; off = off } ∷ []) s) (atKey key empty at) held c' (length (s .body))
   unfolding has
@@ -77,7 +79,8 @@ module _ (key : ℕ) (held : Option Block) where
         size = release-long class off s (omega (arith, block-ends (record { class = class; off = off }) (plain .mark) st, a .within));
       }
     where
-      to : (v : Owner) (x : Block) → ((i d : ℕ) → v ≢ stack i d) → has plain (atKey key empty at) held v ≡ some x → FromOther plain at held c (slabOf key) x (Reading plain c' v)
+      to : (v : Owner) (x : Block) → ((i d : ℕ) → v ≢ stack i d) → has plain (atKey key empty at) held v ≡ some x
+          → FromOther plain at held c (slabOf key) x (Reading plain c' v)
       to hand x n e = (hand, λ q. (let z = ap kindOf q in omega arith), e, λ block r. k .inHand block r)
       to (stack i d) x n e = absurd (n i d refl)
       to (slabOf j) x n e =
@@ -87,7 +90,8 @@ module _ (key : ℕ) (held : Option Block) where
           (λ (o, f). (pageOf j i, λ q. (let z = ap kindOf q in omega arith), f, λ block r. k .others .pages j i block o r)) (key-page key empty at j i x e)
 
   -- The first of some pages is given up: the others have an index less.
-  first-gone : (plain : PlainSpace) (s : Space) (at : ℕ → Place) (c c' : Contents) (p : Page) (ps : List Page) → at key ≡ pages (p ∷ ps) → Gone key c c'
+  first-gone : (plain : PlainSpace) (s : Space) (at : ℕ → Place) (c c' : Contents) (p : Page) (ps : List Page) → at key ≡ pages (p ∷ ps)
+      → Gone key c c'
       → Good plain at held → AgreesSpace plain s at held c
       → Given (freed pageClass (p .off) plain) (release (record { class = pageClass; off = p .off } ∷ []) s) (atKey key (pages ps) at) held c' (length (s .body))
   unfolding has pageAt
@@ -100,7 +104,8 @@ module _ (key : ℕ) (held : Option Block) where
         size = release-long pageClass (p .off) s (omega (arith, block-ends (record { class = pageClass; off = p .off }) (plain .mark) st, a .within));
       }
     where
-      to : (v : Owner) (x : Block) → ((i d : ℕ) → v ≢ stack i d) → has plain (atKey key (pages ps) at) held v ≡ some x → FromOther plain at held c (pageOf key 0) x (Reading plain c' v)
+      to : (v : Owner) (x : Block) → ((i d : ℕ) → v ≢ stack i d) → has plain (atKey key (pages ps) at) held v ≡ some x
+          → FromOther plain at held c (pageOf key 0) x (Reading plain c' v)
       to hand x n e = (hand, λ q. (let z = ap kindOf q in omega arith), e, λ block r. k .inHand block r)
       to (stack i d) x n e = absurd (n i d refl)
       to (slabOf j) x n e =
@@ -114,7 +119,8 @@ module _ (key : ℕ) (held : Option Block) where
           (key-page key (pages ps) at j i x e)
 
   -- Pages are given up, the first first.
-  pages-gone : (ps : List Page) (plain : PlainSpace) (s : Space) (at : ℕ → Place) (c c' : Contents) → at key ≡ pages ps → Gone key c c' → Good plain at held
+  pages-gone : (ps : List Page) (plain : PlainSpace) (s : Space) (at : ℕ → Place) (c c' : Contents) → at key ≡ pages ps → Gone key c c'
+      → Good plain at held
       → AgreesSpace plain s at held c → Given (freedPages ps plain) (release (pageBlocks (offsOf ps)) s) (atKey key empty at) held c' (length (s .body))
   unfolding freedPages offsOf pageBlocks
   pages-gone [] plain s at c c' is k g a = rw (release-none s) (record { agrees = bare-gone plain s at c c' k a; size = refl })
@@ -132,7 +138,8 @@ module _ (key : ℕ) (held : Option Block) where
       })
 
   -- A key's place is given up.
-  pub place-gone : (place : Place) (plain : PlainSpace) (s : Space) (at : ℕ → Place) (c c' : Contents) → at key ≡ place → Gone key c c' → Good plain at held
+  pub place-gone : (place : Place) (plain : PlainSpace) (s : Space) (at : ℕ → Place) (c c' : Contents) → at key ≡ place → Gone key c c'
+      → Good plain at held
       → AgreesSpace plain s at held c → Given (freedPlace place plain) (release (blocksOf place) s) (atKey key empty at) held c' (length (s .body))
   unfolding freedPlace
   place-gone empty plain s at c c' is k g a = rw (release-none s) (record { agrees = bare-gone plain s at c c' k a; size = refl })
@@ -143,7 +150,8 @@ module _ (key : ℕ) (held : Option Block) where
 -- ---- a drop
 
 -- What a drop of a key leaves unsaid: its blocks.
-pub gone-placed : (plain : PlainBook) (key : ℕ) (R : List ℕ → Type 0) → Gone key (withHand R (contentsOf plain)) (withHand R (placedContents plain key [] empty))
+pub gone-placed : (plain : PlainBook) (key : ℕ) (R : List ℕ → Type 0)
+    → Gone key (withHand R (contentsOf plain)) (withHand R (placedContents plain key [] empty))
 gone-placed plain key R =
     let kept = others-kept plain key (places plain) (withHand R (contentsOf plain)) (meanwhile-first plain key R) [] empty in
     record {
@@ -153,7 +161,8 @@ gone-placed plain key R =
     }
 
 -- The two books answer a drop alike.
-pub drop-step : (plain : PlainBook) (b : Book) (key : ℕ) → GoodPlain plain → Agrees plain b → Alike (plainDoes plain (drop key)) (does b (drop key))
+pub drop-step : (plain : PlainBook) (b : Book) (key : ℕ) → GoodPlain plain → Agrees plain b
+    → Alike (plainDoes plain (drop key)) (does b (drop key))
 unfolding plainDoes does plainDrops drops headOf
 drop-step plain b key g a =
     alike-on-key plain b key _ _ g a

@@ -23,7 +23,8 @@ pub block-ends : (x : Block) (mark : ℕ) → isBlock (x .class) (x .off) mark �
 block-ends x mark e = block-stands (x .class) (x .off) mark e .ends
 
 -- A block that shares no byte with a write holds what it held.
-pub block-apart : (body : List ℕ) (x y : Block) (ys : List ℕ) → length ys ≡ slabBytes (y .class) → y .off + slabBytes (y .class) ≤ length body → Disjoint x y
+pub block-apart : (body : List ℕ) (x y : Block) (ys : List ℕ) → length ys ≡ slabBytes (y .class)
+    → y .off + slabBytes (y .class) ≤ length body → Disjoint x y
     → blockOf (overwrite body (y .off) ys) x ≡ blockOf body x
 block-apart body x y ys long fits d =
     let h : y .off + length ys ≤ length body = rw long fits in
@@ -32,7 +33,8 @@ block-apart body x y ys long fits d =
     d
 
 -- A block that was written holds what was written.
-pub block-written : (body : List ℕ) (y : Block) (ys : List ℕ) → length ys ≡ slabBytes (y .class) → y .off + slabBytes (y .class) ≤ length body
+pub block-written : (body : List ℕ) (y : Block) (ys : List ℕ) → length ys ≡ slabBytes (y .class)
+    → y .off + slabBytes (y .class) ≤ length body
     → blockOf (overwrite body (y .off) ys) y ≡ ys
 block-written body y ys long fits = ap (part (overwrite body (y .off) ys) (y .off)) (sym long) ∙ part-written body (y .off) ys (rw long fits)
 
@@ -43,7 +45,8 @@ module _ (f g : Owner → Option Block) (R R' : Owner → List ℕ → Type 0) (
   stored-same to st v x e = let (u, h, k) = to v x e in k (blockOf body x) (st u x h)
 
   -- The block of one owner is written as a whole; each block is that one, and reads so, or was another owner's, who read it so too.
-  pub stored-written : (mark : ℕ) → Apart mark f → mark ≤ length body → (w : Owner) (y : Block) (ys : List ℕ) → f w ≡ some y → length ys ≡ slabBytes (y .class)
+  pub stored-written : (mark : ℕ) → Apart mark f → mark ≤ length body → (w : Owner) (y : Block) (ys : List ℕ) → f w ≡ some y
+      → length ys ≡ slabBytes (y .class)
       → ((v : Owner) (x : Block) → g v ≡ some x
       → ((x ≡ y) × R' v ys) ⊎ ((u : Owner) × (u ≢ w) × (f u ≡ some x) × ((block : List ℕ) → R u block → R' v block)))
       → Stored f R body → Stored g R' (overwrite body (y .off) ys)

@@ -28,7 +28,8 @@ use Rattle.plain_book.proofs.LawsOwners.{some-inj, none-some, kindOf, atKey, ke
 use Rattle.plain_book.proofs.LawsSound.{rising-below}
 use Rattle.book_space.specs.Space.{Space, space}
 use Rattle.book_blocks.proofs.LawsReadsSlab.{slab-written}
-use Rattle.book_history.specs.Agrees.{SlabReads, PageReads, LastReads, ChainReads, SlabIn, PageIn, Contents, Reading, AgreesSpace, contentsOf}
+use Rattle.book_history.specs.Agrees.{SlabReads, PageReads, LastReads, ChainReads, SlabIn, PageIn, Contents, Reading, AgreesSpace}
+use Rattle.book_history.specs.Agrees.{contentsOf}
 use Rattle.book_history.proofs.LawsFrame.{blockOf, block-ends, stored-same, stored-written}
 use Rattle.book_history.proofs.LawsStep.{placedContents}
 use Rattle.book_history.proofs.LawsPush.{block-long, block-whole}
@@ -51,7 +52,8 @@ module _ (plain : PlainSpace) (s : Space) (at at' : ℕ → Place) (held held' :
       }
 
   -- The block of one owner is written as a whole; each block is that one, and reads so, or was another owner's, who read it so too.
-  pub agrees-written : (w : Owner) (y : Block) (ys : List ℕ) → Good plain at held → has plain at held w ≡ some y → length ys ≡ slabBytes (y .class)
+  pub agrees-written : (w : Owner) (y : Block) (ys : List ℕ) → Good plain at held → has plain at held w ≡ some y
+      → length ys ≡ slabBytes (y .class)
       → ((v : Owner) (x : Block) → has plain at' held' v ≡ some x
       → ((x ≡ y) × Reading plain c' v ys)
       ⊎ ((u : Owner) × (u ≢ w) × (has plain at held u ≡ some x) × ((block : List ℕ) → Reading plain c u block → Reading plain c' v block)))
@@ -134,7 +136,8 @@ unfolding slabPayload
 payload-long ns = length-append (bytesOf 2 (length ns)) (stream ns) ∙ rw (length-bytesOf 2 (length ns), length-stream 0 ns)
 
 -- A block filled with a list's payload reads as the list.
-pub filled-slab : (class : ℕ) (ns block : List ℕ) → Rising (2 ^ 62) 0 ns → length ns ≤ maxOffered → Filled class (slabPayload ns) block → SlabReads (written ns) block
+pub filled-slab : (class : ℕ) (ns block : List ℕ) → Rising (2 ^ 62) 0 ns → length ns ≤ maxOffered → Filled class (slabPayload ns) block
+    → SlabReads (written ns) block
 unfolding written
 filled-slab class ns block rises few f =
     let r = slab-written block ns (rw (payload-long ns) at (f .begins)) (rising-below (2 ^ 62) (2 ^ 63) 0 ns (omega arith) rises) few in
@@ -148,7 +151,8 @@ pub record OthersKept (key : ℕ) (c c' : Contents) : Type 0 where
   pub pages : (j i : ℕ) (block : List ℕ) → j ≢ key → c .pages j i block → c' .pages j i block
 
 -- A key's place becomes one without blocks.
-pub bare-placed : (plain : PlainSpace) (s : Space) (at : ℕ → Place) (held : Option Block) (key : ℕ) (place : Place) (c c' : Contents) → slabAt place ≡ none
+pub bare-placed : (plain : PlainSpace) (s : Space) (at : ℕ → Place) (held : Option Block) (key : ℕ) (place : Place) (c c' : Contents)
+    → slabAt place ≡ none
     → ((i : ℕ) → pageIn i place ≡ none) → OthersKept key c c' → ((block : List ℕ) → c .inHand block → c' .inHand block) → AgreesSpace plain s at held c
     → AgreesSpace plain s (atKey key place at) held c'
 unfolding has
@@ -189,7 +193,8 @@ page-in zero (p ∷ ps) x e = omega arith
 page-in (suc i) (p ∷ ps) x e = let l = page-in i ps x e in omega arith
 
 -- What is in hand becomes a key's page behind others, which it had and which read as before.
-pub hand-page : (plain : PlainSpace) (s : Space) (at : ℕ → Place) (key : ℕ) (ps : List Page) (p : Page) (c c' : Contents) → OthersKept key c c'
+pub hand-page : (plain : PlainSpace) (s : Space) (at : ℕ → Place) (key : ℕ) (ps : List Page) (p : Page) (c c' : Contents)
+    → OthersKept key c c'
     → ((i : ℕ) (x : Block) → pageAt i ps ≡ some x → pageIn i (at key) ≡ some x)
     → ((i : ℕ) (block : List ℕ) → i < length ps → c .pages key i block → c' .pages key i block)
     → ((block : List ℕ) → c .inHand block → c' .pages key (length ps) block) → AgreesSpace plain s at (some (record { class = pageClass; off = p .off })) c
@@ -223,7 +228,8 @@ pub record Meanwhile (plain : PlainBook) (key : ℕ) (at : ℕ → Place) (c : C
   pub pages : (j i : ℕ) (block : List ℕ) → j ≢ key → c .pages j i block → PageIn (length (keyOf j plain .list)) i (places plain j) block
 
 -- So it is at first, whatever is in hand.
-pub meanwhile-first : (plain : PlainBook) (key : ℕ) (R : List ℕ → Type 0) → Meanwhile plain key (places plain) (withHand R (contentsOf plain))
+pub meanwhile-first : (plain : PlainBook) (key : ℕ) (R : List ℕ → Type 0)
+    → Meanwhile plain key (places plain) (withHand R (contentsOf plain))
 meanwhile-first plain key R = record { stand = λ j n. refl; slabs = λ j block n r. r; pages = λ j i block n r. r }
 
 -- So it is once the key has another list and place, whatever is in hand.
@@ -285,7 +291,8 @@ placed-page plain key list inside s at ps p c m old before mine a =
     a)
 
 -- What is in hand becomes a key's only page, in a book.
-pub placed-one : (plain : PlainBook) (key : ℕ) (list : List ℕ) (inside : PlainSpace) (s : Space) (at : ℕ → Place) (p : Page) (c : Contents) → Meanwhile plain key at c
+pub placed-one : (plain : PlainBook) (key : ℕ) (list : List ℕ) (inside : PlainSpace) (s : Space) (at : ℕ → Place) (p : Page) (c : Contents)
+    → Meanwhile plain key at c
     → ((block : List ℕ) → c .inHand block → PageReads p block × LastReads (p .off) (length list) block)
     → AgreesSpace inside s at (some (record { class = pageClass; off = p .off })) c
     → AgreesSpace inside s (atKey key (pages (p ∷ [])) (places plain)) none (placedContents plain key list (pages (p ∷ [])))

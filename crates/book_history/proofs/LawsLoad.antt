@@ -35,8 +35,10 @@ use Rattle.book_rules.specs.Limits.{outOfShape, offeredNumber, offeredList}
 use Rattle.book_rules.specs.Places.{loadsTo}
 use Rattle.book_rules.proofs.LawsLimits.{in-shape}
 use Rattle.book_rules.proofs.LawsRules.{loads-to}
-use Rattle.plain_book.specs.Space.{Space as PlainSpace, Taken as PlainTaken, takeBlock as plainTake, rounded as plainRounded, takeRun as plainTakeRun}
-use Rattle.plain_book.specs.Key.{Page, Place, empty, inline, slab, pages, written, lastPage, noPage, headOf, Key, emptyKey, pagesOf, Placed, runPages, loadInto as plainLoadInto, loadPlace}
+use Rattle.plain_book.specs.Space.{Space as PlainSpace, Taken as PlainTaken, takeBlock as plainTake, rounded as plainRounded}
+use Rattle.plain_book.specs.Space.{takeRun as plainTakeRun}
+use Rattle.plain_book.specs.Key.{Page, Place, empty, inline, slab, pages, written, lastPage, noPage, headOf, Key, emptyKey, pagesOf, Placed}
+use Rattle.plain_book.specs.Key.{runPages, loadInto as plainLoadInto, loadPlace}
 use Rattle.plain_book.specs.Book.{Book as PlainBook, Outcome as PlainOutcome, keyOf, withKey, inUse, loads as plainLoads, does as plainDoes}
 use Rattle.plain_book.specs.Sound.{Fits}
 use Rattle.plain_book.specs.Owners.{Owner, hand, stack, slabOf, pageOf, Apart, slabAt, pageAt, pageIn, has, places}
@@ -54,11 +56,13 @@ use Rattle.book_blocks.proofs.LawsReadsPage.{last-page-reads, page-to-reads}
 use Rattle.book.specs.Book.{Book, Outcome, wordOf, headWord, filled}
 use Rattle.book.specs.Loads.{loading, lastOfRun, loadInto, loadAt, loads}
 use Rattle.book.specs.Calls.{does}
-use Rattle.book_history.specs.Agrees.{SlabReads, PageReads, LastReads, NextReads, ChainReads, firstOff, SlabIn, PageIn, Contents, Reading, contentsOf, AgreesSpace, AgreesInside, Agrees}
+use Rattle.book_history.specs.Agrees.{SlabReads, PageReads, LastReads, NextReads, ChainReads, firstOff, SlabIn, PageIn, Contents}
+use Rattle.book_history.specs.Agrees.{Reading, contentsOf, AgreesSpace, AgreesInside, Agrees}
 use Rattle.book_history.proofs.LawsFrame.{blockOf, block-ends, block-written}
 use Rattle.book_history.proofs.LawsStep.{Alike, told-alike, refused-alike, alike-both, alike-on-key, placedContents, agrees-placed}
 use Rattle.book_history.proofs.LawsContent.{head-agrees}
-use Rattle.book_history.proofs.LawsHand.{Filled, fill-long, fill-agrees, Meanwhile, meanwhile-first, OthersKept, others-kept, placed-slab}
+use Rattle.book_history.proofs.LawsHand.{Filled, fill-long, fill-agrees, Meanwhile, meanwhile-first, OthersKept, others-kept}
+use Rattle.book_history.proofs.LawsHand.{placed-slab}
 use Rattle.book_history.proofs.LawsTake.{anyHand, inHandOf, TakenAlike, taken-then, take-agrees, run-agrees}
 
 -- ---- a run of pages is written
@@ -126,7 +130,8 @@ module _ (start count creates : ℕ) (aligned : start % 4096 ≡ 0) (from : 4096
       (r .long, record { reads = r .scans; room = r .room }, record { more = r .not-last; next = r .to })
 
   -- Parts that fit their pages are written from an offset on.
-  run-written : (parts : List (List ℕ)) (body : List ℕ) (off : ℕ) → off % 4096 ≡ 0 → off + length parts * pageSize ≤ length body → length body ≤ 2 ^ 30
+  run-written : (parts : List (List ℕ)) (body : List ℕ) (off : ℕ) → off % 4096 ≡ 0 → off + length parts * pageSize ≤ length body
+      → length body ≤ 2 ^ 30
       → Rising (2 ^ 63) 0 (joined parts) → Fit lastPageRoom pageRoom parts
       → RunWritten body (writeRun start count creates body off parts) off start creates (runPages off parts)
   unfolding joined Fit runPages writeRun ChainReads
@@ -145,7 +150,8 @@ module _ (start count creates : ℕ) (aligned : start % 4096 ≡ 0) (from : 4096
       (rising-right (2 ^ 63) 0 ns (joined (ms ∷ ps)) rises) fit)
 
 -- Where the last page of a run is.
-run-last : (off : ℕ) (page : Page) (parts : List (List ℕ)) → 0 < length parts → lastPage page (runPages off parts) .off ≡ off + (length parts - 1) * pageSize
+run-last : (off : ℕ) (page : Page) (parts : List (List ℕ)) → 0 < length parts
+    → lastPage page (runPages off parts) .off ≡ off + (length parts - 1) * pageSize
 unfolding runPages lastPage
 run-last off page [] l = absurd (omega arith)
 run-last off page (p ∷ []) l = omega arith
@@ -161,7 +167,8 @@ run-first off (p ∷ q ∷ ps) l = refl
 -- ---- spaces that agree
 
 -- Something is written where nobody has a block yet.
-written-beyond : (plain : PlainSpace) (s : Space) (at : ℕ → Place) (held : Option Block) (c : Contents) (mark : ℕ) (after : List ℕ) → Apart mark (has plain at held)
+written-beyond : (plain : PlainSpace) (s : Space) (at : ℕ → Place) (held : Option Block) (c : Contents) (mark : ℕ) (after : List ℕ)
+    → Apart mark (has plain at held)
     → length after ≡ length (s .body) → ((p n : ℕ) → p + n ≤ mark → part after p n ≡ part (s .body) p n) → AgreesSpace plain s at held c
     → AgreesSpace plain (space after (s .mark) (s .free)) at held c
 written-beyond plain s at held c mark after apart long before a =
@@ -176,7 +183,8 @@ written-beyond plain s at held c mark after apart long before a =
     }
 
 -- A key gets a place whose blocks, which nobody has, read as they should.
-pub placed-stored : (plain : PlainBook) (key : ℕ) (list : List ℕ) (place : Place) (inside : PlainSpace) (s : Space) (c : Contents) → Meanwhile plain key (places plain) c
+pub placed-stored : (plain : PlainBook) (key : ℕ) (list : List ℕ) (place : Place) (inside : PlainSpace) (s : Space) (c : Contents)
+    → Meanwhile plain key (places plain) c
     → ((x : Block) → slabAt place ≡ some x → SlabIn place (blockOf (s .body) x))
     → ((i : ℕ) (x : Block) → pageIn i place ≡ some x → PageIn (length list) i place (blockOf (s .body) x))
     → AgreesSpace inside s (places plain) none c → AgreesSpace inside s (atKey key place (places plain)) none (placedContents plain key list place)
@@ -201,7 +209,8 @@ placed-stored plain key list place inside s c m slabs pgs a =
 -- ---- what is offered
 
 -- Both books judge the offered numbers alike, and go on where they rise.
-alike-offered-list : (first : Bool) (prev : ℕ) (ns : List ℕ) (x : Answer PlainOutcome) (y : Answer Outcome) → (Rising (2 ^ 62) prev ns → Alike x y)
+alike-offered-list : (first : Bool) (prev : ℕ) (ns : List ℕ) (x : Answer PlainOutcome) (y : Answer Outcome)
+    → (Rising (2 ^ 62) prev ns → Alike x y)
     → Alike (offeredList first prev ns x) (offeredList first prev ns y)
 unfolding offeredList offeredNumber Rising
 alike-offered-list first prev [] x y go = go tt
@@ -219,7 +228,8 @@ word-some : (word : ℕ) (v : ShHeadValue) → unpackHead word ≡ accepted v �
 word-some word v e n z = n (accepted-inj (sym e ∙ ap unpackHead z ∙ empty-word .unpacks))
 
 -- Both books find a key in use, or neither does.
-in-use-alike : (plain : PlainBook) (b : Book) (key : ℕ) → GoodPlain plain → outOfShape (plain .size) (length (plain .keys)) ≡ false → AgreesInside plain b
+in-use-alike : (plain : PlainBook) (b : Book) (key : ℕ) → GoodPlain plain → outOfShape (plain .size) (length (plain .keys)) ≡ false
+    → AgreesInside plain b
     → inUse (keyOf key plain .place) ≡ not (eqb (wordOf key b) 0)
 unfolding headOf headWord
 in-use-alike plain b key g shape h = go (keyOf key plain .place) refl
@@ -227,7 +237,8 @@ in-use-alike plain b key g shape h = go (keyOf key plain .place) refl
     tells : (place : Place) → keyOf key plain .place ≡ place → unpackHead (wordOf key b) ≡ accepted (headOf (keyOf key plain .list) place)
     tells place is = head-agrees plain b g shape h key ∙ ap (λ (p : Place). accepted (headOf (keyOf key plain .list) p)) is
 
-    used : (place : Place) → keyOf key plain .place ≡ place → (headOf (keyOf key plain .list) place ≡ Empty → ⊥) → true ≡ not (eqb (wordOf key b) 0)
+    used : (place : Place) → keyOf key plain .place ≡ place → (headOf (keyOf key plain .list) place ≡ Empty → ⊥)
+        → true ≡ not (eqb (wordOf key b) 0)
     used place is n = sym (ap not (ne-eqb (wordOf key b) 0 (word-some (wordOf key b) _ (tells place is) n)))
 
     go : (place : Place) → keyOf key plain .place ≡ place → inUse place ≡ not (eqb (wordOf key b) 0)
@@ -259,7 +270,8 @@ unfolding slabPayload
 payload-long ns = length-append (bytesOf 2 (length ns)) (stream ns) ∙ omega (arith, length-bytesOf 2 (length ns), length-stream 0 ns)
 
 -- A block that begins with the payload of a list reads as the list.
-pub payload-reads : (class : ℕ) (ns block : List ℕ) → Rising (2 ^ 62) 0 ns → length ns ≤ maxOffered → Filled class (slabPayload ns) block → SlabReads (written ns) block
+pub payload-reads : (class : ℕ) (ns block : List ℕ) → Rising (2 ^ 62) 0 ns → length ns ≤ maxOffered → Filled class (slabPayload ns) block
+    → SlabReads (written ns) block
 unfolding written
 payload-reads class ns block rises few f =
     let r = slab-written block ns (ap (part block 0) (sym (payload-long ns)) ∙ f .begins) (rising-below (2 ^ 62) (2 ^ 63) 0 ns (omega arith) rises) few in
@@ -286,7 +298,8 @@ module _ (plain : PlainBook) (b : Book) (key : ℕ) (ns : List ℕ) (g : GoodPla
       to-8 : class ≤ 8
       to-8 = let (many, to-7, fits) = loads-to (length ns) (streamLen ns) is in omega arith
 
-      go : (t : PlainTaken) (u : Taken) → plainTake (plain .size) class (plain .space) ≡ accepted t → takes class (b .space) ≡ accepted u → u .off ≡ t .off
+      go : (t : PlainTaken) (u : Taken) → plainTake (plain .size) class (plain .space) ≡ accepted t → takes class (b .space) ≡ accepted u
+          → u .off ≡ t .off
           → length (u .space .body) ≡ plain .size → AgreesSpace (t .space) (u .space) (places plain) (inHandOf class (t .off)) (anyHand (contentsOf plain))
           → Alike (loadedTo (record { place = slab class (t .off) (written ns); space = t .space; rewritten = 0 }))
           (accepted (loading key (Slab class (length ns) (u .off)) 0 (filled u (slabPayload ns)) b))
@@ -306,7 +319,8 @@ module _ (plain : PlainBook) (b : Book) (key : ℕ) (ns : List ℕ) (g : GoodPla
           (told-alike refl (agrees-placed plain b key ns (slab class (t .off) (written ns)) (t .space) _ a shape l (bytes ∙ long ∙ sym (a .size)) placed))
 
   -- a run is written beyond all blocks, and becomes the key's pages
-  run-placed : (inside : PlainSpace) (s : Space) (start : ℕ) (parts : List (List ℕ)) → 0 < length parts → joined parts ≡ ns → Fit lastPageRoom pageRoom parts
+  run-placed : (inside : PlainSpace) (s : Space) (start : ℕ) (parts : List (List ℕ)) → 0 < length parts → joined parts ≡ ns
+      → Fit lastPageRoom pageRoom parts
       → start % 4096 ≡ 0 → 4096 ≤ start → start + length parts * pageSize ≤ inside .mark → Apart start (has inside (places plain) none)
       → AgreesSpace inside s (places plain) none (contentsOf plain)
       → (length (writeRun start (length parts) (length ns) (s .body) start parts) ≡ length (s .body))
@@ -326,7 +340,8 @@ module _ (plain : PlainBook) (b : Book) (key : ℕ) (ns : List ℕ) (g : GoodPla
       )
 
   -- a run is taken and written
-  load-run : 0 < length (cutting ns) → Alike (andThen (plainLoadInto (plain .size) none ns (plain .space)) loadedTo) (loadInto b key ns none)
+  load-run : 0 < length (cutting ns)
+      → Alike (andThen (plainLoadInto (plain .size) none ns (plain .space)) loadedTo) (loadInto b key ns none)
   unfolding plainLoadInto loadInto headOf andThen plainTakeRun has
   load-run some' =
       taken-then (λ x y. Alike (andThen x loadedTo) y) (places plain) (λ off. none) (contentsOf plain) (plain .size) _ _ _ _ (λ number. refused-alike)
@@ -360,13 +375,15 @@ module _ (plain : PlainBook) (b : Book) (key : ℕ) (ns : List ℕ) (g : GoodPla
       apart : Apart start (has beyond (places plain) none)
       apart = apart-fewer (has (plainRounded (plain .space)) (places plain) none) (has beyond (places plain) none) start to (good .apart)
         where
-          to : (w : Owner) (x : Block) → has beyond (places plain) none w ≡ some x → has (plainRounded (plain .space)) (places plain) none w ≡ some x
+          to : (w : Owner) (x : Block) → has beyond (places plain) none w ≡ some x
+              → has (plainRounded (plain .space)) (places plain) none w ≡ some x
           to hand x e = e
           to (stack k d) x e = e
           to (slabOf j) x e = e
           to (pageOf j i) x e = e
 
-      placed : (u : Taken) → u .off ≡ start → length (u .space .body) ≡ plain .size → AgreesSpace beyond (u .space) (places plain) none (contentsOf plain)
+      placed : (u : Taken) → u .off ≡ start → length (u .space .body) ≡ plain .size
+          → AgreesSpace beyond (u .space) (places plain) none (contentsOf plain)
           → Alike (loadedTo (placedAt (record { off = start; space = beyond }))) (written-at u)
       placed u off long agrees =
           let ok = cut-allowed ns rises in
@@ -383,7 +400,8 @@ module _ (plain : PlainBook) (b : Book) (key : ℕ) (ns : List ℕ) (g : GoodPla
 -- ---- a load
 
 -- A list that rises is loaded alike onto an empty key.
-load-alike : (plain : PlainBook) (b : Book) (key : ℕ) (ns : List ℕ) → GoodPlain plain → Agrees plain b → outOfShape (plain .size) (length (plain .keys)) ≡ false
+load-alike : (plain : PlainBook) (b : Book) (key : ℕ) (ns : List ℕ) → GoodPlain plain → Agrees plain b
+    → outOfShape (plain .size) (length (plain .keys)) ≡ false
     → AgreesInside plain b → key < length (plain .keys) → keyOf key plain .place ≡ empty → Rising (2 ^ 62) 0 ns → length ns ≤ maxOffered
     → Alike
     (andThen (loadPlace (plain .size) ns (plain .space))
@@ -418,7 +436,8 @@ unused (slab class off kept) e = absurd (true≢false e)
 unused (pages ps) e = absurd (true≢false e)
 
 -- The two books answer a load alike.
-pub load-step : (plain : PlainBook) (b : Book) (key : ℕ) (ns : List ℕ) → GoodPlain plain → Agrees plain b → Alike (plainDoes plain (load key ns)) (does b (load key ns))
+pub load-step : (plain : PlainBook) (b : Book) (key : ℕ) (ns : List ℕ) → GoodPlain plain → Agrees plain b
+    → Alike (plainDoes plain (load key ns)) (does b (load key ns))
 unfolding plainDoes does plainLoads loads
 load-step plain b key ns g a =
     alike-on-key plain b key _ _ g a

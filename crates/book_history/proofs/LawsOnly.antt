@@ -41,7 +41,8 @@ only-then {rs} {qs} o p = record {
 }
 
 -- What differs in some regions only does so in any that cover them.
-pub only-covered : {rs qs : List Region} {before after : List ℕ} → ((i : ℕ) → Outside qs i → Outside rs i) → Only rs before after → Only qs before after
+pub only-covered : {rs qs : List Region} {before after : List ℕ} → ((i : ℕ) → Outside qs i → Outside rs i) → Only rs before after
+    → Only qs before after
 only-covered f o = record { long = o .long; same = λ i h. o .same i (f i h) }
 
 -- One element of a list is set.
@@ -92,7 +93,8 @@ module _ (b : List ℕ) (o : ℕ) (ys : List ℕ) (fits : o + length ys ≤ leng
   }
 
 -- The same, with the number of bytes told.
-pub only-bytes : (b : List ℕ) (o len : ℕ) (ys : List ℕ) → length ys ≡ len → o + len ≤ length b → Only (region o len ∷ []) b (overwrite b o ys)
+pub only-bytes : (b : List ℕ) (o len : ℕ) (ys : List ℕ) → length ys ≡ len → o + len ≤ length b
+    → Only (region o len ∷ []) b (overwrite b o ys)
 only-bytes b o len ys e fits = rw (← e) (only-written b o ys (rw e fits) [])
 
 -- ---- a part of a list
@@ -110,7 +112,8 @@ outside-shifted o (r ∷ rs) j h =
     (⊎-elim (λ (l : o + j < o + r .off). inl (omega arith)) (λ (l : o + r .off + r .len ≤ o + j). inr (omega arith)) (h .0), outside-shifted o rs j (h .1))
 
 -- A part of a list is overwritten by what differs from it in some regions only.
-pub only-part : (b : List ℕ) (o k : ℕ) (block : List ℕ) (rs : List Region) → o + k ≤ length b → Only rs (part b o k) block → Only (shifted o rs) b (overwrite b o block)
+pub only-part : (b : List ℕ) (o k : ℕ) (block : List ℕ) (rs : List Region) → o + k ≤ length b → Only rs (part b o k) block
+    → Only (shifted o rs) b (overwrite b o block)
 unfolding part
 only-part b o k block rs fits p =
     let long : length block ≡ k = p .long ∙ length-part b o k fits in

@@ -41,14 +41,16 @@ unfolding under
 under-kept depth o os n = rw (ne-eqb depth (length os) n)
 
 -- The top of a stack of a good space can stand below the mark.
-pub top-stands : (plain : PlainSpace) (at : ℕ → Place) (held : Option Block) (class o : ℕ) (os : List ℕ) → Good plain at held → stackOf class plain ≡ o ∷ os
+pub top-stands : (plain : PlainSpace) (at : ℕ → Place) (held : Option Block) (class o : ℕ) (os : List ℕ) → Good plain at held
+    → stackOf class plain ≡ o ∷ os
     → isBlock class o (plain .mark) ≡ true
 unfolding has
 top-stands plain at held class o os g e =
     g .apart .stands (stack class (length os)) (record { class = class; off = o }) (ap (atDepth class (length os)) e ∙ top-is class o os)
 
 -- The top of a stack of a good space lies below the mark; 0 for none does too.
-pub top-low : (plain : PlainSpace) (at : ℕ → Place) (held : Option Block) (class : ℕ) → Good plain at held → top (stackOf class plain) ≤ plain .mark
+pub top-low : (plain : PlainSpace) (at : ℕ → Place) (held : Option Block) (class : ℕ) → Good plain at held
+    → top (stackOf class plain) ≤ plain .mark
 top-low plain at held class g = go (stackOf class plain) refl
   where
     go : (os : List ℕ) → stackOf class plain ≡ os → top os ≤ plain .mark
@@ -56,7 +58,8 @@ top-low plain at held class g = go (stackOf class plain) refl
     go (o ∷ os) e = omega (arith, block-stands class o (plain .mark) (top-stands plain at held class o os g e) .ends)
 
 -- A free head for each top, after the stack and the free head of one class changed.
-pub tops-changed : (plain : PlainSpace) (free : List ℕ) (class head : ℕ) (os : List ℕ) → class < length (plain .stacks) → class < length free → head ≡ top os
+pub tops-changed : (plain : PlainSpace) (free : List ℕ) (class head : ℕ) (os : List ℕ) → class < length (plain .stacks)
+    → class < length free → head ≡ top os
     → ((k : ℕ) → getD free k 0 ≡ top (stackOf k plain)) → (k : ℕ) → getD (set free class head) k 0 ≡ top (stackOf k (withStack class os plain))
 tops-changed plain free class head os in-stacks in-heads is tops k = go (eqb k class) refl
   where

@@ -75,7 +75,8 @@ names-linked class body (o ∷ os) h =
     )
 
 -- Each free list of a space that agrees names its stack from the top.
-pub free-named : (plain : PlainSpace) (s : Space) (at : ℕ → Place) (c : Contents) → Good plain at none → AgreesSpace plain s at none c → (class : ℕ)
+pub free-named : (plain : PlainSpace) (s : Space) (at : ℕ → Place) (c : Contents) → Good plain at none → AgreesSpace plain s at none c
+    → (class : ℕ)
     → Names (s .body) (getD (s .free) class 0) (stackOf class plain)
 unfolding has
 free-named plain s at c g a class =
@@ -94,7 +95,8 @@ free-named plain s at c g a class =
 -- ---- books
 
 -- A key of a book that agrees reads as its list, where the lent list is long enough.
-reads-list : (plain : PlainBook) (b : Book) (key room : ℕ) → GoodPlain plain → Agrees plain b → outOfShape (plain .size) (length (plain .keys)) ≡ false
+reads-list : (plain : PlainBook) (b : Book) (key room : ℕ) → GoodPlain plain → Agrees plain b
+    → outOfShape (plain .size) (length (plain .keys)) ≡ false
     → key < length (plain .keys) → length (keyOf key plain .list) ≤ room
     → reads b key room ≡ accepted (record { told = listed (record { numbers = keyOf key plain .list; pages = pagesOf (keyOf key plain .place) }); book = b })
 unfolding reads
@@ -104,7 +106,8 @@ reads-list plain b key room g a shape l fits =
     ∙ refuse-no _ _ _ (le-ltb room (length (keyOf key plain .list)) fits)
 
 -- A book that agrees, in shape, stands as the plain book does.
-pub agrees-stands : (plain : PlainBook) (b : Book) → GoodPlain plain → Agrees plain b → outOfShape (plain .size) (length (plain .keys)) ≡ false → Standing plain b
+pub agrees-stands : (plain : PlainBook) (b : Book) → GoodPlain plain → Agrees plain b
+    → outOfShape (plain .size) (length (plain .keys)) ≡ false → Standing plain b
 agrees-stands plain b g a shape =
     let h = a .inside shape in
     record {

@@ -1,4 +1,5 @@
--- Two books go through the tests of a call side by side: a test that both have, one that only the bytes have, and the tests that every call begins
+-- Two books go through the tests of a call side by side: a test that both have, one that only the bytes have, and the tests that every call
+-- begins
 -- with. Assumes nothing.
 use Prim.Native.Nat.{ℕ, _+_, _%_, _^_, _≤_, _<_}
 use mathlib.Core.Bool.{Bool, true, false, cond, not, _&&_, _||_, true≢false}
@@ -44,11 +45,13 @@ alike-both false true number a b e h = absurd (true≢false (sym e))
 alike-both false false number a b e h = h refl
 
 -- A test that only the bytes have, and that they pass.
-pub alike-passed : (t : Bool) (number : ℕ) (a : Answer PlainOutcome) (b : Answer Outcome) → t ≡ false → Alike a b → Alike a (refuseIf t number b)
+pub alike-passed : (t : Bool) (number : ℕ) (a : Answer PlainOutcome) (b : Answer Outcome) → t ≡ false → Alike a b
+    → Alike a (refuseIf t number b)
 alike-passed t number a b e h = subst (Alike a) (sym (refuse-no t number b e)) h
 
 -- Both books branch by one test.
-pub alike-cond : (t t' : Bool) (a a' : Answer PlainOutcome) (b b' : Answer Outcome) → t ≡ t' → (t ≡ true → Alike a b) → (t ≡ false → Alike a' b')
+pub alike-cond : (t t' : Bool) (a a' : Answer PlainOutcome) (b b' : Answer Outcome) → t ≡ t' → (t ≡ true → Alike a b)
+    → (t ≡ false → Alike a' b')
     → Alike (cond t a a') (cond t' b b')
 alike-cond true true a a' b b' e yes' no' = yes' refl
 alike-cond true false a a' b b' e yes' no' = absurd (true≢false e)
@@ -58,7 +61,8 @@ alike-cond false false a a' b b' e yes' no' = no' refl
 -- ---- the tests that a call begins with
 
 -- A mark of a good book in shape.
-mark-good : (plain : PlainBook) (b : Book) → GoodPlain plain → outOfShape (plain .size) (length (plain .keys)) ≡ false → length (b .space .body) ≡ plain .size
+mark-good : (plain : PlainBook) (b : Book) → GoodPlain plain → outOfShape (plain .size) (length (plain .keys)) ≡ false
+    → length (b .space .body) ≡ plain .size
     → AgreesInside plain b → markBad (length (b .space .body)) (b .space .mark) ≡ false
 unfolding markBad
 mark-good plain b g shape size h =
@@ -72,7 +76,8 @@ mark-good plain b g shape size h =
     rw (a, l, u)
 
 -- A call on a key: both books judge the shape and the key alike.
-pub alike-on-key : (plain : PlainBook) (b : Book) (key : ℕ) (x : Answer PlainOutcome) (y : Answer Outcome) → GoodPlain plain → Agrees plain b
+pub alike-on-key : (plain : PlainBook) (b : Book) (key : ℕ) (x : Answer PlainOutcome) (y : Answer Outcome) → GoodPlain plain
+    → Agrees plain b
     → (outOfShape (plain .size) (length (plain .keys)) ≡ false → AgreesInside plain b → key < length (plain .keys) → Alike x y)
     → Alike (plainOnKey plain key x) (onKey b key y)
 unfolding plainOnKey onKey shapeBroken
@@ -136,7 +141,8 @@ key-is : (plain : PlainBook) (key : ℕ) (list : List ℕ) (place : Place) (spac
     → keyOf j (withKey key list place space plain) ≡ cond (eqb j key) (record { list = list; place = place }) (keyOf j plain)
 key-is plain key list place space l j = go (eqb j key) refl
   where
-    go : (t : Bool) → eqb j key ≡ t → keyOf j (withKey key list place space plain) ≡ cond t (record { list = list; place = place }) (keyOf j plain)
+    go : (t : Bool) → eqb j key ≡ t
+        → keyOf j (withKey key list place space plain) ≡ cond t (record { list = list; place = place }) (keyOf j plain)
     go true e =
         ap (λ (k : ℕ). getD (set (plain .keys) key (record { list = list; place = place })) k emptyKey) (eqb-true j key e)
         ∙ getD-set-same (plain .keys) key _ emptyKey l
@@ -152,7 +158,8 @@ contents-placed plain key list place space l =
       pages = λ j n block. PageIn (lengths j i) n (key-place plain key list place space l j i) block;
     }
   where
-    lengths : (j : ℕ) → length (keyOf j (withKey key list place space plain) .list) ≡ cond (eqb j key) (length list) (length (keyOf j plain .list))
+    lengths : (j : ℕ)
+        → length (keyOf j (withKey key list place space plain) .list) ≡ cond (eqb j key) (length list) (length (keyOf j plain .list))
     lengths j = ap (λ (k : Key). length (k .list)) (key-is plain key list place space l j) ∙ inside (eqb j key)
       where
         inside : (t : Bool) → length (cond t (record { list = list; place = place }) (keyOf j plain) .list) ≡ cond t (length list) (length (keyOf j plain .list))
@@ -160,7 +167,8 @@ contents-placed plain key list place space l =
         inside false = refl
 
 -- A key gets another list and place in both books: they agree where the spaces do.
-pub agrees-placed : (plain : PlainBook) (b : Book) (key : ℕ) (list : List ℕ) (place : Place) (space : PlainSpace) (s : Space) → Agrees plain b
+pub agrees-placed : (plain : PlainBook) (b : Book) (key : ℕ) (list : List ℕ) (place : Place) (space : PlainSpace) (s : Space)
+    → Agrees plain b
     → outOfShape (plain .size) (length (plain .keys)) ≡ false → key < length (plain .keys) → length (s .body) ≡ length (b .space .body)
     → AgreesSpace space s (atKey key place (places plain)) none (placedContents plain key list place)
     → Agrees (withKey key list place space plain) (record { heads = set (b .heads) key (headWord (headOf list place)); space = s })

@@ -21,13 +21,16 @@ use Rattle.scripthash_free.proofs.LawsGap.{gap-filled, gap-slabs, adjoin-rises}
 use Rattle.scripthash_free.proofs.LawsFree.{pop-none, pop-yes}
 use Rattle.book_rules.specs.Places.{pageAfter}
 use Rattle.plain_book.specs.Space.{Space as PlainSpace, Taken as PlainTaken, stackOf, freed, freedAll}
-use Rattle.plain_book.specs.Space.{takeMark as plainTakeMark, rounded as plainRounded, takeRun as plainTakeRun, takeFresh as plainTakeFresh, takeFrom, takeBlock as plainTake}
+use Rattle.plain_book.specs.Space.{takeMark as plainTakeMark, rounded as plainRounded, takeRun as plainTakeRun, takeFresh as plainTakeFresh}
+use Rattle.plain_book.specs.Space.{takeFrom, takeBlock as plainTake}
 use Rattle.plain_book.specs.Key.{Place}
 use Rattle.plain_book.specs.Owners.{Owner, hand, stack, slabOf, pageOf, atDepth, has}
 use Rattle.plain_book.specs.Good.{Good}
-use Rattle.plain_book.proofs.LawsOwners.{none-some, kindOf, deep-none, top-is, under-top, withStack, stack-same, stack-other, changed-has, good-marked}
+use Rattle.plain_book.proofs.LawsOwners.{none-some, kindOf, deep-none, top-is, under-top, withStack, stack-same, stack-other, changed-has}
+use Rattle.plain_book.proofs.LawsOwners.{good-marked}
 use Rattle.plain_book.proofs.LawsTaking.{good-carved-one, freed-stacks}
-use Rattle.book_space.specs.Space.{Space, space, listsOf, Taken, takeMark, rounded, takeRun, takeFresh, takePopped, takeBlock as takes, release}
+use Rattle.book_space.specs.Space.{Space, space, listsOf, Taken, takeMark, rounded, takeRun, takeFresh, takePopped, takeBlock as takes}
+use Rattle.book_space.specs.Space.{release}
 use Rattle.book_history.specs.Agrees.{top, under, Contents, Reading, Stored, AgreesSpace}
 use Rattle.book_history.proofs.LawsFrame.{stored-same}
 use Rattle.book_history.proofs.LawsPush.{FromOther, under-pushed, under-kept, top-stands, tops-changed, release-long, push-agrees}
@@ -38,10 +41,12 @@ use Rattle.book_history.proofs.LawsPush.{FromOther, under-pushed, under
 abbrev pub anyHand : Contents → Contents
 anyHand c = record { inHand = λ block. Unit {0}; slabs = c .slabs; pages = c .pages }
 
--- What two takes answer is alike: both give one offset, the body stays so long, and the spaces agree with what is then in hand; or both are refused
+-- What two takes answer is alike: both give one offset, the body stays so long, and the spaces agree with what is then in hand; or both are
+-- refused
 -- by one number.
 pub data TakenAlike (at : ℕ → Place) (held : ℕ → Option Block) (c : Contents) (long : ℕ) : Answer PlainTaken → Answer Taken → Type 0 where
-  taken-alike : {t : PlainTaken} {u : Taken} → u .off ≡ t .off → length (u .space .body) ≡ long → AgreesSpace (t .space) (u .space) at (held (t .off)) c
+  taken-alike : {t : PlainTaken} {u : Taken} → u .off ≡ t .off → length (u .space .body) ≡ long
+      → AgreesSpace (t .space) (u .space) at (held (t .off)) c
       → TakenAlike at held c long (accepted t) (accepted u)
   refused-taken : {number : ℕ} → TakenAlike at held c long (refused number) (refused number)
 
@@ -142,7 +147,8 @@ module _ (plain : PlainSpace) (s : Space) (at : ℕ → Place) (c : Contents) (c
 -- ---- at the mark
 
 -- The mark passes some bytes.
-pub passed-agrees : (plain : PlainSpace) (s : Space) (at : ℕ → Place) (held : Option Block) (c : Contents) (bytes : ℕ) → plain .mark + bytes ≤ length (s .body)
+pub passed-agrees : (plain : PlainSpace) (s : Space) (at : ℕ → Place) (held : Option Block) (c : Contents) (bytes : ℕ)
+    → plain .mark + bytes ≤ length (s .body)
     → AgreesSpace plain s at held c → AgreesSpace (record { mark = plain .mark + bytes; stacks = plain .stacks }) (space (s .body) (s .mark + bytes) (s .free)) at held c
 unfolding has
 passed-agrees plain s at held c bytes fits a =
@@ -155,7 +161,8 @@ passed-agrees plain s at held c bytes fits a =
     stored (pageOf k i) x e = a .stored (pageOf k i) x e
 
 -- A block comes to hand, of which nothing is asked.
-pub hand-any : (plain : PlainSpace) (s : Space) (at : ℕ → Place) (c : Contents) (x : Block) → AgreesSpace plain s at none c → AgreesSpace plain s at (some x) (anyHand c)
+pub hand-any : (plain : PlainSpace) (s : Space) (at : ℕ → Place) (c : Contents) (x : Block) → AgreesSpace plain s at none c
+    → AgreesSpace plain s at (some x) (anyHand c)
 unfolding has
 hand-any plain s at c x a = record { mark = a .mark; nine = a .nine; tops = a .tops; within = a .within; small = a .small; stored = stored }
   where
@@ -166,7 +173,8 @@ hand-any plain s at c x a = record { mark = a .mark; nine = a .nine; tops = a .t
     stored (pageOf k i) y e = a .stored (pageOf k i) y e
 
 -- Some bytes are taken at the mark.
-pub mark-agrees : (plain : PlainSpace) (s : Space) (at : ℕ → Place) (c : Contents) (long bytes : ℕ) → length (s .body) ≡ long → AgreesSpace plain s at none c
+pub mark-agrees : (plain : PlainSpace) (s : Space) (at : ℕ → Place) (c : Contents) (long bytes : ℕ) → length (s .body) ≡ long
+    → AgreesSpace plain s at none c
     → TakenAlike at (λ off. none) c long (plainTakeMark long bytes plain) (takeMark bytes s)
 unfolding plainTakeMark takeMark refuseIf
 mark-agrees plain s at c long bytes is a = rw (is, a .mark) (go (ltb long (plain .mark + bytes)) refl)
@@ -182,7 +190,8 @@ mark-agrees plain s at c long bytes is a = rw (is, a .mark) (go (ltb long (plain
         (passed-agrees plain s at none c bytes (omega (arith, ltb-false long (plain .mark + bytes) e)) a))
 
 -- What was taken at the mark is in hand.
-hand-alike : (at : ℕ → Place) (c : Contents) (class long : ℕ) (x : Answer PlainTaken) (y : Answer Taken) → TakenAlike at (λ off. none) c long x y
+hand-alike : (at : ℕ → Place) (c : Contents) (class long : ℕ) (x : Answer PlainTaken) (y : Answer Taken)
+    → TakenAlike at (λ off. none) c long x y
     → TakenAlike at (inHandOf class) (anyHand c) long x y
 hand-alike at c class long x y (taken-alike {t} {u} off is a) =
     taken-alike off is (hand-any (t .space) (u .space) at c (record { class = class; off = t .off }) a)
@@ -236,7 +245,8 @@ carved-one plain s at c b is to-7 fits g a = (agrees, release-long (b .class) (b
         rest (pageOf k i) x n h = (pageOf k i, (λ q. (let z = ap kindOf q in omega arith)), h, λ b r. r)
 
 -- Blocks side by side from the mark on go onto their stacks, and the mark passes them.
-carved : (bs : List Block) (plain : PlainSpace) (s : Space) (at : ℕ → Place) (c : Contents) (end : ℕ) → Adjoin (plain .mark) bs end → Each (IsSlab end) bs
+carved : (bs : List Block) (plain : PlainSpace) (s : Space) (at : ℕ → Place) (c : Contents) (end : ℕ) → Adjoin (plain .mark) bs end
+    → Each (IsSlab end) bs
     → end ≤ length (s .body) → Good plain at none → AgreesSpace plain s at none c → AgreesLong (freedTo end bs plain) (pushedTo end bs s) at c (length (s .body))
 unfolding Adjoin Each freedAll pushAll
 carved [] plain s at c end here each fits g a =
@@ -256,7 +266,8 @@ carved (b ∷ bs) plain s at c end (is, next) (b7, each) fits g a =
     )
 
 -- The mark is rounded up to a page.
-pub rounded-agrees : (plain : PlainSpace) (s : Space) (at : ℕ → Place) (c : Contents) → Good plain at none → length (s .body) % 4096 ≡ 0 → AgreesSpace plain s at none c
+pub rounded-agrees : (plain : PlainSpace) (s : Space) (at : ℕ → Place) (c : Contents) → Good plain at none → length (s .body) % 4096 ≡ 0
+    → AgreesSpace plain s at none c
     → AgreesSpace (plainRounded plain) (rounded s) at none c × (length (rounded s .body) ≡ length (s .body))
 unfolding plainRounded rounded
 rounded-agrees plain s at c g whole a =
@@ -270,7 +281,8 @@ rounded-agrees plain s at c g whole a =
 -- ---- takes
 
 -- A run of pages is taken: nothing is in hand, and the mark has passed it.
-pub run-agrees : (plain : PlainSpace) (s : Space) (at : ℕ → Place) (c : Contents) (pages : ℕ) → Good plain at none → length (s .body) % 4096 ≡ 0
+pub run-agrees : (plain : PlainSpace) (s : Space) (at : ℕ → Place) (c : Contents) (pages : ℕ) → Good plain at none
+    → length (s .body) % 4096 ≡ 0
     → AgreesSpace plain s at none c → TakenAlike at (λ off. none) c (length (s .body)) (plainTakeRun (length (s .body)) pages plain) (takeRun pages s)
 unfolding plainTakeRun takeRun
 run-agrees plain s at c pages g whole a =
@@ -278,7 +290,8 @@ run-agrees plain s at c pages g whole a =
     mark-agrees (plainRounded plain) (rounded s) at c (length (s .body)) (pages * pageSize) long all
 
 -- A block of a class is taken, and is in hand.
-pub take-agrees : (plain : PlainSpace) (s : Space) (at : ℕ → Place) (c : Contents) (class : ℕ) → class ≤ 8 → Good plain at none → length (s .body) % 4096 ≡ 0
+pub take-agrees : (plain : PlainSpace) (s : Space) (at : ℕ → Place) (c : Contents) (class : ℕ) → class ≤ 8 → Good plain at none
+    → length (s .body) % 4096 ≡ 0
     → AgreesSpace plain s at none c
     → TakenAlike at (inHandOf class) (anyHand c) (length (s .body)) (plainTake (length (s .body)) class plain) (takes class s)
 unfolding takes takeFrom takePopped plainTakeFresh takeFresh

@@ -1,4 +1,5 @@
--- Demand 1 of the account book: a refused call leaves the book as it was, and an accepted one changes what it names only. Any book, any call.
+-- Demand 1 of the account book: a refused call leaves the book as it was, and an accepted one changes what it names only. Any book, any
+-- call.
 use Prim.Native.Nat.{ℕ, _+_, _≤_, _<_}
 use mathlib.Core.Bool.{true}
 use mathlib.Core.List.{List, [], _∷_}
@@ -78,7 +79,8 @@ read-nothing b key room e =
     ap (λ (o : Outcome). o .book) (sym (accepted-inj (passed _ _ _ out .1)))
 
 -- A read writes its numbers at the beginning of its lent list, and nothing else there.
-pub list-only : (b : Book) (key : ℕ) (out : List ℕ) (l : Listed) {o : Outcome} → does b (read key (length out)) ≡ accepted o → o .told ≡ listed l
+pub list-only : (b : Book) (key : ℕ) (out : List ℕ) (l : Listed) {o : Outcome} → does b (read key (length out)) ≡ accepted o
+    → o .told ≡ listed l
     → Only (region 0 (length (l .numbers)) ∷ []) out (listAfter out (does b (read key (length out))))
 unfolding does reads listAfter
 list-only b key out l {o} e is =
@@ -99,7 +101,8 @@ list-refused b key out e = rw e
 -- ---- a fresh book
 
 -- A book that is made fresh keeps its body's bytes, and as many head words.
-pub fresh-only : (b : Book) {made : Book} → makesFresh b ≡ accepted made → (made .space .body ≡ b .space .body) × (length (made .heads) ≡ length (b .heads))
+pub fresh-only : (b : Book) {made : Book} → makesFresh b ≡ accepted made
+    → (made .space .body ≡ b .space .body) × (length (made .heads) ≡ length (b .heads))
 unfolding makesFresh
 fresh-only b e =
     let is = accepted-inj (passed _ _ _ e .1) in
@@ -126,7 +129,8 @@ accepted-only b (read key room) e = subst (λ (a : Book). Differs (record { head
 accepted-only b (drop key) e = drop-only b key e
 
 -- What an answer leaves.
-after-answer : (b : Book) (c : Call) (a : Answer Outcome) → ((o : Outcome) → a ≡ accepted o → Changes b (o .book) c) → Changes b (bookAfter b a) c
+after-answer : (b : Book) (c : Call) (a : Answer Outcome) → ((o : Outcome) → a ≡ accepted o → Changes b (o .book) c)
+    → Changes b (bookAfter b a) c
 unfolding bookAfter
 after-answer b c (accepted o) f = f o refl
 after-answer b c (refused number) f = differs-not (names b c) b

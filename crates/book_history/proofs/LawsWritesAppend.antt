@@ -40,10 +40,12 @@ use Rattle.book_blocks.specs.Blocks.{slabWith, lastPageOf, pageWith, pageBefore
 use Rattle.book_blocks.proofs.LawsWrites.{length-payload, length-lastPage}
 use Rattle.book.specs.Book.{Book, Outcome, filled}
 use Rattle.book.specs.Appends.{movesInto, moves, appendSlab, growChain, appendPage, appendAt, appends}
-use Rattle.book_history.specs.Writes.{region, nothing, bytesAt, wordAnd, both, freeingAll, filling, writing, moving, growingSlab, growingPage, appendNames, names, Wrote, Differs, Changes}
+use Rattle.book_history.specs.Writes.{region, nothing, bytesAt, wordAnd, both, freeingAll, filling, writing, moving, growingSlab}
+use Rattle.book_history.specs.Writes.{growingPage, appendNames, names, Wrote, Differs, Changes}
 use Rattle.book_history.proofs.LawsOnly.{shifted}
 use Rattle.book_history.proofs.LawsWritesBlocks.{only-slab, only-before, only-joined}
-use Rattle.book_history.proofs.LawsWritesSpace.{wrote-between, wrote-same, wrote-then, wrote-bytes, wrote-part, wrote-released, wrote-took, wrote-filled}
+use Rattle.book_history.proofs.LawsWritesSpace.{wrote-between, wrote-same, wrote-then, wrote-bytes, wrote-part, wrote-released}
+use Rattle.book_history.proofs.LawsWritesSpace.{wrote-took, wrote-filled}
 use Rattle.book_history.proofs.LawsWritesLoad.{on-key, differs-placed}
 
 -- ---- moving
@@ -55,14 +57,16 @@ module _ (b : Book) (key : ℕ) (ns : List ℕ) (n : ℕ) (old : List Block) (i 
   list = ns ++ (n ∷ [])
 
   -- The list is written to a taken block, then the old blocks are freed.
-  moved-wrote : (class len : ℕ) (ys : List ℕ) {t : Taken} → class ≤ pageClass → length ys ≡ len → len ≤ slabBytes class → takeBlock class (b .space) ≡ accepted t
+  moved-wrote : (class len : ℕ) (ys : List ℕ) {t : Taken} → class ≤ pageClass → length ys ≡ len → len ≤ slabBytes class
+      → takeBlock class (b .space) ≡ accepted t
       → Wrote (both (filling class len (b .space)) (freeingAll old)) (b .space) (release old (filled t ys))
   moved-wrote class len ys {t} small long fits e =
       let w = wrote-filled class (b .space) small i len ys long fits e in
       wrote-then w (wrote-released old (filled t ys) (rw (w .body .long) here))
 
   -- It moves.
-  into-only : (to : Option ℕ) {o : Outcome} → movesTo (length list) (streamLen list) ≡ to → streamLen list ≤ lastPageRoom → movesInto b key ns n old to ≡ accepted o
+  into-only : (to : Option ℕ) {o : Outcome} → movesTo (length list) (streamLen list) ≡ to → streamLen list ≤ lastPageRoom
+      → movesInto b key ns n old to ≡ accepted o
       → Differs (wordAnd key (both (writing list to (b .space)) (freeingAll old))) b (o .book)
   unfolding movesInto writing
   into-only (some class) is fits e =
@@ -78,7 +82,8 @@ module _ (b : Book) (key : ℕ) (ns : List ℕ) (n : ℕ) (old : List Block) (i 
       (moved-wrote pageClass pageSize (lastPageOf off off 1 (length list) list) (omega arith) (length-lastPage off off 1 (length list) list fits) (omega arith) (w .1)))
 
   -- It moves to the class for it.
-  moves-only : {o : Outcome} → streamLen list ≤ lastPageRoom → moves b key ns n old ≡ accepted o → Differs (wordAnd key (moving list old (b .space))) b (o .book)
+  moves-only : {o : Outcome} → streamLen list ≤ lastPageRoom → moves b key ns n old ≡ accepted o
+      → Differs (wordAnd key (moving list old (b .space))) b (o .book)
   unfolding moves moving
   moves-only fits e = into-only (movesTo (length list) (streamLen list)) refl fits e
 
@@ -121,7 +126,8 @@ module _ (b : Book) (key n class used off : ℕ) (c : Scan) (i : InShape (b .spa
       rw (stream-len-append 0 (c .numbers) (n ∷ [])) (omega (arith, len-at-most difference (omega arith)))
 
   -- It stays there, or moves.
-  grown-only : (there : Bool) {o : Outcome} → stays class (length (c .numbers) + 1) (c .taken + ulebLen difference) ≡ there → appendSlab b key n class off c ≡ accepted o
+  grown-only : (there : Bool) {o : Outcome} → stays class (length (c .numbers) + 1) (c .taken + ulebLen difference) ≡ there
+      → appendSlab b key n class off c ≡ accepted o
       → Differs (wordAnd key (growingSlab n class off c s)) b (o .book)
   unfolding appendSlab growingSlab
   grown-only true t e =
@@ -188,7 +194,8 @@ module _ (b : Book) (key n last : ℕ) (t : Tail) (i : InShape (b .space)) (know
       (wrote-bytes _ (p .off) pageSize page (length-lastPage (t .last .first) (p .off) 1 (t .last .creates + 1) (n ∷ []) one-fits) (omega (arith, old .body .long))))
 
   -- A number in the page, or in a page more.
-  page-only : (spot : Option Spot) {o : Outcome} → spotBehind (pageAt room last) n (t .scan) ≡ spot → appendPage b key n last t spot ≡ accepted o
+  page-only : (spot : Option Spot) {o : Outcome} → spotBehind (pageAt room last) n (t .scan) ≡ spot
+      → appendPage b key n last t spot ≡ accepted o
       → Differs (wordAnd key (growingPage last spot room)) b (o .book)
   unfolding appendPage growChain
   page-only (some w) is e =

@@ -40,7 +40,8 @@ only-before page next long =
     only-then linked (only-bytes (setField page 3 5 (linkTo false next)) 20 4 (bytesOf 4 0) refl (omega (arith, linked .long)))
 
 -- A last page with one number more differs in its count, in the number's bytes and in creates.
-pub only-joined : (page : List ℕ) (n creates : ℕ) (c : Scan) (w : Spot) → pageScan page ≡ accepted c → versionOf page ≡ 2 → spotBehind page n c ≡ some w
+pub only-joined : (page : List ℕ) (n creates : ℕ) (c : Scan) (w : Spot) → pageScan page ≡ accepted c → versionOf page ≡ 2
+    → spotBehind page n c ≡ some w
     → Only (region 1 2 ∷ region (w .at) (ulebLen (w .difference)) ∷ region 20 4 ∷ []) page (pageWith page w creates)
 only-joined page n creates c w scans version spot =
     let long = scan-ends page c scans .long in

@@ -27,11 +27,13 @@ use Rattle.book_blocks.specs.Blocks.{writeRun}
 use Rattle.book_blocks.proofs.LawsWrites.{rising-below, length-payload}
 use Rattle.book.specs.Book.{Book, Outcome, headWord, onKey, filled}
 use Rattle.book.specs.Loads.{loadInto, loadAt, loads}
-use Rattle.book_history.specs.Writes.{Named, CallNames, nothing, bytesAt, wordAnd, both, takingPages, filling, loadNames, names, Wrote, Differs, Changes}
+use Rattle.book_history.specs.Writes.{Named, CallNames, nothing, bytesAt, wordAnd, both, takingPages, filling, loadNames, names}
+use Rattle.book_history.specs.Writes.{Wrote, Differs, Changes}
 use Rattle.book_history.proofs.LawsOnly.{only-same, only-set}
 use Rattle.book_history.proofs.LawsWritesSpace.{wrote-same, wrote-then, wrote-run, wrote-filled, only-run}
 
--- A call on a key that is accepted: the shape is within its limits, the key has a head word, and what comes after the two tests is accepted.
+-- A call on a key that is accepted: the shape is within its limits, the key has a head word, and what comes after the two tests is
+-- accepted.
 pub on-key : {A : Type 0} (b : Book) (key : ℕ) (after : Answer A) {x : A} → onKey b key after ≡ accepted x
     → InShape (b .space) × (key < length (b .heads)) × (after ≡ accepted x)
 unfolding onKey
@@ -85,7 +87,8 @@ into-only b key ns none i r is e =
     (differs-placed key _ _ b (run-wrote ns (b .space) i r (w .1)))
 
 -- A list of rising numbers.
-at-only : (b : Book) (key : ℕ) (ns : List ℕ) {o : Outcome} → InShape (b .space) → Rising (2 ^ 62) 0 ns → loadAt b key ns ≡ accepted o → Changes b (o .book) (load key ns)
+at-only : (b : Book) (key : ℕ) (ns : List ℕ) {o : Outcome} → InShape (b .space) → Rising (2 ^ 62) 0 ns → loadAt b key ns ≡ accepted o
+    → Changes b (o .book) (load key ns)
 unfolding loadAt names
 at-only b key [] i r e = subst (λ (o : Outcome). Differs (record { heads = []; space = nothing }) b (o .book)) (accepted-inj e) (differs-not (record { heads = []; space = nothing }) b)
 at-only b key (n ∷ []) i r e =

@@ -20,13 +20,16 @@ use Rattle.scripthash_free.proofs.LawsGap.{each-map, gap-filled, adjoin-within}
 use Rattle.scripthash_free.proofs.LawsNames.{length-pushed}
 use Rattle.scripthash_cutting.specs.Cutting.{pageRoom, lastPageRoom, Fit}
 use Rattle.book_rules.specs.Places.{pageAfter}
-use Rattle.book_space.specs.Space.{Space, space, listsOf, InShape, Taken, takeMark, rounded, takeRun, takeFresh, takePopped, takeBlock, release}
+use Rattle.book_space.specs.Space.{Space, space, listsOf, InShape, Taken, takeMark, rounded, takeRun, takeFresh, takePopped, takeBlock}
+use Rattle.book_space.specs.Space.{release}
 use Rattle.book_space.proofs.LawsTake.{take-took}
 use Rattle.book_blocks.specs.Blocks.{lastPageOf, pageTo, writeRun}
 use Rattle.book_blocks.proofs.LawsWrites.{length-lastPage, length-pageTo}
 use Rattle.book.specs.Book.{filled}
-use Rattle.book_history.specs.Writes.{Region, region, Outside, Only, Named, nothing, bytesAt, freeHead, theMark, both, freeing, freeingAll, takingPages, taking, filling, Wrote}
-use Rattle.book_history.proofs.LawsOnly.{outside-of, outside-both, only-same, only-then, only-set, only-written, only-bytes, only-covered, shifted, only-part}
+use Rattle.book_history.specs.Writes.{Region, region, Outside, Only, Named, nothing, bytesAt, freeHead, theMark, both, freeing}
+use Rattle.book_history.specs.Writes.{freeingAll, takingPages, taking, filling, Wrote}
+use Rattle.book_history.proofs.LawsOnly.{outside-of, outside-both, only-same, only-then, only-set, only-written, only-bytes}
+use Rattle.book_history.proofs.LawsOnly.{only-covered, shifted, only-part}
 
 -- A space differs in nothing from itself.
 pub wrote-same : (n : Named) (s : Space) → Wrote n s s
@@ -70,7 +73,8 @@ wrote-bytes s off len ys e fits = record {
 }
 
 -- A part of the body is overwritten by what differs from it in some regions only.
-pub wrote-part : (s : Space) (off len : ℕ) (block : List ℕ) (rs : List Region) → off + len ≤ length (s .body) → Only rs (part (s .body) off len) block
+pub wrote-part : (s : Space) (off len : ℕ) (block : List ℕ) (rs : List Region) → off + len ≤ length (s .body)
+    → Only rs (part (s .body) off len) block
     → Wrote (record { body = shifted off rs; free = []; mark = false }) s (space (overwrite (s .body) off block) (s .mark) (s .free))
 wrote-part s off len block rs fits o = record {
   body = only-part (s .body) off len block rs fits o;

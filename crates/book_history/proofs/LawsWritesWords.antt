@@ -51,7 +51,8 @@ module _ (b : Book) (key n : ℕ) {o : Outcome} (place : ShHeadValue) (word : wo
   word-is = word-of place (pack-unpacked (wordOf key b) place word is)
 
 -- Where the number stays in its slab, the words before and after have the slab's class and offset, and used is one more.
-pub slab-word : (b : Book) (key n class used off : ℕ) (c : Scan) {o : Outcome} → wordOf key b < 2 ^ 64 → unpackHead (wordOf key b) ≡ accepted (Slab class used off)
+pub slab-word : (b : Book) (key n class used off : ℕ) (c : Scan) {o : Outcome} → wordOf key b < 2 ^ 64
+    → unpackHead (wordOf key b) ≡ accepted (Slab class used off)
     → slabScan (b .space) class used off ≡ accepted c → stays class (length (c .numbers) + 1) (c .taken + ulebLen (n - lastOf c)) ≡ true
     → does b (append key n) ≡ accepted o → (wordOf key b ≡ slabWord class used off) × (wordOf key (o .book) ≡ slabWord class (used + 1) off)
 unfolding appendAt appendSlab
@@ -73,7 +74,8 @@ slab-word b key n class used off c {o} word is scanned stay e =
     )
 
 -- Where the number joins its last page, the head words are as before.
-pub page-words : (b : Book) (key n last : ℕ) (t : Tail) (w : Spot) {o : Outcome} → wordOf key b < 2 ^ 64 → unpackHead (wordOf key b) ≡ accepted (Extent last)
+pub page-words : (b : Book) (key n last : ℕ) (t : Tail) (w : Spot) {o : Outcome} → wordOf key b < 2 ^ 64
+    → unpackHead (wordOf key b) ≡ accepted (Extent last)
     → tailAt (b .space) last ≡ accepted t → spotBehind (pageAt (b .space) last) n (t .scan) ≡ some w → does b (append key n) ≡ accepted o → o .book .heads ≡ b .heads
 unfolding appendAt appendPage
 page-words b key n last t w {o} word is tail spot e =

@@ -25,5 +25,9 @@ pub record Standing (plain : PlainBook) (b : Book) : Type 0 where
   -- Each free list names its stack from the top.
   pub free : (class : ℕ) → class ≤ pageClass → Names (b .space .body) (getD (b .space .free) class 0) (stackOf class (plain .space))
   -- Each key reads as the list that is held there, save where 1 applies; a long enough list is lent.
-  pub reads : (key room : ℕ) → outOfShape (plain .size) (length (plain .keys)) ≡ false → key < length (plain .keys) → length (keyOf key plain .list) ≤ room
-      → reads b key room ≡ accepted (record { told = listed (record { numbers = keyOf key plain .list; pages = pagesOf (keyOf key plain .place) }); book = b })
+  pub reads : (key room : ℕ) → outOfShape (plain .size) (length (plain .keys)) ≡ false → key < length (plain .keys)
+      → length (keyOf key plain .list) ≤ room
+      → reads b key room ≡ accepted (record {
+        told = listed (record { numbers = keyOf key plain .list; pages = pagesOf (keyOf key plain .place) });
+        book = b;
+      })

@@ -1,4 +1,5 @@
--- What each call names (document 01, "Append" to "drop"): the bytes of the body, the head words and the free heads that may differ after it, and
+-- What each call names (document 01, "Append" to "drop"): the bytes of the body, the head words and the free heads that may differ after
+-- it, and
 -- whether the mark may. This is said of any book, a damaged one too.
 use Prim.Native.Nat.{ℕ, _+_, _-_, _*_, _≤_, _<_}
 use mathlib.Core.Bool.{Bool, true, false, cond, _||_}
@@ -112,7 +113,8 @@ growingSlab n class off c s =
     cond (stays class (length (c .numbers) + 1) (c .taken + bytes)) (both (bytesAt off 2) (bytesAt (off + (2 + c .taken)) bytes))
     (moving (c .numbers ++ (n ∷ [])) (record { class = class; off = off } ∷ []) s)
 
--- A number behind the stream of a last page: where it has a spot, the page's count, the number's bytes and creates; otherwise a page is taken and
+-- A number behind the stream of a last page: where it has a spot, the page's count, the number's bytes and creates; otherwise a page is
+-- taken and
 -- filled, and of the old one the link and creates.
 unfoldable pub growingPage : ℕ → Option Spot → Space → Named
 growingPage last (some w) s = both (bytesAt (last + 1) 2) (both (bytesAt (last + w .at) (ulebLen (w .difference))) (bytesAt (last + 20) 4))

@@ -32,16 +32,19 @@ module _ (s : Space) where
   unfolding contentAt
   content-empty = refl
 
-  pub content-inline : (entry used : ℕ) → contentAt s (Inline entry used) ≡ accepted (record { numbers = entry ∷ []; blocks = []; pages = 0 })
+  pub content-inline : (entry used : ℕ)
+      → contentAt s (Inline entry used) ≡ accepted (record { numbers = entry ∷ []; blocks = []; pages = 0 })
   unfolding contentAt
   content-inline entry used = refl
 
   -- a key in a slab
-  pub content-slab : (class used off : ℕ) (c : Scan) → slabScan s class used off ≡ accepted c → contentAt s (Slab class used off) ≡ accepted (inSlab class off c)
+  pub content-slab : (class used off : ℕ) (c : Scan) → slabScan s class used off ≡ accepted c
+      → contentAt s (Slab class used off) ≡ accepted (inSlab class off c)
   unfolding contentAt
   content-slab class used off c e = then-yes (slabScan s class used off) _ e
 
-  pub content-no-slab : (class used off : ℕ) {number : ℕ} → slabScan s class used off ≡ refused number → contentAt s (Slab class used off) ≡ refused number
+  pub content-no-slab : (class used off : ℕ) {number : ℕ} → slabScan s class used off ≡ refused number
+      → contentAt s (Slab class used off) ≡ refused number
   unfolding contentAt
   content-no-slab class used off e = then-no (slabScan s class used off) _ e
 
@@ -59,7 +62,8 @@ module _ (s : Space) where
   unfolding contentAt
   content-no-pages last e = then-no (chainAt s last) _ e
 
-  pub was-pages : (last : ℕ) (k : Content) → contentAt s (Extent last) ≡ accepted k → (c : Chain) × (chainAt s last ≡ accepted c) × (inPages c ≡ k)
+  pub was-pages : (last : ℕ) (k : Content) → contentAt s (Extent last) ≡ accepted k
+      → (c : Chain) × (chainAt s last ≡ accepted c) × (inPages c ≡ k)
   unfolding contentAt
   was-pages last k e = let got = went-on (chainAt s last) _ e in (got .0, got .1, accepted-inj (got .2))
 
@@ -74,12 +78,14 @@ module _ (s : Space) where
   content-nowhere word e = soundly-no _ (then-no (unpackHead word) (contentAt s) e)
 
   -- a sound key's word tells a place, which holds what it holds
-  pub was-content : (word : ℕ) (k : Content) → content s word ≡ accepted k → (place : ShHeadValue) × (unpackHead word ≡ accepted place) × (contentAt s place ≡ accepted k)
+  pub was-content : (word : ℕ) (k : Content) → content s word ≡ accepted k
+      → (place : ShHeadValue) × (unpackHead word ≡ accepted place) × (contentAt s place ≡ accepted k)
   unfolding content
   was-content word k e = went-on (unpackHead word) (contentAt s) (was-sound _ e)
 
 -- a place is no slab
-no-slab-place : (v : ShHeadValue) (class used off : ℕ) → (v ≡ Empty) ⊎ (((entry : ℕ) × (v ≡ Inline entry 1)) ⊎ ((last : ℕ) × (v ≡ Extent last))) → v ≡ Slab class used off → ⊥
+no-slab-place : (v : ShHeadValue) (class used off : ℕ)
+    → (v ≡ Empty) ⊎ (((entry : ℕ) × (v ≡ Inline entry 1)) ⊎ ((last : ℕ) × (v ≡ Extent last))) → v ≡ Slab class used off → ⊥
 no-slab-place v class used off w e =
     let z : _≡_ {A = ℕ} 0 1 = ⊎-elim (λ a. cc) (λ b. ⊎-elim (λ d. let f = d .1 in cc) (λ d. let f = d .1 in cc) b) w in
     omega arith

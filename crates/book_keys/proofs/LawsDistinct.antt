@@ -27,7 +27,8 @@ going-above prev [] g = absurd (omega (arith, g .some))
 going-above prev (n ∷ ns) g = let r = g .rising in omega (arith, r .0, last-above (2 ^ 62) n ns (r .2))
 
 -- a page of a chain isn't met again behind its last number, nor behind a later one
-pub page-once : (s : Space) (prev off : ℕ) (c : Scan) → linkScan s prev off ≡ accepted c → (later o : ℕ) (d : Scan) → linkScan s later o ≡ accepted d
+pub page-once : (s : Space) (prev off : ℕ) (c : Scan) → linkScan s prev off ≡ accepted c → (later o : ℕ) (d : Scan)
+    → linkScan s later o ≡ accepted d
     → lastFrom prev (c .numbers) ≤ later → o ≡ off → ⊥
 page-once s prev off c e later o d f h same =
     let k = link-sound s prev off c e in
@@ -54,7 +55,8 @@ unfolding linkScan
 link-same s t prev off mark page = rw (mark, page)
 
 -- a chain that is walked in a space is walked in another one that has the same behind the number before it
-pub walk-same : (k : ℕ) (s t : Space) (last prev off : ℕ) (c : Chain) → SameBehind s t prev → walk k s last prev off ≡ accepted c → walk k t last prev off ≡ accepted c
+pub walk-same : (k : ℕ) (s t : Space) (last prev off : ℕ) (c : Chain) → SameBehind s t prev → walk k s last prev off ≡ accepted c
+    → walk k t last prev off ≡ accepted c
 unfolding walk
 walk-same zero s t last prev off c b e = absurd (refused≢accepted e)
 walk-same (suc k) s t last prev off c b e =

@@ -29,7 +29,8 @@ use Rattle.book_keys.proofs.LawsWalk.{Ends, GoesOn, walk-step}
 -- ---- one page
 
 -- what reading a page tells besides its numbers
-pub read-told : (page : List ℕ) (c : Scan) (r : PageRead) → pageReadOf page c ≡ r → (length (c .numbers) ≡ r .count) × (nextOff page ≡ r .next)
+pub read-told : (page : List ℕ) (c : Scan) (r : PageRead) → pageReadOf page c ≡ r
+    → (length (c .numbers) ≡ r .count) × (nextOff page ≡ r .next)
 unfolding pageReadOf
 read-told page c r e = (ap (λ (x : PageRead). x .count) e, ap (λ (x : PageRead). x .next) e)
 
@@ -44,7 +45,8 @@ into-fits room s off c e =
     rw same at (ltb-false room (length (read .0 .numbers)) (fits .0))
 
 -- a sound page that fits the list is read
-pub into-sound : (room : ℕ) (s : Space) (prev off : ℕ) (c : Scan) → linkScan s prev off ≡ accepted c → length (c .numbers) ≤ room → pageInto room s off ≡ accepted c
+pub into-sound : (room : ℕ) (s : Space) (prev off : ℕ) (c : Scan) → linkScan s prev off ≡ accepted c → length (c .numbers) ≤ room
+    → pageInto room s off ≡ accepted c
 unfolding pageEntries
 into-sound room s prev off c e h =
     let k = link-sound s prev off c e in
@@ -92,7 +94,8 @@ module _ (s : Space) (last : ℕ) (before : List ℕ) (whole : Chain) (out : Lis
       pub page : Scan
       pub read : pageInto (length out - at) s off ≡ accepted page
       pub ends : off ≡ last → overwrite out at (page .numbers) ≡ overwrite before 0 (whole .numbers)
-      pub goes : (off ≡ last → ⊥) → Filling k s last before whole (overwrite out at (page .numbers)) (at + length (page .numbers)) (nextOff (pageAt s off))
+      pub goes : (off ≡ last → ⊥)
+          → Filling k s last before whole (overwrite out at (page .numbers)) (at + length (page .numbers)) (nextOff (pageAt s off))
 
     pub fill-turn : Turn
     unfolding linked nextOff

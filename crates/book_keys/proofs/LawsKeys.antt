@@ -60,7 +60,8 @@ module _ (s : Space) (last : ℕ) where
       (λ prev off page rest is n u ih. rising-append (2 ^ 62) prev (page .numbers) (rest .numbers) (link-sound s prev off page is .going .rising) ih)
 
   -- each page stands below the mark
-  pub walk-stands : (k prev off : ℕ) (c : Chain) → walk k s last prev off ≡ accepted c → Every (λ o. isBlock pageClass o (s .mark) ≡ true) (c .offs)
+  pub walk-stands : (k prev off : ℕ) (c : Chain) → walk k s last prev off ≡ accepted c
+      → Every (λ o. isBlock pageClass o (s .mark) ≡ true) (c .offs)
   unfolding Every linked
   walk-stands =
       by-steps (λ prev off c. Every (λ o. isBlock pageClass o (s .mark) ≡ true) (c .offs)) s last (λ prev page is. (link-sound s prev last page is .stands, tt))

@@ -16,7 +16,8 @@ use Rattle.compact.specs.Uleb128.{readUleb}
 use Rattle.scripthash_layout.specs.Sizes.{pageClass, pageSize}
 use Rattle.scripthash_stream.specs.Stream.{Rising, Scan, scanFrom, scan, lastFrom}
 use Rattle.scripthash_stream.proofs.LawsScan.{next-accepted, scan-step, scan-accepted}
-use Rattle.scripthash_fields.specs.Page.{field, versionOf, countOf, linkOf, streamOff, streamOf, extentBaseOf, extentCountOf, namesExtent, isLastLink, linkOffset, extentNamed}
+use Rattle.scripthash_fields.specs.Page.{field, versionOf, countOf, linkOf, streamOff, streamOf, extentBaseOf, extentCountOf, namesExtent}
+use Rattle.scripthash_fields.specs.Page.{isLastLink, linkOffset, extentNamed}
 use Rattle.scripthash_fields.specs.Fields.{firstOff}
 use Rattle.scripthash_fields.proofs.LawsPage.{page-yes}
 use Rattle.scripthash_pages.specs.Entries.{pageScan, pageEntries}
@@ -158,7 +159,8 @@ module _ (page : List ℕ) where
     tail-creates e = then-yes (lastRead page) _ is ∙ sure-no (createsGood (h .creates)) _ e
 
     -- and else the stream decides
-    pub tail-by-last : createsGood (h .creates) ≡ true → tailRead page ≡ andThen (lastSound (pageScan page)) (λ c. accepted (record { scan = c; last = h }))
+    pub tail-by-last : createsGood (h .creates) ≡ true
+        → tailRead page ≡ andThen (lastSound (pageScan page)) (λ c. accepted (record { scan = c; last = h }))
     unfolding tailRead
     tail-by-last e =
         then-yes (lastRead page) _ is ∙ sure-yes (createsGood (h .creates)) _ e
@@ -224,7 +226,8 @@ pub into-off : (room : ℕ) (s : Space) (off : ℕ) → isBlock pageClass off (s
 unfolding pageInto
 into-off room s off e = sure-no (isBlock pageClass off (s .mark)) _ e
 
-pub into-on : (room : ℕ) (s : Space) (off : ℕ) → isBlock pageClass off (s .mark) ≡ true → pageInto room s off ≡ pageEntries room (pageAt s off)
+pub into-on : (room : ℕ) (s : Space) (off : ℕ) → isBlock pageClass off (s .mark) ≡ true
+    → pageInto room s off ≡ pageEntries room (pageAt s off)
 unfolding pageInto
 into-on room s off e = sure-yes (isBlock pageClass off (s .mark)) _ e
 

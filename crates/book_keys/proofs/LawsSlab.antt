@@ -134,7 +134,8 @@ module _ (s : Space) (class used off : ℕ) where
       }
 
   -- a slab that stands and reads as its head tells is sound
-  pub sound-slab : (c : Scan) → class ≤ maxSlabClass → isBlock class off (s .mark) ≡ true → used ≤ maxSlabCount → slabUsed (blockAt s class off) ≡ used
+  pub sound-slab : (c : Scan) → class ≤ maxSlabClass → isBlock class off (s .mark) ≡ true → used ≤ maxSlabCount
+      → slabUsed (blockAt s class off) ≡ used
       → decodeSlab used (blockAt s class off) ≡ accepted c → goOn 0 (c .numbers) ≡ true → slabScan s class used off ≡ accepted c
   unfolding slabScan
   sound-slab c h stands few stored read goes =

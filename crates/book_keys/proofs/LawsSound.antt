@@ -1,4 +1,5 @@
--- Soundness: what passes the tests of a sound key and what turns it back, and a block's numbers that go on behind a number. Assumes nothing.
+-- Soundness: what passes the tests of a sound key and what turns it back, and a block's numbers that go on behind a number. Assumes
+-- nothing.
 use Prim.Native.Nat.{ℕ, _^_, _≤_, _<_}
 use mathlib.Core.Bool.{Bool, true, false, not, _&&_}
 use mathlib.Core.List.{List, [], _∷_}
@@ -9,7 +10,8 @@ use borrow.Author.Tests.{ltb-true, lt-ltb, not-false}
 use lib.Dec.{ltb}
 use lib.ListN.{length, getD}
 use Rattle.error.specs.Refusal.{Answer, accepted, refused, andThen, answered, keyUnsound}
-use Rattle.error.proofs.LawsAnswer.{refused≢accepted, passed, was-accepted, was-refused, then-yes, then-no, answered-yes, answered-no, refuse-yes, refuse-no}
+use Rattle.error.proofs.LawsAnswer.{refused≢accepted, passed, was-accepted, was-refused, then-yes, then-no, answered-yes, answered-no}
+use Rattle.error.proofs.LawsAnswer.{refuse-yes, refuse-no}
 use Rattle.scripthash_free.proofs.LawsBlock.{both}
 use Rattle.scripthash_stream.specs.Stream.{Rising, Scan, lastFrom, End, endFrom}
 use Rattle.book_keys.specs.Keys.{soundly, sure, goOn}

@@ -126,7 +126,8 @@ module _ (count pages most : ℕ) (s : Space) (last prev off : ℕ) (h : pages <
   left = omega arith
 
   -- the next page isn't sound
-  pub told-refused : {number : ℕ} → soundly (linkScan s prev off) ≡ refused number → refused keyUnsound ≡ told count pages (most - pages) s last prev off
+  pub told-refused : {number : ℕ} → soundly (linkScan s prev off) ≡ refused number
+      → refused keyUnsound ≡ told count pages (most - pages) s last prev off
   unfolding told
   told-refused e = rw left (turned-back (walkedFrom count pages) _ (walk-refused (most - (pages + 1)) s last prev off (was-unsound _ e .1)))
 
@@ -138,7 +139,8 @@ module _ (count pages most : ℕ) (s : Space) (last prev off : ℕ) (h : pages <
     told-last e = rw left (let-through (walkedFrom count pages) _ (walk-last (most - (pages + 1)) s last prev off c is e))
 
     -- it has LAST, and isn't the last one
-    pub told-flagged : (off ≡ last → ⊥) → isLastLink (linkOf (pageAt s off)) ≡ true → refused keyUnsound ≡ told count pages (most - pages) s last prev off
+    pub told-flagged : (off ≡ last → ⊥) → isLastLink (linkOf (pageAt s off)) ≡ true
+        → refused keyUnsound ≡ told count pages (most - pages) s last prev off
     unfolding told
     told-flagged n e = rw left (turned-back (walkedFrom count pages) _ (walk-flagged (most - (pages + 1)) s last prev off c is n e))
 
@@ -157,11 +159,13 @@ module _ (count pages most : ℕ) (s : Space) (last prev off : ℕ) (h : pages <
         ∙ ap (λ (p : ℕ). answered (walkedFrom (count + length (c .numbers)) (pages + 1)) (soundly (walk k s last p next))) same))
 
 -- no page is left
-pub told-none : (count pages most : ℕ) (s : Space) (last prev off : ℕ) → most ≤ pages → refused keyUnsound ≡ told count pages (most - pages) s last prev off
+pub told-none : (count pages most : ℕ) (s : Space) (last prev off : ℕ) → most ≤ pages
+    → refused keyUnsound ≡ told count pages (most - pages) s last prev off
 unfolding told walk
 told-none count pages most s last prev off h = let none : most - pages ≡ 0 = omega arith in rw none (turned-back (walkedFrom count pages) (walk 0 s last prev off) refl)
 
 -- at first all are left
-pub told-start : (most : ℕ) (s : Space) (last off : ℕ) → told 0 0 (most - 0) s last 0 off ≡ answered (walkedFrom 0 0) (soundly (walk most s last 0 off))
+pub told-start : (most : ℕ) (s : Space) (last off : ℕ)
+    → told 0 0 (most - 0) s last 0 off ≡ answered (walkedFrom 0 0) (soundly (walk most s last 0 off))
 unfolding told
 told-start most s last off = rw (sub-zero most)

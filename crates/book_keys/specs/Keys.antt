@@ -69,7 +69,8 @@ unfoldable pub lastAt : Space → ℕ → Answer Last
 lastAt s off =
     sure (isBlock pageClass off (s .mark))
     (sure (namesExtent (pageAt s off) && isLastLink (linkOf (pageAt s off)))
-    (andThen (goodExtent (pageAt s off)) (λ e. accepted (record { first = linkOffset (linkOf (pageAt s off)); creates = createsFieldOf (pageAt s off) }))))
+    (andThen (goodExtent (pageAt s off))
+    (λ e. accepted (record { first = linkOffset (linkOf (pageAt s off)); creates = createsFieldOf (pageAt s off) }))))
 
 -- What a chain of pages holds: its numbers, and its pages' offsets, the first first.
 pub record Chain : Type 0 where
@@ -114,7 +115,8 @@ unfoldable pub contentAt : Space → ShHeadValue → Answer Content
 contentAt s Empty = accepted (record { numbers = []; blocks = []; pages = 0 })
 contentAt s (Inline entry used) = accepted (record { numbers = entry ∷ []; blocks = []; pages = 0 })
 contentAt s (Slab class used off) =
-    andThen (slabScan s class used off) (λ c. accepted (record { numbers = c .numbers; blocks = record { class = class; off = off } ∷ []; pages = 0 }))
+    andThen (slabScan s class used off)
+    (λ c. accepted (record { numbers = c .numbers; blocks = record { class = class; off = off } ∷ []; pages = 0 }))
 contentAt s (Extent last) =
     andThen (chainAt s last) (λ c. accepted (record { numbers = c .numbers; blocks = pageBlocks (c .offs); pages = length (c .offs) }))
 

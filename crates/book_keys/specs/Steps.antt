@@ -46,7 +46,9 @@ lastRead page = sure (namesExtent page && isLastLink (linkOf page)) (andThen (go
 
 -- The last page of a key as an append looks at it, from its bytes.
 unfoldable pub tailRead : List ℕ → Answer Tail
-tailRead page = andThen (lastRead page) (λ h. sure (createsGood (h .creates)) (andThen (linkRead 0 page) (λ c. accepted (record { scan = c; last = h }))))
+tailRead page =
+    andThen (lastRead page)
+    (λ h. sure (createsGood (h .creates)) (andThen (linkRead 0 page) (λ c. accepted (record { scan = c; last = h }))))
 
 -- ---- what is told of them
 

@@ -8,7 +8,8 @@ ghost use Rattle.scripthash_stream.specs.Stream.{afterDecode};
 ghost use Rattle.scripthash_answers.specs.EntryAnswers.{sliceAnswer};
 ghost use Rattle.scripthash_pages.specs.Entries.{pageReadOf};
 ghost use Rattle.book_keys.specs.Keys.{soundly, pageAt, linkScan, lastAt, walk, Chain as ChainIs, chainAt, tailAt};
-ghost use Rattle.book_keys.specs.Steps.{keySpace, linkRead, lastRead, tailRead, tailEndOf, linkEndOf, walkedFrom, chainEndOf, pageInto, Written};
+ghost use Rattle.book_keys.specs.Steps.{keySpace, linkRead, lastRead, tailRead, tailEndOf, linkEndOf, walkedFrom, chainEndOf};
+ghost use Rattle.book_keys.specs.Steps.{pageInto, Written};
 ghost use Rattle.book_keys.specs.Answers.{lastAnswer, tailAnswer, linkAnswer, walkAnswer, chainAnswer};
 use crate::slab::sound_last;
 use compact::ReadUleb128;
@@ -214,7 +215,9 @@ pub fn tail_end(body: &[u8], mark: u64, last: u64) -> TailEnd
 // A page of a chain behind a number, at an offset.
 fn link_end(body: &[u8], mark: u64, prev: u64, off: u64) -> LinkEnd
     requires { ⌜ mark ≤ length (now body) ⌝ }
-    ensures { λ r. ⌜ linkAnswer r ≡ answered (linkEndOf (pageAt (keySpace (now (body .entry)) mark) off)) (soundly (linkScan (keySpace (now (body .entry)) mark) prev off)) ⌝ }
+    ensures { λ r. ⌜ linkAnswer r
+        ≡ answered (linkEndOf (pageAt (keySpace (now (body .entry)) mark) off))
+        (soundly (linkScan (keySpace (now (body .entry)) mark) prev off)) ⌝ }
 {
     if !is_page(off, mark) {
         return LinkEnd::Refused(error::KEY_UNSOUND);
@@ -226,7 +229,8 @@ fn link_end(body: &[u8], mark: u64, prev: u64, off: u64) -> LinkEnd
 // Walks a chain from its first page to its last, each page once.
 fn walk_pages(body: &[u8], mark: u64, first: u64, last: u64) -> WalkEnd
     requires { ⌜ mark ≤ length (now body) ⌝ }
-    ensures { λ r. ⌜ walkAnswer r ≡ answered (walkedFrom 0 0) (soundly (walk (mark / pageSize) (keySpace (now (body .entry)) mark) last 0 first)) ⌝ }
+    ensures { λ r. ⌜ walkAnswer r
+        ≡ answered (walkedFrom 0 0) (soundly (walk (mark / pageSize) (keySpace (now (body .entry)) mark) last 0 first)) ⌝ }
 {
     let most = mark / SH_PAGE_BYTES;
     let mut off = first;
@@ -284,8 +288,11 @@ pub fn chain_end(body: &[u8], mark: u64, last: u64) -> ChainEnd
 // Writes the numbers of the page at an offset to the start of out, and tells how many they are and where the next page is.
 fn page_into(body: &[u8], mark: u64, off: u64, out: &mut [u64]) -> PageSlice
     requires { ⌜ mark ≤ length (now body) ⌝ }
-    ensures answer { λ r. ⌜ sliceAnswer r ≡ answered (pageReadOf (pageAt (keySpace (now (body .entry)) mark) off)) (pageInto (length (now (out .entry))) (keySpace (now (body .entry)) mark) off) ⌝ }
-    ensures list { λ r. ⌜ now (out .exit) ≡ afterDecode (now (out .entry)) (pageInto (length (now (out .entry))) (keySpace (now (body .entry)) mark) off) ⌝ }
+    ensures answer { λ r. ⌜ sliceAnswer r
+        ≡ answered (pageReadOf (pageAt (keySpace (now (body .entry)) mark) off))
+        (pageInto (length (now (out .entry))) (keySpace (now (body .entry)) mark) off) ⌝ }
+    ensures list { λ r. ⌜ now (out .exit)
+        ≡ afterDecode (now (out .entry)) (pageInto (length (now (out .entry))) (keySpace (now (body .entry)) mark) off) ⌝ }
 {
     if !is_page(off, mark) {
         return PageSlice::Refused(error::KEY_UNSOUND);
@@ -297,7 +304,8 @@ fn page_into(body: &[u8], mark: u64, off: u64, out: &mut [u64]) -> PageSlice
 // Writes the numbers of a sound chain to the start of out, page by page.
 pub fn chain_into(body: &[u8], mark: u64, first: u64, last: u64, out: &mut [u64])
     requires { ⌜ mark ≤ length (now body) ⌝ }
-    ensures { λ _. ⌜ ((c : ChainIs) → soundly (chainAt (keySpace (now (body .entry)) mark) last) ≡ accepted c → first ≡ getD (c .offs) 0 0 → Written (now (out .entry)) (now (out .exit)) (c .numbers)) ⌝ }
+    ensures { λ _. ⌜ ((c : ChainIs) → soundly (chainAt (keySpace (now (body .entry)) mark) last) ≡ accepted c → first ≡ getD (c .offs) 0 0
+        → Written (now (out .entry)) (now (out .exit)) (c .numbers)) ⌝ }
 {
     let most = mark / SH_PAGE_BYTES;
     let mut off = first;

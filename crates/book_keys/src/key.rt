@@ -118,7 +118,8 @@ fn number_into(entry: u64, out: &mut [u64])
 // Writes the numbers of a sound key's slab to the start of out.
 fn stored_into(body: &[u8], mark: u64, class: u8, off: u64, out: &mut [u64])
     requires { ⌜ mark ≤ length (now body) ⌝ }
-    ensures { λ _. ⌜ ((used : ℕ) (c : Scan) → soundly (slabScan (keySpace (now (body .entry)) mark) class used off) ≡ accepted c → Written (now (out .entry)) (now (out .exit)) (c .numbers)) ⌝ }
+    ensures { λ _. ⌜ ((used : ℕ) (c : Scan) → soundly (slabScan (keySpace (now (body .entry)) mark) class used off) ≡ accepted c
+        → Written (now (out .entry)) (now (out .exit)) (c .numbers)) ⌝ }
 {
     if slab_stands(class, off, mark) {
         slab_into(body, class, off, out);
@@ -128,7 +129,8 @@ fn stored_into(body: &[u8], mark: u64, class: u8, off: u64, out: &mut [u64])
 // Writes the numbers of a sound key's pages to the start of out.
 fn pages_into(body: &[u8], mark: u64, last: u64, out: &mut [u64])
     requires { ⌜ mark ≤ length (now body) ⌝ }
-    ensures { λ _. ⌜ ((c : Chain) → soundly (chainAt (keySpace (now (body .entry)) mark) last) ≡ accepted c → Written (now (out .entry)) (now (out .exit)) (c .numbers)) ⌝ }
+    ensures { λ _. ⌜ ((c : Chain) → soundly (chainAt (keySpace (now (body .entry)) mark) last) ≡ accepted c
+        → Written (now (out .entry)) (now (out .exit)) (c .numbers)) ⌝ }
 {
     let header = last_page(body, mark, last);
     let LastPage::Header { first, creates: _ } = header else {
@@ -140,7 +142,8 @@ fn pages_into(body: &[u8], mark: u64, last: u64, out: &mut [u64])
 // Writes the numbers of a sound key that stands at a place to the start of out.
 fn place_into(body: &[u8], mark: u64, place: ShHeadValue, out: &mut [u64])
     requires { ⌜ mark ≤ length (now body) ⌝ }
-    ensures { λ _. ⌜ ((c : Content) → soundly (contentAt (keySpace (now (body .entry)) mark) place) ≡ accepted c → Written (now (out .entry)) (now (out .exit)) (c .numbers)) ⌝ }
+    ensures { λ _. ⌜ ((c : Content) → soundly (contentAt (keySpace (now (body .entry)) mark) place) ≡ accepted c
+        → Written (now (out .entry)) (now (out .exit)) (c .numbers)) ⌝ }
 {
     match place {
         ShHeadValue::Empty => {}
@@ -157,7 +160,8 @@ fn place_into(body: &[u8], mark: u64, place: ShHeadValue, out: &mut [u64])
 // Writes the list of a sound key, by its head word, to the start of out; what it does with another is not told.
 pub fn key_into(body: &[u8], mark: u64, word: u64, out: &mut [u64])
     requires { ⌜ mark ≤ length (now body) ⌝ }
-    ensures { λ _. ⌜ ((c : Content) → content (keySpace (now (body .entry)) mark) word ≡ accepted c → Written (now (out .entry)) (now (out .exit)) (c .numbers)) ⌝ }
+    ensures { λ _. ⌜ ((c : Content) → content (keySpace (now (body .entry)) mark) word ≡ accepted c
+        → Written (now (out .entry)) (now (out .exit)) (c .numbers)) ⌝ }
 {
     let got = scripthash_layout::unpack8(word);
     let Unpacked::Head(place) = got else {

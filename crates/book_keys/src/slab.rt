@@ -78,7 +78,8 @@ pub fn slab_end(body: &[u8], mark: u64, class: u8, used: u16, off: u64) -> ScanS
 // Writes the numbers of a sound slab to the start of out.
 pub fn slab_into(body: &[u8], class: u8, off: u64, out: &mut [u64])
     requires { ⌜ (class ≤ maxSlabClass) × (off + slabBytes class ≤ length (now body)) ⌝ }
-    ensures { λ _. ⌜ ((mark used : ℕ) (c : Scan) → soundly (slabScan (keySpace (now (body .entry)) mark) class used off) ≡ accepted c → Written (now (out .entry)) (now (out .exit)) (c .numbers)) ⌝ }
+    ensures { λ _. ⌜ ((mark used : ℕ) (c : Scan) → soundly (slabScan (keySpace (now (body .entry)) mark) class used off) ≡ accepted c
+        → Written (now (out .entry)) (now (out .exit)) (c .numbers)) ⌝ }
 {
     let start = off as usize;
     let end = start + slab_bytes(class) as usize;

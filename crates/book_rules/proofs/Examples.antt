@@ -12,7 +12,8 @@ use Rattle.book_rules.specs.Recorded.{recordedBy, recordedAfter, recorde
 use Rattle.book_rules.specs.Limits.{outOfShape, offeredNumber, offeredList}
 use Rattle.book_rules.specs.Places.{stays, larger, movesTo, loadsTo, pageAfter}
 
--- A list moves to the larger of its slack class and its class by bytes: five numbers of a byte, four of 9 bytes, 256 and 257 numbers, 2,046 and 2,047 bytes.
+-- A list moves to the larger of its slack class and its class by bytes: five numbers of a byte, four of 9 bytes, 256 and 257 numbers, 2,046
+-- and 2,047 bytes.
 pub moves-at : (movesTo 5 5 ≡ some 1) × (movesTo 4 36 ≡ some 2) × (movesTo 256 256 ≡ some 6) × (movesTo 257 257 ≡ none)
     × (movesTo 250 2046 ≡ some 7) × (movesTo 250 2047 ≡ none)
 unfolding movesTo larger classWithSlack classFor firstClass

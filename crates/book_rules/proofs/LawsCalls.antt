@@ -4,7 +4,8 @@ use Rattle.error.specs.Refusal.{Answer}
 use Rattle.book_rules.specs.Calls.{Call, OutcomeOf, bookAfter, afterCalls}
 
 -- What every call keeps, every list of calls keeps.
-pub calls-keep : {B : Type 0} (does : B → Call → Answer (OutcomeOf B)) (P : B → Type 0) → ((b : B) (c : Call) → P b → P (bookAfter b (does b c)))
+pub calls-keep : {B : Type 0} (does : B → Call → Answer (OutcomeOf B)) (P : B → Type 0)
+    → ((b : B) (c : Call) → P b → P (bookAfter b (does b c)))
     → (b : B) (cs : List Call) → P b → P (afterCalls does b cs)
 unfolding afterCalls
 calls-keep does P keeps b [] h = h

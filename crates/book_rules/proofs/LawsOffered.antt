@@ -45,7 +45,8 @@ module _ {A : Type 0} where
       ((rises, low, more), is)
 
   -- A list that rises below 2^62 is accepted, and what comes after decides.
-  pub rising-all : (first : Bool) (prev : ℕ) (ns : List ℕ) (after : Answer A) → Rising (2 ^ 62) prev ns → offeredList first prev ns after ≡ after
+  pub rising-all : (first : Bool) (prev : ℕ) (ns : List ℕ) (after : Answer A) → Rising (2 ^ 62) prev ns
+      → offeredList first prev ns after ≡ after
   unfolding offeredList Rising
   rising-all first prev [] after h = refl
   rising-all first prev (n ∷ ns) after h = rising-on first prev n (offeredList false n ns after) (h .0) (h .1) ∙ rising-all false n ns after (h .2)
@@ -77,7 +78,8 @@ unfolding offeredFrom offeredList streamLenFrom
 from-end len prev = rw add-zero
 
 -- A number that is accepted by itself adds its form.
-pub from-more : (len prev n : ℕ) (ns : List ℕ) {more : ℕ} → offeredNumber (eqb prev 0) prev n (accepted (ulebLen (n - prev))) ≡ accepted more
+pub from-more : (len prev n : ℕ) (ns : List ℕ) {more : ℕ}
+    → offeredNumber (eqb prev 0) prev n (accepted (ulebLen (n - prev))) ≡ accepted more
     → offeredFrom len prev (n ∷ ns) ≡ offeredFrom (len + more) n ns
 unfolding offeredFrom offeredList streamLenFrom
 from-more len prev n ns {more} e =
@@ -87,7 +89,8 @@ from-more len prev n ns {more} e =
     rising-on (eqb prev 0) prev n _ rises low ∙ rw (sum, ne-eqb n 0 (λ (z : n ≡ 0). omega arith))
 
 -- A number that is refused decides.
-pub from-refused : (len prev n : ℕ) (ns : List ℕ) {number : ℕ} → offeredNumber (eqb prev 0) prev n (accepted (ulebLen (n - prev))) ≡ refused number
+pub from-refused : (len prev n : ℕ) (ns : List ℕ) {number : ℕ}
+    → offeredNumber (eqb prev 0) prev n (accepted (ulebLen (n - prev))) ≡ refused number
     → offeredFrom len prev (n ∷ ns) ≡ refused number
 unfolding offeredFrom offeredList
 from-refused len prev n ns e = refused-on (eqb prev 0) prev n (ulebLen (n - prev)) _ e

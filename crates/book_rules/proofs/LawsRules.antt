@@ -1,10 +1,12 @@
--- What the rules for a list's place promise: the class that a list moves to is larger than the one it leaves, and has slots for it. Assumes nothing.
+-- What the rules for a list's place promise: the class that a list moves to is larger than the one it leaves, and has slots for it. Assumes
+-- nothing.
 use Prim.Native.Nat.{ℕ, suc, _+_, _*_, _^_, _≤_, _<_, max}
 use mathlib.Core.Bool.{Bool, true, false, cond, _&&_, false≢true}
 use mathlib.Core.Logic.{_⊎_, inl, inr}
 use mathlib.Core.Option.{Option, none, some}
 use mathlib.Core.Path.{_≡_, refl, sym}
-use native.Mathlib.Nat.{le-trans, lt-of-lt-of-le, le-max-left, le-max-right, max-le, mul-le-mul-left, lt-of-not-le, le-of-suc-le-suc, pow-suc, eq-or-lt-of-le}
+use native.Mathlib.Nat.{le-trans, lt-of-lt-of-le, le-max-left, le-max-right, max-le, mul-le-mul-left, lt-of-not-le, le-of-suc-le-suc}
+use native.Mathlib.Nat.{pow-suc, eq-or-lt-of-le}
 use native.Mathlib.Omega.{arith}
 use lib.Dec.{leb}
 use lib.Pow.{pow-mono}
@@ -103,14 +105,16 @@ moves-to count bytes {c} e =
         let z : _≡_ {A = ℕ} 0 1 = cc in
         omega arith))
 
-    spare : (f : From (classWithSlack count) (classByBytes (payloadLen bytes)) c) → f .one ≤ c → (count ≡ maxSlabCount) ⊎ (count + 1 ≤ slabSlots c)
+    spare : (f : From (classWithSlack count) (classByBytes (payloadLen bytes)) c) → f .one ≤ c
+        → (count ≡ maxSlabCount) ⊎ (count + 1 ≤ slabSlots c)
     spare f left = go (eq-or-lt-of-le (few f))
       where
         go : (count ≡ maxSlabCount) ⊎ (count < maxSlabCount) → (count ≡ maxSlabCount) ⊎ (count + 1 ≤ slabSlots c)
         go (inl e) = inl e
         go (inr l) = inr (le-trans (slack-spare count (λ e. omega arith) (f .first)) (slots-mono left))
 
-    grown : (f : From (classWithSlack count) (classByBytes (payloadLen bytes)) c) → f .one ≤ c → f .other ≤ c → (d : ℕ) → stays d count bytes ≡ false → d < c
+    grown : (f : From (classWithSlack count) (classByBytes (payloadLen bytes)) c) → f .one ≤ c → f .other ≤ c → (d : ℕ)
+        → stays d count bytes ≡ false → d < c
     grown f left right d s = go (leb count (slabSlots d)) refl (leb (payloadLen bytes) (slabBytes d)) refl (stays-parts d count bytes (few f) s)
       where
         go : (x : Bool) → leb count (slabSlots d) ≡ x → (y : Bool) → leb (payloadLen bytes) (slabBytes d) ≡ y → x && y ≡ false → d < c
@@ -125,7 +129,8 @@ moves-to count bytes {c} e =
         go true e true e' q = absurd (false≢true (sym q))
 
 -- A load gives a list of at most 256 numbers a slab, of a class up to 7 that has bytes for its payload.
-pub loads-to : (count bytes : ℕ) {c : ℕ} → loadsTo count bytes ≡ some c → (count ≤ maxSlabCount) × (c ≤ maxSlabClass) × (payloadLen bytes ≤ slabBytes c)
+pub loads-to : (count bytes : ℕ) {c : ℕ} → loadsTo count bytes ≡ some c
+    → (count ≤ maxSlabCount) × (c ≤ maxSlabClass) × (payloadLen bytes ≤ slabBytes c)
 unfolding loadsTo
 loads-to count bytes {c} e = go (leb count maxSlabCount) refl e
   where

@@ -168,7 +168,8 @@ fn in_a_row(list: &mut [u64], from: u64) {
     }
 }
 
-// A page of 4,072 bytes is full, so that the next number begins another; a drop frees the first page first, and the last one is taken again.
+// A page of 4,072 bytes is full, so that the next number begins another; a drop frees the first page first, and the last one is taken
+// again.
 fn full_page(list: &[u64]) {
     let mut body = [165u8; 16384];
     let mut heads = [0u64; 2];

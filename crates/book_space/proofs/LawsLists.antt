@@ -37,7 +37,8 @@ pushed-apart class off l fits o n apart =
 -- Blocks between two offsets of the body, pushed.
 module _ (lo hi : ℕ) where
   -- They keep the body's length.
-  pub size-stays : (bs : List Block) (l : Lists) → Each (Within lo hi) bs → hi ≤ length (l .body) → length (pushAll bs l .body) ≡ length (l .body)
+  pub size-stays : (bs : List Block) (l : Lists) → Each (Within lo hi) bs → hi ≤ length (l .body)
+      → length (pushAll bs l .body) ≡ length (l .body)
   unfolding pushAll Each
   size-stays [] l e h = refl
   size-stays (b ∷ bs) l e h =
@@ -101,7 +102,8 @@ module _ (class mark : ℕ) (l : Lists) where
   }
 
   -- It tells so, by whether there is a block.
-  popped-by : (none-there : Bool) {p : Pop} → cond none-there (accepted nothing) (refuseIf (not good) freeHeadBad (accepted first)) ≡ accepted p → Popped class mark l p
+  popped-by : (none-there : Bool) {p : Pop}
+      → cond none-there (accepted nothing) (refuseIf (not good) freeHeadBad (accepted first)) ≡ accepted p → Popped class mark l p
   popped-by true e = popped-nothing (accepted-inj e)
   popped-by false e = let t = passed (not good) freeHeadBad (accepted first) e in popped-first (not-false _ (t .0)) (accepted-inj (t .1))
 

@@ -11,7 +11,8 @@ use Rattle.error.proofs.LawsAnswer.{refuse-yes, refuse-no, then-yes, then-no, w
 use Rattle.scripthash_layout.specs.Sizes.{slabBytes, pageClass}
 use Rattle.scripthash_free.specs.FreeList.{Lists, Pop, isBlock, pushFree, popFree, pushAll, after, headsAfter}
 use Rattle.scripthash_free.proofs.LawsFree.{after-accepted, heads-accepted, push-yes}
-use Rattle.book_space.specs.Space.{Space, space, listsOf, withLists, Taken, takeMark, takeRun, takeFresh, takePopped, takeBlock, spaceAfter, release}
+use Rattle.book_space.specs.Space.{Space, space, listsOf, withLists, Taken, takeMark, takeRun, takeFresh, takePopped, takeBlock}
+use Rattle.book_space.specs.Space.{spaceAfter, release}
 
 -- The space of an accepted take stands afterwards.
 pub after-taken : (s : Space) (a : Answer Taken) {t : Taken} → a ≡ accepted t → spaceAfter s a ≡ t .space
@@ -54,7 +55,8 @@ module _ (class : ℕ) (s : Space) where
   going p = takePopped class s (p .block) (p .heads)
 
   -- A block that is popped is the one taken.
-  pub told-block : {off : ℕ} (heads : List ℕ) → answered (λ (p : Pop). p .block) popping ≡ accepted (some off) → heads ≡ headsAfter popping (s .free)
+  pub told-block : {off : ℕ} (heads : List ℕ) → answered (λ (p : Pop). p .block) popping ≡ accepted (some off)
+      → heads ≡ headsAfter popping (s .free)
       → takeBlock class s ≡ accepted (record { off = off; space = space (s .body) (s .mark) heads })
   unfolding takeBlock takePopped
   told-block {off} heads e h =
@@ -73,7 +75,8 @@ module _ (class : ℕ) (s : Space) where
   told-refused e = then-no popping going (was-refused (λ (p : Pop). p .block) popping e)
 
 -- The free lists after pushing a block that stands within the body are those after it is given back.
-pub release-pushed : (class off : ℕ) (s : Space) (l : Lists) → isBlock class off (length (s .body)) ≡ true → l ≡ after (pushFree class off (listsOf s)) (listsOf s)
+pub release-pushed : (class off : ℕ) (s : Space) (l : Lists) → isBlock class off (length (s .body)) ≡ true
+    → l ≡ after (pushFree class off (listsOf s)) (listsOf s)
     → withLists l s ≡ release (record { class = class; off = off } ∷ []) s
 unfolding release pushAll
 release-pushed class off s l good e = ap (λ (x : Lists). withLists x s) (e ∙ after-accepted _ (listsOf s) (push-yes class off (listsOf s) good))

@@ -19,11 +19,13 @@ use Rattle.scripthash_free.proofs.LawsBlock.{block-stands, stands-block, slab-s
 use Rattle.scripthash_free.proofs.LawsFree.{after-accepted, carve-yes}
 use Rattle.scripthash_free.proofs.LawsGap.{gap-filled, adjoin-within, each-map}
 use Rattle.book_rules.specs.Places.{pageAfter}
-use Rattle.book_space.specs.Space.{Space, space, listsOf, InShape, Taken, takeMark, rounded, takeRun, takeFresh, takePopped, takeBlock, release}
+use Rattle.book_space.specs.Space.{Space, space, listsOf, InShape, Taken, takeMark, rounded, takeRun, takeFresh, takePopped}
+use Rattle.book_space.specs.Space.{takeBlock, release}
 use Rattle.book_space.proofs.LawsLists.{heads-stay, size-stays, outside-stays, stands-further, Popped, popped}
 use Rattle.book_space.proofs.LawsSteps.{mark-yes, mark-no, fresh-page, fresh-slab}
 
--- What stays of a space in which blocks are taken: it is in shape, and as long, with as many free heads; its mark doesn't fall, and what lies
+-- What stays of a space in which blocks are taken: it is in shape, and as long, with as many free heads; its mark doesn't fall, and what
+-- lies
 -- below the mark before is untouched.
 pub record Kept (s t : Space) : Type 0 where
   pub shape : InShape t
@@ -43,7 +45,8 @@ kept-on j k = record {
 }
 
 -- A space as long as one in shape is, with a mark that is aligned, no lower, and within the body, is in shape.
-shape-stays : (s t : Space) → InShape s → length (t .body) ≡ length (s .body) → t .mark % 16 ≡ 0 → s .mark ≤ t .mark → t .mark ≤ length (t .body) → InShape t
+shape-stays : (s t : Space) → InShape s → length (t .body) ≡ length (s .body) → t .mark % 16 ≡ 0 → s .mark ≤ t .mark
+    → t .mark ≤ length (t .body) → InShape t
 shape-stays s t i size aligned rises within = record {
   paged = rw size (i .paged);
   least = omega arith;
@@ -91,7 +94,8 @@ rounded-mark s = refl
 -- A run of pages at the mark of a space in shape, rounded up.
 module _ (pages : ℕ) (s : Space) (i : InShape s) where
   -- One that fits is taken, with the free lists after carving the gap.
-  pub run-yes : (l : Lists) → l ≡ after (carveGap (s .mark) (pageAfter (s .mark)) (listsOf s)) (listsOf s) → pageAfter (s .mark) + pages * pageSize ≤ length (s .body)
+  pub run-yes : (l : Lists) → l ≡ after (carveGap (s .mark) (pageAfter (s .mark)) (listsOf s)) (listsOf s)
+      → pageAfter (s .mark) + pages * pageSize ≤ length (s .body)
       → takeRun pages s ≡ accepted (record { off = pageAfter (s .mark); space = space (l .body) (pageAfter (s .mark) + pages * pageSize) (l .heads) })
   unfolding takeRun rounded
   run-yes l e h =
@@ -187,7 +191,8 @@ module _ (class : ℕ) (s : Space) (small : class ≤ pageClass) (i : InShape s)
       (eq-or-lt-of-le small)
 
   -- A block after a pop.
-  popped-took : {t : Taken} (p : Pop) → Popped class (s .mark) (listsOf s) p → (o : Option ℕ) → p .block ≡ o → takePopped class s o (p .heads) ≡ accepted t → Took class s t
+  popped-took : {t : Taken} (p : Pop) → Popped class (s .mark) (listsOf s) p → (o : Option ℕ) → p .block ≡ o
+      → takePopped class s o (p .heads) ≡ accepted t → Took class s t
   unfolding takePopped
   popped-took p q none b e = fresh-took e
   popped-took p q (some off) b e =

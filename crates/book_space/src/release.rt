@@ -11,7 +11,8 @@ use crate::State;
 // Pushes a block that stands within the body onto the free list of its class. Gives the state afterwards.
 pub fn release_block(body: &mut [u8], state: State, class: u8, off: u64) -> State
     requires { ⌜ isBlock class off (length (now body)) ≡ true ⌝ }
-    ensures { λ r. ⌜ spaceOf (now (body .exit)) r ≡ release (record { class = class; off = off } ∷ []) (spaceOf (now (body .entry)) state) ⌝ }
+    ensures { λ r. ⌜ spaceOf (now (body .exit)) r
+        ≡ release (record { class = class; off = off } ∷ []) (spaceOf (now (body .entry)) state) ⌝ }
 {
     let mark = state.mark;
     let mut free = state.free;

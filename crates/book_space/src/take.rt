@@ -39,8 +39,10 @@ impl TakeBlock {
 // where the run would pass the body's end.
 pub fn take_run(body: &mut [u8], state: State, pages: u64) -> AfterTake
     requires { ⌜ InShape (spaceOf (now body) state) × (pages ≤ 65535) ⌝ }
-    ensures answer { λ r. ⌜ takeAnswer (r .answer) ≡ answered (λ (t : Taken). t .off) (takeRun pages (spaceOf (now (body .entry)) state)) ⌝ }
-    ensures space { λ r. ⌜ spaceOf (now (body .exit)) (r .state) ≡ spaceAfter (spaceOf (now (body .entry)) state) (takeRun pages (spaceOf (now (body .entry)) state)) ⌝ }
+    ensures answer { λ r. ⌜ takeAnswer (r .answer)
+        ≡ answered (λ (t : Taken). t .off) (takeRun pages (spaceOf (now (body .entry)) state)) ⌝ }
+    ensures space { λ r. ⌜ spaceOf (now (body .exit)) (r .state)
+        ≡ spaceAfter (spaceOf (now (body .entry)) state) (takeRun pages (spaceOf (now (body .entry)) state)) ⌝ }
 {
     let mark = state.mark;
     let from = (mark + (SH_PAGE_BYTES - 1)) / SH_PAGE_BYTES * SH_PAGE_BYTES;
@@ -62,8 +64,10 @@ pub fn take_run(body: &mut [u8], state: State, pages: u64) -> AfterTake
 // Takes a slab of a class 0 to 7 at the mark.
 fn take_slab(body: &[u8], state: State, class: u8) -> AfterTake
     requires { ⌜ InShape (spaceOf (now body) state) × (class ≤ maxSlabClass) ⌝ }
-    ensures answer { λ r. ⌜ takeAnswer (r .answer) ≡ answered (λ (t : Taken). t .off) (takeMark (slabBytes class) (spaceOf (now (body .entry)) state)) ⌝ }
-    ensures space { λ r. ⌜ spaceOf (now (body .entry)) (r .state) ≡ spaceAfter (spaceOf (now (body .entry)) state) (takeMark (slabBytes class) (spaceOf (now (body .entry)) state)) ⌝ }
+    ensures answer { λ r. ⌜ takeAnswer (r .answer)
+        ≡ answered (λ (t : Taken). t .off) (takeMark (slabBytes class) (spaceOf (now (body .entry)) state)) ⌝ }
+    ensures space { λ r. ⌜ spaceOf (now (body .entry)) (r .state)
+        ≡ spaceAfter (spaceOf (now (body .entry)) state) (takeMark (slabBytes class) (spaceOf (now (body .entry)) state)) ⌝ }
 {
     let mark = state.mark;
     let end = mark + scripthash_layout::slab_bytes(class);
@@ -83,8 +87,10 @@ fn take_slab(body: &[u8], state: State, class: u8) -> AfterTake
 // Takes a block of a class: the first freed one, or where there is none a fresh one at the mark.
 pub fn take_block(body: &mut [u8], state: State, class: u8) -> AfterTake
     requires { ⌜ InShape (spaceOf (now body) state) × (class ≤ pageClass) ⌝ }
-    ensures answer { λ r. ⌜ takeAnswer (r .answer) ≡ answered (λ (t : Taken). t .off) (takeBlock class (spaceOf (now (body .entry)) state)) ⌝ }
-    ensures space { λ r. ⌜ spaceOf (now (body .exit)) (r .state) ≡ spaceAfter (spaceOf (now (body .entry)) state) (takeBlock class (spaceOf (now (body .entry)) state)) ⌝ }
+    ensures answer { λ r. ⌜ takeAnswer (r .answer)
+        ≡ answered (λ (t : Taken). t .off) (takeBlock class (spaceOf (now (body .entry)) state)) ⌝ }
+    ensures space { λ r. ⌜ spaceOf (now (body .exit)) (r .state)
+        ≡ spaceAfter (spaceOf (now (body .entry)) state) (takeBlock class (spaceOf (now (body .entry)) state)) ⌝ }
 {
     let mark = state.mark;
     let mut free = state.free;

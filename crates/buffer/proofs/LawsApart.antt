@@ -10,7 +10,8 @@ use Rattle.buffer.specs.Bytes.{overwrite}
 use Rattle.buffer.proofs.LawsBytes.{length-overwrite}
 
 -- a write into the first of two parts
-pub overwrite-left : (xs rest : List ℕ) (o : ℕ) (ys : List ℕ) → o + length ys ≤ length xs → overwrite (xs ++ rest) o ys ≡ overwrite xs o ys ++ rest
+pub overwrite-left : (xs rest : List ℕ) (o : ℕ) (ys : List ℕ) → o + length ys ≤ length xs
+    → overwrite (xs ++ rest) o ys ≡ overwrite xs o ys ++ rest
 unfolding overwrite
 overwrite-left xs rest o ys h = rw (take-append-le o xs rest (omega arith), drop-append-le (o + length ys) xs rest h, append-assoc, append-assoc)
 

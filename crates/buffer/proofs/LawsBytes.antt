@@ -15,7 +15,8 @@ unfolding overwrite
 overwrite-nil b o = rw (add-zero, take-append-drop)
 
 -- a write is the write of its first element, and then of the others behind it
-pub overwrite-step : {A : Type 0} (b : List A) (o : ℕ) (x : A) (xs : List A) → o < length b → overwrite b o (x ∷ xs) ≡ overwrite (set b o x) (o + 1) xs
+pub overwrite-step : {A : Type 0} (b : List A) (o : ℕ) (x : A) (xs : List A) → o < length b
+    → overwrite b o (x ∷ xs) ≡ overwrite (set b o x) (o + 1) xs
 unfolding overwrite
 overwrite-step b o x xs h =
     let place : o + 1 + length xs ≡ o + suc (length xs) = omega arith in

@@ -89,7 +89,8 @@ unfolding readUleb readForm
 read-refused bs number e = refused-pos (overflows (formAt bs)) (not (isForm (formAt bs))) _ number e
 
 -- a form that doesn't overflow reads as its value and length, whatever follows
-pub read-form : (f rest : List ℕ) → isForm f ≡ true → overflows f ≡ false → readUleb (f ++ rest) ≡ accepted (record { value = value f; len = length f })
+pub read-form : (f rest : List ℕ) → isForm f ≡ true → overflows f ≡ false
+    → readUleb (f ++ rest) ≡ accepted (record { value = value f; len = length f })
 unfolding readUleb readForm refuseIf
 read-form f rest h k = rw (formAt-append f rest h, k, h)
 

@@ -132,11 +132,13 @@ module _ (buf : List ℕ) (i acc : ℕ) (h : i < length buf) where
   at-more p k = rw (drop-cons buf i 0 h, add-one i) (rw (add-one i) at (from-more i acc (getD buf i 0) (drop (suc i) buf) p k))
 
 -- a first byte below 128 is a form by itself
-pub read-byte : (buf : List ℕ) → 0 < length buf → getD buf 0 0 < 128 → readUleb buf ≡ accepted (record { value = piece (getD buf 0 0); len = 1 })
+pub read-byte : (buf : List ℕ) → 0 < length buf → getD buf 0 0 < 128
+    → readUleb buf ≡ accepted (record { value = piece (getD buf 0 0); len = 1 })
 read-byte buf h k = sym (from-start buf) ∙ (simp (zero-add, mul-one) at (at-last buf 0 0 h refl k))
 
 -- the same at an offset
-pub read-byte-at : (buf : List ℕ) (off : ℕ) → off < length buf → getD buf off 0 < 128 → readUleb (drop off buf) ≡ accepted (record { value = getD buf off 0; len = 1 })
+pub read-byte-at : (buf : List ℕ) (off : ℕ) → off < length buf → getD buf off 0 < 128
+    → readUleb (drop off buf) ≡ accepted (record { value = getD buf off 0; len = 1 })
 read-byte-at buf off h k =
     let small : getD buf off 0 % 128 ≡ getD buf off 0 = omega arith in
     rw (drop-cons buf off 0 h) (rw small at (read-byte (getD buf off 0 ∷ drop (suc off) buf) (suc-le-suc zero-le) k))

@@ -24,7 +24,8 @@ pub refuses : (dst : List ℕ) (n : ℕ) → length dst < ulebLen n → (refused
 unfolding writeUleb refuseIf afterWrite
 refuses dst n h = rw (lt-ltb (length dst) (ulebLen n) h) (refl, refl)
 
--- What is known in the middle of a form: i bytes of n's shortest form were written to a destination, which holds dst now, and rest is what is
+-- What is known in the middle of a form: i bytes of n's shortest form were written to a destination, which holds dst now, and rest is what
+-- is
 -- left of n. The shortest form of rest, written from i on, makes the destination what the whole form makes of it.
 pub record Writing (before : List ℕ) (n : ℕ) (dst : List ℕ) (rest i : ℕ) : Type 0 where
   pub fits : ulebLen n ≤ length before

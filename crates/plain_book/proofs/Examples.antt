@@ -12,7 +12,8 @@ use Rattle.scripthash_cutting.specs.Cutting.{fitting, firstPart, greedyParts, r
 use Rattle.scripthash_free.specs.FreeList.{largestUpTo, blockThen, carve}
 use Rattle.plain_book.specs.Space.{freedAll, takeMark, rounded, takeRun, takeFresh, takeFrom}
 use Rattle.book_rules.specs.Places.{stays, larger, movesTo, loadsTo}
-use Rattle.plain_book.specs.Key.{written, longer, lastPage, headOf, freedPages, freedPlace, moved, joins, beginPage, appendPages, appendPlace, runPages, loadInto, loadPlace}
+use Rattle.plain_book.specs.Key.{written, longer, lastPage, headOf, freedPages, freedPlace, moved, joins, beginPage, appendPages}
+use Rattle.plain_book.specs.Key.{appendPlace, runPages, loadInto, loadPlace}
 use Rattle.book_rules.specs.Moves.{Tally, noMoves, counted, talliedBy, tallied, tallyOf}
 use Rattle.book_rules.specs.Calls.{Call, load, append, read, drop, Told, loaded, appended, listed, dropped, bookAfter, answersTo}
 use Rattle.book_rules.specs.Limits.{outOfShape, offeredNumber, offeredList}
@@ -63,7 +64,8 @@ pub loaded-run : answers (fresh 16384 3) (append 0 1 ∷ append 0 2 ∷ load 1 (
 unfolding refuseIf andThen divided shortest ulebLen lastFrom streamLenFrom firstClass classFor classWithSlack fitting firstPart greedyParts replaceLast largestUpTo blockThen carve freedAll takeMark rounded takeRun takeFresh takeFrom lastPage headOf freedPages freedPlace stays larger movesTo loadsTo moved joins beginPage appendPages written longer appendPlace runPages loadInto loadPlace outOfShape onKey offeredNumber offeredList loads appends reads drops does bookAfter answered answersTo inARow
 loaded-run = refl
 
--- A page of 4,072 bytes is full, so that the next number begins another. A drop frees the first page first, so that the last one is taken again,
+-- A page of 4,072 bytes is full, so that the next number begins another. A drop frees the first page first, so that the last one is taken
+-- again,
 -- here by a list that moves out of its slab.
 pub full-page : answers (fresh 16384 2) (load 0 (inARow 1 4072) ∷ append 0 4073 ∷ read 0 4073 ∷ drop 0 ∷ load 1 (inARow 1 256) ∷ append 1 257 ∷ [])
     ≡ loads-in 1 ∷ at (Extent 8192) 0 ∷ accepted (listed (record { numbers = inARow 1 4073; pages = 2 })) ∷ accepted (dropped (record { length = 4073 }))
@@ -80,7 +82,8 @@ appendSteps n step (suc k) = append 0 n ∷ appendSteps (n + step) step k
 unfoldable pub tallyAfter : List Call → Tally
 tallyAfter cs = tallyOf 0 cs (answers (fresh 65536 1) cs) noMoves
 
--- The ceiling of 765 records is reached: 6 numbers that are loaded move at 7, 9, 17, 33, 65 and 129 for their slots, at 256 for their bytes, and at 257 to a page.
+-- The ceiling of 765 records is reached: 6 numbers that are loaded move at 7, 9, 17, 33, 65 and 129 for their slots, at 256 for their
+-- bytes, and at 257 to a page.
 pub records-reached : tallyAfter (load 0 (inARow 1 6) ∷ (appendSteps 7 1 122 ++ appendSteps (128 + 2 ^ 42) (2 ^ 42) 129)) ≡ record { moves = 8; rewritten = 765 }
 unfolding refuseIf andThen divided shortest ulebLen lastFrom streamLenFrom firstClass classFor classWithSlack fitting firstPart greedyParts replaceLast largestUpTo blockThen carve freedAll takeMark rounded takeRun takeFresh takeFrom lastPage headOf freedPages freedPlace stays larger movesTo loadsTo moved joins beginPage appendPages written longer appendPlace runPages loadInto loadPlace outOfShape onKey offeredNumber offeredList loads appends reads drops does bookAfter answered answersTo inARow appendSteps counted talliedBy tallied tallyOf tallyAfter
 records-reached = refl

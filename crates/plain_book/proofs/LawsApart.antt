@@ -1,4 +1,5 @@
--- Blocks of different owners stay apart: when a block goes from one owner to another, when owners are named anew, and when a block is taken at the
+-- Blocks of different owners stay apart: when a block goes from one owner to another, when owners are named anew, and when a block is taken
+-- at the
 -- mark. Assumes nothing.
 use Prim.Native.Nat.{ℕ, suc, _+_, _*_, _≤_, _<_}
 use mathlib.Core.Bool.{true}
@@ -27,7 +28,8 @@ turned x y (inr h) = inl h
 
 module _ (f g : Owner → Option Block) where
   -- A block goes from owner a to owner b.
-  pub apart-moved : (mark : ℕ) (a b : Owner) → ((w : Owner) (x : Block) → g w ≡ some x → ((w ≡ b) × (f a ≡ some x)) ⊎ ((w ≢ a) × (f w ≡ some x)))
+  pub apart-moved : (mark : ℕ) (a b : Owner)
+      → ((w : Owner) (x : Block) → g w ≡ some x → ((w ≡ b) × (f a ≡ some x)) ⊎ ((w ≢ a) × (f w ≡ some x)))
       → Apart mark f → Apart mark g
   apart-moved mark a b to p =
       record {
@@ -42,7 +44,8 @@ module _ (f g : Owner → Option Block) where
       }
 
   -- Owners are named anew, each by another name.
-  pub apart-renamed : (mark : ℕ) (old new : Owner → Owner) → ((w : Owner) → new (old w) ≡ w) → ((w : Owner) (x : Block) → g w ≡ some x → f (old w) ≡ some x)
+  pub apart-renamed : (mark : ℕ) (old new : Owner → Owner) → ((w : Owner) → new (old w) ≡ w)
+      → ((w : Owner) (x : Block) → g w ≡ some x → f (old w) ≡ some x)
       → Apart mark f → Apart mark g
   apart-renamed mark old new back to p =
       record {
@@ -81,7 +84,8 @@ module _ (f g : Owner → Option Block) where
           let t = s .ends in
           inl (omega arith)
 
-      side : (i j : ℕ) (x y : Block) → x ≡ record { class = class; off = mark + i * size } → y ≡ record { class = class; off = mark + j * size } → i ≢ j → Disjoint x y
+      side : (i j : ℕ) (x y : Block) → x ≡ record { class = class; off = mark + i * size }
+          → y ≡ record { class = class; off = mark + j * size } → i ≢ j → Disjoint x y
       side i j x y is is' n =
           let px : x .off ≡ mark + i * size = ap (λ (z : Block). z .off) is in
           let py : y .off ≡ mark + j * size = ap (λ (z : Block). z .off) is' in
@@ -93,7 +97,8 @@ module _ (f g : Owner → Option Block) where
           (lt-or-ge i j)
 
   -- A block begins at or behind the mark, which then passes it: it is the only one that its owner has.
-  pub apart-added : (mark higher : ℕ) (b : Owner) (new : Block) → mark ≤ higher → mark ≤ new .off → isBlock (new .class) (new .off) higher ≡ true
+  pub apart-added : (mark higher : ℕ) (b : Owner) (new : Block) → mark ≤ higher → mark ≤ new .off
+      → isBlock (new .class) (new .off) higher ≡ true
       → ((w : Owner) (x : Block) → g w ≡ some x → ((w ≡ b) × (x ≡ new)) ⊎ (f w ≡ some x)) → Apart mark f → Apart higher g
   apart-added mark higher b new h behind stands to p =
       record {

@@ -18,7 +18,9 @@ use Rattle.scripthash_cutting.specs.Cutting.{cutting, replaceLast}
 use Rattle.scripthash_free.specs.FreeList.{Block}
 use Rattle.plain_book.specs.Space.{Space, Taken, takeBlock, takeRun, rounded}
 use Rattle.book_rules.specs.Places.{stays, movesTo, loadsTo}
-use Rattle.plain_book.specs.Key.{Key, emptyKey, Page, Place, empty, inline, slab, pages, onePage, freedPlace, Placed, written, longer, longerPage, moved, joins, joinedTo, beginPage, appendPages, appendPlace, runPages, loadInto, loadPlace}
+use Rattle.plain_book.specs.Key.{Key, emptyKey, Page, Place, empty, inline, slab, pages, onePage, freedPlace, Placed, written, longer}
+use Rattle.plain_book.specs.Key.{longerPage, moved, joins, joinedTo, beginPage, appendPages, appendPlace, runPages, loadInto}
+use Rattle.plain_book.specs.Key.{loadPlace}
 use Rattle.book_rules.specs.Calls.{Call, load, append, read, drop, bookAfter}
 use Rattle.plain_book.specs.Book.{Book, fresh, Outcome, keyOf, withKey, extended, does, after}
 use Rattle.plain_book.specs.Owners.{Owner, hand, stack, slabOf, pageOf, atDepth, pageAt, slabAt, pageIn, has, Apart, places}
@@ -74,7 +76,8 @@ joined-at (suc i) n (p ∷ []) = refl
 joined-at zero n (p ∷ q ∷ ps) = refl
 joined-at (suc i) n (p ∷ q ∷ ps) = joined-at i n (q ∷ ps)
 
-pages-good : (end : ℕ) (ps : List Page) (n : ℕ) (s : Space) (at : ℕ → Place) (key : ℕ) {p : Placed} → at key ≡ pages ps → appendPages end ps n s ≡ accepted p
+pages-good : (end : ℕ) (ps : List Page) (n : ℕ) (s : Space) (at : ℕ → Place) (key : ℕ) {p : Placed} → at key ≡ pages ps
+    → appendPages end ps n s ≡ accepted p
     → Good s at none → Leaves at key p
 unfolding appendPages beginPage
 pages-good end ps n s at key is e g =
@@ -105,13 +108,15 @@ append-good end held list n s at key (slab class off kept) is e g =
     (which (stays class (length list) (longer n kept .bytes)) _ _ e)
 append-good end held list n s at key (pages ps) is e g = pages-good end ps n s at key is e g
 
-load-good : (end : ℕ) (ns : List ℕ) (s : Space) (at : ℕ → Place) (key : ℕ) {p : Placed} → loadPlace end ns s ≡ accepted p → Good s at none → Leaves at key p
+load-good : (end : ℕ) (ns : List ℕ) (s : Space) (at : ℕ → Place) (key : ℕ) {p : Placed} → loadPlace end ns s ≡ accepted p → Good s at none
+    → Leaves at key p
 unfolding loadPlace loadInto takeRun
 load-good end [] s at key e g = leaves at key e (good-kept s at none key empty (λ x h. absurd (none-some h)) (λ i x h. absurd (none-some h)) g)
 load-good end (n ∷ []) s at key e g = leaves at key e (good-kept s at none key inline (λ x h. absurd (none-some h)) (λ i x h. absurd (none-some h)) g)
 load-good end (n ∷ m ∷ ns) s at key {p} e g = go (loadsTo (length (n ∷ m ∷ ns)) (streamLen (n ∷ m ∷ ns))) refl e
   where
-    go : (o : Option ℕ) → loadsTo (length (n ∷ m ∷ ns)) (streamLen (n ∷ m ∷ ns)) ≡ o → loadInto end o (n ∷ m ∷ ns) s ≡ accepted p → Leaves at key p
+    go : (o : Option ℕ) → loadsTo (length (n ∷ m ∷ ns)) (streamLen (n ∷ m ∷ ns)) ≡ o → loadInto end o (n ∷ m ∷ ns) s ≡ accepted p
+        → Leaves at key p
     go (some c) q e =
         let (t, got, q') = went-on (takeBlock end c s) _ e in
         let (few, class, fits) = loads-to (length (n ∷ m ∷ ns)) (streamLen (n ∷ m ∷ ns)) q in
@@ -142,7 +147,8 @@ key-place b key list place space l j = go (eqb j key) refl
         ∙ ap (λ (k : Key). k .place) (getD-set-same (b .keys) key _ emptyKey l)
     go false q = ap (λ (k : Key). k .place) (getD-set-other (b .keys) key j _ emptyKey (eqb-false j key q))
 
-pub good-with : (b : Book) (key : ℕ) (list : List ℕ) (place : Place) (space : Space) → key < length (b .keys) → Good space (atKey key place (places b)) none
+pub good-with : (b : Book) (key : ℕ) (list : List ℕ) (place : Place) (space : Space) → key < length (b .keys)
+    → Good space (atKey key place (places b)) none
     → GoodSpace (withKey key list place space b)
 good-with b key list place space l g =
     good-fewer space (atKey key place (places b)) (places (withKey key list place space b)) none
@@ -187,7 +193,9 @@ fresh-space size heads =
     nobody (slabOf k) x e = none-some (ap (λ (y : Key). slabAt (y .place)) (sym (fresh-key size heads k)) ∙ e)
     nobody (pageOf k i) x e = none-some (ap (λ (y : Key). pageIn i (y .place)) (sym (fresh-key size heads k)) ∙ e)
 
--- After any list of calls on a fresh book no two blocks, held or freed, share a byte, and each lies where a block of its class may, below the mark.
-pub blocks-apart : (size heads : ℕ) (cs : List Call) → let b = after (fresh size heads) cs in Apart (b .space .mark) (has (b .space) (places b) none)
+-- After any list of calls on a fresh book no two blocks, held or freed, share a byte, and each lies where a block of its class may, below
+-- the mark.
+pub blocks-apart : (size heads : ℕ) (cs : List Call)
+    → let b = after (fresh size heads) cs in Apart (b .space .mark) (has (b .space) (places b) none)
 blocks-apart size heads cs =
     calls-keep does GoodSpace (λ b c g. call-space b c (does b c) refl g) (fresh size heads) cs (fresh-space size heads) .apart

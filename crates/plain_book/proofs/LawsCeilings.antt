@@ -1,4 +1,5 @@
--- The ceilings of demand 3, over every list of calls on a fresh plain book: moves, records rewritten, and the pages of a load. Assumes nothing.
+-- The ceilings of demand 3, over every list of calls on a fresh plain book: moves, records rewritten, and the pages of a load. Assumes
+-- nothing.
 use Prim.Native.Nat.{ℕ, suc, _+_, _^_, _≤_}
 use mathlib.Core.Bool.{false, false≢true}
 use mathlib.Core.List.{List, [], _∷_}
@@ -45,13 +46,15 @@ spent-kept =
       drops = (sound-kept .drops, (refl, refl, refl));
     }
 
--- Take any book with an empty key and any list of calls: from empty to drop the key is moved no more than 9 times, and has no more than 765 records
+-- Take any book with an empty key and any list of calls: from empty to drop the key is moved no more than 9 times, and has no more than 765
+-- records
 -- rewritten by moves.
 pub ceilings-from : (b : Book) (key : ℕ) (cs : List Call) → keyOf key b ≡ emptyKey
     → (tallyOf key cs (answers b cs) noMoves .moves ≤ mostMoves) × (tallyOf key cs (answers b cs) noMoves .rewritten ≤ mostRewritten)
 ceilings-from b key cs is = spent-most _ (keyOf key (after b cs) .place) _ (kept-calls _ spent-kept key b cs noMoves (rw is (spent-kept .drops)) .1)
 
--- Take any fresh book and any list of calls: from empty to drop no key is moved more than 9 times, nor has more than 765 records rewritten by moves.
+-- Take any fresh book and any list of calls: from empty to drop no key is moved more than 9 times, nor has more than 765 records rewritten
+-- by moves.
 pub ceilings : (size heads key : ℕ) (cs : List Call)
     → (tallyOf key cs (answers (fresh size heads) cs) noMoves .moves ≤ mostMoves) × (tallyOf key cs (answers (fresh size heads) cs) noMoves .rewritten ≤ mostRewritten)
 ceilings size heads key cs = ceilings-from (fresh size heads) key cs (fresh-key size heads key)

@@ -1,4 +1,5 @@
--- Chains of pages in a good plain book: how many pages and numbers there can be, and how the numbers rise from page to page. Assumes nothing.
+-- Chains of pages in a good plain book: how many pages and numbers there can be, and how the numbers rise from page to page. Assumes
+-- nothing.
 use Prim.Native.Nat.{ℕ, zero, suc, _-_, _*_, _/_, _^_, _≤_, _<_, zero-le}
 use mathlib.Core.Bool.{Bool, true, false, cond}
 use mathlib.Core.List.{List, [], _∷_, _++_, append-nil}
@@ -71,7 +72,8 @@ pub pages-few : {b : Book} (key : ℕ) (ps : List Page) → GoodPlain b → keyO
 unfolding has
 pages-few {b} key ps g is = few-below (b .space .mark / 4096) (length ps) (λ i. getD ps i noPage .off / 4096) low one
   where
-    mine : (i : ℕ) → i < length ps → has (b .space) (places b) none (pageOf key i) ≡ some (record { class = pageClass; off = getD ps i noPage .off })
+    mine : (i : ℕ) → i < length ps
+        → has (b .space) (places b) none (pageOf key i) ≡ some (record { class = pageClass; off = getD ps i noPage .off })
     mine i l = ap (pageIn i) is ∙ page-at i ps l
 
     low : (i : ℕ) → i < length ps → getD ps i noPage .off / 4096 < b .space .mark / 4096
@@ -112,7 +114,8 @@ held-count (p ∷ []) (f, r) = simp (length-append) (omega (arith, page-count p 
 held-count (p ∷ q ∷ ps) (f, fs) = rw (length-append (p .part .numbers) (held (q ∷ ps))) (omega (arith, page-count p f, held-count (q ∷ ps) fs))
 
 -- A list in pages has at most 4,088 numbers a page.
-pub pages-count : {b : Book} (key : ℕ) (ps : List Page) → GoodPlain b → keyOf key b .place ≡ pages ps → length (keyOf key b .list) ≤ 4088 * length ps
+pub pages-count : {b : Book} (key : ℕ) (ps : List Page) → GoodPlain b → keyOf key b .place ≡ pages ps
+    → length (keyOf key b .list) ≤ 4088 * length ps
 unfolding Fits
 pages-count {b} key ps g is =
     let (same, fit) = rw is at (g .keys key .fits) in
@@ -138,7 +141,8 @@ last-any m n [] l = absurd (omega arith)
 last-any m n (x ∷ ns) l = refl
 
 -- The last number of all pages is the last of the last page's part.
-pub held-last : (prev : ℕ) (page : Page) (ps : List Page) → FitPages ps → lastFrom prev (held ps) ≡ lastFrom 0 (lastPage page ps .part .numbers)
+pub held-last : (prev : ℕ) (page : Page) (ps : List Page) → FitPages ps
+    → lastFrom prev (held ps) ≡ lastFrom 0 (lastPage page ps .part .numbers)
 unfolding FitPages held lastPage
 held-last prev page [] f = absurd f
 held-last prev page (p ∷ []) (f, r) = ap (lastFrom prev) (append-nil (p .part .numbers)) ∙ last-any prev 0 (p .part .numbers) (f .0)

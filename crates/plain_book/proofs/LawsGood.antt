@@ -86,7 +86,8 @@ call-good {b} c g =
       within = inside;
     }
   where
-    inside : outOfShape (bookAfter b (does b c) .size) (length (bookAfter b (does b c) .keys)) ≡ false → bookAfter b (does b c) .space .mark ≤ bookAfter b (does b c) .size
+    inside : outOfShape (bookAfter b (does b c) .size) (length (bookAfter b (does b c) .keys)) ≡ false
+        → bookAfter b (does b c) .space .mark ≤ bookAfter b (does b c) .size
     inside shape =
         let (s, k) = shape-kept b c in
         let m = g .within (rw (s, k) at shape) in

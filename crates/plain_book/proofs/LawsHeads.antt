@@ -1,4 +1,5 @@
--- After any list of calls on a fresh plain book, with a body in shape, each key's place packs into a head word, which unpacks to it. Assumes nothing.
+-- After any list of calls on a fresh plain book, with a body in shape, each key's place packs into a head word, which unpacks to it.
+-- Assumes nothing.
 use Prim.Native.Nat.{ℕ, suc, _+_, _^_, _≤_, _<_}
 use mathlib.Core.List.{List, [], _∷_}
 use mathlib.Core.Option.{none, some}
@@ -62,7 +63,8 @@ told-extent last some' low =
     record { word = extentWord last; packs = packs; unpacks = unpack-packed (Extent last) _ (omega arith) packs }
 
 -- The last page of some is at an index.
-last-at : (page : Page) (ps : List Page) → FitPages ps → (i : ℕ) × (pageAt i ps ≡ some (record { class = pageClass; off = lastPage page ps .off }))
+last-at : (page : Page) (ps : List Page) → FitPages ps
+    → (i : ℕ) × (pageAt i ps ≡ some (record { class = pageClass; off = lastPage page ps .off }))
 unfolding FitPages pageAt lastPage
 last-at page [] f = absurd f
 last-at page (p ∷ []) f = (0, refl)

@@ -1,4 +1,5 @@
--- What holds of a key, and of the tally of its moves, through every list of calls: it is enough that loads, appends and drops keep it. Assumes nothing.
+-- What holds of a key, and of the tally of its moves, through every list of calls: it is enough that loads, appends and drops keep it.
+-- Assumes nothing.
 use Prim.Native.Nat.{ℕ, zero, suc, _^_, _<_}
 use mathlib.Core.Bool.{Bool, true, false, cond}
 use mathlib.Core.List.{List, [], _∷_}
@@ -13,14 +14,17 @@ use Rattle.error.proofs.LawsAnswer.{accepted-inj, passed, went-on}
 use Rattle.scripthash_stream.specs.Stream.{Rising, lastFrom}
 use Rattle.plain_book.specs.Space.{Space}
 use Rattle.plain_book.specs.Key.{Place, empty, Key, emptyKey, headOf, pagesOf, freedPlace, Placed, appendPlace, loadPlace}
-use Rattle.book_rules.specs.Calls.{Call, load, append, read, drop, loaded, appended, listed, dropped, bookAfter, answerOf, keyOfCall, afterCalls, answersTo}
+use Rattle.book_rules.specs.Calls.{Call, load, append, read, drop, loaded, appended, listed, dropped, bookAfter, answerOf, keyOfCall}
+use Rattle.book_rules.specs.Calls.{afterCalls, answersTo}
 use Rattle.book_rules.specs.Limits.{outOfShape}
 use Rattle.book_rules.proofs.LawsOffered.{offered-on, offered-all}
-use Rattle.plain_book.specs.Book.{Book, fresh, Outcome, onKey, keyOf, withKey, inUse, extended, loads, appends, reads, drops, does, after, answers}
+use Rattle.plain_book.specs.Book.{Book, fresh, Outcome, onKey, keyOf, withKey, inUse, extended, loads, appends, reads, drops, does}
+use Rattle.plain_book.specs.Book.{after, answers}
 use Rattle.book_rules.specs.Moves.{Tally, noMoves, counted, talliedBy, tallied, tallyOf}
 
 -- A call that is accepted is on a key of the book.
-pub on-key : {A : Type 0} (b : Book) (key : ℕ) (after : Answer A) {x : A} → onKey b key after ≡ accepted x → (key < length (b .keys)) × (after ≡ accepted x)
+pub on-key : {A : Type 0} (b : Book) (key : ℕ) (after : Answer A) {x : A} → onKey b key after ≡ accepted x
+    → (key < length (b .keys)) × (after ≡ accepted x)
 unfolding onKey
 on-key b key after e =
     let (shape, e') = passed (outOfShape (b .size) (length (b .keys))) shapeBad _ e in
@@ -86,7 +90,8 @@ fresh-key size heads key = all-same emptyKey heads key
 
 -- Something about a key and its tally that loads, appends and drops keep.
 pub record KeptByCalls (P : Key → Tally → Type 0) : Type 0 where
-  pub loads : (end : ℕ) (k : Key) (ns : List ℕ) (s : Space) (p : Placed) (t : Tally) → P k t → inUse (k .place) ≡ false → Rising (2 ^ 62) 0 ns
+  pub loads : (end : ℕ) (k : Key) (ns : List ℕ) (s : Space) (p : Placed) (t : Tally) → P k t → inUse (k .place) ≡ false
+      → Rising (2 ^ 62) 0 ns
       → loadPlace end ns s ≡ accepted p → P (record { list = ns; place = p .place }) t
   pub appends : (end : ℕ) (k : Key) (n : ℕ) (s : Space) (p : Placed) (t : Tally) → P k t → lastFrom 0 (k .list) < n → n < 2 ^ 62
       → appendPlace end (length (k .list)) (extended (k .list) n) n (k .place) s ≡ accepted p
@@ -169,7 +174,8 @@ module _ (P : Key → Tally → Type 0) (kept : KeptByCalls P) where
   kept-call key b c t (refused number) e h = h
   kept-call key b c t (accepted o) e h = go (call-changed b c e) (eqb (keyOfCall c) key) refl
     where
-      go : (ch : Changed b (keyOfCall c) o) (x : Bool) → eqb (keyOfCall c) key ≡ x → P (keyOf key (o .book)) (cond x (talliedBy (o .told) t) t)
+      go : (ch : Changed b (keyOfCall c) o) (x : Bool) → eqb (keyOfCall c) key ≡ x
+          → P (keyOf key (o .book)) (cond x (talliedBy (o .told) t) t)
       go ch true q =
           let is : keyOfCall c ≡ key = eqb-true (keyOfCall c) key q in
           let h' : P (keyOf (keyOfCall c) b) t = rw is h in
@@ -183,11 +189,13 @@ module _ (P : Key → Tally → Type 0) (kept : KeptByCalls P) where
           rw old h
 
   -- So does every list of calls.
-  pub kept-calls : (key : ℕ) (b : Book) (cs : List Call) (t : Tally) → P (keyOf key b) t → P (keyOf key (after b cs)) (tallyOf key cs (answers b cs) t)
+  pub kept-calls : (key : ℕ) (b : Book) (cs : List Call) (t : Tally) → P (keyOf key b) t
+      → P (keyOf key (after b cs)) (tallyOf key cs (answers b cs) t)
   unfolding afterCalls answersTo tallyOf
   kept-calls key b [] t h = h
   kept-calls key b (c ∷ cs) t h = kept-calls key (bookAfter b (does b c)) cs _ (kept-call key b c t (does b c) refl h)
 
   -- It holds of every key after any list of calls on a fresh book.
-  pub kept-fresh : (size heads key : ℕ) (cs : List Call) → P (keyOf key (after (fresh size heads) cs)) (tallyOf key cs (answers (fresh size heads) cs) noMoves)
+  pub kept-fresh : (size heads key : ℕ) (cs : List Call)
+      → P (keyOf key (after (fresh size heads) cs)) (tallyOf key cs (answers (fresh size heads) cs) noMoves)
   kept-fresh size heads key cs = kept-calls key (fresh size heads) cs noMoves (rw (fresh-key size heads key) (kept .drops))

@@ -12,7 +12,8 @@ use Rattle.plain_book.specs.Key.{Kept, written, longer}
 use Rattle.plain_book.specs.Sound.{Shortest}
 
 -- The stream of a list with one number more has the bytes of the difference more.
-pub len-snoc : (prev : ℕ) (ns : List ℕ) (n : ℕ) → streamLenFrom prev (ns ++ (n ∷ [])) ≡ streamLenFrom prev ns + ulebLen (n - lastFrom prev ns)
+pub len-snoc : (prev : ℕ) (ns : List ℕ) (n : ℕ)
+    → streamLenFrom prev (ns ++ (n ∷ [])) ≡ streamLenFrom prev ns + ulebLen (n - lastFrom prev ns)
 unfolding streamLenFrom
 len-snoc prev ns n = omega (arith, stream-len-append prev ns (n ∷ []))
 

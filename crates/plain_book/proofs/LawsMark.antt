@@ -1,4 +1,5 @@
--- After any list of calls on a fresh plain book, with a body that has room for the first page, the mark is within the body. Assumes nothing.
+-- After any list of calls on a fresh plain book, with a body that has room for the first page, the mark is within the body. Assumes
+-- nothing.
 use Prim.Native.Nat.{ℕ, _+_, _*_, _≤_}
 use mathlib.Core.Bool.{Bool, true, false, cond}
 use mathlib.Core.List.{List, [], _∷_}
@@ -15,7 +16,8 @@ use Rattle.scripthash_stream.specs.Stream.{streamLen}
 use Rattle.scripthash_cutting.specs.Cutting.{cutting}
 use Rattle.plain_book.specs.Space.{Space, stackOf, Taken, takeMark, rounded, takeRun, takeFresh, takeFrom, takeBlock}
 use Rattle.book_rules.specs.Places.{stays, movesTo, loadsTo}
-use Rattle.plain_book.specs.Key.{Page, Place, empty, inline, slab, pages, longer, freedPages, freedPlace, Placed, moved, joins, joinedTo, beginPage, appendPages, appendPlace, loadInto, loadPlace}
+use Rattle.plain_book.specs.Key.{Page, Place, empty, inline, slab, pages, longer, freedPages, freedPlace, Placed, moved, joins}
+use Rattle.plain_book.specs.Key.{joinedTo, beginPage, appendPages, appendPlace, loadInto, loadPlace}
 use Rattle.book_rules.specs.Calls.{Call, load, append, read, drop, bookAfter}
 use Rattle.plain_book.specs.Book.{Book, fresh, Outcome, does, after, keyOf}
 use Rattle.book_rules.proofs.LawsCalls.{calls-keep}
@@ -47,7 +49,8 @@ taken-within : (end class : ℕ) (s : Space) {t : Taken} → takeBlock end class
 unfolding takeFrom takeFresh takeRun
 taken-within end class s {t} e h = from-stack (stackOf class s) e
   where
-    fresh-block : (b : Bool) → cond b (takeMark end (1 * pageSize) (rounded s)) (takeMark end (slabBytes class) s) ≡ accepted t → t .space .mark ≤ end
+    fresh-block : (b : Bool) → cond b (takeMark end (1 * pageSize) (rounded s)) (takeMark end (slabBytes class) s) ≡ accepted t
+        → t .space .mark ≤ end
     fresh-block true e = marked-within end (1 * pageSize) (rounded s) e
     fresh-block false e = marked-within end (slabBytes class) s e
 
@@ -59,7 +62,8 @@ taken-within end class s {t} e h = from-stack (stackOf class s) e
 abbrev Within : ℕ → Placed → Type 0
 Within end p = p .space .mark ≤ end
 
-moved-within : (end held : ℕ) (list : List ℕ) (old : Place) (s : Space) {p : Placed} (o : Option ℕ) → s .mark ≤ end → moved end o held list old s ≡ accepted p → Within end p
+moved-within : (end held : ℕ) (list : List ℕ) (old : Place) (s : Space) {p : Placed} (o : Option ℕ) → s .mark ≤ end
+    → moved end o held list old s ≡ accepted p → Within end p
 unfolding moved
 moved-within end held list old s (some c) h e =
     let (t, got, is) = went-on (takeBlock end c s) _ e in
@@ -68,7 +72,8 @@ moved-within end held list old s none h e =
     let (t, got, is) = went-on (takeBlock end pageClass s) _ e in
     subst (Within end) (accepted-inj is) (rw (place-mark old (t .space)) (taken-within end pageClass s got h))
 
-append-within : (end held : ℕ) (list : List ℕ) (n : ℕ) (old : Place) (s : Space) {p : Placed} → s .mark ≤ end → appendPlace end held list n old s ≡ accepted p → Within end p
+append-within : (end held : ℕ) (list : List ℕ) (n : ℕ) (old : Place) (s : Space) {p : Placed} → s .mark ≤ end
+    → appendPlace end held list n old s ≡ accepted p → Within end p
 unfolding appendPlace appendPages beginPage
 append-within end held list n empty s h e = subst (Within end) (accepted-inj e) h
 append-within end held list n inline s h e = moved-within end held list inline s (movesTo (length list) (streamLen list)) h e

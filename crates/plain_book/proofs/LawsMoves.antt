@@ -16,14 +16,16 @@ use Rattle.scripthash_stream.specs.Stream.{streamLen}
 use Rattle.scripthash_cutting.specs.Cutting.{cutting}
 use Rattle.plain_book.specs.Space.{Space, takeBlock, takeRun}
 use Rattle.book_rules.specs.Places.{stays, movesTo, loadsTo}
-use Rattle.plain_book.specs.Key.{Place, empty, inline, slab, pages, Kept, written, longer, Page, Placed, onePage, moved, joins, joinedTo, beginPage, appendPages, appendPlace, loadInto, loadPlace}
+use Rattle.plain_book.specs.Key.{Place, empty, inline, slab, pages, Kept, written, longer, Page, Placed, onePage, moved, joins}
+use Rattle.plain_book.specs.Key.{joinedTo, beginPage, appendPages, appendPlace, loadInto, loadPlace}
 use Rattle.book_rules.specs.Moves.{Tally, counted}
 use Rattle.plain_book.specs.Ceilings.{mostMoves, mostRewritten}
 use Rattle.book_rules.proofs.LawsRules.{slots-mono, slots-twice, stays-holds, Moves, moves-to, loads-to}
 
 -- ---- what a tally may be, by the place
 
--- A list of n numbers that moves brought into a slab of class c: it has slots there; each class was entered once at most, and left with no more
+-- A list of n numbers that moves brought into a slab of class c: it has slots there; each class was entered once at most, and left with no
+-- more
 -- records than it has slots.
 pub record Grown (c n : ℕ) (t : Tally) : Type 0 where
   pub holds : n ≤ slabSlots c
@@ -75,7 +77,8 @@ counted-none t = refl
 
 -- What a move gives: a slab of the class that was chosen, or a page; and the records held before are rewritten.
 module _ (end held : ℕ) (list : List ℕ) (old : Place) (s : Space) {p : Placed} where
-  pub moved-slab : (c : ℕ) → moved end (some c) held list old s ≡ accepted p → (off : ℕ) × (p .place ≡ slab c off (written list)) × (p .rewritten ≡ held)
+  pub moved-slab : (c : ℕ) → moved end (some c) held list old s ≡ accepted p
+      → (off : ℕ) × (p .place ≡ slab c off (written list)) × (p .rewritten ≡ held)
   unfolding moved
   moved-slab c e =
       let (t, got, is) = went-on (takeBlock end c s) _ e in
@@ -197,7 +200,8 @@ append-spent end held list n (slab d off kept) s t l same i e =
     moved-spent end held list (slab d off kept) s t (movesTo (length list) (streamLen list)) l (λ c q. into b c q) (to-page held d t i) is)
     (which (stays d (length list) (longer n kept .bytes)) _ _ e)
   where
-    into : stays d (length list) (longer n kept .bytes) ≡ false → (c : ℕ) → movesTo (length list) (streamLen list) ≡ some c → InSlab c (held + 1) (counted held t)
+    into : stays d (length list) (longer n kept .bytes) ≡ false → (c : ℕ) → movesTo (length list) (streamLen list) ≡ some c
+        → InSlab c (held + 1) (counted held t)
     into b c q =
         let m : Moves (held + 1) (streamLen list) c = rw l at (moves-to (length list) (streamLen list) q) in
         let b' : stays d (held + 1) (streamLen list) ≡ false = rw (l, same d off kept refl) at b in
@@ -218,7 +222,8 @@ append-spent end held list n (pages ps) s t l same (m, r) e =
     rw (at, told, counted-none t) (m, r)
 
 -- A load moves nothing, and its place allows that.
-pub load-spent : (end : ℕ) (ns : List ℕ) (s : Space) {p : Placed} (t : Tally) → t .moves ≡ 0 → t .rewritten ≡ 0 → loadPlace end ns s ≡ accepted p
+pub load-spent : (end : ℕ) (ns : List ℕ) (s : Space) {p : Placed} (t : Tally) → t .moves ≡ 0 → t .rewritten ≡ 0
+    → loadPlace end ns s ≡ accepted p
     → Spent (length ns) (p .place) t
 unfolding loadPlace loadInto
 load-spent end [] s t m r e = rw (placed e) (refl, m, r)

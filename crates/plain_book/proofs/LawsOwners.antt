@@ -1,4 +1,5 @@
--- Who has which block, after each step of a call that changes a stack or a key's place: popping, freeing, and placing what is in hand. Assumes nothing.
+-- Who has which block, after each step of a call that changes a stack or a key's place: popping, freeing, and placing what is in hand.
+-- Assumes nothing.
 use Prim.Native.Nat.{ℕ, zero, suc, _+_, _%_, _≤_, _<_}
 use mathlib.Core.Bool.{Bool, true, false, cond}
 use mathlib.Core.List.{List, [], _∷_, _++_}
@@ -165,7 +166,8 @@ module _ (s : Space) (class : ℕ) (nine : class < length (s .stacks)) where
       (λ (n, found). inr (rest w x n found))
       (changed-has s class (off ∷ stackOf class s) nine at' held' w x h)
     where
-      stack-has : (at : ℕ → Place) (held : Option Block) (depth : ℕ) (w : Owner) → w ≡ stack class depth → (x : Block) → atDepth class depth (stackOf class s) ≡ some x
+      stack-has : (at : ℕ → Place) (held : Option Block) (depth : ℕ) (w : Owner) → w ≡ stack class depth → (x : Block)
+          → atDepth class depth (stackOf class s) ≡ some x
           → has s at held w ≡ some x
       stack-has at held depth w is x e = subst (λ (v : Owner). has s at held v ≡ some x) (sym is) e
 
@@ -219,15 +221,18 @@ module _ (key : ℕ) (place : Place) (at : ℕ → Place) where
       → ((j ≡ key) × (tell place ≡ some x)) ⊎ ((j ≢ key) × (tell (at j) ≡ some x))
   key-told tell j x e = go (eqb j key) refl e
     where
-      go : (b : Bool) → eqb j key ≡ b → tell (cond b place (at j)) ≡ some x → ((j ≡ key) × (tell place ≡ some x)) ⊎ ((j ≢ key) × (tell (at j) ≡ some x))
+      go : (b : Bool) → eqb j key ≡ b → tell (cond b place (at j)) ≡ some x
+          → ((j ≡ key) × (tell place ≡ some x)) ⊎ ((j ≢ key) × (tell (at j) ≡ some x))
       go true q e = inl (eqb-true j key q, e)
       go false q e = inr (eqb-false j key q, e)
 
   -- its slab, and its page at an index
-  pub key-slab : (j : ℕ) (x : Block) → slabAt (atKey key place at j) ≡ some x → ((j ≡ key) × (slabAt place ≡ some x)) ⊎ ((j ≢ key) × (slabAt (at j) ≡ some x))
+  pub key-slab : (j : ℕ) (x : Block) → slabAt (atKey key place at j) ≡ some x
+      → ((j ≡ key) × (slabAt place ≡ some x)) ⊎ ((j ≢ key) × (slabAt (at j) ≡ some x))
   key-slab = key-told slabAt
 
-  pub key-page : (j i : ℕ) (x : Block) → pageIn i (atKey key place at j) ≡ some x → ((j ≡ key) × (pageIn i place ≡ some x)) ⊎ ((j ≢ key) × (pageIn i (at j) ≡ some x))
+  pub key-page : (j i : ℕ) (x : Block) → pageIn i (atKey key place at j) ≡ some x
+      → ((j ≡ key) × (pageIn i place ≡ some x)) ⊎ ((j ≢ key) × (pageIn i (at j) ≡ some x))
   key-page j i = key-told (pageIn i) j
 
 -- What is in hand becomes a key's slab.
@@ -277,7 +282,8 @@ good-page s at key off ps part old g =
         (key-page key (pages (ps ++ onePage off part)) at j i x e)
 
 -- Places that have no other blocks than before.
-pub good-fewer : (s : Space) (at at' : ℕ → Place) (held : Option Block) → ((j : ℕ) (x : Block) → slabAt (at' j) ≡ some x → slabAt (at j) ≡ some x)
+pub good-fewer : (s : Space) (at at' : ℕ → Place) (held : Option Block)
+    → ((j : ℕ) (x : Block) → slabAt (at' j) ≡ some x → slabAt (at j) ≡ some x)
     → ((j i : ℕ) (x : Block) → pageIn i (at' j) ≡ some x → pageIn i (at j) ≡ some x) → Good s at held → Good s at' held
 unfolding has
 good-fewer s at at' held slabs pgs g =
@@ -290,7 +296,8 @@ good-fewer s at at' held slabs pgs g =
     to (pageOf j i) x e = pgs j i x e
 
 -- A key's slab is freed.
-pub good-freed : (s : Space) (at : ℕ → Place) (held : Option Block) (key class off : ℕ) (kept : Kept) → class ≤ 8 → at key ≡ slab class off kept → Good s at held
+pub good-freed : (s : Space) (at : ℕ → Place) (held : Option Block) (key class off : ℕ) (kept : Kept) → class ≤ 8
+    → at key ≡ slab class off kept → Good s at held
     → Good (freed class off s) (atKey key empty at) held
 unfolding has
 good-freed s at held key class off kept c e g =
@@ -303,7 +310,8 @@ good-freed s at held key class off kept c e g =
           (pushed-from s class (omega arith) (slabOf key) off at (atKey key empty at) held held (λ d q. (let z = ap kindOf q in omega arith)) (ap slabAt e) rest) (g .apart);
     }
   where
-    rest : (w : Owner) (x : Block) → ((d : ℕ) → w ≢ stack class d) → has s (atKey key empty at) held w ≡ some x → (w ≢ slabOf key) × (has s at held w ≡ some x)
+    rest : (w : Owner) (x : Block) → ((d : ℕ) → w ≢ stack class d) → has s (atKey key empty at) held w ≡ some x
+        → (w ≢ slabOf key) × (has s at held w ≡ some x)
     rest hand x n h = (λ q. (let z = ap kindOf q in omega arith), h)
     rest (stack c' d) x n h = (λ q. (let z = ap kindOf q in omega arith), h)
     rest (slabOf j) x n h =
@@ -334,7 +342,8 @@ module _ (key high : ℕ) where
   name-back (slabOf k) = refl
   name-back (stack c d) = go (eqb c pageClass) refl (eqb d high) refl
     where
-      go : (a : Bool) → eqb c pageClass ≡ a → (b : Bool) → eqb d high ≡ b → newName (cond a (cond b (pageOf key 0) (stack c d)) (stack c d)) ≡ stack c d
+      go : (a : Bool) → eqb c pageClass ≡ a → (b : Bool) → eqb d high ≡ b
+          → newName (cond a (cond b (pageOf key 0) (stack c d)) (stack c d)) ≡ stack c d
       go true q true q' = rw (eq-eqb key key refl) (ap (λ (x : ℕ). stack x high) (sym (eqb-true c pageClass q)) ∙ ap (stack c) (sym (eqb-true d high q')))
       go true q false q' = refl
       go false q b q' = refl
@@ -345,7 +354,8 @@ module _ (key high : ℕ) where
       go false q zero = rw q
       go false q (suc i) = rw q
 
-pub good-first-freed : (s : Space) (at : ℕ → Place) (held : Option Block) (key : ℕ) (p : Page) (ps : List Page) → at key ≡ pages (p ∷ ps) → Good s at held
+pub good-first-freed : (s : Space) (at : ℕ → Place) (held : Option Block) (key : ℕ) (p : Page) (ps : List Page) → at key ≡ pages (p ∷ ps)
+    → Good s at held
     → Good (freed pageClass (p .off) s) (atKey key (pages ps) at) held
 unfolding has pageAt
 good-first-freed s at held key p ps e g =
@@ -360,12 +370,14 @@ good-first-freed s at held key p ps e g =
     in-nine : pageClass < length (s .stacks)
     in-nine = let n = g .nine in omega arith
 
-    to : (w : Owner) (x : Block) → has (freed pageClass (p .off) s) (atKey key (pages ps) at) held w ≡ some x → has s at held (oldName key (length (stackOf pageClass s)) w) ≡ some x
+    to : (w : Owner) (x : Block) → has (freed pageClass (p .off) s) (atKey key (pages ps) at) held w ≡ some x
+        → has s at held (oldName key (length (stackOf pageClass s)) w) ≡ some x
     to hand x h = h
     to (slabOf j) x h = ⊎-elim (λ (is, f). absurd (none-some f)) (λ (n, f). f) (key-slab key (pages ps) at j x h)
     to (pageOf j i) x h = go (eqb j key) refl h
       where
-        go : (b : Bool) → eqb j key ≡ b → pageIn i (cond b (pages ps) (at j)) ≡ some x → has s at held (cond b (pageOf key (suc i)) (pageOf j i)) ≡ some x
+        go : (b : Bool) → eqb j key ≡ b → pageIn i (cond b (pages ps) (at j)) ≡ some x
+            → has s at held (cond b (pageOf key (suc i)) (pageOf j i)) ≡ some x
         go true q h = ap (pageIn (suc i)) e ∙ h
         go false q h = h
     to (stack c d) x h =
@@ -385,12 +397,14 @@ good-first-freed s at held key p ps e g =
         (changed-has s pageClass (p .off ∷ stackOf pageClass s) in-nine (atKey key (pages ps) at) held (stack c d) x h)
 
 -- Changed once is as changed twice.
-pub good-twice : (s : Space) (at : ℕ → Place) (held : Option Block) (key : ℕ) (first second : Place) → Good s (atKey key second (atKey key first at)) held
+pub good-twice : (s : Space) (at : ℕ → Place) (held : Option Block) (key : ℕ) (first second : Place)
+    → Good s (atKey key second (atKey key first at)) held
     → Good s (atKey key second at) held
 good-twice s at held key first second g =
     good-fewer s (atKey key second (atKey key first at)) (atKey key second at) held (λ j x h. once slabAt (eqb j key) j x h) (λ j i x h. once (pageIn i) (eqb j key) j x h) g
   where
-    once : (tell : Place → Option Block) (b : Bool) (j : ℕ) (x : Block) → tell (cond b second (at j)) ≡ some x → tell (cond b second (cond b first (at j))) ≡ some x
+    once : (tell : Place → Option Block) (b : Bool) (j : ℕ) (x : Block) → tell (cond b second (at j)) ≡ some x
+        → tell (cond b second (cond b first (at j))) ≡ some x
     once tell true j x h = h
     once tell false j x h = h
 
@@ -410,7 +424,8 @@ good-pages-freed s at held key (p ∷ ps) e g =
 -- ---- places given up, and changed
 
 -- A key's new place has no blocks but those of its old one.
-pub good-kept : (s : Space) (at : ℕ → Place) (held : Option Block) (key : ℕ) (place : Place) → ((x : Block) → slabAt place ≡ some x → slabAt (at key) ≡ some x)
+pub good-kept : (s : Space) (at : ℕ → Place) (held : Option Block) (key : ℕ) (place : Place)
+    → ((x : Block) → slabAt place ≡ some x → slabAt (at key) ≡ some x)
     → ((i : ℕ) (x : Block) → pageIn i place ≡ some x → pageIn i (at key) ≡ some x) → Good s at held → Good s (atKey key place at) held
 good-kept s at held key place slabs pgs g =
     good-fewer s at (atKey key place at) held

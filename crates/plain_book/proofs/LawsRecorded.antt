@@ -1,4 +1,5 @@
--- The licence's sentence on the plain book: a key's list is what calls and their answers recorded for it, and a read tells that list. Assumes nothing.
+-- The licence's sentence on the plain book: a key's list is what calls and their answers recorded for it, and a read tells that list.
+-- Assumes nothing.
 use Prim.Native.Nat.{ℕ, _<_}
 use mathlib.Core.Bool.{Bool, true, false, cond, false≢true}
 use mathlib.Core.List.{List, [], _∷_, _++_}
@@ -38,7 +39,8 @@ unused-holds list (slab class off kept) f fits = absurd (false≢true (sym f))
 unused-holds list (pages ps) f fits = absurd (false≢true (sym f))
 
 -- A key's list after the place and list of a key changed: the new one where it is that key.
-list-with : (b : Book) (own key : ℕ) (list new : List ℕ) (place : Place) (space : Space) {b' : Book} → own < length (b .keys) → b' ≡ withKey own list place space b
+list-with : (b : Book) (own key : ℕ) (list new : List ℕ) (place : Place) (space : Space) {b' : Book} → own < length (b .keys)
+    → b' ≡ withKey own list place space b
     → (own ≡ key → list ≡ new) → keyOf key b' .list ≡ cond (eqb own key) new (keyOf key b .list)
 list-with b own key list new place space {b'} within is same = ap (λ (x : Book). keyOf key x .list) is ∙ go (eqb own key) refl
   where
@@ -74,8 +76,10 @@ call-recorded key b (drop own) (accepted o) e s =
 
 -- ---- every list of calls
 
--- Take any book with a sound key and any list of calls: the key's list afterwards is what was there and what the calls recorded for the key.
-pub recorded-from : (b : Book) (key : ℕ) (cs : List Call) → SoundKey (keyOf key b) → keyOf key (after b cs) .list ≡ recorded key cs (answers b cs) (keyOf key b .list)
+-- Take any book with a sound key and any list of calls: the key's list afterwards is what was there and what the calls recorded for the
+-- key.
+pub recorded-from : (b : Book) (key : ℕ) (cs : List Call) → SoundKey (keyOf key b)
+    → keyOf key (after b cs) .list ≡ recorded key cs (answers b cs) (keyOf key b .list)
 unfolding afterCalls answersTo recorded
 recorded-from b key [] s = refl
 recorded-from b key (c ∷ cs) s =
@@ -83,7 +87,8 @@ recorded-from b key (c ∷ cs) s =
     ∙ ap (recorded key cs (answers (bookAfter b (does b c)) cs)) (call-recorded key b c (does b c) refl s)
 
 -- After any list of calls on a fresh book a key's list is what the calls recorded for it.
-pub recorded-fresh : (size heads key : ℕ) (cs : List Call) → keyOf key (after (fresh size heads) cs) .list ≡ recorded key cs (answers (fresh size heads) cs) []
+pub recorded-fresh : (size heads key : ℕ) (cs : List Call)
+    → keyOf key (after (fresh size heads) cs) .list ≡ recorded key cs (answers (fresh size heads) cs) []
 recorded-fresh size heads key cs =
     recorded-from (fresh size heads) key cs (rw (fresh-key size heads key) empty-sound)
     ∙ ap (λ (k : Key). recorded key cs (answers (fresh size heads) cs) (k .list)) (fresh-key size heads key)
@@ -97,7 +102,8 @@ unfolding does
 read-told b key room e = ap (λ (x : Outcome). x .told) (read-did b key room e .1)
 
 -- What a refusal came from: the test, or what comes after it.
-refused-by : {A : Type 0} (test : Bool) (number : ℕ) (after : Answer A) {m : ℕ} → refuseIf test number after ≡ refused m → (m ≡ number) ⊎ (after ≡ refused m)
+refused-by : {A : Type 0} (test : Bool) (number : ℕ) (after : Answer A) {m : ℕ} → refuseIf test number after ≡ refused m
+    → (m ≡ number) ⊎ (after ≡ refused m)
 unfolding refuseIf
 refused-by true number after e = inl (cc)
 refused-by false number after e = inr e
@@ -114,7 +120,8 @@ read-refused b key room e =
 -- ---- the licence's sentence
 
 -- An answer is by what is recorded for its key.
-call-answered : (b : Book) (c : Call) (a : Answer Outcome) (numbers : List ℕ) → does b c ≡ a → keyOf (keyOfCall c) b .list ≡ numbers → AnsweredBy c (answerOf a) numbers
+call-answered : (b : Book) (c : Call) (a : Answer Outcome) (numbers : List ℕ) → does b c ≡ a → keyOf (keyOfCall c) b .list ≡ numbers
+    → AnsweredBy c (answerOf a) numbers
 unfolding AnsweredBy answered
 call-answered b (load key ns) a numbers e is = tt
 call-answered b (append key n) a numbers e is = tt
@@ -123,7 +130,8 @@ call-answered b (read key room) (refused number) numbers e is = read-refused b k
 call-answered b (drop key) a numbers e is = tt
 
 -- Take any book of sound keys, whose lists are what was recorded, and any list of calls: the licence's sentence holds.
-pub licensed-from : (b : Book) (before : ℕ → List ℕ) (cs : List Call) → ((key : ℕ) → SoundKey (keyOf key b)) → ((key : ℕ) → keyOf key b .list ≡ before key)
+pub licensed-from : (b : Book) (before : ℕ → List ℕ) (cs : List Call) → ((key : ℕ) → SoundKey (keyOf key b))
+    → ((key : ℕ) → keyOf key b .list ≡ before key)
     → Licensed before cs (answers b cs)
 unfolding Licensed answersTo
 licensed-from b before [] s is = tt

@@ -20,7 +20,9 @@ use Rattle.scripthash_cutting.proofs.LawsPages.{pages-allowed}
 use Rattle.scripthash_cutting.proofs.LawsRising.{rising-words}
 use Rattle.plain_book.specs.Space.{Space, takeBlock, takeRun}
 use Rattle.book_rules.specs.Places.{payloadLen, movesTo, stays, loadsTo}
-use Rattle.plain_book.specs.Key.{Kept, written, longer, Page, Place, empty, inline, slab, pages, Key, emptyKey, lastPage, noPage, onePage, longerPage, joins, joinedTo, beginPage, Placed, moved, appendPages, appendPlace, runPages, loadInto, loadPlace}
+use Rattle.plain_book.specs.Key.{Kept, written, longer, Page, Place, empty, inline, slab, pages, Key, emptyKey, lastPage, noPage}
+use Rattle.plain_book.specs.Key.{onePage, longerPage, joins, joinedTo, beginPage, Placed, moved, appendPages, appendPlace, runPages}
+use Rattle.plain_book.specs.Key.{loadInto, loadPlace}
 use Rattle.book_rules.proofs.LawsRules.{bytes-mono, stays-holds, moves-to, loads-to}
 use Rattle.plain_book.proofs.LawsKept.{len-snoc, longer-numbers, shortest-longer, longer-bytes}
 use Rattle.plain_book.proofs.LawsMoves.{placed, which, moved-slab, moved-page}
@@ -173,7 +175,8 @@ load-fits end [] s r e = rw (placed e) refl
 load-fits end (n ∷ []) s r e = rw (placed e) refl
 load-fits end (n ∷ m ∷ ns) s {p} r e = go (loadsTo (length (n ∷ m ∷ ns)) (streamLen (n ∷ m ∷ ns))) refl e
   where
-    go : (o : Option ℕ) → loadsTo (length (n ∷ m ∷ ns)) (streamLen (n ∷ m ∷ ns)) ≡ o → loadInto end o (n ∷ m ∷ ns) s ≡ accepted p → Fits (n ∷ m ∷ ns) (p .place)
+    go : (o : Option ℕ) → loadsTo (length (n ∷ m ∷ ns)) (streamLen (n ∷ m ∷ ns)) ≡ o → loadInto end o (n ∷ m ∷ ns) s ≡ accepted p
+        → Fits (n ∷ m ∷ ns) (p .place)
     go (some c) q e =
         let (few, class, fits) = loads-to (length (n ∷ m ∷ ns)) (streamLen (n ∷ m ∷ ns)) q in
         let (t, got, is) = went-on (takeBlock end c s) _ e in

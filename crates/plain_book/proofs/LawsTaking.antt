@@ -22,7 +22,8 @@ use Rattle.plain_book.specs.Key.{Place, pages, runPages}
 use Rattle.plain_book.specs.Owners.{Owner, hand, stack, slabOf, pageOf, pageAt, has}
 use Rattle.plain_book.specs.Good.{Good}
 use Rattle.plain_book.proofs.LawsApart.{apart-added, apart-run}
-use Rattle.plain_book.proofs.LawsOwners.{some-inj, none-some, below-top, withStack, changed-has, bytes-aligned, good-popped, good-marked, atKey, key-slab, key-page}
+use Rattle.plain_book.proofs.LawsOwners.{some-inj, none-some, below-top, withStack, changed-has, bytes-aligned, good-popped}
+use Rattle.plain_book.proofs.LawsOwners.{good-marked, atKey, key-slab, key-page}
 
 -- ---- carving the gap before a page
 
@@ -66,7 +67,8 @@ freed-stacks [] m m' st = refl
 freed-stacks (b ∷ bs) m m' st = freed-stacks bs m m' _
 
 -- Blocks side by side from the mark on are freed, and the mark passes them.
-pub good-carved : (bs : List Block) (s : Space) (at : ℕ → Place) (held : Option Block) (end : ℕ) → Adjoin (s .mark) bs end → Each (IsSlab end) bs → Good s at held
+pub good-carved : (bs : List Block) (s : Space) (at : ℕ → Place) (held : Option Block) (end : ℕ) → Adjoin (s .mark) bs end
+    → Each (IsSlab end) bs → Good s at held
     → Good (record { mark = end; stacks = freedAll bs s .stacks }) at held
 unfolding Adjoin Each freedAll
 good-carved [] s at held end a e g = subst (λ (m : ℕ). Good (record { mark = m; stacks = s .stacks }) at held) a g
@@ -114,7 +116,8 @@ unfolding rounded
 rounded-mark s = omega arith
 
 -- A page from the mark, and a slab.
-pub good-fresh-page : (end : ℕ) (s : Space) (at : ℕ → Place) {t : Taken} → takeRun end 1 s ≡ accepted t → Good s at none → InHand at pageClass t
+pub good-fresh-page : (end : ℕ) (s : Space) (at : ℕ → Place) {t : Taken} → takeRun end 1 s ≡ accepted t → Good s at none
+    → InHand at pageClass t
 unfolding takeRun
 good-fresh-page end s at e g =
     let r = good-rounded s at none g in
@@ -122,7 +125,8 @@ good-fresh-page end s at e g =
     page-stands (rounded s .mark) (rounded s .mark + slabBytes pageClass) (rounded-mark s) (r .from) (omega arith) in
     subst (InHand at pageClass) (sym (took-mark end (1 * pageSize) (rounded s) e)) (good-marked (rounded s) at pageClass b r)
 
-pub good-fresh-slab : (end class : ℕ) (s : Space) (at : ℕ → Place) {t : Taken} → class ≤ 7 → takeMark end (slabBytes class) s ≡ accepted t → Good s at none → InHand at class t
+pub good-fresh-slab : (end class : ℕ) (s : Space) (at : ℕ → Place) {t : Taken} → class ≤ 7 → takeMark end (slabBytes class) s ≡ accepted t
+    → Good s at none → InHand at class t
 good-fresh-slab end class s at c e g =
     subst (InHand at class) (sym (took-mark end (slabBytes class) s e))
     (good-marked s at class (slab-stands class (s .mark) (s .mark + slabBytes class) c (g .aligned) (g .from) (omega arith)) g)
@@ -132,11 +136,13 @@ pub slab-class : (class : ℕ) → class ≤ 8 → class ≢ 8 → class ≤ 7
 slab-class class c n = ⊎-elim (λ e. absurd (n e)) (λ l. omega arith) (eq-or-lt-of-le c)
 
 -- A block of a class is taken.
-pub good-taken : (end class : ℕ) (s : Space) (at : ℕ → Place) {t : Taken} → class ≤ 8 → takeBlock end class s ≡ accepted t → Good s at none → InHand at class t
+pub good-taken : (end class : ℕ) (s : Space) (at : ℕ → Place) {t : Taken} → class ≤ 8 → takeBlock end class s ≡ accepted t → Good s at none
+    → InHand at class t
 unfolding takeFrom takeFresh
 good-taken end class s at {t} c e g = from-stack (stackOf class s) refl e
   where
-    fresh : (b : Bool) → eqb class pageClass ≡ b → cond b (takeRun end 1 s) (takeMark end (slabBytes class) s) ≡ accepted t → InHand at class t
+    fresh : (b : Bool) → eqb class pageClass ≡ b → cond b (takeRun end 1 s) (takeMark end (slabBytes class) s) ≡ accepted t
+        → InHand at class t
     fresh true q e = subst (λ (k : ℕ). InHand at k t) (sym (eqb-true class pageClass q)) (good-fresh-page end s at e g)
     fresh false q e = let n = eqb-false class pageClass q in good-fresh-slab end class s at (slab-class class c n) e g
 

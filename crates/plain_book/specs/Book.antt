@@ -9,10 +9,12 @@ use Rattle.error.specs.Refusal.{shapeBad, keyBeyond, keyInUse, tooManyOffered}
 use Rattle.scripthash_layout.specs.Sizes.{pageClass}
 use Rattle.scripthash_layout.specs.Head.{payloadStart}
 use Rattle.scripthash_stream.specs.Stream.{maxOffered, lastFrom}
-use Rattle.book_rules.specs.Calls.{Call, load, append, read, drop, Told, loaded, appended, listed, dropped, OutcomeOf, afterCalls, answersTo}
+use Rattle.book_rules.specs.Calls.{Call, load, append, read, drop, Told, loaded, appended, listed, dropped, OutcomeOf, afterCalls}
+use Rattle.book_rules.specs.Calls.{answersTo}
 use Rattle.book_rules.specs.Limits.{outOfShape, offeredNumber, offeredList}
 use Rattle.plain_book.specs.Space.{Space}
-use Rattle.plain_book.specs.Key.{Place, empty, inline, slab, pages, Key, emptyKey, headOf, pagesOf, freedPlace, appendPlace, loadPlace}
+use Rattle.plain_book.specs.Key.{Place, empty, inline, slab, pages, Key, emptyKey, headOf, pagesOf, freedPlace, appendPlace}
+use Rattle.plain_book.specs.Key.{loadPlace}
 
 -- A plain book: the length of the body that it stands for, its keys, and its space.
 pub record Book : Type 0 where
@@ -74,7 +76,10 @@ appends b key n =
     (let list = extended (keyOf key b .list) n in
     offeredNumber true (lastFrom 0 (keyOf key b .list)) n
     (andThen (appendPlace (b .size) (length (keyOf key b .list)) list n (keyOf key b .place) (b .space))
-    (λ p. accepted (record { told = appended (record { place = headOf list (p .place); rewritten = p .rewritten }); book = withKey key list (p .place) (p .space) b }))))
+    (λ p. accepted (record {
+      told = appended (record { place = headOf list (p .place); rewritten = p .rewritten });
+      book = withKey key list (p .place) (p .space) b;
+    }))))
 
 -- A read of a key into a lent list with room for some numbers.
 unfoldable pub reads : Book → ℕ → ℕ → Answer Outcome

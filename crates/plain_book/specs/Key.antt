@@ -97,11 +97,13 @@ pub record Placed : Type 0 where
   pub space : Space
   pub rewritten : ℕ
 
--- A list, longer by one number, moves out of a place: into a taken slab of a class, or else into a taken page; then the old place is freed. The
+-- A list, longer by one number, moves out of a place: into a taken slab of a class, or else into a taken page; then the old place is freed.
+-- The
 -- records held before are rewritten.
 unfoldable pub moved : ℕ → Option ℕ → ℕ → List ℕ → Place → Space → Answer Placed
 moved end (some class) held list old s =
-    andThen (takeBlock end class s) (λ t. accepted (record { place = slab class (t .off) (written list); space = freedPlace old (t .space); rewritten = held }))
+    andThen (takeBlock end class s)
+    (λ t. accepted (record { place = slab class (t .off) (written list); space = freedPlace old (t .space); rewritten = held }))
 moved end none held list old s =
     andThen (takeBlock end pageClass s)
     (λ t. accepted (record { place = pages (onePage (t .off) list); space = freedPlace old (t .space); rewritten = held }))
@@ -137,7 +139,8 @@ unfoldable pub appendPlace : ℕ → ℕ → List ℕ → ℕ → Place → Spac
 appendPlace end held list n empty s = accepted (record { place = inline; space = s; rewritten = 0 })
 appendPlace end held list n inline s = moved end (movesTo (length list) (streamLen list)) held list inline s
 appendPlace end held list n (slab class off kept) s =
-    cond (stays class (length list) (longer n kept .bytes)) (accepted (record { place = slab class off (longer n kept); space = s; rewritten = 0 }))
+    cond (stays class (length list) (longer n kept .bytes))
+    (accepted (record { place = slab class off (longer n kept); space = s; rewritten = 0 }))
     (moved end (movesTo (length list) (streamLen list)) held list (slab class off kept) s)
 appendPlace end held list n (pages ps) s = appendPages end ps n s
 

@@ -31,14 +31,16 @@ FitPages (p ∷ q ∷ ps) = FitsPage p × FitPages (q ∷ ps)
 -- Pages rise from a number on: each holds a number, its part rises behind the number before it, and the next page behind the part's last.
 unfoldable pub RisesFrom : ℕ → List Page → Type 0
 RisesFrom prev [] = Unit {0}
-RisesFrom prev (p ∷ ps) = (0 < length (p .part .numbers)) × Rising (2 ^ 62) prev (p .part .numbers) × RisesFrom (lastFrom 0 (p .part .numbers)) ps
+RisesFrom prev (p ∷ ps) = (0 < length (p .part .numbers)) × Rising (2 ^ 62) prev (p .part .numbers)
+    × RisesFrom (lastFrom 0 (p .part .numbers)) ps
 
 -- A list fits its place: a slab keeps it, has 2 to 256 numbers and bytes for their payload, and pages hold the list in order.
 unfoldable pub Fits : List ℕ → Place → Type 0
 Fits list empty = length list ≡ 0
 Fits list inline = length list ≡ 1
 Fits list (slab class off kept) =
-    (kept .numbers ≡ list) × Shortest kept × (class ≤ maxSlabClass) × (2 ≤ length list) × (length list ≤ maxSlabCount) × (payloadLen (kept .bytes) ≤ slabBytes class)
+    (kept .numbers ≡ list) × Shortest kept × (class ≤ maxSlabClass) × (2 ≤ length list) × (length list ≤ maxSlabCount)
+    × (payloadLen (kept .bytes) ≤ slabBytes class)
 Fits list (pages ps) = (held ps ≡ list) × FitPages ps
 
 -- A sound key: its list rises, below 2^62, and fits its place.

@@ -1,7 +1,8 @@
 // What the calls on a page's fields answer.
 ghost use mathlib.Core.Path.{_≡_};
 ghost use Rattle.error.specs.Refusal.{refusalOf};
-ghost use Rattle.scripthash_answers.specs.FieldAnswers.{linkAnswer, lastAnswer, offsetAnswer, extentAnswer, createsAnswer, countAnswer, doneAnswer};
+ghost use Rattle.scripthash_answers.specs.FieldAnswers.{linkAnswer, lastAnswer, offsetAnswer, extentAnswer, createsAnswer};
+ghost use Rattle.scripthash_answers.specs.FieldAnswers.{countAnswer, doneAnswer};
 use error::Refusal;
 
 // What a page's link says: LAST or not, and the offset of the page that it names; or a refusal.

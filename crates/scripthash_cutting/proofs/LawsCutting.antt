@@ -1,5 +1,7 @@
--- The cutting for a last page with a small room and other pages with a large one: it is allowed, and no allowed cutting of a rising list has
--- fewer parts. What a part leaves over of numbers that fit the large room has to fit the small one, so the rooms are near to each other: with
+-- The cutting for a last page with a small room and other pages with a large one: it is allowed, and no allowed cutting of a rising list
+-- has
+-- fewer parts. What a part leaves over of numbers that fit the large room has to fit the small one, so the rooms are near to each other:
+-- with
 -- 10 and 100 bytes, 1 to 100 would be cut into ten parts, where 1 to 90 and 91 to 100 are allowed. Assumes nothing.
 use Prim.Native.Nat.{ℕ, zero, suc, _+_, _-_, _*_, _^_, _≤_, _<_, zero-le, suc-le-suc}
 use mathlib.Core.Bool.{Bool, true, false, cond}
@@ -15,7 +17,8 @@ use lib.Seq.{take-length, drop-length, drop-nil, length-take-le, drop-drop, drop
 use Rattle.buffer.proofs.LawsOrder.{lt-or-ge}
 use Rattle.compact.specs.Uleb128.{ulebLen}
 use Rattle.scripthash_stream.specs.Stream.{Rising, streamLenFrom, streamLen}
-use Rattle.scripthash_cutting.specs.Cutting.{fitting, firstPart, greedyParts, greedy, replaceLast, recutLast, cuttingFor, joined, Fit, Allowed}
+use Rattle.scripthash_cutting.specs.Cutting.{fitting, firstPart, greedyParts, greedy, replaceLast, recutLast, cuttingFor, joined, Fit}
+use Rattle.scripthash_cutting.specs.Cutting.{Allowed}
 use Rattle.scripthash_cutting.specs.Steps.{nextPart}
 use Rattle.scripthash_cutting.proofs.LawsFitting.{Words, words-drop, Fitting, part-some, part-known}
 use Rattle.scripthash_cutting.proofs.LawsRising.{rising-words, rising-left, rising-right, stream-drop}
@@ -44,7 +47,8 @@ module _ (room : ℕ) where
       (enough d e (drop f ns) (omega (arith, length-drop f ns)) (omega (arith, length-drop f ns)))
 
   -- the first part, and the cutting of what is behind it
-  pub greedy-step : (n : ℕ) (ns : List ℕ) → let k = firstPart room (n ∷ ns) in greedy room (n ∷ ns) ≡ take k (n ∷ ns) ∷ greedy room (drop k (n ∷ ns))
+  pub greedy-step : (n : ℕ) (ns : List ℕ)
+      → let k = firstPart room (n ∷ ns) in greedy room (n ∷ ns) ≡ take k (n ∷ ns) ∷ greedy room (drop k (n ∷ ns))
   unfolding greedyParts firstPart
   greedy-step n ns =
       let f = fitting (room - ulebLen n) n ns in
@@ -77,7 +81,8 @@ module _ (small large : ℕ) (ten : 10 ≤ small) (less : small ≤ large) (near
   cut-whole (n ∷ ns) w e = ap (recutLast small) (greedy-one large n ns (le-trans ten less) w e)
 
   -- then what the first part leaves over fits the small room
-  leaves : (n : ℕ) (ns : List ℕ) → Words (n ∷ ns) → streamLen (n ∷ ns) ≤ large → streamLen (drop (firstPart small (n ∷ ns)) (n ∷ ns)) ≤ small
+  leaves : (n : ℕ) (ns : List ℕ) → Words (n ∷ ns) → streamLen (n ∷ ns) ≤ large
+      → streamLen (drop (firstPart small (n ∷ ns)) (n ∷ ns)) ≤ small
   unfolding streamLenFrom
   leaves n ns w e =
       let p = part-known small n ns ten w in
@@ -154,7 +159,8 @@ module _ (small large : ℕ) (ten : 10 ≤ small) (less : small ≤ large) (near
   -- ---- the cutting is allowed
 
   -- a part in front of parts that fit: where there are none it has to fit the small room
-  fit-cons : (p : List ℕ) (ps : List (List ℕ)) → 0 < length p → streamLen p ≤ large → (length ps ≡ 0 → streamLen p ≤ small) → Fit small large ps → Fit small large (p ∷ ps)
+  fit-cons : (p : List ℕ) (ps : List (List ℕ)) → 0 < length p → streamLen p ≤ large → (length ps ≡ 0 → streamLen p ≤ small)
+      → Fit small large ps → Fit small large (p ∷ ps)
   unfolding Fit
   fit-cons p [] h l e f = (h, e refl)
   fit-cons p (q ∷ ps) h l e f = (h, l, f)
@@ -266,7 +272,8 @@ module _ (small large : ℕ) (ten : 10 ≤ small) (less : small ≤ large) (near
   -- ---- how many parts there are at most
 
   -- every part but the last two holds at least a tenth of the large room in numbers
-  pub parts-at-most : (least : ℕ) → 10 * least ≤ large → (ns : List ℕ) → Words ns → length (cuttingFor small large ns) * least ≤ length ns + 2 * least
+  pub parts-at-most : (least : ℕ) → 10 * least ≤ large → (ns : List ℕ) → Words ns
+      → length (cuttingFor small large ns) * least ≤ length ns + 2 * least
   parts-at-most least h = by-parts (λ ns. length (cuttingFor small large ns) * least ≤ length ns + 2 * least) (rw cut-nil (omega arith)) step
     where
       step : (n : ℕ) (ns : List ℕ) → Words (n ∷ ns)

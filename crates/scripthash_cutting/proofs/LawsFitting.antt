@@ -30,7 +30,8 @@ words-take (suc k) (n ∷ ns) w zero = w 0
 words-take (suc k) (n ∷ ns) w (suc i) = words-take k ns (λ j. w (suc j)) i
 
 -- a number that fits, and one that doesn't
-pub fit-yes : (room prev n : ℕ) (ns : List ℕ) → ulebLen (n - prev) ≤ room → fitting room prev (n ∷ ns) ≡ suc (fitting (room - ulebLen (n - prev)) n ns)
+pub fit-yes : (room prev n : ℕ) (ns : List ℕ) → ulebLen (n - prev) ≤ room
+    → fitting room prev (n ∷ ns) ≡ suc (fitting (room - ulebLen (n - prev)) n ns)
 unfolding fitting
 fit-yes room prev n ns h = rw (le-leb (ulebLen (n - prev)) room h)
 
@@ -48,7 +49,8 @@ pub record Fitting (room prev : ℕ) (ns : List ℕ) (f : ℕ) : Type 0 where
   pub rest : Words ns → f < length ns → streamLen (drop f ns) + room ≤ streamLenFrom prev ns + 9
 
 -- behind a number that fits, and at one that doesn't
-fit-more : (room prev n : ℕ) (ns : List ℕ) {f : ℕ} → ulebLen (n - prev) ≤ room → Fitting (room - ulebLen (n - prev)) n ns f → Fitting room prev (n ∷ ns) (suc f)
+fit-more : (room prev n : ℕ) (ns : List ℕ) {f : ℕ} → ulebLen (n - prev) ≤ room → Fitting (room - ulebLen (n - prev)) n ns f
+    → Fitting room prev (n ∷ ns) (suc f)
 unfolding streamLenFrom
 fit-more room prev n ns {f} p k = record {
   within = suc-le-suc (k .within);

@@ -1,4 +1,5 @@
--- The cutting of a list into pages: allowed, with as few parts as any, how many those can be, and part by part from an index on. Assumes nothing.
+-- The cutting of a list into pages: allowed, with as few parts as any, how many those can be, and part by part from an index on. Assumes
+-- nothing.
 use Prim.Native.Nat.{ℕ, _+_, _-_, _/_, _^_, _≤_, _<_}
 use mathlib.Core.List.{List, [], _∷_}
 use mathlib.Core.Logic.{⊎-elim}
@@ -8,7 +9,8 @@ use native.Mathlib.Omega.{arith}
 use lib.ListN.{length, take, drop, length-drop, drop-of-length-le}
 use lib.Seq.{length-take-le, drop-drop}
 use Rattle.scripthash_stream.specs.Stream.{Rising, streamLen}
-use Rattle.scripthash_cutting.specs.Cutting.{pageRoom, lastPageRoom, greedyParts, replaceLast, cuttingFor, cutting, rangeOf, rangesFrom, AllowedCutting}
+use Rattle.scripthash_cutting.specs.Cutting.{pageRoom, lastPageRoom, greedyParts, replaceLast, cuttingFor, cutting, rangeOf}
+use Rattle.scripthash_cutting.specs.Cutting.{rangesFrom, AllowedCutting}
 use Rattle.scripthash_cutting.specs.Steps.{nextPart}
 use Rattle.scripthash_cutting.proofs.LawsFitting.{Words, words-drop}
 use Rattle.scripthash_cutting.proofs.LawsCutting.{cutting-allowed, cutting-optimal, parts-at-most, next-of}
@@ -18,7 +20,8 @@ pub pages-allowed : (ns : List ℕ) → Words ns → AllowedCutting ns (cutting 
 pages-allowed ns w = cutting-allowed lastPageRoom pageRoom (omega arith) (omega arith) (omega arith) ns w
 
 -- and every allowed cutting of a rising list has at least as many parts
-pub pages-optimal : (ns : List ℕ) → Rising (2 ^ 63) 0 ns → (parts : List (List ℕ)) → AllowedCutting ns parts → length (cutting ns) ≤ length parts
+pub pages-optimal : (ns : List ℕ) → Rising (2 ^ 63) 0 ns → (parts : List (List ℕ)) → AllowedCutting ns parts
+    → length (cutting ns) ≤ length parts
 pages-optimal ns r parts a = cutting-optimal lastPageRoom pageRoom (omega arith) (omega arith) (omega arith) ns r parts a
 
 -- What is known of the part that starts at an index of a list and ends at e, when the other pages have a room.
@@ -37,7 +40,8 @@ module _ (room : ℕ) (less : lastPageRoom ≤ room) (most : room ≤ pageRoom) 
   pages-at-most ns w = omega (arith, parts-at-most lastPageRoom room (omega arith) less (omega arith) 407 (omega arith) ns w)
 
   -- all of the above holds of the next part
-  pub part-from : (fks : List ℕ) (start e : ℕ) → start < length fks → Words fks → e ≡ start + nextPart lastPageRoom room (drop start fks) → PartFrom room fks start e
+  pub part-from : (fks : List ℕ) (start e : ℕ) → start < length fks → Words fks → e ≡ start + nextPart lastPageRoom room (drop start fks)
+      → PartFrom room fks start e
   unfolding rangesFrom
   part-from fks start e h w e-is =
       let k = nextPart lastPageRoom room (drop start fks) in

@@ -1,4 +1,5 @@
--- The last of some ranges split: what the answer and the lent list are where that range is cut again, and where it is left; and the ranges of the
+-- The last of some ranges split: what the answer and the lent list are where that range is cut again, and where it is left; and the ranges
+-- of the
 -- cutting as those of the greedy parts with the last one split. Assumes nothing.
 use Prim.Native.Nat.{ℕ, suc, _+_, _-_, _≤_, _<_}
 use mathlib.Core.List.{List, [], _∷_, _++_, append-assoc, append-nil}
@@ -11,7 +12,9 @@ use lib.Seq.{length-take-le, take-suc, take-at, drop-at}
 use Rattle.error.specs.Refusal.{accepted, refuseIf}
 use Rattle.buffer.specs.Bytes.{overwrite}
 use Rattle.buffer.proofs.LawsBytes.{overwrite-nil}
-use Rattle.scripthash_cutting.specs.Cutting.{pageRoom, lastPageRoom, greedy, replaceLast, recutLast, cuttingFor, cutting, rangeOf, rangesFrom, numbersOf, recutRange, splitRanges, noRoomToSplit, splitLast, afterSplitLast, joined, Fit, Allowed}
+use Rattle.scripthash_cutting.specs.Cutting.{pageRoom, lastPageRoom, greedy, replaceLast, recutLast, cuttingFor, cutting, rangeOf}
+use Rattle.scripthash_cutting.specs.Cutting.{rangesFrom, numbersOf, recutRange, splitRanges, noRoomToSplit, splitLast, afterSplitLast}
+use Rattle.scripthash_cutting.specs.Cutting.{joined, Fit, Allowed}
 use Rattle.scripthash_cutting.specs.Steps.{cutFrom, afterCutFrom}
 use Rattle.scripthash_cutting.proofs.LawsFitting.{Words}
 use Rattle.scripthash_cutting.proofs.LawsCutting.{replace-behind, cut-same, cutting-allowed}
@@ -35,7 +38,8 @@ unfolding overwrite
 overwrite-behind b k ys h = rw (zero-add, length-append, length-take-le k b h, append-assoc)
 
 -- where the ranges stay, so does the lent list
-pub split-kept : (ns : List ℕ) (chunks : List (List ℕ)) (count : ℕ) → count ≤ length chunks → splitRanges ns (take count chunks) ≡ take count chunks
+pub split-kept : (ns : List ℕ) (chunks : List (List ℕ)) (count : ℕ) → count ≤ length chunks
+    → splitRanges ns (take count chunks) ≡ take count chunks
     → (splitLast ns chunks count ≡ accepted count) × (afterSplitLast ns chunks count ≡ chunks)
 unfolding splitLast afterSplitLast noRoomToSplit refuseIf
 split-kept ns chunks count within same =

@@ -27,7 +27,8 @@ pub record Reached (fks : List ℕ) (from used room end bytes : ℕ) : Type 0 wh
 unfoldable pub nextPart : ℕ → ℕ → List ℕ → ℕ
 nextPart small large ns = cond (eqb (firstPart large ns) (length ns)) (firstPart small ns) (firstPart large ns)
 
--- Cutting the numbers from index `from` on, for other pages with a room, into a lent list from its index `at` on: the ranges that the list has
+-- Cutting the numbers from index `from` on, for other pages with a room, into a lent list from its index `at` on: the ranges that the list
+-- has
 -- then, or refused where it is too short.
 unfoldable pub cutFrom : ℕ → List ℕ → ℕ → ℕ → ℕ → Answer ℕ
 cutFrom room fks from size at =
@@ -36,4 +37,5 @@ cutFrom room fks from size at =
 -- What the lent list holds afterwards: the ranges of the parts from index `at` on, or what it held where it is too short.
 unfoldable pub afterCutFrom : ℕ → List ℕ → ℕ → List (List ℕ) → ℕ → List (List ℕ)
 afterCutFrom room fks from out at =
-    let parts = cuttingFor lastPageRoom room (drop from fks) in cond (ltb (length out) (at + length parts)) out (overwrite out at (rangesFrom from parts))
+    let parts = cuttingFor lastPageRoom room (drop from fks) in cond (ltb (length out) (at + length parts)) out
+    (overwrite out at (rangesFrom from parts))

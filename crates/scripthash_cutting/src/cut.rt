@@ -5,7 +5,8 @@ ghost use mathlib.Core.Path.{_≡_};
 ghost use lib.ListN.{length, drop};
 ghost use Rattle.error.specs.Refusal.{refusalOf};
 ghost use Rattle.buffer.specs.Bytes.{overwrite};
-ghost use Rattle.scripthash_cutting.specs.Cutting.{pageRoom, lastPageRoom, cuttingFor, rangesFrom, chunkRanges, afterChunkRanges, splitLast, afterSplitLast};
+ghost use Rattle.scripthash_cutting.specs.Cutting.{pageRoom, lastPageRoom, cuttingFor, rangesFrom, chunkRanges, afterChunkRanges};
+ghost use Rattle.scripthash_cutting.specs.Cutting.{splitLast, afterSplitLast};
 ghost use Rattle.scripthash_cutting.specs.Steps.{Reached, nextPart, cutFrom, afterCutFrom};
 ghost use Rattle.scripthash_cutting.specs.Answers.{chunkAnswer};
 use compact::uleb128_len;
@@ -108,9 +109,11 @@ fn count_parts(fks: &[u64], from: usize, room: usize) -> usize
 
 // Writes the ranges of the parts from index `from` on to `out` from index `at` on, which has room for them. Tells the index behind them.
 fn write_ranges(fks: &[u64], from: usize, room: usize, out: &mut [ChunkRange], at: usize) -> usize
-    requires { ⌜ (from ≤ length (now fks)) × (lastPageRoom ≤ room) × (room ≤ pageRoom) × (at + length (cuttingFor lastPageRoom room (drop from (now fks))) ≤ length (now out)) ⌝ }
+    requires { ⌜ (from ≤ length (now fks)) × (lastPageRoom ≤ room) × (room ≤ pageRoom)
+        × (at + length (cuttingFor lastPageRoom room (drop from (now fks))) ≤ length (now out)) ⌝ }
     ensures count { λ r. ⌜ r ≡ at + length (cuttingFor lastPageRoom room (drop from (now (fks .entry)))) ⌝ }
-    ensures ranges { λ r. ⌜ now (out .exit) ≡ overwrite (now (out .entry)) at (rangesFrom from (cuttingFor lastPageRoom room (drop from (now (fks .entry))))) ⌝ }
+    ensures ranges { λ r. ⌜ now (out .exit)
+        ≡ overwrite (now (out .entry)) at (rangesFrom from (cuttingFor lastPageRoom room (drop from (now (fks .entry))))) ⌝ }
 {
     let mut start = from;
     let mut count = at;
@@ -124,7 +127,8 @@ fn write_ranges(fks: &[u64], from: usize, room: usize, out: &mut [ChunkRange], a
     count
 }
 
-// Cuts the numbers from index `from` on for pages with a room, and writes their ranges to `out` from index `at` on. A lent list that is too short
+// Cuts the numbers from index `from` on for pages with a room, and writes their ranges to `out` from index `at` on. A lent list that is too
+// short
 // is left as it is. One that is long enough for any numbers needs no count beforehand.
 fn cut_from(fks: &[u64], from: usize, room: usize, out: &mut [ChunkRange], at: usize) -> ChunkRanges
     requires { ⌜ (from ≤ length (now fks)) × (lastPageRoom ≤ room) × (room ≤ pageRoom) × (at ≤ length (now out)) ⌝ }
@@ -149,7 +153,8 @@ pub fn sh_page_chunk_ranges(fks: &[u64], out: &mut [ChunkRange]) -> ChunkRanges
     cut_from(fks, 0, SH_PAGE_STREAM_MAX, out, 0)
 }
 
-// Cuts the last of the first `count` ranges of `chunks` again, so that each of its parts fits a last page, and tells how many ranges there are then.
+// Cuts the last of the first `count` ranges of `chunks` again, so that each of its parts fits a last page, and tells how many ranges there
+// are then.
 // A last range that is empty, or leaves `fks`, is left as it is, and so is a lent list that is too short.
 pub fn split_last_chunk_for_extent(
     fks: &[u64],

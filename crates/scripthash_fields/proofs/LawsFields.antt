@@ -14,8 +14,10 @@ use Rattle.error.specs.Refusal.{Answer, accepted, refused, refuseIf, linkUnalig
 use Rattle.error.specs.Refusal.{countAboveCapacity, versionBad}
 use Rattle.error.proofs.LawsAnswer.{refused≢accepted, passed, refuse-yes, refuse-no, refused-alike}
 use Rattle.scripthash_layout.specs.Sizes.{pageSize}
-use Rattle.scripthash_fields.specs.Page.{versionOf, countOf, linkOf, extentBaseOf, extentCountOf, createsFieldOf, namesExtent, streamOff, streamCap}
-use Rattle.scripthash_fields.specs.Page.{setField, extentVersion, isLastLink, linkOffset, nextOff, linkTo, onLink, onExtent, linkNamed, extentNamed, onDelta, deltaHeader, pageOf}
+use Rattle.scripthash_fields.specs.Page.{versionOf, countOf, linkOf, extentBaseOf, extentCountOf, createsFieldOf, namesExtent}
+use Rattle.scripthash_fields.specs.Page.{streamOff, streamCap}
+use Rattle.scripthash_fields.specs.Page.{setField, extentVersion, isLastLink, linkOffset, nextOff, linkTo, onLink, onExtent}
+use Rattle.scripthash_fields.specs.Page.{linkNamed, extentNamed, onDelta, deltaHeader, pageOf}
 use Rattle.scripthash_fields.specs.Fields.{readLink, isLast, firstOff, nextOffOf, extentOf, createsOf, nFks, streamOffOf, streamCapOf}
 use Rattle.scripthash_fields.specs.Fields.{writeLink, setExtent, setCreates, emptyPage, done, afterSet}
 use Rattle.scripthash_fields.proofs.LawsPage.{page-yes}
@@ -35,7 +37,8 @@ module _ {A : Type 0} (off : ℕ) (after : Answer A) where
   unfolding refuseIf
   link-good h l = rw (eq-eqb (off % pageSize) 0 h, lt-leb (2 ^ 39) (off / pageSize) l)
 
--- an offset's remainder r and index q, turned so that the remainder stands above the index: they fit 64 bits, and are below 2^39 where there is no
+-- an offset's remainder r and index q, turned so that the remainder stands above the index: they fit 64 bits, and are below 2^39 where
+-- there is no
 -- remainder and the index is
 module _ (r q : ℕ) where
   pub turned-fits : r < pageSize → q < 2 ^ 52 → r * 2 ^ 52 + q < 2 ^ 64
@@ -191,11 +194,13 @@ module _ {A : Type 0} (page : List ℕ) (after : Answer A) (s n : ℕ) (off : s 
       let within : countOf page ≤ streamCap page = omega arith in
       rw (le-ltb (streamCap page) (countOf page) within, ← version, ← is, ← known)
 
-  pub delta-unknown : n ≤ pageSize - s → (v : ℕ) → v ≡ versionOf page → (k : Bool) → k ≡ (eqb v 1 || eqb v 2 || (eqb v 0 && eqb n 0)) → k ≡ false
+  pub delta-unknown : n ≤ pageSize - s → (v : ℕ) → v ≡ versionOf page → (k : Bool) → k ≡ (eqb v 1 || eqb v 2 || (eqb v 0 && eqb n 0))
+      → k ≡ false
       → onDelta page after ≡ refused versionBad
   delta-unknown h v version k known no-k = delta-by-version h v version k known ∙ refuse-yes (not k) versionBad after (ap not no-k)
 
-  pub delta-good : n ≤ pageSize - s → (v : ℕ) → v ≡ versionOf page → (k : Bool) → k ≡ (eqb v 1 || eqb v 2 || (eqb v 0 && eqb n 0)) → k ≡ true
+  pub delta-good : n ≤ pageSize - s → (v : ℕ) → v ≡ versionOf page → (k : Bool) → k ≡ (eqb v 1 || eqb v 2 || (eqb v 0 && eqb n 0))
+      → k ≡ true
       → onDelta page after ≡ after
   delta-good h v version k known yes-k = delta-by-version h v version k known ∙ refuse-no (not k) versionBad after (ap not yes-k)
 
@@ -206,7 +211,8 @@ pub set-no : (page : List ℕ) (a : Answer (List ℕ)) {number : ℕ} → a ≡ 
 set-no page a e = (rw e, rw e)
 
 -- an accepted one tells so, and the page is what was set
-pub set-yes : (page after : List ℕ) (a : Answer (List ℕ)) {set : List ℕ} → a ≡ accepted set → after ≡ set → (accepted tt ≡ done a) × (after ≡ afterSet page a)
+pub set-yes : (page after : List ℕ) (a : Answer (List ℕ)) {set : List ℕ} → a ≡ accepted set → after ≡ set
+    → (accepted tt ≡ done a) × (after ≡ afterSet page a)
 set-yes page after a e is = (rw e, rw e is)
 
 -- what was told of a call that sets, told back

@@ -16,7 +16,8 @@ use Rattle.buffer.proofs.LawsBytes.{overwrite-one, length-overwrite, part-to-en
 use Rattle.buffer.proofs.LawsLittleEndian.{length-bytesOf, littleEndian-bytesOf, littleEndian-below, part-bytes}
 use Rattle.buffer.proofs.LawsOverwrite.{part-listed, length-part, part-written, part-before, part-after}
 use Rattle.scripthash_layout.specs.Sizes.{pageSize}
-use Rattle.scripthash_fields.specs.Page.{field, setField, versionOf, countOf, linkOf, extentBaseOf, extentCountOf, createsFieldOf, streamOff, streamOf}
+use Rattle.scripthash_fields.specs.Page.{field, setField, versionOf, countOf, linkOf, extentBaseOf, extentCountOf, createsFieldOf}
+use Rattle.scripthash_fields.specs.Page.{streamOff, streamOf}
 use Rattle.scripthash_fields.specs.Page.{isLastLink, linkOffset, linkTo, onPage, deltaHeader, extentHeader, pageOf}
 
 -- ---- a buffer that isn't a page is refused, and one that is goes on

@@ -9,13 +9,16 @@ use lib.ListN.{length}
 use Rattle.error.specs.Refusal.{Answer, accepted, refused, notLast}
 use Rattle.error.proofs.LawsAnswer.{refuse-yes, refuse-no}
 use Rattle.scripthash_layout.specs.Sizes.{pageSize}
-use Rattle.scripthash_fields.specs.Page.{versionOf, linkOf, isLastLink, linkOffset, linkTo, nextOff, deltaHeader, extentHeader, pageOf}
+use Rattle.scripthash_fields.specs.Page.{versionOf, linkOf, isLastLink, linkOffset, linkTo, nextOff, deltaHeader, extentHeader}
+use Rattle.scripthash_fields.specs.Page.{pageOf}
 use Rattle.scripthash_answers.specs.FieldAnswers.{Link}
 use Rattle.scripthash_fields.specs.Fields.{readLink, isLast, firstOff, nextOffOf, extentOf, createsOf, nFks}
 use Rattle.scripthash_fields.proofs.LawsPage.{page-yes, link-last, link-offset, link-fits}
 use Rattle.scripthash_fields.proofs.LawsPage.{length-delta, delta-version, delta-count, delta-link}
-use Rattle.scripthash_fields.proofs.LawsPage.{length-extent, extent-version, extent-count, extent-link, extent-base, extent-pages, extent-creates}
-use Rattle.scripthash_fields.proofs.LawsFields.{stream-off-extent, stream-off-other, read-link, is-last, next-is, extent-none, extent-is, extent-good, creates-none, creates-is, count-is}
+use Rattle.scripthash_fields.proofs.LawsPage.{length-extent, extent-version, extent-count, extent-link, extent-base, extent-pages}
+use Rattle.scripthash_fields.proofs.LawsPage.{extent-creates}
+use Rattle.scripthash_fields.proofs.LawsFields.{stream-off-extent, stream-off-other, read-link, is-last, next-is, extent-none}
+use Rattle.scripthash_fields.proofs.LawsFields.{extent-is, extent-good, creates-none, creates-is, count-is}
 
 -- ---- a page that names an aligned offset, LAST or not
 

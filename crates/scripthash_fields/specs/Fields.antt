@@ -6,8 +6,10 @@ use mathlib.Core.Option.{Option, none, some}
 use lib.Dec.{ltb}
 use Rattle.error.specs.Refusal.{Answer, accepted, refused, refuseIf, notLast, countAboveCapacity}
 use Rattle.scripthash_answers.specs.FieldAnswers.{Link, Extent}
-use Rattle.scripthash_fields.specs.Page.{setField, countOf, linkOf, extentBaseOf, extentCountOf, createsFieldOf, extentVersion, namesExtent}
-use Rattle.scripthash_fields.specs.Page.{streamOff, streamCap, isLastLink, linkOffset, nextOff, linkTo, onPage, onLink, onExtent, onDelta, deltaHeader, pageOf}
+use Rattle.scripthash_fields.specs.Page.{setField, countOf, linkOf, extentBaseOf, extentCountOf, createsFieldOf, extentVersion}
+use Rattle.scripthash_fields.specs.Page.{namesExtent}
+use Rattle.scripthash_fields.specs.Page.{streamOff, streamCap, isLastLink, linkOffset, nextOff, linkTo, onPage, onLink, onExtent}
+use Rattle.scripthash_fields.specs.Page.{onDelta, deltaHeader, pageOf}
 
 -- ---- asking
 

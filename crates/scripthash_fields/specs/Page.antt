@@ -1,5 +1,7 @@
--- A page: 4,096 bytes (document 01, "Page"). The version stands at byte 0, the count at 1 (2 bytes), the link at 3 (5 bytes: bit 0 LAST, the rest
--- a page's index). Version 2 adds the extent's base at 8 (8 bytes), its count at 16 and creates at 20 (4 bytes each). The stream is the rest.
+-- A page: 4,096 bytes (document 01, "Page"). The version stands at byte 0, the count at 1 (2 bytes), the link at 3 (5 bytes: bit 0 LAST,
+-- the rest
+-- a page's index). Version 2 adds the extent's base at 8 (8 bytes), its count at 16 and creates at 20 (4 bytes each). The stream is the
+-- rest.
 use Prim.Native.Nat.{ℕ, _+_, _-_, _*_, _/_, _%_, _^_}
 use mathlib.Core.Bool.{Bool, cond, not, _&&_, _||_}
 use mathlib.Core.List.{List, [], _∷_, _++_}
@@ -114,7 +116,8 @@ extentNamed base count = onExtent base count (accepted tt)
 abbrev pub onDelta : {A : Type 0} → List ℕ → Answer A → Answer A
 onDelta page after =
     refuseIf (ltb (streamCap page) (countOf page)) countAboveCapacity
-    (refuseIf (not (eqb (versionOf page) deltaVersion || namesExtent page || (eqb (versionOf page) 0 && eqb (countOf page) 0))) versionBad after)
+    (refuseIf (not (eqb (versionOf page) deltaVersion || namesExtent page || (eqb (versionOf page) 0 && eqb (countOf page) 0)))
+    versionBad after)
 
 -- ---- whole pages
 

@@ -8,8 +8,10 @@ ghost use lib.ListN.{length, replicate};
 ghost use Rattle.scripthash_layout.specs.Sizes.{pageSize};
 ghost use Rattle.scripthash_fields.specs.Page.{setField, versionOf, linkOf, nextOff, streamOff, linkTo, linkNamed, extentNamed};
 ghost use Rattle.scripthash_fields.specs.Fields.{readLink, isLast, firstOff, nextOffOf, extentOf, createsOf, nFks, requireDelta};
-ghost use Rattle.scripthash_fields.specs.Fields.{streamOffOf, streamCapOf, writeLink, setExtent, setCreates, setCount, initEmpty, done, afterSet};
-ghost use Rattle.scripthash_answers.specs.FieldAnswers.{linkAnswer, lastAnswer, offsetAnswer, extentAnswer, createsAnswer, countAnswer, doneAnswer};
+ghost use Rattle.scripthash_fields.specs.Fields.{streamOffOf, streamCapOf, writeLink, setExtent, setCreates, setCount, initEmpty};
+ghost use Rattle.scripthash_fields.specs.Fields.{done, afterSet};
+ghost use Rattle.scripthash_answers.specs.FieldAnswers.{linkAnswer, lastAnswer, offsetAnswer, extentAnswer, createsAnswer, countAnswer};
+ghost use Rattle.scripthash_answers.specs.FieldAnswers.{doneAnswer};
 use scripthash_answers::PageCount;
 use scripthash_answers::PageCreates;
 use scripthash_answers::PageDone;
@@ -102,7 +104,8 @@ pub fn stream_off(page: &[u8]) -> usize
     SH_PAGE_HEADER_LEN
 }
 
-// Passes an offset that a link can name. With its bits turned by twelve a remainder stands above the index: one test passes what has none and an
+// Passes an offset that a link can name. With its bits turned by twelve a remainder stands above the index: one test passes what has none
+// and an
 // index that is small enough.
 pub fn check_link(off: u64) -> PageDone
     ensures { λ r. ⌜ doneAnswer r ≡ linkNamed off ⌝ }

@@ -9,7 +9,8 @@ use lib.ListN.{length, set}
 use borrow.Author.Tests.{lt-ltb, le-ltb, eq-eqb, ne-eqb}
 use Rattle.error.specs.Refusal.{Answer, accepted, refused, freeHeadBad}
 use Rattle.error.proofs.LawsAnswer.{refuse-yes, refuse-no}
-use Rattle.scripthash_free.specs.FreeList.{Lists, Pop, headOf, nextOf, isBlock, pushed, pushFree, popFree, gapBlocks, pushAll, isGap, carveGap, after, headsAfter}
+use Rattle.scripthash_free.specs.FreeList.{Lists, Pop, headOf, nextOf, isBlock, pushed, pushFree, popFree, gapBlocks, pushAll, isGap}
+use Rattle.scripthash_free.specs.FreeList.{carveGap, after, headsAfter}
 
 -- What is accepted stands afterwards.
 pub after-accepted : (a : Answer Lists) (before : Lists) {l : Lists} → a ≡ accepted l → after a before ≡ l
@@ -32,7 +33,8 @@ unfolding headsAfter
 heads-refused a before e = rw e
 
 -- A block is pushed, and what is none is refused.
-pub push-yes : (class off : ℕ) (l : Lists) → isBlock class off (length (l .body)) ≡ true → pushFree class off l ≡ accepted (pushed class off l)
+pub push-yes : (class off : ℕ) (l : Lists) → isBlock class off (length (l .body)) ≡ true
+    → pushFree class off l ≡ accepted (pushed class off l)
 unfolding pushFree
 push-yes class off l e = refuse-no _ _ _ (ap not e)
 
@@ -46,23 +48,27 @@ unfolding popFree
 pop-beyond class mark l h = rw (lt-ltb 8 class h)
 
 -- A class whose head is 0 has no block to pop.
-pub pop-none : (class mark : ℕ) (l : Lists) → class ≤ 8 → headOf class l ≡ 0 → popFree class mark l ≡ accepted (record { block = none; heads = l .heads })
+pub pop-none : (class mark : ℕ) (l : Lists) → class ≤ 8 → headOf class l ≡ 0
+    → popFree class mark l ≡ accepted (record { block = none; heads = l .heads })
 unfolding popFree
 pop-none class mark l h e = rw (le-ltb 8 class h, eq-eqb (headOf class l) 0 e)
 
 -- A head that is a block is popped, and one that is none is refused.
-pub pop-yes : (class mark : ℕ) (l : Lists) → class ≤ 8 → (headOf class l ≡ 0 → ⊥) → isBlock class (headOf class l) (min mark (length (l .body))) ≡ true
+pub pop-yes : (class mark : ℕ) (l : Lists) → class ≤ 8 → (headOf class l ≡ 0 → ⊥)
+    → isBlock class (headOf class l) (min mark (length (l .body))) ≡ true
     → popFree class mark l ≡ accepted (record { block = some (headOf class l); heads = set (l .heads) class (nextOf (l .body) (headOf class l)) })
 unfolding popFree
 pop-yes class mark l h nz e = rw (le-ltb 8 class h, ne-eqb (headOf class l) 0 nz) (refuse-no _ _ _ (ap not e))
 
-pub pop-no : (class mark : ℕ) (l : Lists) → class ≤ 8 → (headOf class l ≡ 0 → ⊥) → isBlock class (headOf class l) (min mark (length (l .body))) ≡ false
+pub pop-no : (class mark : ℕ) (l : Lists) → class ≤ 8 → (headOf class l ≡ 0 → ⊥)
+    → isBlock class (headOf class l) (min mark (length (l .body))) ≡ false
     → popFree class mark l ≡ refused freeHeadBad
 unfolding popFree
 pop-no class mark l h nz e = rw (le-ltb 8 class h, ne-eqb (headOf class l) 0 nz) (refuse-yes _ _ _ (ap not e))
 
 -- A gap that can be carved is, and another is refused.
-pub carve-yes : (from to : ℕ) (l : Lists) → isGap from to (length (l .body)) ≡ true → carveGap from to l ≡ accepted (pushAll (gapBlocks from to) l)
+pub carve-yes : (from to : ℕ) (l : Lists) → isGap from to (length (l .body)) ≡ true
+    → carveGap from to l ≡ accepted (pushAll (gapBlocks from to) l)
 unfolding carveGap
 carve-yes from to l e = refuse-no _ _ _ (ap not e)
 

@@ -11,7 +11,8 @@ use lib.Dec.{eqb}
 use lib.ListN.{length}
 use borrow.Author.Tests.{eqb-true, eqb-false}
 use Rattle.scripthash_layout.specs.Sizes.{slabBytes}
-use Rattle.scripthash_free.specs.FreeList.{Lists, Block, relocClass, blockThen, carve, gapBlocks, pushed, pushAll, isBlock, headOf, Names, Clear, Each, Within, IsSlab, Adjoin, stackAfter}
+use Rattle.scripthash_free.specs.FreeList.{Lists, Block, relocClass, blockThen, carve, gapBlocks, pushed, pushAll, isBlock, headOf}
+use Rattle.scripthash_free.specs.FreeList.{Names, Clear, Each, Within, IsSlab, Adjoin, stackAfter}
 use Rattle.scripthash_free.proofs.LawsBlock.{bytes-from-16, slab-stands, Gap, largest-none, largest-some, largest-nothing}
 use Rattle.scripthash_free.proofs.LawsNames.{clear-within, length-pushed, length-pushed-heads, names-push, names-other}
 
@@ -28,7 +29,8 @@ carve-nothing zero off n e = refl
 carve-nothing (suc k) off n e = rw e
 
 -- Blocks pushed one after the other: the first, and then the others.
-push-first : (class off : ℕ) (bs : List Block) (l : Lists) → pushAll (record { class = class; off = off } ∷ bs) l ≡ pushAll bs (pushed class off l)
+push-first : (class off : ℕ) (bs : List Block) (l : Lists)
+    → pushAll (record { class = class; off = off } ∷ bs) l ≡ pushAll bs (pushed class off l)
 unfolding pushAll
 push-first class off bs l = refl
 
@@ -132,7 +134,8 @@ adjoin-within off (b ∷ bs) end a =
     )
 
 -- Blocks side by side don't overlap: each of the others begins at or behind the first one's end.
-pub adjoin-apart : (off : ℕ) (b : Block) (bs : List Block) (end : ℕ) → Adjoin off (b ∷ bs) end → Each (Within (b .off + slabBytes (b .class)) end) bs
+pub adjoin-apart : (off : ℕ) (b : Block) (bs : List Block) (end : ℕ) → Adjoin off (b ∷ bs) end
+    → Each (Within (b .off + slabBytes (b .class)) end) bs
 unfolding Adjoin
 adjoin-apart off b bs end a =
     subst (λ (x : ℕ). Each (Within (x + slabBytes (b .class)) end) bs) (sym (a .0)) (adjoin-within (off + slabBytes (b .class)) bs end (a .1))
@@ -183,7 +186,8 @@ module _ (d class off : ℕ) (os : List ℕ) (l : Lists) (above : 0 < off) (fits
   clear-one false m e h c = clear-within (slabBytes d) off m (off + slabBytes class) (m - slabBytes class) os (omega arith) (omega arith) c
 
 -- What each free list names after blocks side by side were pushed: those of its class, the last on top, and then what it named before.
-pub names-carved : (d off end : ℕ) (bs : List Block) (os : List ℕ) (l : Lists) → 0 < off → end ≤ length (l .body) → length (l .body) < 256 ^ 8
+pub names-carved : (d off end : ℕ) (bs : List Block) (os : List ℕ) (l : Lists) → 0 < off → end ≤ length (l .body)
+    → length (l .body) < 256 ^ 8
     → Adjoin off bs end → Each (λ b. b .class < length (l .heads)) bs → Clear (slabBytes d) off (end - off) os → Names (l .body) (headOf d l) os
     → Names (pushAll bs l .body) (headOf d (pushAll bs l)) (stackAfter d bs os)
 unfolding Adjoin Each pushAll stackAfter

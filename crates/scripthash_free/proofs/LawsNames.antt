@@ -86,7 +86,8 @@ module _ (class off : ℕ) (l : Lists) (above : 0 < off) (fits : off + 8 ≤ len
   head-kept d other = getD-set-other (l .heads) class d off 0 other
 
   -- A list whose blocks keep clear of its 8 bytes names what it named.
-  names-kept : (d : ℕ) (os : List ℕ) (head : ℕ) → Clear (slabBytes d) off 8 os → Names (l .body) head os → Names (pushed class off l .body) head os
+  names-kept : (d : ℕ) (os : List ℕ) (head : ℕ) → Clear (slabBytes d) off 8 os → Names (l .body) head os
+      → Names (pushed class off l .body) head os
   unfolding pushed
   names-kept d os head c n =
       names-write (l .body) off (bytesOf 8 (headOf class l)) fits (slabBytes d) (omega (arith, bytes-from-16 d)) head os c n
@@ -119,7 +120,8 @@ module _ (class mark o : ℕ) (os : List ℕ) (l : Lists) (n : Names (l .body) (
   abbrev popped : Lists
   popped = record { body = l .body; heads = set (l .heads) class (nextOf (l .body) o) }
 
-  pub pop-named : isBlock class o (min mark (length (l .body))) ≡ true → popFree class mark l ≡ accepted (record { block = some o; heads = popped .heads })
+  pub pop-named : isBlock class o (min mark (length (l .body))) ≡ true
+      → popFree class mark l ≡ accepted (record { block = some o; heads = popped .heads })
   unfolding Names
   pop-named good =
       let top : headOf class l ≡ o = n .0 in

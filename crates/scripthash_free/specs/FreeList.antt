@@ -85,7 +85,8 @@ unfoldable pub carve : ℕ → ℕ → ℕ → List Block
 carve zero off n = []
 carve (suc k) off n = blockThen (relocClass n) off (λ class. carve k (off + slabBytes class) (n - slabBytes class))
 
--- The blocks that the gap between two offsets is carved into: each has at least 16 bytes, so there are no more than a sixteenth of its bytes.
+-- The blocks that the gap between two offsets is carved into: each has at least 16 bytes, so there are no more than a sixteenth of its
+-- bytes.
 abbrev pub gapBlocks : ℕ → ℕ → List Block
 gapBlocks from to = carve ((to - from) / 16) from (to - from)
 

@@ -6,7 +6,8 @@ ghost use Prim.Native.Nat.{_+_, _≤_, _<_, min};
 ghost use lib.ListN.{length};
 ghost use Rattle.error.specs.Refusal.{answered, refusalOf};
 ghost use Rattle.scripthash_layout.specs.Sizes.{maxSlabClass, pageClass};
-ghost use Rattle.scripthash_free.specs.FreeList.{Pop, lists, isBlock, pushed, pushFree, popFree, relocClass, gapBlocks, pushAll, isGap, carveGap, after, headsAfter};
+ghost use Rattle.scripthash_free.specs.FreeList.{Pop, lists, isBlock, pushed, pushFree, popFree, relocClass, gapBlocks, pushAll};
+ghost use Rattle.scripthash_free.specs.FreeList.{isGap, carveGap, after, headsAfter};
 ghost use Rattle.scripthash_free.specs.Answers.{classAnswer, pushAnswer, popAnswer, done};
 use error::Refusal;
 use scripthash_layout::SH_MAX_SLAB_CLASS;
@@ -169,7 +170,8 @@ fn put_free_head(body: &mut [u8], heads: &mut [u64; 9], class: u8, off: u64)
 // A block that a pop would turn back isn't pushed.
 pub fn push_lent(body: &mut [u8], heads: &mut [u64; 9], class: u8, off: u64) -> PushFree
     ensures answer { λ r. ⌜ pushAnswer r ≡ answered done (pushFree class off (lists (now (body .entry)) (now (heads .entry)))) ⌝ }
-    ensures lists { λ r. ⌜ lists (now (body .exit)) (now (heads .exit)) ≡ after (pushFree class off (lists (now (body .entry)) (now (heads .entry)))) (lists (now (body .entry)) (now (heads .entry))) ⌝ }
+    ensures lists { λ r. ⌜ lists (now (body .exit)) (now (heads .exit))
+        ≡ after (pushFree class off (lists (now (body .entry)) (now (heads .entry)))) (lists (now (body .entry)) (now (heads .entry))) ⌝ }
 {
     if is_block(class, off, body.len() as u64) {
         put_free_head(body, heads, class, off);
@@ -181,7 +183,8 @@ pub fn push_lent(body: &mut [u8], heads: &mut [u64; 9], class: u8, off: u64) -> 
 // Pushes a block onto its class's free list, with the free heads by value.
 pub fn push_free_head(body: &mut [u8], free: FreeHeads, class: u8, off: u64) -> AfterPush
     ensures answer { λ r. ⌜ pushAnswer (r .answer) ≡ answered done (pushFree class off (lists (now (body .entry)) (free .heads))) ⌝ }
-    ensures lists { λ r. ⌜ lists (now (body .exit)) (r .free .heads) ≡ after (pushFree class off (lists (now (body .entry)) (free .heads))) (lists (now (body .entry)) (free .heads)) ⌝ }
+    ensures lists { λ r. ⌜ lists (now (body .exit)) (r .free .heads)
+        ≡ after (pushFree class off (lists (now (body .entry)) (free .heads))) (lists (now (body .entry)) (free .heads)) ⌝ }
 {
     let mut heads = free.heads;
     let answer = push_lent(body, &mut heads, class, off);
@@ -194,8 +197,10 @@ pub fn push_free_head(body: &mut [u8], free: FreeHeads, class: u8, off: u64) -> 
 // Pops a block of a class, with the free heads lent: gives the head, and makes the offset in its first 8 bytes the head. None where the
 // head is 0 or the class has no head. The block must lie below the mark, and within the body.
 pub fn pop_lent(body: &[u8], heads: &mut [u64; 9], class: u8, mark: u64) -> PopFree
-    ensures answer { λ r. ⌜ popAnswer r ≡ answered (λ (p : Pop). p .block) (popFree class mark (lists (now (body .entry)) (now (heads .entry)))) ⌝ }
-    ensures heads { λ r. ⌜ now (heads .exit) ≡ headsAfter (popFree class mark (lists (now (body .entry)) (now (heads .entry)))) (now (heads .entry)) ⌝ }
+    ensures answer { λ r. ⌜ popAnswer r
+        ≡ answered (λ (p : Pop). p .block) (popFree class mark (lists (now (body .entry)) (now (heads .entry)))) ⌝ }
+    ensures heads { λ r. ⌜ now (heads .exit)
+        ≡ headsAfter (popFree class mark (lists (now (body .entry)) (now (heads .entry)))) (now (heads .entry)) ⌝ }
 {
     if class > SH_PAGE_SLAB_CLASS {
         return PopFree::Nothing;
@@ -214,7 +219,8 @@ pub fn pop_lent(body: &[u8], heads: &mut [u64; 9], class: u8, mark: u64) -> PopF
 
 // Pops a block of a class, with the free heads by value.
 pub fn pop_free_head(body: &[u8], free: FreeHeads, class: u8, mark: u64) -> AfterPop
-    ensures answer { λ r. ⌜ popAnswer (r .answer) ≡ answered (λ (p : Pop). p .block) (popFree class mark (lists (now (body .entry)) (free .heads))) ⌝ }
+    ensures answer { λ r. ⌜ popAnswer (r .answer)
+        ≡ answered (λ (p : Pop). p .block) (popFree class mark (lists (now (body .entry)) (free .heads))) ⌝ }
     ensures heads { λ r. ⌜ r .free .heads ≡ headsAfter (popFree class mark (lists (now (body .entry)) (free .heads))) (free .heads) ⌝ }
 {
     let mut heads = free.heads;
@@ -245,7 +251,8 @@ fn is_gap(from: u64, to: u64, end: u64) -> bool
 fn push_largest(body: &mut [u8], heads: &mut [u64; 9], from: u64, to: u64) -> u64
     requires { ⌜ (from ≤ to) × (to ≤ length (now body)) ⌝ }
     ensures rest { λ r. ⌜ (r ≤ to) × (to < r + 2048) ⌝ }
-    ensures lists { λ r. ⌜ pushAll (gapBlocks r to) (lists (now (body .exit)) (now (heads .exit))) ≡ pushAll (gapBlocks from to) (lists (now (body .entry)) (now (heads .entry))) ⌝ }
+    ensures lists { λ r. ⌜ pushAll (gapBlocks r to) (lists (now (body .exit)) (now (heads .exit)))
+        ≡ pushAll (gapBlocks from to) (lists (now (body .entry)) (now (heads .entry))) ⌝ }
 {
     let mut off = from;
     while to - off >= LARGEST_BYTES {
@@ -258,7 +265,8 @@ fn push_largest(body: &mut [u8], heads: &mut [u64; 9], from: u64, to: u64) -> u6
 // Pushes the blocks that a gap smaller than the largest slab is carved into: at most one of each class, the largest first.
 fn push_smaller(body: &mut [u8], heads: &mut [u64; 9], from: u64, to: u64)
     requires { ⌜ (from ≤ to) × (to ≤ length (now body)) × (to < from + 2048) ⌝ }
-    ensures { λ _. ⌜ lists (now (body .exit)) (now (heads .exit)) ≡ pushAll (gapBlocks from to) (lists (now (body .entry)) (now (heads .entry))) ⌝ }
+    ensures { λ _. ⌜ lists (now (body .exit)) (now (heads .exit))
+        ≡ pushAll (gapBlocks from to) (lists (now (body .entry)) (now (heads .entry))) ⌝ }
 {
     let mut off = from;
     let mut class = SH_MAX_SLAB_CLASS;
@@ -276,7 +284,8 @@ fn push_smaller(body: &mut [u8], heads: &mut [u64; 9], from: u64, to: u64)
 // lent. A rest below 16 bytes is left. A gap that has bytes must begin at a multiple of 16 and lie between 4,096 and the body's end.
 pub fn carve_lent(body: &mut [u8], heads: &mut [u64; 9], from: u64, to: u64) -> PushFree
     ensures answer { λ r. ⌜ pushAnswer r ≡ answered done (carveGap from to (lists (now (body .entry)) (now (heads .entry)))) ⌝ }
-    ensures lists { λ r. ⌜ lists (now (body .exit)) (now (heads .exit)) ≡ after (carveGap from to (lists (now (body .entry)) (now (heads .entry)))) (lists (now (body .entry)) (now (heads .entry))) ⌝ }
+    ensures lists { λ r. ⌜ lists (now (body .exit)) (now (heads .exit))
+        ≡ after (carveGap from to (lists (now (body .entry)) (now (heads .entry)))) (lists (now (body .entry)) (now (heads .entry))) ⌝ }
 {
     if !is_gap(from, to, body.len() as u64) {
         return PushFree::Refused(error::FREE_HEAD_BAD);
@@ -292,7 +301,8 @@ pub fn carve_lent(body: &mut [u8], heads: &mut [u64; 9], from: u64, to: u64) -> 
 // Carves the gap between two offsets into blocks, and pushes each, with the free heads by value.
 pub fn carve_gap_into_freelist(body: &mut [u8], free: FreeHeads, from: u64, to: u64) -> AfterPush
     ensures answer { λ r. ⌜ pushAnswer (r .answer) ≡ answered done (carveGap from to (lists (now (body .entry)) (free .heads))) ⌝ }
-    ensures lists { λ r. ⌜ lists (now (body .exit)) (r .free .heads) ≡ after (carveGap from to (lists (now (body .entry)) (free .heads))) (lists (now (body .entry)) (free .heads)) ⌝ }
+    ensures lists { λ r. ⌜ lists (now (body .exit)) (r .free .heads)
+        ≡ after (carveGap from to (lists (now (body .entry)) (free .heads))) (lists (now (body .entry)) (free .heads)) ⌝ }
 {
     let mut heads = free.heads;
     let answer = carve_lent(body, &mut heads, from, to);

@@ -10,7 +10,8 @@ use Rattle.error.proofs.LawsAnswer.{accepted-inj, refused≢accepted, passed, n
 use Rattle.error.specs.Refusal.{Answer, accepted, refused, refuseIf, slabUsedTooSmall, extentPayloadZero}
 use Rattle.scripthash_layout.specs.declared.head.ShHeadValue.{ShHeadValue}
 use Rattle.scripthash_layout.specs.declared.head.ShHeadValue.the-variants.{Empty, Inline, Slab, Extent}
-use Rattle.scripthash_layout.specs.Head.{modeOf, payloadOf, offsetOf, usedOf, classOf, slabWord, extentWord, packHead, unpackHead, readBack, InType}
+use Rattle.scripthash_layout.specs.Head.{modeOf, payloadOf, offsetOf, usedOf, classOf, slabWord, extentWord, packHead, unpackHead}
+use Rattle.scripthash_layout.specs.Head.{readBack, InType}
 
 -- An inline head that packs: its used and its number, which is the word.
 packed-inline : (entry used w : ℕ) → packHead (Inline entry used) ≡ accepted w

@@ -43,7 +43,8 @@ inline-word n above low =
     }
 
 -- a slab of two numbers or more has a word
-pub slab-word : (class used off : ℕ) → class < 2 ^ 6 → 2 ≤ used → used < 2 ^ 16 → off < 2 ^ 40 → HeadWord (Slab class used off) (slabWord class used off)
+pub slab-word : (class used off : ℕ) → class < 2 ^ 6 → 2 ≤ used → used < 2 ^ 16 → off < 2 ^ 40
+    → HeadWord (Slab class used off) (slabWord class used off)
 unfolding refuseIf
 slab-word class used off c two few low =
     let packs = pack-slab class used off c low in

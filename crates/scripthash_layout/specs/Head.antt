@@ -4,7 +4,8 @@ use mathlib.Core.Bool.{cond, not, _||_}
 use mathlib.Core.List.{List}
 use lib.Dec.{leb, eqb}
 use Rattle.buffer.specs.LittleEndian.{bytesOf}
-use Rattle.error.specs.Refusal.{Answer, accepted, refused, refuseIf, inlineUsedNotOne, inlineTooLarge, slabFieldTooLarge, extentOutOfRange, slabUsedTooSmall, modeTwo, extentPayloadZero}
+use Rattle.error.specs.Refusal.{Answer, accepted, refused, refuseIf, inlineUsedNotOne, inlineTooLarge, slabFieldTooLarge, extentOutOfRange}
+use Rattle.error.specs.Refusal.{slabUsedTooSmall, modeTwo, extentPayloadZero}
 use Rattle.scripthash_layout.specs.declared.head.ShHeadValue.{ShHeadValue}
 use Rattle.scripthash_layout.specs.declared.head.ShHeadValue.the-variants.{Empty, Inline, Slab, Extent}
 

@@ -200,6 +200,7 @@ pub after-append-full : (page : List ℕ) (a : Answer (Option Spot)) → a ≡ a
 unfolding afterAppend
 after-append-full page a e = rw e
 
-pub after-append-yes : (page : List ℕ) (a : Answer (Option Spot)) (w : Spot) → a ≡ accepted (some w) → afterAppend page a ≡ withAppended page w
+pub after-append-yes : (page : List ℕ) (a : Answer (Option Spot)) (w : Spot) → a ≡ accepted (some w)
+    → afterAppend page a ≡ withAppended page w
 unfolding afterAppend
 after-append-yes page a w e = rw e

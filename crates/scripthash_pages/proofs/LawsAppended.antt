@@ -1,4 +1,5 @@
--- What a page reads as once a number is appended: its numbers with the new one, one more, and the rest of its header as it was. Assumes nothing.
+-- What a page reads as once a number is appended: its numbers with the new one, one more, and the rest of its header as it was. Assumes
+-- nothing.
 use Prim.Native.Nat.{ℕ, zero, suc, _+_, _-_, _^_, _≤_, _<_}
 use mathlib.Core.Bool.{Bool, true, false}
 use mathlib.Core.List.{List, [], _∷_, _++_, append-assoc, append-nil}
@@ -23,7 +24,8 @@ use Rattle.scripthash_stream.proofs.LawsScan.{next-accepted, next-same, scan-st
 use Rattle.scripthash_stream.proofs.LawsStream.{scan-stream}
 use Rattle.scripthash_fields.specs.Page.{field, setField, versionOf, countOf, namesExtent, streamOff}
 use Rattle.scripthash_pages.specs.Entries.{Place, streamPlace, pageScan, lastOf, Spot, oneMore, withAppended}
-use Rattle.scripthash_pages.proofs.LawsEntries.{version-byte, placeBy, place-by, extent-place, delta-place, place-accepted, scan-placed, scan-yes}
+use Rattle.scripthash_pages.proofs.LawsEntries.{version-byte, placeBy, place-by, extent-place, delta-place, place-accepted}
+use Rattle.scripthash_pages.proofs.LawsEntries.{scan-placed, scan-yes}
 use Rattle.scripthash_pages.proofs.LawsAppend.{eitherOf, count-read, length-one-more, Roomy, scan-ends}
 
 -- ---- streams
@@ -65,7 +67,8 @@ snoc-step prev k bs rest n r t next ih =
     ∙ ap (λ (m : ℕ). accepted (record { numbers = r .value ∷ (t .numbers ++ (n ∷ [])); taken = m })) sum
 
 -- a stream with another number's form behind it scans as its numbers and that one
-pub scan-snoc : (prev k : ℕ) (bs rest : List ℕ) (s : Scan) (n : ℕ) → scanFrom prev k bs ≡ accepted s → lastFrom prev (s .numbers) < n → n < 2 ^ 63
+pub scan-snoc : (prev k : ℕ) (bs rest : List ℕ) (s : Scan) (n : ℕ) → scanFrom prev k bs ≡ accepted s → lastFrom prev (s .numbers) < n
+    → n < 2 ^ 63
     → scanFrom prev (suc k) (take (s .taken) bs ++ (shortest (n - lastFrom prev (s .numbers)) ++ rest)) ≡ accepted (withLast prev s n)
 unfolding scanFrom lastFrom
 scan-snoc prev zero bs rest s n e h b =
@@ -80,13 +83,15 @@ scan-snoc prev (suc k) bs rest s n e h b =
 -- ---- pages
 
 -- what follows a write stays
-drop-past : (b : List ℕ) (o : ℕ) (ys : List ℕ) → o + length ys ≤ length b → (k : ℕ) → o + length ys ≤ k → drop k (overwrite b o ys) ≡ drop k b
+drop-past : (b : List ℕ) (o : ℕ) (ys : List ℕ) → o + length ys ≤ length b → (k : ℕ) → o + length ys ≤ k
+    → drop k (overwrite b o ys) ≡ drop k b
 unfolding part
 drop-past b o ys fits k h =
     sym (part-to-end (overwrite b o ys) k)
     ∙ ap (λ (m : ℕ). take (m - k) (drop k (overwrite b o ys))) (length-overwrite b o ys fits) ∙ part-after b o ys fits k (length b - k) h ∙ part-to-end b k
 
-pub kept-place : (b : Bool) (m : ℕ) → m ≤ pageSize - eitherOf 24 8 b → placeBy (eitherOf 2 1 b) m ≡ accepted (record { off = eitherOf 24 8 b; count = m })
+pub kept-place : (b : Bool) (m : ℕ) → m ≤ pageSize - eitherOf 24 8 b
+    → placeBy (eitherOf 2 1 b) m ≡ accepted (record { off = eitherOf 24 8 b; count = m })
 kept-place true m h = extent-place m h
 kept-place false m h = delta-place m h
 

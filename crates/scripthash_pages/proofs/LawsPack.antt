@@ -44,7 +44,8 @@ module _ (header ns : List ℕ) where
   pub packed-stop : length ns ≤ maxOffered → {number : ℕ} → encodeStream room ns ≡ refused number → packed header ns ≡ refused number
   packed-stop h e = packed-as-stream h ∙ answered-no whole (encodeStream room ns) e
 
-  pub packed-fits : length ns ≤ maxOffered → {len : ℕ} → encodeStream room ns ≡ accepted len → packed header ns ≡ accepted (pageOf header (stream ns))
+  pub packed-fits : length ns ≤ maxOffered → {len : ℕ} → encodeStream room ns ≡ accepted len
+      → packed header ns ≡ accepted (pageOf header (stream ns))
   packed-fits h e = packed-as-stream h ∙ answered-yes whole (encodeStream room ns) e
 
 -- What is known of a page that was packed: the list is short, rises and fits behind the header.
@@ -78,7 +79,8 @@ module _ (header other ns : List ℕ) (same : length header ≡ length other) wh
 -- ---- the page
 
 -- the part from an offset on is 0
-pub cleared : (b : List ℕ) (o : ℕ) → o ≤ length b → (out : List ℕ) → out ≡ replicate (length (lent b o)) 0 → putBack b o out ≡ take o b ++ replicate (length b - o) 0
+pub cleared : (b : List ℕ) (o : ℕ) → o ≤ length b → (out : List ℕ) → out ≡ replicate (length (lent b o)) 0
+    → putBack b o out ≡ take o b ++ replicate (length b - o) 0
 cleared b o h out is =
     let none : drop (length b - o) (drop o b) ≡ [] = drop-of-length-le (drop o b) {i = length b - o} (omega (arith, length-drop o b)) in
     let long : length (lent b o) ≡ length b - o = simp (length-take, length-drop) (omega arith) in
@@ -107,7 +109,8 @@ header-written header other s same =
     ∙ ap (λ (k : ℕ). other ++ (s ++ replicate (pageSize - (k + length s)) 0)) same
 
 -- both writes: the stream at o, and 0 from its end e on
-pub stream-cleared : (page : List ℕ) (o : ℕ) (s between : List ℕ) (e : ℕ) (out : List ℕ) → length page ≡ pageSize → o + length s ≤ pageSize → e ≡ o + length s
+pub stream-cleared : (page : List ℕ) (o : ℕ) (s between : List ℕ) (e : ℕ) (out : List ℕ) → length page ≡ pageSize → o + length s ≤ pageSize
+    → e ≡ o + length s
     → between ≡ overwrite page o s → out ≡ replicate (length (lent between e)) 0 → putBack between e out ≡ pageOf (take o page) s
 stream-cleared page o s between e out long h end is zeros =
     let size : length between ≡ pageSize = ap length is ∙ length-overwrite page o s (omega arith) ∙ long in

@@ -17,7 +17,8 @@ use Rattle.scripthash_fields.specs.Fields.{readLink, firstOff, nextOffOf, exten
 use Rattle.scripthash_fields.proofs.LawsWhole.{whole-link, whole-first, whole-next, delta-nFks, delta-link-is, delta-extent, delta-creates}
 use Rattle.scripthash_fields.proofs.LawsWhole.{extent-nFks, extent-link-is, extent-extent, extent-creates-is}
 use Rattle.scripthash_fields.proofs.LawsPage.{page-yes}
-use Rattle.scripthash_fields.proofs.LawsPage.{length-delta, delta-version, delta-count, delta-stream, length-extent, extent-version, extent-count, extent-stream}
+use Rattle.scripthash_fields.proofs.LawsPage.{length-delta, delta-version, delta-count, delta-stream, length-extent, extent-version}
+use Rattle.scripthash_fields.proofs.LawsPage.{extent-count, extent-stream}
 use Rattle.scripthash_fields.proofs.LawsFields.{link-good, extent-good}
 use Rattle.scripthash_pages.specs.Entries.{pageScan}
 use Rattle.scripthash_pages.specs.Pack.{packed, packPage, linked, packExtent}
@@ -56,14 +57,16 @@ module _ (ns : List ℕ) (rises : Rising (2 ^ 63) 0 ns) where
       packed-fits header ns (omega (arith, count-least 0 ns)) (encode-fits (pageSize - length header) ns rises fits)
 
   -- with a link that can be named
-  pub page-packed : (page : List ℕ) (next : ℕ) → length page ≡ pageSize → next % pageSize ≡ 0 → next / pageSize < 2 ^ 39 → streamLen ns ≤ 4088
+  pub page-packed : (page : List ℕ) (next : ℕ) → length page ≡ pageSize → next % pageSize ≡ 0 → next / pageSize < 2 ^ 39
+      → streamLen ns ≤ 4088
       → packPage page ns next ≡ accepted (pageOf (deltaHeader (length ns) (linkTo (eqb next 0) next)) (stream ns))
   unfolding packPage deltaHeader
   page-packed page next long aligned small fits =
       page-yes page _ long ∙ link-good next _ aligned small ∙ packed-behind (deltaHeader (length ns) (linkTo (eqb next 0) next)) fits
 
   -- and with a good extent
-  pub extent-packed : (page : List ℕ) (base count next : ℕ) → length page ≡ pageSize → linked base next % pageSize ≡ 0 → linked base next / pageSize < 2 ^ 39
+  pub extent-packed : (page : List ℕ) (base count next : ℕ) → length page ≡ pageSize → linked base next % pageSize ≡ 0
+      → linked base next / pageSize < 2 ^ 39
       → (count ≡ 0 → ⊥) → base % pageSize ≡ 0 → (base ≡ 0 → ⊥) → streamLen ns ≤ 4072
       → packExtent page ns base count next ≡ accepted (pageOf (extentHeader (length ns) (linkTo (eqb next 0) (linked base next)) base count 0) (stream ns))
   unfolding packExtent extentHeader

@@ -17,7 +17,8 @@ unfolding requireDelta streamPlace
 place-refused page e = refused-alike _ _ _ _ (refused-alike _ _ _ _ (refused-alike _ _ _ _ (λ a. absurd (refused≢accepted (sym a))))) e
 
 -- a page that can be read has its stream where its version says
-pub place-passed : (page : List ℕ) → requireDelta page ≡ accepted tt → streamPlace page ≡ accepted (record { off = streamOff page; count = countOf page })
+pub place-passed : (page : List ℕ) → requireDelta page ≡ accepted tt
+    → streamPlace page ≡ accepted (record { off = streamOff page; count = countOf page })
 unfolding requireDelta streamPlace
 place-passed page e =
     let (long, e₁) = passed _ _ _ e in

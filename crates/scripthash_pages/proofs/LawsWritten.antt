@@ -104,7 +104,8 @@ module _ (page ns : List ℕ) (long : length page ≡ pageSize) (rises : Rising 
       (length-take-le (streamOff page) page (omega (arith, inside)))
 
   -- in version 2 or 1 it reads as the list
-  pub written-scan : (b : Bool) → versionOf page ≡ eitherOf 2 1 b → pageScan after ≡ accepted (record { numbers = ns; taken = streamLen ns })
+  pub written-scan : (b : Bool) → versionOf page ≡ eitherOf 2 1 b
+      → pageScan after ≡ accepted (record { numbers = ns; taken = streamLen ns })
   written-scan b version =
       let start = off-by-version page b version in
       held-scan b after ns _ written-long (written-version ∙ version) written-count (ap (λ (o : ℕ). drop o after) (sym start) ∙ held) rises

@@ -1,4 +1,5 @@
-// The stream of a page: read whole or to its end, appended to, and written. It starts at byte 8, in version 2 at byte 24, and goes to the page's end.
+// The stream of a page: read whole or to its end, appended to, and written. It starts at byte 8, in version 2 at byte 24, and goes to the
+// page's end.
 ghost use mathlib.Core.Bool.{cond};
 ghost use mathlib.Core.Path.{_≡_};
 ghost use Prim.Native.Nat.{_+_, _≤_, _<_};
@@ -11,7 +12,8 @@ ghost use Rattle.scripthash_stream.specs.Answers.{scanAnswer, bytesAnswer};
 ghost use Rattle.scripthash_answers.specs.EntryAnswers.{lastAnswer, entriesAnswer, sliceAnswer, tryAnswer};
 ghost use Rattle.scripthash_fields.specs.Page.{countOf};
 ghost use Rattle.scripthash_pages.specs.Entries.{streamPlace, pageScan, lastOf, pageEntries, readCount, pageReadOf};
-ghost use Rattle.scripthash_pages.specs.Entries.{appendSpot, hasSpot, oneMore, withAppended, afterAppend, writeStream, afterWriteStream};
+ghost use Rattle.scripthash_pages.specs.Entries.{appendSpot, hasSpot, oneMore, withAppended, afterAppend, writeStream};
+ghost use Rattle.scripthash_pages.specs.Entries.{afterWriteStream};
 ghost use Rattle.scripthash_pages.specs.Answers.{placeAnswer, spotAnswer};
 use compact::uleb128_len;
 use error::Refusal;
@@ -112,7 +114,8 @@ pub fn sh_page_entries_into(page: &[u8], out: &mut [u64]) -> PageEntries
 
 // Reads the numbers of a page as above, and where the page behind it is.
 pub fn sh_page_decode_slice_into(page: &[u8], out: &mut [u64]) -> PageSlice
-    ensures answer { λ r. ⌜ sliceAnswer r ≡ answered (pageReadOf (now (page .entry))) (pageEntries (length (now (out .entry))) (now (page .entry))) ⌝ }
+    ensures answer { λ r. ⌜ sliceAnswer r
+        ≡ answered (pageReadOf (now (page .entry))) (pageEntries (length (now (out .entry))) (now (page .entry))) ⌝ }
     ensures list { λ r. ⌜ now (out .exit) ≡ afterDecode (now (out .entry)) (pageEntries (length (now (out .entry))) (now (page .entry))) ⌝ }
 {
     let got = sh_page_entries_into(page, out);
@@ -201,7 +204,8 @@ pub fn sh_page_try_append(page: &mut [u8], fk: u64) -> TryAppend
 // Writes the stream of an offered list to a page whose version is set, and its count; all of the page is left where the list is refused.
 pub fn sh_page_write_stream(page: &mut [u8], fks: &[u64]) -> StreamBytes
     ensures answer { λ r. ⌜ bytesAnswer r ≡ writeStream (now (page .entry)) (now (fks .entry)) ⌝ }
-    ensures bytes { λ r. ⌜ now (page .exit) ≡ afterWriteStream (now (page .entry)) (now (fks .entry)) (writeStream (now (page .entry)) (now (fks .entry))) ⌝ }
+    ensures bytes { λ r. ⌜ now (page .exit)
+        ≡ afterWriteStream (now (page .entry)) (now (fks .entry)) (writeStream (now (page .entry)) (now (fks .entry))) ⌝ }
 {
     if page.len() != SH_PAGE_SIZE {
         return StreamBytes::Refused(error::PAGE_LENGTH);

@@ -105,7 +105,8 @@ pub fn sh_page_pack_extent_last_fks(
     next: u64,
 ) -> PageDone
     ensures answer { λ r. ⌜ doneAnswer r ≡ done (packExtent (now (page .entry)) (now (fks .entry)) base n next) ⌝ }
-    ensures page { λ r. ⌜ now (page .exit) ≡ afterSet (now (page .entry)) (packExtent (now (page .entry)) (now (fks .entry)) base n next) ⌝ }
+    ensures page { λ r. ⌜ now (page .exit)
+        ≡ afterSet (now (page .entry)) (packExtent (now (page .entry)) (now (fks .entry)) base n next) ⌝ }
 {
     if page.len() != SH_PAGE_SIZE {
         return PageDone::Refused(error::PAGE_LENGTH);

@@ -5,7 +5,8 @@ use mathlib.Core.Bool.{Bool, true, false, cond, _&&_, false≢true}
 use mathlib.Core.Logic.{_⊎_, inl, inr, ⊎-elim, _↔_}
 use mathlib.Core.Option.{Option, none, some}
 use Prim.Native.Nat.{ℕ, zero, suc, _+_, _-_, _*_, _/_, _^_, _≤_, _<_}
-use native.Mathlib.Nat.{eq-or-lt-of-le, le-antisymm, le-of-suc-le-suc, le-refl, le-trans, le-div-iff-mul-le, div-lt-iff-lt-mul, lt-of-not-le, mul-comm, pow-suc}
+use native.Mathlib.Nat.{eq-or-lt-of-le, le-antisymm, le-of-suc-le-suc, le-refl, le-trans, le-div-iff-mul-le, div-lt-iff-lt-mul}
+use native.Mathlib.Nat.{lt-of-not-le, mul-comm, pow-suc}
 use native.Mathlib.Omega.{arith}
 use native.Mathlib.Numerals.{add-one, lt-of-le-of-ne}
 use lib.Dec.{leb, lit≤}
@@ -13,7 +14,8 @@ use lib.Pow.{pow-mono}
 use lib.Count.{leadingZeros, leading-length}
 use borrow.Author.Tests.{le-leb, lt-leb, leb-true, leb-false}
 use Rattle.scripthash_layout.specs.Sizes.{slabSlots, maxSlabBytes, maxSlabClass, maxSlabCount}
-use Rattle.scripthash_slabs.specs.Class.{Rule, firstClass, smallestClass, classFor, byBytes, byCount, classByBytes, classByCount, classWithSlack, orElse}
+use Rattle.scripthash_slabs.specs.Class.{Rule, firstClass, smallestClass, classFor, byBytes, byCount, classByBytes, classByCount}
+use Rattle.scripthash_slabs.specs.Class.{classWithSlack, orElse}
 
 -- What is not below a number is at least that number.
 le-of-not-lt : {a b : ℕ} → (a < b → ⊥) → b ≤ a
@@ -113,7 +115,8 @@ module _ (rule : Rule) where
       le-of-not-lt (λ h. let small : rule .size d < m = a .smallest d h in let held : n ≤ rule .size d = b .holds in omega arith)
 
   -- Where a slab class holds n and n is in the range, a class is answered.
-  pub class-given : (n d : ℕ) → rule .least ≤ n → n ≤ rule .most → d ≤ maxSlabClass → n ≤ rule .size d → (c : ℕ) × (classFor rule n ≡ some c)
+  pub class-given : (n d : ℕ) → rule .least ≤ n → n ≤ rule .most → d ≤ maxSlabClass → n ≤ rule .size d
+      → (c : ℕ) × (classFor rule n ≡ some c)
   class-given n d l h s w =
       let (c, e) = first-found (λ x. leb n (rule .size x)) 0 (maxSlabClass + 1) d (omega arith) (omega arith) (le-leb n (rule .size d) w) in
       (c, class-within n l h ∙ e)

@@ -32,7 +32,8 @@ unfolding encodeSlab
 slab-short room ns h k = refuse-no (ltb maxOffered (length ns)) _ _ (le-ltb maxOffered (length ns) h) ∙ refuse-yes (ltb room 2) _ _ (lt-ltb room 2 k)
 
 -- and else the stream decides
-pub slab-as-stream : (room : ℕ) (ns : List ℕ) → length ns ≤ maxOffered → 2 ≤ room → encodeSlab room ns ≡ answered (λ len. 2 + len) (encodeStream (room - 2) ns)
+pub slab-as-stream : (room : ℕ) (ns : List ℕ) → length ns ≤ maxOffered → 2 ≤ room
+    → encodeSlab room ns ≡ answered (λ len. 2 + len) (encodeStream (room - 2) ns)
 unfolding encodeSlab
 slab-as-stream room ns h k = refuse-no (ltb maxOffered (length ns)) _ _ (le-ltb maxOffered (length ns) h) ∙ refuse-no (ltb room 2) _ _ (le-ltb room 2 k)
 
@@ -42,12 +43,14 @@ unfolding afterEncodeSlab
 after-slab-no out ns a e = rw e
 
 -- an acceptance writes the payload at its start
-pub after-slab-yes : (out ns : List ℕ) (a : Answer ℕ) {len : ℕ} → a ≡ accepted len → afterEncodeSlab out ns a ≡ overwrite out 0 (slabPayload ns)
+pub after-slab-yes : (out ns : List ℕ) (a : Answer ℕ) {len : ℕ} → a ≡ accepted len
+    → afterEncodeSlab out ns a ≡ overwrite out 0 (slabPayload ns)
 unfolding afterEncodeSlab
 after-slab-yes out ns a e = rw e
 
 -- the payload is written as the stream after two bytes, and then the count
-pub payload-written : (out ns : List ℕ) → 2 ≤ length out → overwrite (overwrite out 2 (stream ns)) 0 (bytesOf 2 (length ns)) ≡ overwrite out 0 (slabPayload ns)
+pub payload-written : (out ns : List ℕ) → 2 ≤ length out
+    → overwrite (overwrite out 2 (stream ns)) 0 (bytesOf 2 (length ns)) ≡ overwrite out 0 (slabPayload ns)
 unfolding slabPayload
 payload-written out ns h =
     sym (overwrite-apart out 0 (bytesOf 2 (length ns)) 2 (stream ns) (omega arith) h) ∙ overwrite-adjoin out 0 (bytesOf 2 (length ns)) (stream ns) (omega arith)

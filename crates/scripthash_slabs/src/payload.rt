@@ -32,7 +32,8 @@ impl SlabPayload {
 // into the part after the first two bytes.
 pub fn encode_slab_payload_into(out: &mut [u8], fks: &[u64]) -> StreamBytes
     ensures answer { λ r. ⌜ bytesAnswer r ≡ encodeSlab (length (now (out .entry))) (now (fks .entry)) ⌝ }
-    ensures bytes { λ r. ⌜ now (out .exit) ≡ afterEncodeSlab (now (out .entry)) (now (fks .entry)) (encodeSlab (length (now (out .entry))) (now (fks .entry))) ⌝ }
+    ensures bytes { λ r. ⌜ now (out .exit)
+        ≡ afterEncodeSlab (now (out .entry)) (now (fks .entry)) (encodeSlab (length (now (out .entry))) (now (fks .entry))) ⌝ }
 {
     if MAX_OFFERED < fks.len() {
         return StreamBytes::Refused(error::TOO_MANY_OFFERED);

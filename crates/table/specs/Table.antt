@@ -54,4 +54,5 @@ pub record Specimens : Type 0 where
   -- 8000000000000000 gives 29.
   pub S9 : unpackHead 9223372036854775808 ≡ refused 29
   -- 1 to 4,088 cuts after 4,072; 1 to 4,072 is one part.
-  pub S10 : (rangesFrom 0 (cutting (inARow 1 4088)) ≡ rangeOf 0 4072 ∷ rangeOf 4072 4088 ∷ []) × (cutting (inARow 1 4072) ≡ inARow 1 4072 ∷ [])
+  pub S10 : (rangesFrom 0 (cutting (inARow 1 4088)) ≡ rangeOf 0 4072 ∷ rangeOf 4072 4088 ∷ [])
+      × (cutting (inARow 1 4072) ≡ inARow 1 4072 ∷ [])

@@ -1,4 +1,5 @@
--- `in_a_row` is safe: the list keeps its length, numbers stay below 2^32, and what is left of the list shrinks with each turn. Assumes nothing.
+-- `in_a_row` is safe: the list keeps its length, numbers stay below 2^32, and what is left of the list shrinks with each turn. Assumes
+-- nothing.
 use Prim.Native.Nat.{_-_, _<_}
 use mathlib.Core.Path.{_≡_}
 use borrow.Author.Needs.{needs}

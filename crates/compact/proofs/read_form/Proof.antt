@@ -70,7 +70,8 @@ ended l h =
     sym (rw end at (l .loop .inv .3)) ∙ from-nil (at l) (sum l) (l .loop .inv .1)
 
 -- a byte passes 64 bits
-over : (l : tie.At-loop Inv-loop μ-loop) → at l < length (bytes l) → passes (at l) (next l) ≡ true → readUleb (bytes l) ≡ refused ulebOverflow
+over : (l : tie.At-loop Inv-loop μ-loop) → at l < length (bytes l) → passes (at l) (next l) ≡ true
+    → readUleb (bytes l) ≡ refused ulebOverflow
 over l h p = sym (l .loop .inv .3) ∙ at-over (bytes l) (at l) (sum l) h p
 
 loop-holds : tie.Need-loop-holds Inv-loop μ-loop

@@ -14,7 +14,8 @@ use Rattle.book.specs.Book.{Book}
 use Rattle.book.specs.Answers.{bookOf}
 use Rattle.book.specs.Appends.{appends}
 use Rattle.book.specs.Steps.{ToAppend}
-use Rattle.book.proofs.LawsAppend.{does-as, judged-yes, judged-no, append-shape, append-beyond, append-number, append-unsound, append-at}
+use Rattle.book.proofs.LawsAppend.{does-as, judged-yes, judged-no, append-shape, append-beyond, append-number, append-unsound}
+use Rattle.book.proofs.LawsAppend.{append-at}
 use Rattle.book.proofs.appending.append.Statement.{statement}
 use Rattle.book.proofs.appending.append.Tie as tie
 

@@ -17,7 +17,8 @@ module _ (s : tie.Start) where
   b = bookOf (s .args .body .now) (s .args .heads .now) (s .args .state)
 
   -- a key at one place is appended to as at another that is the same
-  placed : {place : ShHeadValue} → s .args .place ≡ place → appendAt b (s .args .key) (s .args .n) (s .args .place) ≡ appendAt b (s .args .key) (s .args .n) place
+  placed : {place : ShHeadValue} → s .args .place ≡ place
+      → appendAt b (s .args .key) (s .args .n) (s .args .place) ≡ appendAt b (s .args .key) (s .args .n) place
   placed e = ap (appendAt b (s .args .key) (s .args .n)) e
 
 enum-told : tie.Need-enum-told

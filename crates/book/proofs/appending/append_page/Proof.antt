@@ -12,7 +12,8 @@ use Rattle.book_keys.proofs.LawsPages.{page-inside}
 use Rattle.book.specs.Book.{Book}
 use Rattle.book.specs.Answers.{bookOf}
 use Rattle.book.specs.Appends.{appendAt}
-use Rattle.book.proofs.LawsAppend.{TailTold, tail-told, tail-untold, SoundTail, tail-sound, does-as, page-unsound, page-low, page-stays, page-full}
+use Rattle.book.proofs.LawsAppend.{TailTold, tail-told, tail-untold, SoundTail, tail-sound, does-as, page-unsound, page-low}
+use Rattle.book.proofs.LawsAppend.{page-stays, page-full}
 use Rattle.book.proofs.appending.append_page.Statement.{statement}
 use Rattle.book.proofs.appending.append_page.Tie as tie
 

@@ -64,7 +64,8 @@ module _ (t : tie.After-stays) where
   more = ulebLen (start known .args .n - last known)
 
   -- it stays or not
-  test : {holds : Bool} → t .stays .result ≡ holds → stays (start known .args .class) (start known .args .used + 1) (taken known + more) ≡ holds
+  test : {holds : Bool} → t .stays .result ≡ holds
+      → stays (start known .args .class) (start known .args .used + 1) (taken known + more) ≡ holds
   test e =
       sym (t .stays .ensures ∙ ap (λ (len : ℕ). stays (start known .args .class) (start known .args .used + 1) (taken known + len)) (t .before .uleb128-len .ensures)) ∙ e
 

@@ -18,7 +18,8 @@ use Rattle.book.specs.Book.{Book}
 use Rattle.book.specs.Answers.{bookOf}
 use Rattle.book.specs.Appends.{appendAt}
 use Rattle.book.specs.Steps.{placeAnswer}
-use Rattle.book.proofs.LawsAppend.{slab-free, does-as, does-from, placesFor, placed-at, placed-none, list-behind, rises-behind, slab-moved, slab-unmoved}
+use Rattle.book.proofs.LawsAppend.{slab-free, does-as, does-from, placesFor, placed-at, placed-none, list-behind, rises-behind}
+use Rattle.book.proofs.LawsAppend.{slab-moved, slab-unmoved}
 use Rattle.book.proofs.appending.move_slab.Statement.{statement}
 use Rattle.book.proofs.appending.move_slab.Tie as tie
 

@@ -1,4 +1,5 @@
--- `put_slab` meets its contract: the encoder doesn't refuse the list, and what it writes into the lent block is written into the body. Assumes nothing.
+-- `put_slab` meets its contract: the encoder doesn't refuse the list, and what it writes into the lent block is written into the body.
+-- Assumes nothing.
 use Prim.Native.Nat.{_^_}
 use mathlib.Core.Path.{_∙_}
 use native.Mathlib.Omega.{arith}

@@ -1,4 +1,5 @@
--- `chain_into` meets its contract. Invariant: for each chain that the walk from the first page gives, the pages left, written from here on, make
+-- `chain_into` meets its contract. Invariant: for each chain that the walk from the first page gives, the pages left, written from here on,
+-- make
 -- the whole list. Assumes nothing.
 use Prim.Native.Nat.{ℕ, suc, _+_, _-_, _/_, _≤_, zero-le}
 use mathlib.Core.List.{List}
@@ -20,7 +21,8 @@ use Rattle.book_keys.specs.Keys.{pageAt, Chain, walk}
 use Rattle.book_keys.specs.Steps.{keySpace, pageInto}
 use Rattle.book_keys.proofs.LawsSound.{was-sound}
 use Rattle.book_keys.proofs.LawsChain.{chain-walks}
-use Rattle.book_keys.proofs.LawsFill.{read-told, into-fits, page-written, Filling, filling-as, fill-start, fill-some, Turn, fill-turn}
+use Rattle.book_keys.proofs.LawsFill.{read-told, into-fits, page-written, Filling, filling-as, fill-start, fill-some, Turn}
+use Rattle.book_keys.proofs.LawsFill.{fill-turn}
 use Rattle.book_keys.proofs.chain.chain_into.Statement.{statement}
 use Rattle.book_keys.proofs.chain.chain_into.Tie as tie
 
@@ -75,7 +77,8 @@ module _ (c : tie.After-page-into Inv-loop μ-loop) where
   left = omega (arith, turn .loop-test .taken)
 
   -- the chain that the whole walk gives, and what is left of it
-  filling : (w : Chain) → walk most s (start .args .last) 0 (start .args .first) ≡ accepted w → length (w .numbers) ≤ length (start .args .out .now)
+  filling : (w : Chain) → walk most s (start .args .last) 0 (start .args .first) ≡ accepted w
+      → length (w .numbers) ≤ length (start .args .out .now)
       → Filling (suc (most - (turn .before .loop .pages + 1))) s (start .args .last) (start .args .out .now) w out at off
   filling w e h =
       subst (λ (k : ℕ). Filling k s (start .args .last) (start .args .out .now) w out at off) left (turn .before .loop .inv .3 w e h)

@@ -12,7 +12,8 @@ use Rattle.scripthash_pages.specs.Entries.{pageScan}
 use Rattle.book_keys.specs.Keys.{Last}
 use Rattle.book_keys.specs.Steps.{lastRead, tailRead, tailEndOf}
 use Rattle.book_keys.specs.Answers.{lastAnswer}
-use Rattle.book_keys.proofs.LawsSound.{was-sound, was-unsound, turned-back, let-through, lastSound, end-refused, end-unsound, end-sound}
+use Rattle.book_keys.proofs.LawsSound.{was-sound, was-unsound, turned-back, let-through, lastSound, end-refused, end-unsound}
+use Rattle.book_keys.proofs.LawsSound.{end-sound}
 use Rattle.book_keys.proofs.LawsPages.{tail-no, tail-creates, tail-by-last, creates-none, creates-large, creates-fine}
 use Rattle.book_keys.proofs.chain.read_tail.Statement.{statement}
 use Rattle.book_keys.proofs.chain.read_tail.Tie as tie

@@ -21,7 +21,8 @@ abbrev spaceOf : tie.Start → Space
 spaceOf c = keySpace (c .args .body .now) (c .args .mark)
 
 -- what a key at a place holds, by the place's case
-at-place : (s : Space) (place is : ShHeadValue) (k : Content) → place ≡ is → soundly (contentAt s place) ≡ accepted k → contentAt s is ≡ accepted k
+at-place : (s : Space) (place is : ShHeadValue) (k : Content) → place ≡ is → soundly (contentAt s place) ≡ accepted k
+    → contentAt s is ≡ accepted k
 at-place s place is k e f = ap (contentAt s) (sym e) ∙ was-sound _ f
 
 -- a list written out is the numbers of what a key holds

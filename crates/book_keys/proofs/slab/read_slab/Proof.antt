@@ -1,4 +1,5 @@
--- `read_slab` meets its contract: the count in its first two bytes, then the scan of the others decide, and then the last number. Assumes nothing.
+-- `read_slab` meets its contract: the count in its first two bytes, then the scan of the others decide, and then the last number. Assumes
+-- nothing.
 use Prim.Native.Nat.{ℕ}
 use mathlib.Core.List.{List}
 use mathlib.Core.Path.{_≡_, sym, ap, _∙_}

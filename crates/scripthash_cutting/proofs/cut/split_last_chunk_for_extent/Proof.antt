@@ -1,4 +1,5 @@
--- `split_last_chunk_for_extent` meets its contract: by cases on whether there is a last range, and whether it has numbers of the list. Assumes nothing.
+-- `split_last_chunk_for_extent` meets its contract: by cases on whether there is a last range, and whether it has numbers of the list.
+-- Assumes nothing.
 use Prim.Native.Nat.{ℕ, _-_, _≤_, _<_}
 use mathlib.Core.List.{List, []}
 use mathlib.Core.Path.{_≡_, refl, sym, _∙_}

@@ -1,4 +1,5 @@
--- `sh_page_stream_cap` meets its contract: after the test of the length, the capacity is the rest from the stream's start on. Assumes nothing.
+-- `sh_page_stream_cap` meets its contract: after the test of the length, the capacity is the rest from the stream's start on. Assumes
+-- nothing.
 use native.Mathlib.Omega.{arith}
 use mathlib.Core.Path.{sym}
 use borrow.Author.Needs.{needs}

@@ -15,7 +15,8 @@ use Rattle.scripthash_stream.specs.Answers.{scanAnswer}
 use Rattle.scripthash_stream.specs.declared.stream.ScanStream.{ScanStream}
 use Rattle.scripthash_fields.specs.Page.{streamOff}
 use Rattle.scripthash_pages.specs.Entries.{pageScan, lastOf}
-use Rattle.scripthash_pages.proofs.LawsAppend.{Ends, scan-ends, spot-length, spot-zero, spot-flag, spot-stop, spot-low, spot-high, spot-full, spot-room}
+use Rattle.scripthash_pages.proofs.LawsAppend.{Ends, scan-ends, spot-length, spot-zero, spot-flag, spot-stop, spot-low, spot-high}
+use Rattle.scripthash_pages.proofs.LawsAppend.{spot-full, spot-room}
 use Rattle.scripthash_pages.proofs.entries.append_spot.Statement.{statement}
 use Rattle.scripthash_pages.proofs.entries.append_spot.Tie as tie
 

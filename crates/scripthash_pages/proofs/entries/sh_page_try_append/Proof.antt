@@ -9,7 +9,8 @@ use Rattle.error.specs.Refusal.{accepted}
 use Rattle.error.proofs.LawsAnswer.{answered-yes, answered-no}
 use Rattle.scripthash_pages.specs.Entries.{Spot, appendSpot, hasSpot}
 use Rattle.scripthash_pages.specs.Answers.{spotAnswer}
-use Rattle.scripthash_pages.proofs.LawsAppend.{Roomy, spot-accepted, Ends, scan-ends, after-append-yes, after-append-full, after-append-no}
+use Rattle.scripthash_pages.proofs.LawsAppend.{Roomy, spot-accepted, Ends, scan-ends, after-append-yes, after-append-full}
+use Rattle.scripthash_pages.proofs.LawsAppend.{after-append-no}
 use Rattle.scripthash_pages.proofs.entries.sh_page_try_append.Statement.{statement}
 use Rattle.scripthash_pages.proofs.entries.sh_page_try_append.Tie as tie
 
