@@ -42,7 +42,7 @@ use Rattle.book_blocks.specs.Blocks.{lastPageOf, pageWith, pageBefore}
 use Rattle.book_blocks.proofs.LawsReadsMore.{spot-fits, spot-none, page-more, page-before}
 use Rattle.book.specs.Book.{Book}
 use Rattle.book.specs.Appends.{appending, growChain, appendPage, appendAt, appends}
-use Rattle.book_history.specs.Agrees.{scanOf, PageReads, LastReads, NextReads, ChainReads, firstOff, SlabIn, PageIn, Reading}
+use Rattle.book_history.specs.Agrees.{scanOf, PageReads, LastReads, NextReads, ChainReads, firstOff, SlabIn, PageIn, BlockReads}
 use Rattle.book_history.specs.Agrees.{contentsOf, AgreesSpace, Agrees}
 use Rattle.book_history.proofs.LawsFrame.{block-ends}
 use Rattle.book_history.proofs.LawsStep.{Alike, refused-alike, alike-both, placedContents}
@@ -153,9 +153,9 @@ chain-written plain inside s held key ps qs list ys is one g long mine others a 
     at-last = last-page-at (length ps - 1) noPage ps (omega arith)
 
     to : (v : Owner) (x : Block) → has inside (places plain) held v ≡ some x
-        → ((x ≡ record { class = pageClass; off = lastPage noPage ps .off }) × Reading inside (placedContents plain key list (pages qs)) v ys)
+        → ((x ≡ record { class = pageClass; off = lastPage noPage ps .off }) × BlockReads inside (placedContents plain key list (pages qs)) v ys)
         ⊎ ((u : Owner) × (u ≢ pageOf key (length ps - 1)) × (has inside (places plain) held u ≡ some x)
-        × ((block : List ℕ) → Reading inside (contentsOf plain) u block → Reading inside (placedContents plain key list (pages qs)) v block))
+        × ((block : List ℕ) → BlockReads inside (contentsOf plain) u block → BlockReads inside (placedContents plain key list (pages qs)) v block))
     to hand x e = inr (hand, λ q. (let z = ap kindOf q in omega arith), e, λ block r. r)
     to (stack k d) x e = inr (stack k d, λ q. (let z = ap kindOf q in omega arith), e, λ block r. r)
     to (slabOf j) x e = inr (slabOf j, λ q. (let z = ap kindOf q in omega arith), e, λ block r. keep (eqb j key) block r)
@@ -168,7 +168,7 @@ chain-written plain inside s held key ps qs list ys is one g long mine others a 
         go : (t : Bool) → eqb j key ≡ t
             → ((x ≡ record { class = pageClass; off = lastPage noPage ps .off }) × PageIn (cond t (length list) (length (keyOf j plain .list))) i (cond t (pages qs) (places plain j)) ys)
             ⊎ ((u : Owner) × (u ≢ pageOf key (length ps - 1)) × (has inside (places plain) held u ≡ some x)
-            × ((block : List ℕ) → Reading inside (contentsOf plain) u block → PageIn (cond t (length list) (length (keyOf j plain .list))) i (cond t (pages qs) (places plain j)) block))
+            × ((block : List ℕ) → BlockReads inside (contentsOf plain) u block → PageIn (cond t (length list) (length (keyOf j plain .list))) i (cond t (pages qs) (places plain j)) block))
         go false q = inr (pageOf j i, λ z. (eqb-false j key q (cc)), e, λ block r. r)
         go true q = at-index (eqb (i + 1) (length ps)) refl
           where
@@ -181,7 +181,7 @@ chain-written plain inside s held key ps qs list ys is one g long mine others a 
             at-index : (t : Bool) → eqb (i + 1) (length ps) ≡ t
                 → ((x ≡ record { class = pageClass; off = lastPage noPage ps .off }) × ChainReads (firstOff qs) (length list) i qs ys)
                 ⊎ ((u : Owner) × (u ≢ pageOf key (length ps - 1)) × (has inside (places plain) held u ≡ some x)
-                × ((block : List ℕ) → Reading inside (contentsOf plain) u block → ChainReads (firstOff qs) (length list) i qs block))
+                × ((block : List ℕ) → BlockReads inside (contentsOf plain) u block → ChainReads (firstOff qs) (length list) i qs block))
             at-index true w =
                 let e' = eqb-true (i + 1) (length ps) w in
                 inl (some-inj (sym at-key ∙ last-page-at i noPage ps e'), mine i e')
@@ -326,7 +326,7 @@ module _ (plain : PlainBook) (b : Book) (g : GoodPlain plain) (a : Agrees plain 
 
       to : (v : Owner) (x : Block) → has (plain .space) (atKey key (joinedTo n ps) (places plain)) none v ≡ some x
           → (u : Owner) × (has (plain .space) (places plain) none u ≡ some x)
-          × ((block : List ℕ) → Reading (plain .space) (placedContents plain key more (joinedTo n ps)) u block → Reading (plain .space) (placedContents plain key more (joinedTo n ps)) v block)
+          × ((block : List ℕ) → BlockReads (plain .space) (placedContents plain key more (joinedTo n ps)) u block → BlockReads (plain .space) (placedContents plain key more (joinedTo n ps)) v block)
       to hand x e = absurd (none-some e)
       to (stack k d) x e = (stack k d, e, λ block r. r)
       to (slabOf j) x e = ⊎-elim (λ (same, f). absurd (none-some f)) (λ (other, f). (slabOf j, f, λ block r. r)) (key-slab key (joinedTo n ps) (places plain) j x e)

@@ -45,7 +45,8 @@ use Rattle.book_blocks.specs.Blocks.{lastPageOf, slabWith}
 use Rattle.book_blocks.proofs.LawsReadsSlab.{slab-with-long, slab-more}
 use Rattle.book.specs.Book.{Book, Outcome, filled}
 use Rattle.book.specs.Appends.{movesInto, moves, appendSlab, appendAt, appends}
-use Rattle.book_history.specs.Agrees.{scanOf, SlabReads, PageReads, LastReads, SlabIn, Reading, contentsOf, AgreesSpace, AgreesInside}
+use Rattle.book_history.specs.Agrees.{scanOf, SlabReads, PageReads, LastReads, SlabIn, BlockReads, contentsOf, AgreesSpace}
+use Rattle.book_history.specs.Agrees.{AgreesInside}
 use Rattle.book_history.specs.Agrees.{Agrees}
 use Rattle.book_history.proofs.LawsFrame.{block-ends}
 use Rattle.book_history.proofs.LawsStep.{Alike, refused-alike, alike-both, placedContents}
@@ -245,9 +246,9 @@ module _ (plain : PlainBook) (b : Book) (key n : ℕ) (g : GoodPlain plain) (a :
           others = others-kept plain key (places plain) (contentsOf plain) (meanwhile-first plain key (λ block. Unit {0})) grown (slab class off (longer n kept))
 
           to : (v : Owner) (x : Block) → has (plain .space) (atKey key (slab class off (longer n kept)) (places plain)) none v ≡ some x
-              → ((x ≡ y) × Reading (plain .space) (placedContents plain key grown (slab class off (longer n kept))) v after)
+              → ((x ≡ y) × BlockReads (plain .space) (placedContents plain key grown (slab class off (longer n kept))) v after)
               ⊎ ((u : Owner) × (u ≢ slabOf key) × (has (plain .space) (places plain) none u ≡ some x)
-              × ((block : List ℕ) → Reading (plain .space) (contentsOf plain) u block → Reading (plain .space) (placedContents plain key grown (slab class off (longer n kept))) v block))
+              × ((block : List ℕ) → BlockReads (plain .space) (contentsOf plain) u block → BlockReads (plain .space) (placedContents plain key grown (slab class off (longer n kept))) v block))
           to hand x e = absurd (none-some e)
           to (stack k d) x e = inr (stack k d, λ q. (let z = ap kindOf q in omega arith), e, λ block r. r)
           to (slabOf j) x e =

@@ -26,7 +26,7 @@ use Rattle.book_keys.specs.Keys.{pageBlocks}
 use Rattle.book.specs.Book.{Book}
 use Rattle.book.specs.Reads.{drops}
 use Rattle.book.specs.Calls.{does}
-use Rattle.book_history.specs.Agrees.{Contents, Reading, AgreesSpace, Agrees, contentsOf}
+use Rattle.book_history.specs.Agrees.{Contents, BlockReads, AgreesSpace, Agrees, contentsOf}
 use Rattle.book_history.proofs.LawsFrame.{block-ends}
 use Rattle.book_history.proofs.LawsStep.{Alike, told-alike, alike-on-key, placedContents, agrees-placed}
 use Rattle.book_space.proofs.LawsTake.{release-first}
@@ -80,7 +80,7 @@ module _ (key : ℕ) (held : Option Block) where
       }
     where
       to : (v : Owner) (x : Block) → ((i d : ℕ) → v ≢ stack i d) → has plain (atKey key empty at) held v ≡ some x
-          → FromOther plain at held c (slabOf key) x (Reading plain c' v)
+          → FromOther plain at held c (slabOf key) x (BlockReads plain c' v)
       to hand x n e = (hand, λ q. (let z = ap kindOf q in omega arith), e, λ block r. k .inHand block r)
       to (stack i d) x n e = absurd (n i d refl)
       to (slabOf j) x n e =
@@ -105,7 +105,7 @@ module _ (key : ℕ) (held : Option Block) where
       }
     where
       to : (v : Owner) (x : Block) → ((i d : ℕ) → v ≢ stack i d) → has plain (atKey key (pages ps) at) held v ≡ some x
-          → FromOther plain at held c (pageOf key 0) x (Reading plain c' v)
+          → FromOther plain at held c (pageOf key 0) x (BlockReads plain c' v)
       to hand x n e = (hand, λ q. (let z = ap kindOf q in omega arith), e, λ block r. k .inHand block r)
       to (stack i d) x n e = absurd (n i d refl)
       to (slabOf j) x n e =

@@ -28,7 +28,7 @@ use Rattle.plain_book.proofs.LawsOwners.{some-inj, none-some, kindOf, atKey, ke
 use Rattle.plain_book.proofs.LawsSound.{rising-below}
 use Rattle.book_space.specs.Space.{Space, space}
 use Rattle.book_blocks.proofs.LawsReadsSlab.{slab-written}
-use Rattle.book_history.specs.Agrees.{SlabReads, PageReads, LastReads, ChainReads, SlabIn, PageIn, Contents, Reading, AgreesSpace}
+use Rattle.book_history.specs.Agrees.{SlabReads, PageReads, LastReads, ChainReads, SlabIn, PageIn, Contents, BlockReads, AgreesSpace}
 use Rattle.book_history.specs.Agrees.{contentsOf}
 use Rattle.book_history.proofs.LawsFrame.{blockOf, block-ends, stored-same, stored-written}
 use Rattle.book_history.proofs.LawsStep.{placedContents}
@@ -39,7 +39,7 @@ use Rattle.book_history.proofs.LawsPush.{block-long, block-whole}
 module _ (plain : PlainSpace) (s : Space) (at at' : ℕ → Place) (held held' : Option Block) (c c' : Contents) where
   -- Blocks go to other owners, who read them so too; nothing is written.
   pub agrees-same : ((v : Owner) (x : Block) → has plain at' held' v ≡ some x
-      → (u : Owner) × (has plain at held u ≡ some x) × ((block : List ℕ) → Reading plain c u block → Reading plain c' v block))
+      → (u : Owner) × (has plain at held u ≡ some x) × ((block : List ℕ) → BlockReads plain c u block → BlockReads plain c' v block))
       → AgreesSpace plain s at held c → AgreesSpace plain s at' held' c'
   agrees-same to a =
       record {
@@ -48,15 +48,15 @@ module _ (plain : PlainSpace) (s : Space) (at at' : ℕ → Place) (held held' :
         tops = a .tops;
         within = a .within;
         small = a .small;
-        stored = stored-same (has plain at held) (has plain at' held') (Reading plain c) (Reading plain c') (s .body) to (a .stored);
+        stored = stored-same (has plain at held) (has plain at' held') (BlockReads plain c) (BlockReads plain c') (s .body) to (a .stored);
       }
 
   -- The block of one owner is written as a whole; each block is that one, and reads so, or was another owner's, who read it so too.
   pub agrees-written : (w : Owner) (y : Block) (ys : List ℕ) → Good plain at held → has plain at held w ≡ some y
       → length ys ≡ slabBytes (y .class)
       → ((v : Owner) (x : Block) → has plain at' held' v ≡ some x
-      → ((x ≡ y) × Reading plain c' v ys)
-      ⊎ ((u : Owner) × (u ≢ w) × (has plain at held u ≡ some x) × ((block : List ℕ) → Reading plain c u block → Reading plain c' v block)))
+      → ((x ≡ y) × BlockReads plain c' v ys)
+      ⊎ ((u : Owner) × (u ≢ w) × (has plain at held u ≡ some x) × ((block : List ℕ) → BlockReads plain c u block → BlockReads plain c' v block)))
       → AgreesSpace plain s at held c → AgreesSpace plain (space (overwrite (s .body) (y .off) ys) (s .mark) (s .free)) at' held' c'
   agrees-written w y ys g mine long to a =
       let ends = block-ends y (plain .mark) (g .apart .stands w y mine) in
@@ -68,7 +68,7 @@ module _ (plain : PlainSpace) (s : Space) (at at' : ℕ → Place) (held held' :
         tops = a .tops;
         within = rw size in-body;
         small = rw size (a .small);
-        stored = stored-written (has plain at held) (has plain at' held') (Reading plain c) (Reading plain c') (s .body) (plain .mark) (g .apart) in-body w y ys mine long to (a .stored);
+        stored = stored-written (has plain at held) (has plain at' held') (BlockReads plain c) (BlockReads plain c') (s .body) (plain .mark) (g .apart) in-body w y ys mine long to (a .stored);
       }
 
 -- ---- filling
@@ -121,8 +121,8 @@ module _ (plain : PlainSpace) (s : Space) (at : ℕ → Place) (class off : ℕ)
           }
 
       to : (v : Owner) (x : Block) → has plain at (some y) v ≡ some x
-          → ((x ≡ y) × Reading plain (withHand (Filled class ys) c) v filled)
-          ⊎ ((u : Owner) × (u ≢ hand) × (has plain at (some y) u ≡ some x) × ((block : List ℕ) → Reading plain c u block → Reading plain (withHand (Filled class ys) c) v block))
+          → ((x ≡ y) × BlockReads plain (withHand (Filled class ys) c) v filled)
+          ⊎ ((u : Owner) × (u ≢ hand) × (has plain at (some y) u ≡ some x) × ((block : List ℕ) → BlockReads plain c u block → BlockReads plain (withHand (Filled class ys) c) v block))
       to hand x e = inl (sym (some-inj e), reads)
       to (stack k d) x e = inr (stack k d, λ q. (let z = ap kindOf q in omega arith), e, λ block r. r)
       to (slabOf k) x e = inr (slabOf k, λ q. (let z = ap kindOf q in omega arith), e, λ block r. r)
@@ -159,7 +159,7 @@ unfolding has
 bare-placed plain s at held key place c c' no-slab no-page others inHand a = agrees-same plain s at (atKey key place at) held held c c' to a
   where
     to : (v : Owner) (x : Block) → has plain (atKey key place at) held v ≡ some x
-        → (u : Owner) × (has plain at held u ≡ some x) × ((block : List ℕ) → Reading plain c u block → Reading plain c' v block)
+        → (u : Owner) × (has plain at held u ≡ some x) × ((block : List ℕ) → BlockReads plain c u block → BlockReads plain c' v block)
     to hand x e = (hand, e, λ block r. inHand block r)
     to (stack k d) x e = (stack k d, e, λ block r. r)
     to (slabOf j) x e =
@@ -176,7 +176,7 @@ hand-slab plain s at key class off kept c c' others mine a =
     agrees-same plain s at (atKey key (slab class off kept) at) (some (record { class = class; off = off })) none c c' to a
   where
     to : (v : Owner) (x : Block) → has plain (atKey key (slab class off kept) at) none v ≡ some x
-        → (u : Owner) × (has plain at (some (record { class = class; off = off })) u ≡ some x) × ((block : List ℕ) → Reading plain c u block → Reading plain c' v block)
+        → (u : Owner) × (has plain at (some (record { class = class; off = off })) u ≡ some x) × ((block : List ℕ) → BlockReads plain c u block → BlockReads plain c' v block)
     to hand x e = absurd (none-some e)
     to (stack k d) x e = (stack k d, e, λ block r. r)
     to (slabOf j) x e =
@@ -204,7 +204,7 @@ hand-page plain s at key ps p c c' others old before mine a =
     agrees-same plain s at (atKey key (pages (ps ++ (p ∷ []))) at) (some (record { class = pageClass; off = p .off })) none c c' to a
   where
     to : (v : Owner) (x : Block) → has plain (atKey key (pages (ps ++ (p ∷ []))) at) none v ≡ some x
-        → (u : Owner) × (has plain at (some (record { class = pageClass; off = p .off })) u ≡ some x) × ((block : List ℕ) → Reading plain c u block → Reading plain c' v block)
+        → (u : Owner) × (has plain at (some (record { class = pageClass; off = p .off })) u ≡ some x) × ((block : List ℕ) → BlockReads plain c u block → BlockReads plain c' v block)
     to hand x e = absurd (none-some e)
     to (stack k d) x e = (stack k d, e, λ block r. r)
     to (slabOf j) x e =

@@ -57,7 +57,7 @@ use Rattle.book.specs.Book.{Book, Outcome, wordOf, headWord, filled}
 use Rattle.book.specs.Loads.{loading, lastOfRun, loadInto, loadAt, loads}
 use Rattle.book.specs.Calls.{does}
 use Rattle.book_history.specs.Agrees.{SlabReads, PageReads, LastReads, NextReads, ChainReads, firstOff, SlabIn, PageIn, Contents}
-use Rattle.book_history.specs.Agrees.{Reading, contentsOf, AgreesSpace, AgreesInside, Agrees}
+use Rattle.book_history.specs.Agrees.{BlockReads, contentsOf, AgreesSpace, AgreesInside, Agrees}
 use Rattle.book_history.proofs.LawsFrame.{blockOf, block-ends, block-written}
 use Rattle.book_history.proofs.LawsStep.{Alike, told-alike, refused-alike, alike-both, alike-on-key, placedContents, agrees-placed}
 use Rattle.book_history.proofs.LawsContent.{head-agrees}
@@ -179,7 +179,7 @@ written-beyond plain s at held c mark after apart long before a =
       within = rw long (a .within);
       small = rw long (a .small);
       stored = λ w x e.
-          subst (Reading plain c w) (sym (before (x .off) (slabBytes (x .class)) (block-ends x mark (apart .stands w x e)))) (a .stored w x e);
+          subst (BlockReads plain c w) (sym (before (x .off) (slabBytes (x .class)) (block-ends x mark (apart .stands w x e)))) (a .stored w x e);
     }
 
 -- A key gets a place whose blocks, which nobody has, read as they should.
@@ -196,7 +196,7 @@ placed-stored plain key list place inside s c m slabs pgs a =
     others = others-kept plain key (places plain) c m list place
 
     stored : (w : Owner) (x : Block) → has inside (atKey key place (places plain)) none w ≡ some x
-        → Reading inside (placedContents plain key list place) w (blockOf (s .body) x)
+        → BlockReads inside (placedContents plain key list place) w (blockOf (s .body) x)
     stored hand x e = absurd (none-some e)
     stored (stack k d) x e = a .stored (stack k d) x e
     stored (slabOf j) x e =

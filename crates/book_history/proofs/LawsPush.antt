@@ -25,7 +25,7 @@ use Rattle.plain_book.specs.Owners.{Owner, hand, stack, slabOf, pageOf, atDepth
 use Rattle.plain_book.specs.Good.{Good}
 use Rattle.plain_book.proofs.LawsOwners.{kindOf, top-is, below-top, withStack, stack-same, stack-other, changed-has}
 use Rattle.book_space.specs.Space.{Space, space, release}
-use Rattle.book_history.specs.Agrees.{top, under, Contents, Reading, Stored, AgreesSpace}
+use Rattle.book_history.specs.Agrees.{top, under, Contents, BlockReads, Stored, AgreesSpace}
 use Rattle.book_history.proofs.LawsFrame.{blockOf, block-ends, stored-written}
 
 -- ---- a stack
@@ -101,7 +101,7 @@ block-whole body y ys fits short =
 -- A block comes from an owner other than w, who read it so too.
 abbrev pub FromOther : PlainSpace → (ℕ → Place) → Option Block → Contents → Owner → Block → (List ℕ → Type 0) → Type 0
 FromOther plain at held c w x reads =
-    (u : Owner) × (u ≢ w) × (has plain at held u ≡ some x) × ((block : List ℕ) → Reading plain c u block → reads block)
+    (u : Owner) × (u ≢ w) × (has plain at held u ≡ some x) × ((block : List ℕ) → BlockReads plain c u block → reads block)
 
 -- What a space is after one block is released.
 pub release-one : (class off : ℕ) (s : Space) → release (record { class = class; off = off } ∷ []) s
@@ -157,13 +157,13 @@ module _ (plain : PlainSpace) (s : Space) (at at' : ℕ → Place) (held held' :
   -- who has a block then: the top of the stack has the one that was written, and the others have theirs from owners who read them so
   abbrev Goes : Block → Owner → Type 0
   Goes x v =
-      ((x ≡ record { class = class; off = off }) × Reading (freed class off plain) c' v block)
-      ⊎ FromOther plain at held c w x (Reading (freed class off plain) c' v)
+      ((x ≡ record { class = class; off = off }) × BlockReads (freed class off plain) c' v block)
+      ⊎ FromOther plain at held c w x (BlockReads (freed class off plain) c' v)
 
   own : stackOf class (freed class off plain) ≡ off ∷ stackOf class plain
   own = stack-same plain class (off ∷ stackOf class plain) in-stacks
 
-  stacked : ((v : Owner) (x : Block) → ((k d : ℕ) → v ≢ stack k d) → has plain at' held' v ≡ some x → FromOther plain at held c w x (Reading plain c' v))
+  stacked : ((v : Owner) (x : Block) → ((k d : ℕ) → v ≢ stack k d) → has plain at' held' v ≡ some x → FromOther plain at held c w x (BlockReads plain c' v))
       → (v : Owner) (x : Block) → has (freed class off plain) at' held' v ≡ some x → Goes x v
   unfolding has
   stacked rest v x e =
@@ -185,7 +185,7 @@ module _ (plain : PlainSpace) (s : Space) (at at' : ℕ → Place) (held held' :
           inr (stack k d, (λ q. kind k d (sym q)), h, λ b r. r ∙ sym (ap (under d) same))
 
   -- The block of an owner goes onto the stack of its class; the owners but stacks have their blocks from others, who read them so too.
-  pub push-agrees : ((v : Owner) (x : Block) → ((k d : ℕ) → v ≢ stack k d) → has plain at' held' v ≡ some x → FromOther plain at held c w x (Reading plain c' v))
+  pub push-agrees : ((v : Owner) (x : Block) → ((k d : ℕ) → v ≢ stack k d) → has plain at' held' v ≡ some x → FromOther plain at held c w x (BlockReads plain c' v))
       → AgreesSpace (freed class off plain) (release (record { class = class; off = off } ∷ []) s) at' held' c'
   push-agrees rest =
       rw (release-one class off s)
@@ -201,8 +201,8 @@ module _ (plain : PlainSpace) (s : Space) (at at' : ℕ → Place) (held held' :
       long : length (overwrite (s .body) off link) ≡ length (s .body)
       long = length-overwrite (s .body) off link (omega (arith, block-fits, short))
 
-      stored : Stored (has (freed class off plain) at' held') (Reading (freed class off plain) c') (overwrite (s .body) off block)
+      stored : Stored (has (freed class off plain) at' held') (BlockReads (freed class off plain) c') (overwrite (s .body) off block)
       stored =
-          stored-written (has plain at held) (has (freed class off plain) at' held') (Reading plain c) (Reading (freed class off plain) c') (s .body) (plain .mark)
+          stored-written (has plain at held) (has (freed class off plain) at' held') (BlockReads plain c) (BlockReads (freed class off plain) c') (s .body) (plain .mark)
           (g .apart) (a .within) w (record { class = class; off = off }) block mine
           (block-long (s .body) (record { class = class; off = off }) link block-fits short) (stacked rest) (a .stored)

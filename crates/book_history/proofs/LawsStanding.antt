@@ -29,7 +29,7 @@ use Rattle.plain_book.specs.Good.{GoodPlain}
 use Rattle.plain_book.specs.Owners.{places}
 use Rattle.book.specs.Book.{Book}
 use Rattle.book.specs.Reads.{reads}
-use Rattle.book_history.specs.Agrees.{top, under, Contents, Reading, contentsOf, AgreesSpace, Agrees}
+use Rattle.book_history.specs.Agrees.{top, under, Contents, BlockReads, contentsOf, AgreesSpace, Agrees}
 use Rattle.book_history.specs.Standing.{Standing}
 use Rattle.book_history.proofs.LawsStep.{on-key-passes}
 use Rattle.book_history.proofs.LawsTake.{part-start}

@@ -31,7 +31,7 @@ use Rattle.plain_book.proofs.LawsOwners.{good-marked}
 use Rattle.plain_book.proofs.LawsTaking.{good-carved-one, freed-stacks}
 use Rattle.book_space.specs.Space.{Space, space, listsOf, Taken, takeMark, rounded, takeRun, takeFresh, takePopped, takeBlock as takes}
 use Rattle.book_space.specs.Space.{release}
-use Rattle.book_history.specs.Agrees.{top, under, Contents, Reading, Stored, AgreesSpace}
+use Rattle.book_history.specs.Agrees.{top, under, Contents, BlockReads, Stored, AgreesSpace}
 use Rattle.book_history.proofs.LawsFrame.{stored-same}
 use Rattle.book_history.proofs.LawsPush.{FromOther, under-pushed, under-kept, top-stands, tops-changed, release-long, push-agrees}
 
@@ -86,7 +86,7 @@ module _ (plain : PlainSpace) (s : Space) (at : ℕ → Place) (c : Contents) (c
   -- who had a block before
   abbrev From : Block → Owner → Type 0
   From x v =
-      (u : Owner) × (has plain at none u ≡ some x) × ((block : List ℕ) → Reading plain c u block → Reading (withStack class os plain) (anyHand c) v block)
+      (u : Owner) × (has plain at none u ≡ some x) × ((block : List ℕ) → BlockReads plain c u block → BlockReads (withStack class os plain) (anyHand c) v block)
 
   popped-from : (v : Owner) (x : Block) → has (withStack class os plain) at (inHandOf class o) v ≡ some x → From x v
   unfolding has
@@ -118,7 +118,7 @@ module _ (plain : PlainSpace) (s : Space) (at : ℕ → Place) (c : Contents) (c
         within = a .within;
         small = a .small;
         stored =
-            stored-same (has plain at none) (has (withStack class os plain) at (inHandOf class o)) (Reading plain c) (Reading (withStack class os plain) (anyHand c)) (s .body)
+            stored-same (has plain at none) (has (withStack class os plain) at (inHandOf class o)) (BlockReads plain c) (BlockReads (withStack class os plain) (anyHand c)) (s .body)
             popped-from (a .stored);
       }
 
@@ -154,7 +154,7 @@ unfolding has
 passed-agrees plain s at held c bytes fits a =
     record { mark = ap (λ (m : ℕ). m + bytes) (a .mark); nine = a .nine; tops = a .tops; within = fits; small = a .small; stored = stored }
   where
-    stored : Stored (has (record { mark = plain .mark + bytes; stacks = plain .stacks }) at held) (Reading (record { mark = plain .mark + bytes; stacks = plain .stacks }) c) (s .body)
+    stored : Stored (has (record { mark = plain .mark + bytes; stacks = plain .stacks }) at held) (BlockReads (record { mark = plain .mark + bytes; stacks = plain .stacks }) c) (s .body)
     stored hand x e = a .stored hand x e
     stored (stack k d) x e = a .stored (stack k d) x e
     stored (slabOf k) x e = a .stored (slabOf k) x e
@@ -166,7 +166,7 @@ pub hand-any : (plain : PlainSpace) (s : Space) (at : ℕ → Place) (c : Conten
 unfolding has
 hand-any plain s at c x a = record { mark = a .mark; nine = a .nine; tops = a .tops; within = a .within; small = a .small; stored = stored }
   where
-    stored : Stored (has plain at (some x)) (Reading plain (anyHand c)) (s .body)
+    stored : Stored (has plain at (some x)) (BlockReads plain (anyHand c)) (s .body)
     stored hand y e = tt
     stored (stack k d) y e = a .stored (stack k d) y e
     stored (slabOf k) y e = a .stored (slabOf k) y e
@@ -238,7 +238,7 @@ carved-one plain s at c b is to-7 fits g a = (agrees, release-long (b .class) (b
         (hand-any farther past at c b (passed-agrees plain s at none c (slabBytes (b .class)) fits a)) (λ k d q. (let z = ap kindOf q in omega arith)) refl rest
       where
         rest : (v : Owner) (x : Block) → ((k d : ℕ) → v ≢ stack k d) → has farther at none v ≡ some x
-            → FromOther farther at (some b) (anyHand c) hand x (Reading farther c v)
+            → FromOther farther at (some b) (anyHand c) hand x (BlockReads farther c v)
         rest hand x n h = absurd (none-some h)
         rest (stack k d) x n h = absurd (n k d refl)
         rest (slabOf k) x n h = (slabOf k, (λ q. (let z = ap kindOf q in omega arith)), h, λ b r. r)

@@ -100,11 +100,11 @@ pub record Contents : Type 1 where
   pub pages : ℕ → ℕ → List ℕ → Type 0
 
 -- What the block of an owner reads as: a freed block names the one under it in its stack.
-abbrev pub Reading : PlainSpace → Contents → Owner → List ℕ → Type 0
-Reading s c hand block = c .inHand block
-Reading s c (stack class depth) block = littleEndian (part block 0 8) ≡ under depth (stackOf class s)
-Reading s c (slabOf key) block = c .slabs key block
-Reading s c (pageOf key i) block = c .pages key i block
+abbrev pub BlockReads : PlainSpace → Contents → Owner → List ℕ → Type 0
+BlockReads s c hand block = c .inHand block
+BlockReads s c (stack class depth) block = littleEndian (part block 0 8) ≡ under depth (stackOf class s)
+BlockReads s c (slabOf key) block = c .slabs key block
+BlockReads s c (pageOf key i) block = c .pages key i block
 
 -- Each block, by its owner, reads as it should.
 abbrev pub Stored : (Owner → Option Block) → (Owner → List ℕ → Type 0) → List ℕ → Type 0
@@ -123,7 +123,7 @@ pub record AgreesSpace (plain : PlainSpace) (s : Space) (at : ℕ → Place) (he
   -- An offset in the body fits the eight bytes of a link.
   pub small : length (s .body) ≤ 2 ^ 30
   -- Each block reads as its owner says.
-  pub stored : Stored (has plain at held) (Reading plain c) (s .body)
+  pub stored : Stored (has plain at held) (BlockReads plain c) (s .body)
 
 -- What the blocks of a plain book's keys read as; nothing is in hand.
 abbrev pub contentsOf : PlainBook → Contents

@@ -16,9 +16,9 @@ use Rattle.book_keys.specs.declared.key.KeyCounts.{KeyCounts}
 use Rattle.book_keys.specs.declared.key.KeyCounts.the-variants.{Counts as CountsAre, Refused as NoCounts}
 
 -- The header of a key's last page.
-abbrev pub lastAnswer : LastPage → Answer Last
-lastAnswer (Header first creates) = accepted (record { first = first; creates = creates })
-lastAnswer (NoHeader number) = refused number
+abbrev pub lastPageAnswer : LastPage → Answer Last
+lastPageAnswer (Header first creates) = accepted (record { first = first; creates = creates })
+lastPageAnswer (NoHeader number) = refused number
 
 -- The answer of `tail_end`.
 abbrev pub tailAnswer : TailEnd → Answer TailEndOf
@@ -26,9 +26,9 @@ tailAnswer (Tail taken fk first creates) = accepted (record { taken = taken; fk 
 tailAnswer (NoTail number) = refused number
 
 -- A page of a chain.
-abbrev pub linkAnswer : LinkEnd → Answer LinkEndOf
-linkAnswer (Page count fk last next) = accepted (record { count = count; fk = fk; last = last; next = next })
-linkAnswer (NoPage number) = refused number
+abbrev pub linkEndAnswer : LinkEnd → Answer LinkEndOf
+linkEndAnswer (Page count fk last next) = accepted (record { count = count; fk = fk; last = last; next = next })
+linkEndAnswer (NoPage number) = refused number
 
 -- Pages walked.
 abbrev pub walkAnswer : WalkEnd → Answer Walked

@@ -10,7 +10,7 @@ ghost use Rattle.scripthash_pages.specs.Entries.{pageReadOf};
 ghost use Rattle.book_keys.specs.Keys.{soundly, pageAt, linkScan, lastAt, walk, Chain as ChainIs, chainAt, tailAt};
 ghost use Rattle.book_keys.specs.Steps.{keySpace, linkRead, lastRead, tailRead, tailEndOf, linkEndOf, walkedFrom, chainEndOf};
 ghost use Rattle.book_keys.specs.Steps.{pageInto, Written};
-ghost use Rattle.book_keys.specs.Answers.{lastAnswer, tailAnswer, linkAnswer, walkAnswer, chainAnswer};
+ghost use Rattle.book_keys.specs.Answers.{lastPageAnswer, tailAnswer, linkEndAnswer, walkAnswer, chainAnswer};
 use crate::slab::sound_last;
 use compact::ReadUleb128;
 use error::Refusal;
@@ -106,7 +106,7 @@ impl ChainEnd {
 // Reads the header of a key's last page.
 fn read_last(page: &[u8]) -> LastPage
     requires { ⌜ length (now page) ≡ pageSize ⌝ }
-    ensures { λ r. ⌜ lastAnswer r ≡ soundly (lastRead (now (page .entry))) ⌝ }
+    ensures { λ r. ⌜ lastPageAnswer r ≡ soundly (lastRead (now (page .entry))) ⌝ }
 {
     if page[SH_PAGE_OFF_VER] != SH_PAGE_EXTENT_VER {
         return LastPage::Refused(error::KEY_UNSOUND);
@@ -158,7 +158,7 @@ fn read_tail(page: &[u8]) -> TailEnd
 // Reads a page of a chain behind a number: its stream is scanned once, and its first number read once more.
 fn read_link(page: &[u8], prev: u64) -> LinkEnd
     requires { ⌜ length (now page) ≡ pageSize ⌝ }
-    ensures { λ r. ⌜ linkAnswer r ≡ answered (linkEndOf (now (page .entry))) (soundly (linkRead prev (now (page .entry)))) ⌝ }
+    ensures { λ r. ⌜ linkEndAnswer r ≡ answered (linkEndOf (now (page .entry))) (soundly (linkRead prev (now (page .entry)))) ⌝ }
 {
     let got = sh_page_stream_tail(page);
     let ScanStream::Scanned { taken: _, last: fk } = got else {
@@ -191,7 +191,7 @@ fn read_link(page: &[u8], prev: u64) -> LinkEnd
 // The header of a key's last page, at an offset.
 pub fn last_page(body: &[u8], mark: u64, last: u64) -> LastPage
     requires { ⌜ mark ≤ length (now body) ⌝ }
-    ensures { λ r. ⌜ lastAnswer r ≡ soundly (lastAt (keySpace (now (body .entry)) mark) last) ⌝ }
+    ensures { λ r. ⌜ lastPageAnswer r ≡ soundly (lastAt (keySpace (now (body .entry)) mark) last) ⌝ }
 {
     if !is_page(last, mark) {
         return LastPage::Refused(error::KEY_UNSOUND);
@@ -215,7 +215,7 @@ pub fn tail_end(body: &[u8], mark: u64, last: u64) -> TailEnd
 // A page of a chain behind a number, at an offset.
 fn link_end(body: &[u8], mark: u64, prev: u64, off: u64) -> LinkEnd
     requires { ⌜ mark ≤ length (now body) ⌝ }
-    ensures { λ r. ⌜ linkAnswer r
+    ensures { λ r. ⌜ linkEndAnswer r
         ≡ answered (linkEndOf (pageAt (keySpace (now (body .entry)) mark) off))
         (soundly (linkScan (keySpace (now (body .entry)) mark) prev off)) ⌝ }
 {

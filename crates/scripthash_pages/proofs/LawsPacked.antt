@@ -75,7 +75,7 @@ module _ (ns : List ℕ) (rises : Rising (2 ^ 63) 0 ns) where
       ∙ packed-behind (extentHeader (length ns) (linkTo (eqb next 0) (linked base next)) base count 0) fits
 
 -- What a packed page tells: its count, its link, LAST or not, and its numbers.
-pub record Told (page ns : List ℕ) (last : Bool) (off : ℕ) : Type 0 where
+pub record PackedAs (page ns : List ℕ) (last : Bool) (off : ℕ) : Type 0 where
   pub count : nFks page ≡ accepted (length ns)
   pub link : readLink page ≡ accepted (record { last = last; off = off })
   pub first : last ≡ true → firstOff page ≡ accepted off
@@ -91,7 +91,7 @@ module _ (ns : List ℕ) (rises : Rising (2 ^ 63) 0 ns) (last : Bool) (off : ℕ
     delta-fits = omega (arith, length-stream 0 ns)
 
     -- without an extent
-    pub delta-told : Told delta ns last off
+    pub delta-told : PackedAs delta ns last off
     delta-told =
         let long = length-delta (length ns) (linkTo last off) (stream ns) delta-fits in
         let link = delta-link-is (length ns) last off (stream ns) delta-fits small in
@@ -114,7 +114,7 @@ module _ (ns : List ℕ) (rises : Rising (2 ^ 63) 0 ns) (last : Bool) (off : ℕ
     named-fits = omega (arith, length-stream 0 ns)
 
     -- with one
-    pub extent-told : Told named ns last off
+    pub extent-told : PackedAs named ns last off
     extent-told =
         let long = length-extent (length ns) (linkTo last off) base extents creates (stream ns) named-fits in
         let link = extent-link-is (length ns) last off base extents creates (stream ns) named-fits small in

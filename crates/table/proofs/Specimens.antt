@@ -7,7 +7,7 @@ use Rattle.scripthash_layout.specs.Head.{packHead, unpackHead}
 use Rattle.scripthash_stream.specs.Stream.{streamFrom, storedNumber, nextNumber, scanFrom, decodeStream}
 use Rattle.scripthash_slabs.specs.Slab.{slabPayload, decodeSlab}
 use Rattle.scripthash_cutting.specs.Cutting.{fitting, firstPart, greedyParts, replaceLast, rangesFrom}
-use Rattle.table.specs.Table.{Specimens, Is, IsSlab, IsHead, inARow}
+use Rattle.table.specs.Table.{Specimens, Is, SlabOf, IsHead, inARow}
 
 pub specimens : Specimens
 unfolding refuseIf andThen part isForm value formAt overflows readForm readUleb divided shortest packHead unpackHead streamFrom storedNumber nextNumber scanFrom decodeStream slabPayload decodeSlab ulebLen fitting firstPart greedyParts replaceLast rangesFrom inARow

@@ -19,7 +19,7 @@ pub record Is (n : ℕ) (bytes : List ℕ) : Type 0 where
 
 -- A list is some bytes as a slab: they are its payload, and they read as the list into a lent list of its length; the stream
 -- takes all of them but the two of the count.
-pub record IsSlab (ns : List ℕ) (bytes : List ℕ) : Type 0 where
+pub record SlabOf (ns : List ℕ) (bytes : List ℕ) : Type 0 where
   pub written : slabPayload ns ≡ bytes
   pub read : decodeSlab (length ns) bytes ≡ accepted (record { numbers = ns; taken = length bytes - 2 })
 
@@ -46,7 +46,7 @@ pub record Specimens : Type 0 where
   -- Ten 80 give 17, eleven 18.
   pub S5 : (readUleb (replicate 10 128) ≡ refused 17) × (readUleb (replicate 11 128) ≡ refused 18)
   -- Slab 5, 300, 301 is 03 00 05 A7 02 01.
-  pub S6 : IsSlab (5 ∷ 300 ∷ 301 ∷ []) (3 ∷ 0 ∷ 5 ∷ 167 ∷ 2 ∷ 1 ∷ [])
+  pub S6 : SlabOf (5 ∷ 300 ∷ 301 ∷ []) (3 ∷ 0 ∷ 5 ∷ 167 ∷ 2 ∷ 1 ∷ [])
   -- 05 00 as two numbers gives 21.
   pub S7 : scan 2 (5 ∷ 0 ∷ []) ≡ refused 21
   -- Class 2, used 5, offset 4,096 is 4200050000001000.

@@ -10,7 +10,7 @@ use Rattle.scripthash_layout.specs.Sizes.{pageSize}
 use Rattle.book_space.specs.Space.{Space}
 use Rattle.book_keys.specs.Keys.{soundly, Last, lastAt, Chain, walk}
 use Rattle.book_keys.specs.Steps.{keySpace, Walked, walkedFrom, chainEndOf}
-use Rattle.book_keys.specs.Answers.{lastAnswer, walkAnswer}
+use Rattle.book_keys.specs.Answers.{lastPageAnswer, walkAnswer}
 use Rattle.book_keys.proofs.LawsSound.{was-sound, was-unsound, turned-back, let-through}
 use Rattle.book_keys.proofs.LawsWalk.{walk-first}
 use Rattle.book_keys.proofs.LawsChain.{chain-no, chain-unwalked, chain-other, chain-yes}
@@ -32,7 +32,7 @@ module _ (c : tie.After-header) where
   head = record { first = c .header .given .0 .0; creates = c .header .given .0 .1 .0 }
 
   is : lastAt s last ≡ accepted head
-  is = was-sound _ (sym (c .before .before .last-page .ensures) ∙ ap lastAnswer (c .header .given .1))
+  is = was-sound _ (sym (c .before .before .last-page .ensures) ∙ ap lastPageAnswer (c .header .given .1))
 
 -- the chain was walked
 module _ (c : tie.After-walked) where
@@ -66,7 +66,7 @@ enum-told c = search needs
 returns : tie.Need-returns
 returns c =
     let a = c .before .before .before .before .args in
-    let bad = was-unsound _ (sym (c .before .before .last-page .ensures) ∙ ap lastAnswer (c .enum-told .given .1)) in
+    let bad = was-unsound _ (sym (c .before .before .last-page .ensures) ∙ ap lastPageAnswer (c .enum-told .given .1)) in
     turned-back chainEndOf _ (chain-no (keySpace (a .body .now) (a .mark)) (a .last) (bad .1))
 
 walk-pages-requires : tie.Need-walk-pages-requires

@@ -11,7 +11,7 @@ use Rattle.scripthash_stream.specs.Answers.{scanAnswer}
 use Rattle.scripthash_pages.specs.Entries.{pageScan}
 use Rattle.book_keys.specs.Keys.{Last}
 use Rattle.book_keys.specs.Steps.{lastRead, tailRead, tailEndOf}
-use Rattle.book_keys.specs.Answers.{lastAnswer}
+use Rattle.book_keys.specs.Answers.{lastPageAnswer}
 use Rattle.book_keys.proofs.LawsSound.{was-sound, was-unsound, turned-back, let-through, lastSound, end-refused, end-unsound}
 use Rattle.book_keys.proofs.LawsSound.{end-sound}
 use Rattle.book_keys.proofs.LawsPages.{tail-no, tail-creates, tail-by-last, creates-none, creates-large, creates-fine}
@@ -27,7 +27,7 @@ module _ (c : tie.After-header) where
   head = record { first = c .header .given .0 .0; creates = c .header .given .0 .1 .0 }
 
   is : lastRead page ≡ accepted head
-  is = was-sound _ (sym (c .before .before .read-last .ensures) ∙ ap lastAnswer (c .header .given .1))
+  is = was-sound _ (sym (c .before .before .read-last .ensures) ∙ ap lastPageAnswer (c .header .given .1))
 
 -- the page was scanned
 module _ (c : tie.After-sh-page-stream-tail) where
@@ -62,7 +62,7 @@ enum-told c = search needs
 
 returns : tie.Need-returns
 returns c =
-    let bad = was-unsound _ (sym (c .before .before .read-last .ensures) ∙ ap lastAnswer (c .enum-told .given .1)) in
+    let bad = was-unsound _ (sym (c .before .before .read-last .ensures) ∙ ap lastPageAnswer (c .enum-told .given .1)) in
     turned-back tailEndOf _ (tail-no (c .before .before .before .before .args .page .now) (bad .1))
 
 returns-2 : tie.Need-returns-2

@@ -13,7 +13,7 @@ use Rattle.scripthash_stream.specs.Stream.{Scan}
 use Rattle.book_space.specs.Space.{Space}
 use Rattle.book_keys.specs.Keys.{soundly, pageAt, linkScan, walk}
 use Rattle.book_keys.specs.Steps.{keySpace, LinkEndOf, linkEndOf, walkedFrom}
-use Rattle.book_keys.specs.Answers.{linkAnswer}
+use Rattle.book_keys.specs.Answers.{linkEndAnswer}
 use Rattle.book_keys.proofs.LawsSound.{was-sound}
 use Rattle.book_keys.proofs.LawsPages.{link-sound}
 use Rattle.book_keys.proofs.LawsWalk.{told, told-start, told-none, told-refused, told-last, told-flagged, told-more}
@@ -66,7 +66,7 @@ module _ (c : tie.After-got Inv-loop μ-loop) where
       }
 
   page : (p : Scan) × (soundly (linkScan (s turn) (prev turn) (off turn)) ≡ accepted p) × (linkEndOf (pageAt (s turn) (off turn)) p ≡ end)
-  page = was-accepted (linkEndOf (pageAt (s turn) (off turn))) _ (sym (c .before .before .link-end .ensures) ∙ ap linkAnswer (c .got .given .1))
+  page = was-accepted (linkEndOf (pageAt (s turn) (off turn))) _ (sym (c .before .before .link-end .ensures) ∙ ap linkEndAnswer (c .got .given .1))
 
   is : linkScan (s turn) (prev turn) (off turn) ≡ accepted (page .0)
   is = was-sound _ (page .1)
@@ -93,7 +93,7 @@ returns : tie.Need-returns Inv-loop μ-loop
 returns c =
     let t = c .before .before .before in
     told-refused (count t) (pages t) (most t) (s t) (at t .args .last) (prev t) (off t) (t .loop-test .taken)
-    (was-refused (linkEndOf (pageAt (s t) (off t))) _ (sym (c .before .before .link-end .ensures) ∙ ap linkAnswer (c .enum-told .given .1)))
+    (was-refused (linkEndOf (pageAt (s t) (off t))) _ (sym (c .before .before .link-end .ensures) ∙ ap linkEndAnswer (c .enum-told .given .1)))
     ∙ t .before .loop .inv .2
 
 add-length : tie.Need-add-length Inv-loop μ-loop
