@@ -14,7 +14,8 @@ use Rattle.scripthash_layout.specs.declared.head.ShHeadValue.{ShHeadValue}
 use Rattle.scripthash_layout.specs.declared.head.ShHeadValue.the-variants.{Empty, Inline, Slab, Extent}
 use Rattle.book_rules.specs.Calls.{Told, Appended, loaded, appended, listed, dropped}
 use Rattle.book_words.specs.Words.{Begins, begins, word, spellAll, readAll}
-use Rattle.book_words.specs.SpellAnswers.{spellPlace, spellTold, spellAnswer, spellAnswers, placeOf, loadedAt, appendedAt, listedAt, droppedAt, toldAt, answerAt, answersOf}
+use Rattle.book_words.specs.SpellAnswers.{spellPlace, spellTold, spellAnswer, spellAnswers, placeOf, loadedAt, appendedAt, listedAt}
+use Rattle.book_words.specs.SpellAnswers.{droppedAt, toldAt, answerAt, answersOf}
 use Rattle.book_words.proofs.LawsWords.{AllGood, reads-all}
 
 -- A refusal has a number above 0, as all of document 01 have.

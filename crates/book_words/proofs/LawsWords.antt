@@ -27,7 +27,8 @@ AllGood Good [] = Unit {0}
 AllGood Good (x ∷ xs) = Good x × AllGood Good xs
 
 -- A list of good elements that were spelled reads back, with any bound that is large enough, when each good element does.
-pub reads-all : {A : Type 0} (spell : A → List ℕ) (reader : List ℕ → Option (Begins A)) (Good : A → Type 0) → ((x : A) → 0 < length (spell x))
+pub reads-all : {A : Type 0} (spell : A → List ℕ) (reader : List ℕ → Option (Begins A)) (Good : A → Type 0)
+    → ((x : A) → 0 < length (spell x))
     → ((x : A) (rest : List ℕ) → Good x → reader (spell x ++ rest) ≡ begins x rest)
     → (xs : List A) (most : ℕ) → length (spellAll spell xs) ≤ most → AllGood Good xs → readAll reader most (spellAll spell xs) ≡ some xs
 unfolding spellAll readAll atEnd readOn AllGood before
@@ -45,7 +46,8 @@ reads-all {A} spell reader Good some-words reads-back (x ∷ xs) (suc most) h g 
 module _ {A : Type 0} (spell : A → List ℕ) (reader : List ℕ → Option (Begins A))
     (was-spelled : (ws : List ℕ) (b : Begins A) → reader ws ≡ some b → spell (b .first) ++ b .rest ≡ ws) where
   -- an element and those behind it
-  others-was : (ws : List ℕ) (xs : List A) (b : Begins A) → reader ws ≡ some b → (o : Option (List A)) → ((ys : List A) → o ≡ some ys → spellAll spell ys ≡ b .rest)
+  others-was : (ws : List ℕ) (xs : List A) (b : Begins A) → reader ws ≡ some b → (o : Option (List A))
+      → ((ys : List A) → o ≡ some ys → spellAll spell ys ≡ b .rest)
       → before (b .first) o ≡ some xs → spellAll spell xs ≡ ws
   unfolding spellAll before
   others-was ws xs b r none f g = absurd (none≢some g)
@@ -53,7 +55,8 @@ module _ {A : Type 0} (spell : A → List ℕ) (reader : List ℕ → Option (Be
       let is : b .first ∷ ys ≡ xs = some-inj g in
       ap (spellAll spell) (sym is) ∙ ap (λ (l : List ℕ). spell (b .first) ++ l) (f ys refl) ∙ was-spelled ws b r
 
-  first-was : (ws : List ℕ) (xs : List A) (more : List ℕ → Option (List A)) → ((rest : List ℕ) (ys : List A) → more rest ≡ some ys → spellAll spell ys ≡ rest)
+  first-was : (ws : List ℕ) (xs : List A) (more : List ℕ → Option (List A))
+      → ((rest : List ℕ) (ys : List A) → more rest ≡ some ys → spellAll spell ys ≡ rest)
       → (o : Option (Begins A)) → reader ws ≡ o → readOn o more ≡ some xs → spellAll spell xs ≡ ws
   unfolding readOn
   first-was ws xs more f none r e = absurd (none≢some e)
@@ -70,7 +73,8 @@ module _ {A : Type 0} (spell : A → List ℕ) (reader : List ℕ → Option (Be
 -- The bound doesn't matter where it is large enough, when each element takes a word.
 module _ {A : Type 0} (reader : List ℕ → Option (Begins A)) (shrinks : (ws : List ℕ) (b : Begins A) → reader ws ≡ some b → length (b .rest) < length ws) where
   -- what is read behind an element is the same for both bounds
-  same-behind : (ws : List ℕ) (most other : List ℕ → Option (List A)) → ((b : Begins A) → reader ws ≡ some b → most (b .rest) ≡ other (b .rest))
+  same-behind : (ws : List ℕ) (most other : List ℕ → Option (List A))
+      → ((b : Begins A) → reader ws ≡ some b → most (b .rest) ≡ other (b .rest))
       → (o : Option (Begins A)) → reader ws ≡ o → readOn o most ≡ readOn o other
   unfolding readOn
   same-behind ws most other f none r = refl
@@ -96,7 +100,8 @@ module _ {A : Type 0} (reader : List ℕ → Option (Begins A)) (shrinks : (ws :
   reads-none [] h e = absurd (omega arith)
   reads-none (w ∷ ws) h e = ap (λ (o : Option (Begins A)). readOn o (λ rest. readAll reader (length ws) rest)) e
 
-  pub reads-some : (ws : List ℕ) (b : Begins A) → 0 < length ws → reader ws ≡ some b → readAll reader (length ws) ws ≡ before (b .first) (readAll reader (length (b .rest)) (b .rest))
+  pub reads-some : (ws : List ℕ) (b : Begins A) → 0 < length ws → reader ws ≡ some b
+      → readAll reader (length ws) ws ≡ before (b .first) (readAll reader (length (b .rest)) (b .rest))
   unfolding readAll atEnd readOn
   reads-some [] b h e = absurd (omega arith)
   reads-some (w ∷ ws) b h e =

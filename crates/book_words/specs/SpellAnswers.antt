@@ -51,7 +51,8 @@ appendedAt ws =
 unfoldable pub listedAt : List ℕ → Option (Begins (Answer Told))
 listedAt ws =
     word ws (λ pages ws. word ws (λ count rest.
-    cond (leb count (length rest)) (begins (accepted (listed (record { numbers = firstOf count rest; pages = pages }))) (behind count rest)) none))
+    cond (leb count (length rest)) (begins (accepted (listed (record { numbers = firstOf count rest; pages = pages }))) (behind count rest))
+    none))
 
 unfoldable pub droppedAt : List ℕ → Option (Begins (Answer Told))
 droppedAt ws = word ws (λ length rest. begins (accepted (dropped (record { length = length }))) rest)

@@ -38,7 +38,8 @@ unfoldable pub atEnd : {A : Type 0} → List ℕ → Option (List A) → Option 
 atEnd [] other = some []
 atEnd (w ∷ ws) other = other
 
--- Words read back, element by element, by what reads one: none where some word is left that begins no element. The number bounds the elements.
+-- Words read back, element by element, by what reads one: none where some word is left that begins no element. The number bounds the
+-- elements.
 unfoldable pub readAll : {A : Type 0} → (List ℕ → Option (Begins A)) → ℕ → List ℕ → Option (List A)
 readAll reader zero ws = atEnd ws none
 readAll reader (suc most) ws = atEnd ws (readOn (reader ws) (λ rest. readAll reader most rest))

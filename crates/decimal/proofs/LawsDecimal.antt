@@ -23,7 +23,8 @@ unfolding allDigits
 digits-step bs i h = rw (add-one i, drop-cons bs i 0 h)
 
 -- their value
-pub value-step : (bs : List ℕ) (v i : ℕ) → i < length bs → valueFrom v (drop i bs) ≡ valueFrom (v * 10 + (getD bs i 0 - 48)) (drop (i + 1) bs)
+pub value-step : (bs : List ℕ) (v i : ℕ) → i < length bs
+    → valueFrom v (drop i bs) ≡ valueFrom (v * 10 + (getD bs i 0 - 48)) (drop (i + 1) bs)
 unfolding valueFrom
 value-step bs v i h = rw (add-one i, drop-cons bs i 0 h)
 

@@ -15,7 +15,8 @@ module _ {A : Type 0} where
   accepted-inj e = cc
 
   -- a test that a call passed did not hold, and the call goes on as after it
-  pub passed : (test : Bool) (number : ℕ) (after : Answer A) {x : A} → refuseIf test number after ≡ accepted x → (test ≡ false) × (after ≡ accepted x)
+  pub passed : (test : Bool) (number : ℕ) (after : Answer A) {x : A} → refuseIf test number after ≡ accepted x
+      → (test ≡ false) × (after ≡ accepted x)
   unfolding refuseIf
   passed true number after e = absurd (refused≢accepted e)
   passed false number after e = (refl, e)
@@ -38,7 +39,8 @@ module _ {A B : Type 0} where
   refused-alike false number a b f e = f e
 
   -- a part that a call passed was accepted, and the call goes on as after it
-  pub went-on : (part : Answer A) (after : A → Answer B) {x : B} → andThen part after ≡ accepted x → (y : A) × (part ≡ accepted y) × (after y ≡ accepted x)
+  pub went-on : (part : Answer A) (after : A → Answer B) {x : B} → andThen part after ≡ accepted x
+      → (y : A) × (part ≡ accepted y) × (after y ≡ accepted x)
   unfolding andThen
   went-on (accepted y) after e = (y, refl, e)
   went-on (refused number) after e = absurd (refused≢accepted e)
@@ -99,7 +101,8 @@ answered-answered g f (accepted x) = refl
 answered-answered g f (refused number) = refl
 
 -- other words for what comes after a part
-pub answered-then : {A B C : Type 0} (f : B → C) (g : A → B) (a : Answer A) → answered f (andThen a (λ x. accepted (g x))) ≡ answered (λ x. f (g x)) a
+pub answered-then : {A B C : Type 0} (f : B → C) (g : A → B) (a : Answer A)
+    → answered f (andThen a (λ x. accepted (g x))) ≡ answered (λ x. f (g x)) a
 unfolding answered andThen
 answered-then f g (accepted x) = refl
 answered-then f g (refused number) = refl

@@ -41,7 +41,8 @@ unfolding answered
 number-answered f (accepted x) = refl
 number-answered f (refused number) = refl
 
-pub told-answered : {A B C : Type 0} (g : B → C) (f : A → B) (before : C) (a : Answer A) → told g (answered f a) before ≡ told (λ x. g (f x)) a before
+pub told-answered : {A B C : Type 0} (g : B → C) (f : A → B) (before : C) (a : Answer A)
+    → told g (answered f a) before ≡ told (λ x. g (f x)) a before
 unfolding answered
 told-answered g f before (accepted x) = refl
 told-answered g f before (refused number) = refl

@@ -64,7 +64,8 @@ pub extern "C" fn ouriscado_push_free_head(
     off: u64,
 ) -> u32
     ensures number { λ r. ⌜ r ≡ refusalOf (pushFree class off (lists (now (body .entry)) (now (heads .entry)))) ⌝ }
-    ensures lists { λ r. ⌜ lists (now (body .exit)) (now (heads .exit)) ≡ after (pushFree class off (lists (now (body .entry)) (now (heads .entry)))) (lists (now (body .entry)) (now (heads .entry))) ⌝ }
+    ensures lists { λ r. ⌜ lists (now (body .exit)) (now (heads .exit))
+        ≡ after (pushFree class off (lists (now (body .entry)) (now (heads .entry)))) (lists (now (body .entry)) (now (heads .entry))) ⌝ }
 {
     let answer = scripthash_free::push_lent(body, heads, class, off);
     answer.refusal()
@@ -80,8 +81,10 @@ pub extern "C" fn ouriscado_pop_free_head(
     off: &mut u64,
 ) -> u32
     ensures number { λ r. ⌜ r ≡ refusalOf (popFree class mark (lists (now (body .entry)) (now (heads .entry)))) ⌝ }
-    ensures heads { λ r. ⌜ now (heads .exit) ≡ headsAfter (popFree class mark (lists (now (body .entry)) (now (heads .entry)))) (now (heads .entry)) ⌝ }
-    ensures off { λ r. ⌜ now (off .exit) ≡ told (λ p. Option·getD (p .block) 0) (popFree class mark (lists (now (body .entry)) (now (heads .entry)))) 0 ⌝ }
+    ensures heads { λ r. ⌜ now (heads .exit)
+        ≡ headsAfter (popFree class mark (lists (now (body .entry)) (now (heads .entry)))) (now (heads .entry)) ⌝ }
+    ensures off { λ r. ⌜ now (off .exit)
+        ≡ told (λ p. Option·getD (p .block) 0) (popFree class mark (lists (now (body .entry)) (now (heads .entry)))) 0 ⌝ }
 {
     let answer = scripthash_free::pop_lent(body, heads, class, mark);
     put_block(answer, off)
@@ -96,7 +99,8 @@ pub extern "C" fn ouriscado_carve_gap_into_freelist(
     to: u64,
 ) -> u32
     ensures number { λ r. ⌜ r ≡ refusalOf (carveGap from to (lists (now (body .entry)) (now (heads .entry)))) ⌝ }
-    ensures lists { λ r. ⌜ lists (now (body .exit)) (now (heads .exit)) ≡ after (carveGap from to (lists (now (body .entry)) (now (heads .entry)))) (lists (now (body .entry)) (now (heads .entry))) ⌝ }
+    ensures lists { λ r. ⌜ lists (now (body .exit)) (now (heads .exit))
+        ≡ after (carveGap from to (lists (now (body .entry)) (now (heads .entry)))) (lists (now (body .entry)) (now (heads .entry))) ⌝ }
 {
     let answer = scripthash_free::carve_lent(body, heads, from, to);
     answer.refusal()

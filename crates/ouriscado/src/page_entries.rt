@@ -6,7 +6,8 @@ ghost use Rattle.error.specs.Refusal.{refusalOf, told};
 ghost use Rattle.scripthash_stream.specs.Stream.{afterDecode};
 ghost use Rattle.scripthash_stream.specs.Answers.{scanAnswer, bytesAnswer};
 ghost use Rattle.scripthash_fields.specs.Page.{nextOff};
-ghost use Rattle.scripthash_pages.specs.Entries.{pageScan, lastOf, pageEntries, readCount, appendSpot, hasSpot, afterAppend, writeStream, afterWriteStream};
+ghost use Rattle.scripthash_pages.specs.Entries.{pageScan, lastOf, pageEntries, readCount, appendSpot, hasSpot, afterAppend, writeStream};
+ghost use Rattle.scripthash_pages.specs.Entries.{afterWriteStream};
 ghost use Rattle.scripthash_answers.specs.EntryAnswers.{tryAnswer};
 use crate::stream::put_bytes;
 use scripthash_answers::PageEntries;
@@ -84,7 +85,8 @@ pub extern "C" fn ouriscado_sh_page_decode_slice_into(
     ensures number { λ r. ⌜ r ≡ refusalOf (pageEntries (length (now (out .entry))) (now (page .entry))) ⌝ }
     ensures list { λ r. ⌜ now (out .exit) ≡ afterDecode (now (out .entry)) (pageEntries (length (now (out .entry))) (now (page .entry))) ⌝ }
     ensures count { λ r. ⌜ now (count .exit) ≡ told readCount (pageEntries (length (now (out .entry))) (now (page .entry))) 0 ⌝ }
-    ensures next { λ r. ⌜ now (next .exit) ≡ told (λ _. nextOff (now (page .entry))) (pageEntries (length (now (out .entry))) (now (page .entry))) 0 ⌝ }
+    ensures next { λ r. ⌜ now (next .exit)
+        ≡ told (λ _. nextOff (now (page .entry))) (pageEntries (length (now (out .entry))) (now (page .entry))) 0 ⌝ }
 {
     let got = scripthash_pages::sh_page_decode_slice_into(page, out);
     let PageSlice::Decoded { count: n, next: o } = got else {
@@ -132,7 +134,8 @@ pub extern "C" fn ouriscado_sh_page_write_stream(
     len: &mut usize,
 ) -> u32
     ensures number { λ r. ⌜ r ≡ refusalOf (writeStream (now (page .entry)) (now (fks .entry))) ⌝ }
-    ensures bytes { λ r. ⌜ now (page .exit) ≡ afterWriteStream (now (page .entry)) (now (fks .entry)) (writeStream (now (page .entry)) (now (fks .entry))) ⌝ }
+    ensures bytes { λ r. ⌜ now (page .exit)
+        ≡ afterWriteStream (now (page .entry)) (now (fks .entry)) (writeStream (now (page .entry)) (now (fks .entry))) ⌝ }
     ensures len { λ r. ⌜ now (len .exit) ≡ told (λ x. x) (writeStream (now (page .entry)) (now (fks .entry))) 0 ⌝ }
 {
     let got = scripthash_pages::sh_page_write_stream(page, fks);

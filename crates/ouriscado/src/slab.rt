@@ -16,7 +16,8 @@ pub extern "C" fn ouriscado_encode_slab_payload_into(
     len: &mut usize,
 ) -> u32
     ensures number { λ r. ⌜ r ≡ refusalOf (encodeSlab (length (now (out .entry))) (now (fks .entry))) ⌝ }
-    ensures bytes { λ r. ⌜ now (out .exit) ≡ afterEncodeSlab (now (out .entry)) (now (fks .entry)) (encodeSlab (length (now (out .entry))) (now (fks .entry))) ⌝ }
+    ensures bytes { λ r. ⌜ now (out .exit)
+        ≡ afterEncodeSlab (now (out .entry)) (now (fks .entry)) (encodeSlab (length (now (out .entry))) (now (fks .entry))) ⌝ }
     ensures len { λ r. ⌜ now (len .exit) ≡ told (λ x. x) (encodeSlab (length (now (out .entry))) (now (fks .entry))) 0 ⌝ }
 {
     let got = scripthash_slabs::encode_slab_payload_into(out, fks);
@@ -34,7 +35,8 @@ pub extern "C" fn ouriscado_decode_slab_payload_into(
 ) -> u32
     ensures number { λ r. ⌜ r ≡ refusalOf (decodeSlab (length (now (out .entry))) (now (buf .entry))) ⌝ }
     ensures list { λ r. ⌜ now (out .exit) ≡ afterDecode (now (out .entry)) (decodeSlab (length (now (out .entry))) (now (buf .entry))) ⌝ }
-    ensures used { λ r. ⌜ now (used .exit) ≡ told (λ s. length (s .numbers)) (decodeSlab (length (now (out .entry))) (now (buf .entry))) 0 ⌝ }
+    ensures used { λ r. ⌜ now (used .exit)
+        ≡ told (λ s. length (s .numbers)) (decodeSlab (length (now (out .entry))) (now (buf .entry))) 0 ⌝ }
     ensures len { λ r. ⌜ now (len .exit) ≡ told (λ s. 2 + s .taken) (decodeSlab (length (now (out .entry))) (now (buf .entry))) 0 ⌝ }
 {
     let got = scripthash_slabs::decode_slab_payload_into(buf, out);

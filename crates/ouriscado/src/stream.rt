@@ -31,7 +31,8 @@ pub extern "C" fn ouriscado_encode_fk_delta_stream_into(
     len: &mut usize,
 ) -> u32
     ensures number { λ r. ⌜ r ≡ refusalOf (encodeStream (length (now (out .entry))) (now (fks .entry))) ⌝ }
-    ensures bytes { λ r. ⌜ now (out .exit) ≡ afterEncode (now (out .entry)) (now (fks .entry)) (encodeStream (length (now (out .entry))) (now (fks .entry))) ⌝ }
+    ensures bytes { λ r. ⌜ now (out .exit)
+        ≡ afterEncode (now (out .entry)) (now (fks .entry)) (encodeStream (length (now (out .entry))) (now (fks .entry))) ⌝ }
     ensures len { λ r. ⌜ now (len .exit) ≡ told (λ x. x) (encodeStream (length (now (out .entry))) (now (fks .entry))) 0 ⌝ }
 {
     let got = scripthash_stream::encode_fk_delta_stream_into(out, fks);
@@ -47,7 +48,8 @@ pub extern "C" fn ouriscado_decode_fk_delta_stream_into(
     taken: &mut usize,
 ) -> u32
     ensures number { λ r. ⌜ r ≡ refusalOf (decodeStream (length (now (out .entry))) n (now (buf .entry))) ⌝ }
-    ensures list { λ r. ⌜ now (out .exit) ≡ afterDecode (now (out .entry)) (decodeStream (length (now (out .entry))) n (now (buf .entry))) ⌝ }
+    ensures list { λ r. ⌜ now (out .exit)
+        ≡ afterDecode (now (out .entry)) (decodeStream (length (now (out .entry))) n (now (buf .entry))) ⌝ }
     ensures taken { λ r. ⌜ now (taken .exit) ≡ told (λ s. s .taken) (decodeStream (length (now (out .entry))) n (now (buf .entry))) 0 ⌝ }
 {
     let got = scripthash_stream::decode_fk_delta_stream_into(buf, n, out);

@@ -40,7 +40,8 @@ unfolding streamPlace
 place-length page h = refuse-yes (not (eqb (length page) pageSize)) _ _ (ap not (ne-eqb (length page) pageSize h))
 
 -- and else version and count decide
-pub place-by : (page : List ℕ) (v n : ℕ) → length page ≡ pageSize → getD page 0 0 ≡ v → n ≡ littleEndian (part page 1 2) → streamPlace page ≡ placeBy v n
+pub place-by : (page : List ℕ) (v n : ℕ) → length page ≡ pageSize → getD page 0 0 ≡ v → n ≡ littleEndian (part page 1 2)
+    → streamPlace page ≡ placeBy v n
 unfolding streamPlace field
 place-by page v n long ve ne =
     refuse-no (not (eqb (length page) pageSize)) _ _ (ap not (eq-eqb (length page) pageSize long))
@@ -112,7 +113,8 @@ unfolding pageScan
 scan-yes page p e = then-yes (streamPlace page) _ e
 
 -- a page that scans has a place
-pub scan-placed : (page : List ℕ) (s : Scan) → pageScan page ≡ accepted s → (p : Place) × (streamPlace page ≡ accepted p) × (scan (p .count) (drop (p .off) page) ≡ accepted s)
+pub scan-placed : (page : List ℕ) (s : Scan) → pageScan page ≡ accepted s
+    → (p : Place) × (streamPlace page ≡ accepted p) × (scan (p .count) (drop (p .off) page) ≡ accepted s)
 unfolding pageScan
 scan-placed page s e =
     let got = went-on (streamPlace page) _ e in
@@ -132,7 +134,8 @@ unfolding pageEntries
 entries-no room page e = then-no (pageScan page) _ (scan-no page e)
 
 -- and else the stream's reading decides
-pub entries-yes : (room : ℕ) (page : List ℕ) (p : Place) → streamPlace page ≡ accepted p → pageEntries room page ≡ decodeStream room (p .count) (drop (p .off) page)
+pub entries-yes : (room : ℕ) (page : List ℕ) (p : Place) → streamPlace page ≡ accepted p
+    → pageEntries room page ≡ decodeStream room (p .count) (drop (p .off) page)
 unfolding pageEntries decodeStream
 entries-yes room page p e =
     ap (λ (a : Answer Scan). andThen a (λ s. refuseIf (ltb room (length (s .numbers))) listTooShort (accepted s))) (scan-yes page p e)
@@ -161,6 +164,7 @@ unfolding field
 link-read page = refl
 
 -- what reading tells, from the count and the offset
-pub read-of : (page : List ℕ) (s : Scan) (count next : ℕ) → length (s .numbers) ≡ count → nextOff page ≡ next → pageReadOf page s ≡ record { count = count; next = next }
+pub read-of : (page : List ℕ) (s : Scan) (count next : ℕ) → length (s .numbers) ≡ count → nextOff page ≡ next
+    → pageReadOf page s ≡ record { count = count; next = next }
 unfolding pageReadOf
 read-of page s count next e f = rw (e, f)

@@ -12,7 +12,8 @@ use Rattle.compact.specs.Uleb128.{ulebLen, shortest}
 use Rattle.scripthash_stream.specs.Stream.{Scan, scan, lastFrom, stream, encodeStream}
 use Rattle.scripthash_stream.specs.Stream.{maxOffered}
 use Rattle.scripthash_answers.specs.EntryAnswers.{PageRead}
-use Rattle.scripthash_fields.specs.Page.{setField, countOf, nextOff, deltaVersion, extentVersion, namesExtent, streamOff, streamCap, onPage, onDelta}
+use Rattle.scripthash_fields.specs.Page.{setField, countOf, nextOff, deltaVersion, extentVersion, namesExtent, streamOff, streamCap, onPage}
+use Rattle.scripthash_fields.specs.Page.{onDelta}
 
 -- Where the stream of a page starts, and how many numbers it has.
 pub record Place : Type 0 where
@@ -53,7 +54,8 @@ pub record Spot : Type 0 where
 -- The spot of a number behind a scanned stream; none where the used bytes plus the form's length exceed the capacity.
 unfoldable pub spotBehind : List ℕ → ℕ → Scan → Option Spot
 spotBehind page fk s =
-    cond (ltb (streamCap page) (s .taken + ulebLen (fk - lastOf s))) none (some (record { at = streamOff page + s .taken; difference = fk - lastOf s }))
+    cond (ltb (streamCap page) (s .taken + ulebLen (fk - lastOf s))) none
+    (some (record { at = streamOff page + s .taken; difference = fk - lastOf s }))
 
 -- The spot of a number that is offered to a page, none where the page is full; or a refusal.
 unfoldable pub appendSpot : List ℕ → ℕ → Answer (Option Spot)

@@ -30,7 +30,8 @@ module _ {A : Type 0} where
       ∙ refuse-no (leb (2 ^ 63) n) _ _ (lt-leb (2 ^ 63) n (h .1)) ∙ refuse-no (leb n prev) _ _ (lt-leb n prev (h .0)) ∙ judged-rising n ns after (h .2)
 
   -- an accepted list rises, and what comes after was accepted
-  pub judged-accepted : (prev : ℕ) (ns : List ℕ) (after : Answer A) {x : A} → judged prev ns after ≡ accepted x → Rising (2 ^ 63) prev ns × (after ≡ accepted x)
+  pub judged-accepted : (prev : ℕ) (ns : List ℕ) (after : Answer A) {x : A} → judged prev ns after ≡ accepted x
+      → Rising (2 ^ 63) prev ns × (after ≡ accepted x)
   unfolding judged Rising
   judged-accepted prev [] after e = (tt, e)
   judged-accepted prev (n ∷ ns) after e =
@@ -82,7 +83,8 @@ measured-refused len prev n ns e = judged-refused prev (n ∷ []) (ulebLen (n - 
 -- ---- writing a stream
 
 -- a list that is judged badly is refused
-pub encode-refused : (room : ℕ) (ns : List ℕ) {number : ℕ} → judged 0 ns (accepted (streamLen ns)) ≡ refused number → encodeStream room ns ≡ refused number
+pub encode-refused : (room : ℕ) (ns : List ℕ) {number : ℕ} → judged 0 ns (accepted (streamLen ns)) ≡ refused number
+    → encodeStream room ns ≡ refused number
 unfolding encodeStream
 encode-refused room ns e = judged-refused 0 ns (streamLen ns) _ e
 
@@ -97,7 +99,8 @@ unfolding encodeStream
 encode-short room ns h k = judged-rising 0 ns _ h ∙ refuse-yes (ltb room (streamLen ns)) _ _ (lt-ltb room (streamLen ns) k)
 
 -- an accepted list rises, fits, and takes its stream's length
-pub encode-accepted : (room : ℕ) (ns : List ℕ) {len : ℕ} → encodeStream room ns ≡ accepted len → Rising (2 ^ 63) 0 ns × (streamLen ns ≤ room) × (streamLen ns ≡ len)
+pub encode-accepted : (room : ℕ) (ns : List ℕ) {len : ℕ} → encodeStream room ns ≡ accepted len
+    → Rising (2 ^ 63) 0 ns × (streamLen ns ≤ room) × (streamLen ns ≡ len)
 unfolding encodeStream
 encode-accepted room ns e =
     let rises = judged-accepted 0 ns _ e in

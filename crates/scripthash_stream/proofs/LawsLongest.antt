@@ -13,7 +13,8 @@ use Rattle.compact.specs.Uleb128.{goesOn}
 use Rattle.scripthash_stream.specs.Steps.{total, twoBefore, threeBefore, fourBefore, behindTwo, behindThree, behindFour, Longest}
 use Rattle.scripthash_stream.proofs.LawsTotals.{total-same}
 
--- Of the bytes looked at so far: the least, and the greatest of the smaller of the two before each, of the least of the three before it, and
+-- Of the bytes looked at so far: the least, and the greatest of the smaller of the two before each, of the least of the three before it,
+-- and
 -- of the least of the four before it and itself.
 pub record Looked (buf : List ℕ) (least two three five i : ℕ) : Type 0 where
   pub none : least ≤ getD buf i 0
@@ -61,7 +62,8 @@ longest-none buf from to =
     record { each = λ h. absurd (not-suc-le-zero h); two = λ h. absurd (not-suc-le-zero h); three = λ h. absurd (not-suc-le-zero h) }
 
 -- a length is told
-pub longest-told : (buf : List ℕ) (from to least two three five longest : ℕ) → ((x : ℕ) → from ≤ x → x < to → Looked buf least two three five x)
+pub longest-told : (buf : List ℕ) (from to least two three five longest : ℕ)
+    → ((x : ℕ) → from ≤ x → x < to → Looked buf least two three five x)
     → 0 < least → five < 128 → (longest ≤ 2 → two < 128) → (longest ≤ 3 → three < 128) → Longest buf from to longest
 longest-told buf from to least two three five longest so a d b c =
     record {

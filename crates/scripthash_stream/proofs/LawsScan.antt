@@ -10,7 +10,8 @@ use borrow.Author.Tests.{leb-false, eqb-false, lt-leb, ne-eqb}
 use lib.Dec.{leb, eqb}
 use lib.ListN.{length, take, drop, length-drop}
 use lib.Seq.{take-add, drop-at, drop-drop, length-take-le}
-use Rattle.error.specs.Refusal.{Answer, accepted, refused, refuseIf, andThen, answered, storedFirstZero, storedDifferenceZero, storedSumOverflow, storedBit63}
+use Rattle.error.specs.Refusal.{Answer, accepted, refused, refuseIf, andThen, answered, storedFirstZero, storedDifferenceZero}
+use Rattle.error.specs.Refusal.{storedSumOverflow, storedBit63}
 use Rattle.error.proofs.LawsAnswer.{accepted-inj, passed, went-on, then-yes, then-no}
 use Rattle.buffer.proofs.LawsOrder.{lt-or-ge}
 use Rattle.compact.specs.Uleb128.{Reading, readUleb, ulebLen}
@@ -37,7 +38,8 @@ stored-accepted prev d r e =
     let ne : d .value ≡ 0 → ⊥ = eqb-false (d .value) 0 (none .0) in
     (⊎-elim (λ (p : 0 < d .value). p) (λ (q : d .value ≤ 0). absurd (ne (omega arith))) (lt-or-ge 0 (d .value)), leb-false (2 ^ 63) (prev + d .value) (flag .0), accepted-inj (flag .1))
 
--- What is known of the next number of a stream: it was read as a difference, is above the one before, below 2 ^ 63, and takes bytes that are there.
+-- What is known of the next number of a stream: it was read as a difference, is above the one before, below 2 ^ 63, and takes bytes that
+-- are there.
 pub record Next (prev : ℕ) (bs : List ℕ) (r : Reading) : Type 0 where
   pub read : readUleb bs ≡ accepted (record { value = r .value - prev; len = r .len })
   pub above : prev < r .value
@@ -51,7 +53,8 @@ next-accepted prev bs r e =
     let got = went-on (readUleb bs) (storedNumber prev) e in
     known (got .0) (got .1) (stored-accepted prev (got .0) r (got .2))
   where
-    known : (d : Reading) → readUleb bs ≡ accepted d → (0 < d .value) × (prev + d .value < 2 ^ 63) × (record { value = prev + d .value; len = d .len } ≡ r) → Next prev bs r
+    known : (d : Reading) → readUleb bs ≡ accepted d
+        → (0 < d .value) × (prev + d .value < 2 ^ 63) × (record { value = prev + d .value; len = d .len } ≡ r) → Next prev bs r
     known d e w =
         let a = read-accepted bs d e in
         let v : prev + d .value ≡ r .value = ap (λ (x : Reading). x .value) (w .2) in
@@ -76,7 +79,8 @@ unfolding nextNumber
 next-refused prev bs e = then-no (readUleb bs) (storedNumber prev) e
 
 -- bytes after a number's form don't matter
-pub next-same : (prev : ℕ) (bs rest : List ℕ) (r : Reading) → nextNumber prev bs ≡ accepted r → nextNumber prev (take (r .len) bs ++ rest) ≡ accepted r
+pub next-same : (prev : ℕ) (bs rest : List ℕ) (r : Reading) → nextNumber prev bs ≡ accepted r
+    → nextNumber prev (take (r .len) bs ++ rest) ≡ accepted r
 next-same prev bs rest r e =
     let n = next-accepted prev bs r e in
     let d : Reading = record { value = r .value - prev; len = r .len } in
@@ -101,7 +105,8 @@ scan-step prev k bs s e =
     record { first = got .0; rest = more .0; next = got .1; more = more .1; whole = sym (accepted-inj (more .2)) }
 
 -- a number that reads, and a scan behind it
-pub scan-cons : (prev k : ℕ) (bs : List ℕ) (r : Reading) (s : Scan) → nextNumber prev bs ≡ accepted r → scanFrom (r .value) k (drop (r .len) bs) ≡ accepted s
+pub scan-cons : (prev k : ℕ) (bs : List ℕ) (r : Reading) (s : Scan) → nextNumber prev bs ≡ accepted r
+    → scanFrom (r .value) k (drop (r .len) bs) ≡ accepted s
     → scanFrom prev (suc k) bs ≡ accepted (record { numbers = r .value ∷ s .numbers; taken = r .len + s .taken })
 unfolding scanFrom andThen
 scan-cons prev k bs r s e f = rw (e, f)
@@ -136,7 +141,8 @@ unfolding scanFrom Rising streamLenFrom
 scan-accepted prev zero bs s e = rw (sym (accepted-inj e)) (record { counted = refl; rising = tt; within = omega arith; at-least = omega arith })
 scan-accepted prev (suc k) bs s e = behind (scan-step prev k bs s e) (λ r t f. scan-accepted (r .value) k (drop (r .len) bs) t f)
   where
-    behind : (w : Step prev k bs s) → ((r : Reading) (t : Scan) → scanFrom (r .value) k (drop (r .len) bs) ≡ accepted t → Scanned (r .value) k (drop (r .len) bs) t)
+    behind : (w : Step prev k bs s)
+        → ((r : Reading) (t : Scan) → scanFrom (r .value) k (drop (r .len) bs) ≡ accepted t → Scanned (r .value) k (drop (r .len) bs) t)
         → Scanned prev (suc k) bs s
     behind w ih =
         let n = next-accepted prev bs (w .first) (w .next) in
@@ -151,7 +157,8 @@ scan-accepted prev (suc k) bs s e = behind (scan-step prev k bs s e) (λ r t f. 
         })
 
 -- bytes after the stream don't matter
-pub scan-same : (prev k : ℕ) (bs rest : List ℕ) (s : Scan) → scanFrom prev k bs ≡ accepted s → scanFrom prev k (take (s .taken) bs ++ rest) ≡ accepted s
+pub scan-same : (prev k : ℕ) (bs rest : List ℕ) (s : Scan) → scanFrom prev k bs ≡ accepted s
+    → scanFrom prev k (take (s .taken) bs ++ rest) ≡ accepted s
 unfolding scanFrom
 scan-same prev zero bs rest s e = e
 scan-same prev (suc k) bs rest s e = behind (scan-step prev k bs s e) (λ r t more f. scan-same (r .value) k (drop (r .len) bs) more t f)

@@ -69,12 +69,14 @@ unfolding QuickEnd
 quick-end-none a h = absurd (not-suc-le-zero h)
 
 -- some bytes tell the scan's end
-pub quick-end-some : (taken last : ℕ) (a : Answer End) → QuickEnd taken last a → 0 < taken → accepted (record { taken = taken; last = last }) ≡ a
+pub quick-end-some : (taken last : ℕ) (a : Answer End) → QuickEnd taken last a → 0 < taken
+    → accepted (record { taken = taken; last = last }) ≡ a
 unfolding QuickEnd
 quick-end-some taken last a q h = sym (q h)
 
 -- a quick scan of the first numbers, and one of those behind them
-pub quick-end-parts : (n lead from prev taken last : ℕ) (buf : List ℕ) → lead ≤ n → 0 < from → QuickEnd from prev (answered (endFrom 0) (scan lead buf))
+pub quick-end-parts : (n lead from prev taken last : ℕ) (buf : List ℕ) → lead ≤ n → 0 < from
+    → QuickEnd from prev (answered (endFrom 0) (scan lead buf))
     → QuickEnd taken last (endsFrom from prev (n - lead) (drop from buf)) → QuickEnd taken last (answered (endFrom 0) (scan n buf))
 unfolding QuickEnd
 quick-end-parts n lead from prev taken last buf few some q r h =

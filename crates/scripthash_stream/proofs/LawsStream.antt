@@ -15,7 +15,8 @@ use Rattle.error.proofs.LawsAnswer.{passed}
 use Rattle.compact.specs.Uleb128.{Reading, readUleb, ulebLen, shortest}
 use Rattle.compact.proofs.LawsLength.{length-shortest, len-at-most}
 use Rattle.compact.proofs.LawsRead.{read-shortest}
-use Rattle.scripthash_stream.specs.Stream.{Rising, lastFrom, streamFrom, streamLenFrom, judged, nextNumber, storedNumber, Scan, scanFrom}
+use Rattle.scripthash_stream.specs.Stream.{Rising, lastFrom, streamFrom, streamLenFrom, judged, nextNumber, storedNumber, Scan}
+use Rattle.scripthash_stream.specs.Stream.{scanFrom}
 use Rattle.scripthash_stream.proofs.LawsScan.{stored-sum, next-is, scan-cons}
 
 -- ---- lists
@@ -56,13 +57,15 @@ unfolding streamFrom lastFrom
 stream-append prev [] ns = refl
 stream-append prev (m ∷ ms) ns = rw (stream-append m ms ns, append-assoc)
 
-pub stream-len-append : (prev : ℕ) (ms ns : List ℕ) → streamLenFrom prev (ms ++ ns) ≡ streamLenFrom prev ms + streamLenFrom (lastFrom prev ms) ns
+pub stream-len-append : (prev : ℕ) (ms ns : List ℕ)
+    → streamLenFrom prev (ms ++ ns) ≡ streamLenFrom prev ms + streamLenFrom (lastFrom prev ms) ns
 unfolding streamLenFrom lastFrom
 stream-len-append prev [] ns = rw zero-add
 stream-len-append prev (m ∷ ms) ns = rw (stream-len-append m ms ns, add-assoc)
 
 -- the stream of a list with one more number is the stream and that difference's form
-pub stream-snoc : (prev : ℕ) (ns : List ℕ) (n : ℕ) → streamFrom prev (ns ++ (n ∷ [])) ≡ streamFrom prev ns ++ shortest (n - lastFrom prev ns)
+pub stream-snoc : (prev : ℕ) (ns : List ℕ) (n : ℕ)
+    → streamFrom prev (ns ++ (n ∷ [])) ≡ streamFrom prev ns ++ shortest (n - lastFrom prev ns)
 unfolding streamFrom
 stream-snoc prev ns n = stream-append prev ns (n ∷ []) ∙ ap (λ (l : List ℕ). streamFrom prev ns ++ l) (append-nil (shortest (n - lastFrom prev ns)))
 

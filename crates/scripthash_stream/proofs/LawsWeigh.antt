@@ -1,4 +1,5 @@
--- Forms weighed together: the weights of a byte add up to the power of 128 that its place in its form has, so that the weights of the bytes of some forms
+-- Forms weighed together: the weights of a byte add up to the power of 128 that its place in its form has, so that the weights of the bytes
+-- of some forms
 -- sum up to the differences. By induction on the bytes. Assumes nothing.
 use Prim.Native.Nat.{ℕ, zero, suc, _+_, _-_, _*_, _^_, _≤_, _<_}
 use mathlib.Core.Bool.{true, false, _&&_, false≢true}
@@ -14,7 +15,8 @@ use Rattle.error.specs.Refusal.{Answer, accepted}
 use Rattle.buffer.proofs.LawsOrder.{lt-or-ge}
 use Rattle.compact.specs.Uleb128.{goesOn, piece}
 use Rattle.scripthash_stream.specs.Stream.{End}
-use Rattle.scripthash_stream.specs.Steps.{endsFrom, total, endAt, oneBefore, twoBefore, threeBefore, fourBefore, pieceAt, behindOne, behindTwo, behindThree, behindFour, weighed, Longest}
+use Rattle.scripthash_stream.specs.Steps.{endsFrom, total, endAt, oneBefore, twoBefore, threeBefore, fourBefore, pieceAt, behindOne}
+use Rattle.scripthash_stream.specs.Steps.{behindTwo, behindThree, behindFour, weighed, Longest}
 use Rattle.scripthash_stream.proofs.LawsForms.{Carried, form-start, form-on, form-last}
 use Rattle.scripthash_stream.proofs.LawsScanEnd.{ends-next, ends-now}
 use Rattle.scripthash_stream.proofs.LawsSums.{next-sum}
@@ -25,8 +27,10 @@ pub data Within (bs : List ℕ) (i : ℕ) : ℕ → Type 0 where
   first : oneBefore bs i ≡ false → Within bs i 0
   second : oneBefore bs i ≡ true → goesOn (getD bs (i - 2) 0) ≡ false → Within bs i 1
   third : oneBefore bs i ≡ true → goesOn (getD bs (i - 2) 0) ≡ true → goesOn (getD bs (i - 3) 0) ≡ false → Within bs i 2
-  fourth : oneBefore bs i ≡ true → goesOn (getD bs (i - 2) 0) ≡ true → goesOn (getD bs (i - 3) 0) ≡ true → goesOn (getD bs (i - 4) 0) ≡ false → Within bs i 3
-  fifth : oneBefore bs i ≡ true → goesOn (getD bs (i - 2) 0) ≡ true → goesOn (getD bs (i - 3) 0) ≡ true → goesOn (getD bs (i - 4) 0) ≡ true → Within bs i 4
+  fourth : oneBefore bs i ≡ true → goesOn (getD bs (i - 2) 0) ≡ true → goesOn (getD bs (i - 3) 0) ≡ true
+      → goesOn (getD bs (i - 4) 0) ≡ false → Within bs i 3
+  fifth : oneBefore bs i ≡ true → goesOn (getD bs (i - 2) 0) ≡ true → goesOn (getD bs (i - 3) 0) ≡ true → goesOn (getD bs (i - 4) 0) ≡ true
+      → Within bs i 4
 
 -- What the byte at place i adds.
 abbrev weightAt : List ℕ → ℕ → ℕ
@@ -74,14 +78,16 @@ module _ (bs : List ℕ) (i : ℕ) (l : 4 ≤ i) where
   back-4 : goesOn (getD bs (i + 1 - 4) 0) ≡ goesOn (getD bs (i - 3) 0)
   back-4 = let e : i + 1 - 4 ≡ i - 3 = omega arith in ap (λ (x : ℕ). goesOn (getD bs x 0)) e
 
-  within-on : goesOn (getD bs i 0) ≡ true → fourBefore bs i && goesOn (getD bs i 0) ≡ false → (j : ℕ) → Within bs i j → Within bs (i + 1) (j + 1)
+  within-on : goesOn (getD bs i 0) ≡ true → fourBefore bs i && goesOn (getD bs i 0) ≡ false → (j : ℕ) → Within bs i j
+      → Within bs (i + 1) (j + 1)
   within-on g s _ (first e) = second (back-1 ∙ g) (back-2 ∙ e)
   within-on g s _ (second e f) = third (back-1 ∙ g) (back-2 ∙ e) (back-3 ∙ f)
   within-on g s _ (third e f h) = fourth (back-1 ∙ g) (back-2 ∙ e) (back-3 ∙ f) (back-4 ∙ h)
   within-on g s _ (fourth e f h k) = fifth (back-1 ∙ g) (back-2 ∙ e) (back-3 ∙ f) (back-4 ∙ h)
   within-on g s _ (fifth e f h k) = absurd (false≢true (sym (rw (e, f, h, k, g) at s)))
 
--- Bytes are weighed from a place on, with a sum before them, and place i is next: what is known of the form there, which begins at `off` and has j bytes
+-- Bytes are weighed from a place on, with a sum before them, and place i is next: what is known of the form there, which begins at `off`
+-- and has j bytes
 -- before i, and that k forms ended.
 pub record Midway (buf : List ℕ) (from sum count i : ℕ) (a : Answer End) : Type 0 where
   pub off : ℕ
@@ -98,7 +104,8 @@ pub record Midway (buf : List ℕ) (from sum count i : ℕ) (a : Answer End) : T
   pub none : j ≡ 0 → acc ≡ 0
 
 -- before the first byte
-pub midway-start : (buf : List ℕ) (from sum count : ℕ) → getD buf (from - 1) 0 < 128 → Midway buf from sum count from (endsFrom from sum count (drop from buf))
+pub midway-start : (buf : List ℕ) (from sum count : ℕ) → getD buf (from - 1) 0 < 128
+    → Midway buf from sum count from (endsFrom from sum count (drop from buf))
 midway-start buf from sum count h =
     record {
       off = from;
@@ -149,7 +156,8 @@ module _ (buf : List ℕ) (from sum count i : ℕ) (a : Answer End) (w : Midway 
       }
 
   -- a form's last byte
-  midway-last : byte < 128 → 0 < byte → w .k < count → sum + weighed buf (i + 1) < 2 ^ 63 + weighed buf from → Midway buf from sum count (i + 1) a
+  midway-last : byte < 128 → 0 < byte → w .k < count → sum + weighed buf (i + 1) < 2 ^ 63 + weighed buf from
+      → Midway buf from sum count (i + 1) a
   midway-last b p m t =
       let off : goesOn byte ≡ false = lt-leb 128 byte b in
       let index = index-most buf i (w .j) (w .within) in
@@ -213,7 +221,8 @@ module _ (buf : List ℕ) (from sum count to longest more : ℕ) (l : 4 ≤ from
       (omega (arith, weighed-rises buf (i + 1) to (omega arith))))
       (λ (b : 128 ≤ getD buf i 0). midway-on buf from sum count i a w (omega arith) (omega arith) b (h .1)) (lt-or-ge (getD buf i 0) 128)
 
-  midway-end : (a : Answer End) → getD buf (to - 1) 0 < 128 → Midway buf from sum count to a → a ≡ accepted (record { taken = to; last = sum + more })
+  midway-end : (a : Answer End) → getD buf (to - 1) 0 < 128 → Midway buf from sum count to a
+      → a ≡ accepted (record { taken = to; last = sum + more })
   midway-end a e w =
       let start = at-start buf to (w .j) e (w .within) in
       let none = w .none start in

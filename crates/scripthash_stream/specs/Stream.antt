@@ -4,7 +4,8 @@ use mathlib.Core.Bool.{cond, _&&_}
 use mathlib.Core.List.{List, [], _∷_, _++_}
 use lib.Dec.{leb, ltb, eqb}
 use lib.ListN.{length, drop}
-use Rattle.error.specs.Refusal.{Answer, accepted, refused, refuseIf, andThen, offeredFirstZero, offeredBit63, offeredNotRising, doesNotFit, listTooShort}
+use Rattle.error.specs.Refusal.{Answer, accepted, refused, refuseIf, andThen, offeredFirstZero, offeredBit63, offeredNotRising, doesNotFit}
+use Rattle.error.specs.Refusal.{listTooShort}
 use Rattle.error.specs.Refusal.{storedFirstZero, storedDifferenceZero, storedSumOverflow, storedBit63}
 use Rattle.buffer.specs.Bytes.{overwrite}
 use Rattle.compact.specs.Uleb128.{Reading, readUleb, ulebLen, shortest}
@@ -83,7 +84,8 @@ unfoldable pub scanFrom : ℕ → ℕ → List ℕ → Answer Scan
 scanFrom prev zero bs = accepted (record { numbers = []; taken = 0 })
 scanFrom prev (suc k) bs =
     andThen (nextNumber prev bs)
-    (λ r. andThen (scanFrom (r .value) k (drop (r .len) bs)) (λ s. accepted (record { numbers = r .value ∷ s .numbers; taken = r .len + s .taken })))
+    (λ r. andThen (scanFrom (r .value) k (drop (r .len) bs))
+    (λ s. accepted (record { numbers = r .value ∷ s .numbers; taken = r .len + s .taken })))
 
 -- Scanning a stream of a count of numbers.
 abbrev pub scan : ℕ → List ℕ → Answer Scan

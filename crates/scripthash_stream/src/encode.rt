@@ -86,7 +86,8 @@ fn put_fks(out: &mut [u8], fks: &[u64])
 // doesn't fit: one pass that judges and measures, and one that writes.
 pub fn encode_fk_delta_stream_into(out: &mut [u8], fks: &[u64]) -> StreamBytes
     ensures answer { λ r. ⌜ bytesAnswer r ≡ encodeStream (length (now (out .entry))) (now (fks .entry)) ⌝ }
-    ensures bytes { λ r. ⌜ now (out .exit) ≡ afterEncode (now (out .entry)) (now (fks .entry)) (encodeStream (length (now (out .entry))) (now (fks .entry))) ⌝ }
+    ensures bytes { λ r. ⌜ now (out .exit)
+        ≡ afterEncode (now (out .entry)) (now (fks .entry)) (encodeStream (length (now (out .entry))) (now (fks .entry))) ⌝ }
 {
     let got = measure_fks(fks);
     let StreamBytes::Bytes(len) = got else {

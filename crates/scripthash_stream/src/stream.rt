@@ -179,7 +179,8 @@ fn fill_fks(buf: &[u8], n: usize, out: &mut [u64])
 // Reads a stream of n numbers at the start of buf into the start of out: one pass that checks, and one that writes.
 fn decode_in_two_passes(buf: &[u8], n: usize, out: &mut [u64]) -> StreamBytes
     ensures answer { λ r. ⌜ bytesAnswer r ≡ answered (λ s. s .taken) (decodeStream (length (now (out .entry))) n (now (buf .entry))) ⌝ }
-    ensures list { λ r. ⌜ now (out .exit) ≡ afterDecode (now (out .entry)) (decodeStream (length (now (out .entry))) n (now (buf .entry))) ⌝ }
+    ensures list { λ r. ⌜ now (out .exit)
+        ≡ afterDecode (now (out .entry)) (decodeStream (length (now (out .entry))) n (now (buf .entry))) ⌝ }
 {
     let got = scan_by_number(buf, n);
     let ScanStream::Scanned { taken, last: _ } = got else {
@@ -192,10 +193,12 @@ fn decode_in_two_passes(buf: &[u8], n: usize, out: &mut [u64]) -> StreamBytes
     StreamBytes::Bytes(taken)
 }
 
-// Reads a stream of n numbers at the start of buf into the start of out: quickly where that can be, else in two passes, which tell a refusal.
+// Reads a stream of n numbers at the start of buf into the start of out: quickly where that can be, else in two passes, which tell a
+// refusal.
 pub fn decode_fk_delta_stream_into(buf: &[u8], n: usize, out: &mut [u64]) -> StreamBytes
     ensures answer { λ r. ⌜ bytesAnswer r ≡ answered (λ s. s .taken) (decodeStream (length (now (out .entry))) n (now (buf .entry))) ⌝ }
-    ensures list { λ r. ⌜ now (out .exit) ≡ afterDecode (now (out .entry)) (decodeStream (length (now (out .entry))) n (now (buf .entry))) ⌝ }
+    ensures list { λ r. ⌜ now (out .exit)
+        ≡ afterDecode (now (out .entry)) (decodeStream (length (now (out .entry))) n (now (buf .entry))) ⌝ }
 {
     let taken = crate::quick::decode_quickly(buf, n, out);
     if 0 < taken {

@@ -7,7 +7,8 @@ ghost use lib.ListN.{length, drop, getD};
 ghost use Rattle.error.specs.Refusal.{answered};
 ghost use Rattle.compact.specs.Uleb128.{goesOn, piece};
 ghost use Rattle.scripthash_stream.specs.Stream.{scan, endFrom};
-ghost use Rattle.scripthash_stream.specs.Steps.{QuickEnd, endsFrom, total, endOne, endAt, pieceIf, weighedTwo, weighedThree, weighed, Longest};
+ghost use Rattle.scripthash_stream.specs.Steps.{QuickEnd, endsFrom, total, endOne, endAt, pieceIf, weighedTwo, weighedThree, weighed};
+ghost use Rattle.scripthash_stream.specs.Steps.{Longest};
 use crate::quick::StreamEnd;
 use crate::quick::larger;
 use crate::quick::smaller;
@@ -65,11 +66,13 @@ fn step_of(left: usize) -> usize
     left / 16 * 16
 }
 
-// Counts forms that end from a place on, until fewer than 16 of those wanted are left; stops before where too few bytes follow, or where forms
+// Counts forms that end from a place on, until fewer than 16 of those wanted are left; stops before where too few bytes follow, or where
+// forms
 // of six bytes and more are met.
 fn count_forms(buf: &[u8], from: usize, want: usize) -> Counted
     requires { ⌜ from ≤ length (now buf) ⌝ }
-    ensures { λ r. ⌜ (total (endAt (now (buf .entry))) from + want ≡ total (endAt (now (buf .entry))) (r .at) + r .left) × (from ≤ r .at) × (r .at ≤ length (now (buf .entry))) ⌝ }
+    ensures { λ r. ⌜ (total (endAt (now (buf .entry))) from + want ≡ total (endAt (now (buf .entry))) (r .at) + r .left) × (from ≤ r .at)
+        × (r .at ≤ length (now (buf .entry))) ⌝ }
 {
     let mut at = from;
     let mut left = want;
@@ -91,7 +94,8 @@ fn count_forms(buf: &[u8], from: usize, want: usize) -> Counted
 // The place behind so many forms from another place on, or 0 where the bytes end first or the forms are long.
 fn end_of(buf: &[u8], from: usize, want: usize) -> usize
     requires { ⌜ from ≤ length (now buf) ⌝ }
-    ensures { λ r. ⌜ (0 < r → (total (endAt (now (buf .entry))) from + want ≡ total (endAt (now (buf .entry))) r) × (from ≤ r) × (r ≤ length (now (buf .entry)))) ⌝ }
+    ensures { λ r. ⌜ (0 < r → (total (endAt (now (buf .entry))) from + want ≡ total (endAt (now (buf .entry))) r) × (from ≤ r)
+        × (r ≤ length (now (buf .entry)))) ⌝ }
 {
     let counted = count_forms(buf, from, want);
     let mut at = counted.at;
@@ -109,7 +113,8 @@ fn end_of(buf: &[u8], from: usize, want: usize) -> usize
     at
 }
 
-// The bytes of the longest form as far as it matters, 2, 3 or 5, where no byte is 0 and no form has more than five bytes, else 0. A form begins
+// The bytes of the longest form as far as it matters, 2, 3 or 5, where no byte is 0 and no form has more than five bytes, else 0. A form
+// begins
 // with the first byte.
 fn longest_form(buf: &[u8], from: usize, to: usize) -> usize
     requires { ⌜ (4 ≤ from) × (from ≤ to) × (to ≤ length (now buf)) ⌝ }
@@ -232,7 +237,8 @@ fn weigh_five(buf: &[u8], from: usize, to: usize) -> u64
 
 // The weights of at most 512 bytes of forms, by the longest.
 fn weigh_block(buf: &[u8], from: usize, to: usize, longest: usize) -> u64
-    requires { ⌜ (4 ≤ from) × (from ≤ to) × (to ≤ length (now buf)) × (to ≤ from + 512) × (0 < longest) × Longest (now buf) from to longest ⌝ }
+    requires { ⌜ (4 ≤ from) × (from ≤ to) × (to ≤ length (now buf)) × (to ≤ from + 512) × (0 < longest) × Longest (now buf) from to longest
+        ⌝ }
     ensures { λ r. ⌜ (weighed (now (buf .entry)) from + r ≡ weighed (now (buf .entry)) to) × (r + 2 ^ 35 * from ≤ 2 ^ 35 * to) ⌝ }
 {
     if longest <= 2 {
@@ -257,7 +263,8 @@ fn block_end(from: usize, to: usize) -> usize
 
 // The weights of forms: the sum of their differences.
 fn weigh_all(buf: &[u8], from: usize, to: usize, longest: usize) -> u64
-    requires { ⌜ (4 ≤ from) × (from ≤ to) × (to ≤ length (now buf)) × (to ≤ from + 2 ^ 20) × (0 < longest) × Longest (now buf) from to longest ⌝ }
+    requires { ⌜ (4 ≤ from) × (from ≤ to) × (to ≤ length (now buf)) × (to ≤ from + 2 ^ 20) × (0 < longest)
+        × Longest (now buf) from to longest ⌝ }
     ensures { λ r. ⌜ weighed (now (buf .entry)) from + r ≡ weighed (now (buf .entry)) to ⌝ }
 {
     let mut sum: u64 = 0;
@@ -311,7 +318,8 @@ fn leading(buf: &[u8]) -> usize
     4
 }
 
-// Scans a stream of n numbers, four at least, by reading its first forms and weighing the others: tells where it ends, or 0 bytes where it can't
+// Scans a stream of n numbers, four at least, by reading its first forms and weighing the others: tells where it ends, or 0 bytes where it
+// can't
 // be scanned so.
 pub fn scan_by_weights(buf: &[u8], n: usize) -> StreamEnd
     requires { ⌜ 4 ≤ n ⌝ }

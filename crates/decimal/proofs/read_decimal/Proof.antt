@@ -19,7 +19,8 @@ empty [] h = refl
 empty (b ∷ bs) h = absurd (omega arith)
 
 -- what isn't empty is a number where each byte is a digit
-others : (word : List ℕ) (t : Bool) → (length word ≡ 0 → ⊥) → allDigits word ≡ t → readDecimal word ≡ cond t (fitting (valueOf word)) NotANumber
+others : (word : List ℕ) (t : Bool) → (length word ≡ 0 → ⊥) → allDigits word ≡ t
+    → readDecimal word ≡ cond t (fitting (valueOf word)) NotANumber
 unfolding readDecimal isNumber
 others [] t h e = absurd (h refl)
 others (b ∷ bs) t h e = ap (λ (u : Bool). cond u (fitting (valueOf (b ∷ bs))) NotANumber) e

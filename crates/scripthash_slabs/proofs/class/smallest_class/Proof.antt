@@ -1,4 +1,5 @@
--- `smallest_class` answers the class that the rule chooses: outside the range none, within it by the law on lengths in bits. Assumes nothing.
+-- `smallest_class` answers the class that the rule chooses: outside the range none, within it by the law on lengths in bits. Assumes
+-- nothing.
 use Prim.Native.Nat.{ℕ, _-_, _*_, _/_, _^_, _<_}
 use mathlib.Core.Path.{refl, sym}
 use native.Mathlib.Nat.{div-le-self, lt-of-le-of-lt}

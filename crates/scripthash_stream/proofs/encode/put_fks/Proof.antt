@@ -33,7 +33,8 @@ record Turn (fks out : List ℕ) (prev off k : ℕ) : Type 0 where
   makes : overwrite out off (streamFrom prev (drop k fks))
       ≡ overwrite (overwrite out off (shortest (getD fks k 0 - prev))) (off + ulebLen (getD fks k 0 - prev)) (streamFrom (getD fks k 0) (drop (k + 1) fks))
 
-turn : (fks out : List ℕ) (prev off k : ℕ) → k < length fks → Rising (2 ^ 63) prev (drop k fks) → off + streamLenFrom prev (drop k fks) ≤ length out
+turn : (fks out : List ℕ) (prev off k : ℕ) → k < length fks → Rising (2 ^ 63) prev (drop k fks)
+    → off + streamLenFrom prev (drop k fks) ≤ length out
     → Turn fks out prev off k
 unfolding Rising streamFrom streamLenFrom
 turn fks out prev off k h rises fits =
@@ -49,7 +50,8 @@ turn fks out prev off k h rises fits =
     }
 
 -- the next number in a turn of the loop
-here : (c : tie.In-loop Inv-loop μ-loop) → let l = c .before .loop in Turn (c .before .before .before .before .args .fks .now) (l .out) (l .prev) (l .off) (l .k)
+here : (c : tie.In-loop Inv-loop μ-loop)
+    → let l = c .before .loop in Turn (c .before .before .before .before .args .fks .now) (l .out) (l .prev) (l .off) (l .k)
 here c =
     let l = c .before .loop in
     turn (c .before .before .before .before .args .fks .now) (l .out) (l .prev) (l .off) (l .k) (omega arith) (l .inv .1) (omega arith)

@@ -1,4 +1,5 @@
--- `copy_fks` meets its contract. Invariant: what is left to copy, written from k on, makes the list what the contract says. Assumes nothing.
+-- `copy_fks` meets its contract. Invariant: what is left to copy, written from k on, makes the list what the contract says. Assumes
+-- nothing.
 use Prim.Native.Nat.{ℕ, suc, _+_, _-_, _≤_, _<_}
 use mathlib.Core.List.{List, [], _∷_}
 use mathlib.Core.Path.{_≡_, refl, sym, ap, _∙_}

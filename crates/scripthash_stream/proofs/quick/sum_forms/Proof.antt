@@ -1,4 +1,5 @@
--- `sum_forms` meets its contract. Invariant: `Summed` of `LawsSums`; the number of each form that is read is the next of the stream. Assumes nothing.
+-- `sum_forms` meets its contract. Invariant: `Summed` of `LawsSums`; the number of each form that is read is the next of the stream.
+-- Assumes nothing.
 use Prim.Native.Nat.{ℕ, _+_, _-_, _^_, _≤_, _<_}
 use mathlib.Core.List.{List}
 use mathlib.Core.Path.{_≡_, refl, ap, _∙_}

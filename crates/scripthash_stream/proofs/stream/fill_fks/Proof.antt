@@ -50,7 +50,8 @@ module _ (buf : List ℕ) (n : ℕ) (out₀ out : List ℕ) (prev off k : ℕ) (
   left-read : {number : ℕ} → nextNumber prev (drop off buf) ≡ refused number → ⊥
   left-read e = refused≢accepted (sym e ∙ first .next)
 
-left-end : (buf : List ℕ) (n : ℕ) (out₀ out : List ℕ) (prev off k : ℕ) (s : Scan) → n ≤ k → Left buf n out₀ out prev off k s → out ≡ overwrite out₀ 0 (s .numbers)
+left-end : (buf : List ℕ) (n : ℕ) (out₀ out : List ℕ) (prev off k : ℕ) (s : Scan) → n ≤ k → Left buf n out₀ out prev off k s
+    → out ≡ overwrite out₀ 0 (s .numbers)
 unfolding scanFrom
 left-end buf n out₀ out prev off k s h l =
     let none : n - k ≡ 0 = omega arith in

@@ -7,7 +7,8 @@ use native.Mathlib.Omega.{arith}
 use borrow.Author.Needs.{needs}
 use lib.ListN.{length, getD}
 use Rattle.compact.specs.Uleb128.{goesOn}
-use Rattle.scripthash_stream.specs.Steps.{pieceIf, twoBefore, threeBefore, fourBefore, pieceAt, behindOne, behindTwo, behindThree, behindFour}
+use Rattle.scripthash_stream.specs.Steps.{pieceIf, twoBefore, threeBefore, fourBefore, pieceAt, behindOne, behindTwo, behindThree}
+use Rattle.scripthash_stream.specs.Steps.{behindFour}
 use Rattle.scripthash_stream.proofs.LawsTotals.{Adds, adds-start, adds-next}
 use Rattle.scripthash_stream.proofs.weigh.weigh_five.Statement.{statement}
 use Rattle.scripthash_stream.proofs.weigh.weigh_five.Tie as tie
