@@ -1,6 +1,6 @@
 -- A book whose state is ten words. Assumes nothing.
-use mathlib.Core.List.{List}
 use Prim.Native.Nat.{ℕ}
+use mathlib.Core.List.{List}
 use mathlib.Core.Path.{_≡_}
 use Rattle.error.specs.Refusal.{Answer}
 use Rattle.book_rules.specs.Calls.{Told, answerOf, bookAfter}

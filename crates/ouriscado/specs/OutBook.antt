@@ -17,11 +17,11 @@ abbrev pub bookIn : List ℕ → List ℕ → List ℕ → Book
 bookIn body heads words = book body heads (getD words 0 0) (drop 1 words)
 
 -- The pages that a load tells.
-abbrev pub pagesOf : Told → ℕ
-pagesOf (loaded l) = l .pages
-pagesOf (appended a) = 0
-pagesOf (listed l) = 0
-pagesOf (dropped d) = 0
+abbrev pub pagesLoaded : Told → ℕ
+pagesLoaded (loaded l) = l .pages
+pagesLoaded (appended a) = 0
+pagesLoaded (listed l) = 0
+pagesLoaded (dropped d) = 0
 
 -- The place that an append tells.
 abbrev pub newPlace : Told → ShHeadValue
@@ -31,15 +31,15 @@ newPlace (listed l) = Empty
 newPlace (dropped d) = Empty
 
 -- The records rewritten that an append tells.
-abbrev pub rewrittenOf : Told → ℕ
-rewrittenOf (loaded l) = 0
-rewrittenOf (appended a) = a .rewritten
-rewrittenOf (listed l) = 0
-rewrittenOf (dropped d) = 0
+abbrev pub recordsRewritten : Told → ℕ
+recordsRewritten (loaded l) = 0
+recordsRewritten (appended a) = a .rewritten
+recordsRewritten (listed l) = 0
+recordsRewritten (dropped d) = 0
 
 -- The length that a drop tells.
-abbrev pub lengthOf : Told → ℕ
-lengthOf (loaded l) = 0
-lengthOf (appended a) = 0
-lengthOf (listed l) = 0
-lengthOf (dropped d) = d .length
+abbrev pub lengthDropped : Told → ℕ
+lengthDropped (loaded l) = 0
+lengthDropped (appended a) = 0
+lengthDropped (listed l) = 0
+lengthDropped (dropped d) = d .length

@@ -6,7 +6,7 @@ use Rattle.book_rules.specs.Calls.{Told}
 use Rattle.book.specs.Book.{Book, Outcome}
 use Rattle.book.specs.Appends.{appends}
 use Rattle.ouriscado.specs.OutHead.{kindOf, classOf, usedOf, placeOf}
-use Rattle.ouriscado.specs.OutBook.{newPlace, rewrittenOf}
+use Rattle.ouriscado.specs.OutBook.{newPlace, recordsRewritten}
 use Rattle.ouriscado.proofs.LawsBook.{does-words}
 use borrow.Author.Needs.{needs}
 use Rattle.ouriscado.proofs.account_book.ouriscado_book_append.Statement.{statement}
@@ -49,7 +49,7 @@ returns c =
               h .1 .1 .1 .0 ∙ told-same (λ (t : Told). usedOf (newPlace t)) _ (d .told),
               (
                 h .1 .1 .1 .1 .0 ∙ told-same (λ (t : Told). placeOf (newPlace t)) _ (d .told),
-                h .1 .1 .1 .1 .1 ∙ told-same rewrittenOf _ (d .told),
+                h .1 .1 .1 .1 .1 ∙ told-same recordsRewritten _ (d .told),
               ),
             ),
           ),

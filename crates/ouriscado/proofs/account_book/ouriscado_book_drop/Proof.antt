@@ -4,7 +4,7 @@ use Rattle.error.specs.Refusal.{refusalOf}
 use Rattle.error.proofs.LawsOut.{number-answered, told-same}
 use Rattle.book.specs.Book.{Book, Outcome}
 use Rattle.book.specs.Reads.{drops}
-use Rattle.ouriscado.specs.OutBook.{lengthOf}
+use Rattle.ouriscado.specs.OutBook.{lengthDropped}
 use Rattle.ouriscado.proofs.LawsBook.{does-words}
 use borrow.Author.Needs.{needs}
 use Rattle.ouriscado.proofs.account_book.ouriscado_book_drop.Statement.{statement}
@@ -39,7 +39,7 @@ returns c =
       h .0 ∙ ap refusalOf (d .told) ∙ number-answered (λ (o : Outcome). o .told) _,
       (
         d .left,
-        h .1 ∙ told-same lengthOf _ (d .told),
+        h .1 ∙ told-same lengthDropped _ (d .told),
       ),
     )
 

@@ -33,9 +33,10 @@ returns c =
     let s = r .before in
     let a = s .before .before .before .before .before .args in
     let same = book-words (s .state-of .ensures) in
-    let e = r .fresh .ensures in (
+    let e = r .fresh .ensures in
+    let left = ap (λ (ws : List ℕ). bookIn (a .body .now) (r .fresh .last .1 .0) ws) (p .put-state .ensures) ∙ e .1 in (
       c .refusal .ensures ∙ ap refusalOf (e .0) ∙ number-answered (λ (b : Book). tt) _ ∙ ap (λ (b : Book). refusalOf (makesFresh b)) same,
-      ap (λ (ws : List ℕ). bookIn (a .body .now) (r .fresh .last .1 .0) ws) (p .put-state .ensures) ∙ e .1 ∙ ap (λ (b : Book). madeAfter b (makesFresh b)) same,
+      left ∙ ap (λ (b : Book). madeAfter b (makesFresh b)) same,
     )
 
 pub ouriscado-book-fresh-spec : {M : Type 1} → statement M

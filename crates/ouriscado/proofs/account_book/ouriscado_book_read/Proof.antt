@@ -1,12 +1,12 @@
 -- `ouriscado_book_read` hands out what `read` answers, on the state that the words hold. Assumes nothing.
-use mathlib.Core.Path.{_≡_, _∙_, ap}
+use mathlib.Core.Path.{_∙_, ap}
 use lib.ListN.{length}
 use Rattle.error.specs.Refusal.{refusalOf, answered}
 use Rattle.error.proofs.LawsOut.{number-answered, told-answered, told-same}
 use Rattle.book_rules.specs.Calls.{answerOf}
 use Rattle.book.specs.Book.{Book, Outcome}
 use Rattle.book.specs.Reads.{reads, listAfter}
-use Rattle.book.specs.Answers.{Counted, countedOf, readAnswer}
+use Rattle.book.specs.Answers.{Counted, countedOf}
 use Rattle.ouriscado.proofs.LawsBook.{book-words}
 use borrow.Author.Needs.{needs}
 use Rattle.ouriscado.proofs.account_book.ouriscado_book_read.Statement.{statement}

@@ -4,7 +4,7 @@ use Rattle.error.proofs.LawsOut.{number-accepted, number-refused, told-accepted
 use Rattle.book_rules.specs.Calls.{Told}
 use Rattle.book.specs.Answers.{appendAnswer}
 use Rattle.ouriscado.specs.OutHead.{kindOf, classOf, usedOf, placeOf}
-use Rattle.ouriscado.specs.OutBook.{newPlace, rewrittenOf}
+use Rattle.ouriscado.specs.OutBook.{newPlace, recordsRewritten}
 use borrow.Author.Needs.{needs}
 use Rattle.ouriscado.proofs.account_book.put_appended.Statement.{statement}
 use Rattle.ouriscado.proofs.account_book.put_appended.Tie as tie
@@ -34,7 +34,7 @@ returns c =
             h .1 .1 .1 .0 ∙ told-accepted (λ (t : Told). usedOf (newPlace t)) _ yes,
             (
               h .1 .1 .1 .1 ∙ told-accepted (λ (t : Told). placeOf (newPlace t)) _ yes,
-              told-accepted rewrittenOf _ yes,
+              told-accepted recordsRewritten _ yes,
             ),
           ),
         ),
@@ -54,7 +54,7 @@ returns-2 c =
             h .1 .1 .1 .0 ∙ told-refused (λ (t : Told). usedOf (newPlace t)) _ no,
             (
               h .1 .1 .1 .1 ∙ told-refused (λ (t : Told). placeOf (newPlace t)) _ no,
-              told-refused rewrittenOf _ no,
+              told-refused recordsRewritten _ no,
             ),
           ),
         ),

@@ -1,6 +1,5 @@
 -- `put_head` hands out each number of a head value, or nothing but the refusal. Assumes nothing.
-use mathlib.Core.Path.{_≡_, sym, _∙_, ap}
-use Rattle.error.specs.Refusal.{refusalOf}
+use mathlib.Core.Path.{_∙_, ap}
 use Rattle.error.specs.Refusal.{accepted, refused}
 use Rattle.error.proofs.LawsOut.{number-accepted, number-refused, told-accepted, told-refused}
 use Rattle.scripthash_layout.specs.AnswersHead.{unpackAnswer}

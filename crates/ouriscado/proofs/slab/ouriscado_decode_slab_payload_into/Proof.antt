@@ -1,10 +1,8 @@
 -- `ouriscado_decode_slab_payload_into` hands out what `decode_slab_payload_into` answers. Assumes nothing.
-use Prim.Native.Nat.{_+_}
-use mathlib.Core.Path.{_≡_, sym, _∙_, ap}
+use mathlib.Core.Path.{sym, _∙_, ap}
 use lib.ListN.{length}
 use Rattle.error.specs.Refusal.{refusalOf}
 use Rattle.error.proofs.LawsOut.{number-accepted, number-answered, told-accepted, told-answered, told-refused}
-use Rattle.scripthash_stream.specs.Stream.{Scan}
 use Rattle.scripthash_slabs.specs.Slab.{slabListOf}
 use Rattle.scripthash_slabs.specs.Answers.{slabAnswer}
 use borrow.Author.Needs.{needs}

@@ -1,5 +1,5 @@
 -- `ouriscado_write_uleb128_into` hands out what `write_uleb128_into` answers. Assumes nothing.
-use mathlib.Core.Path.{_≡_, sym, _∙_, ap}
+use mathlib.Core.Path.{sym, _∙_, ap}
 use Rattle.error.specs.Refusal.{refusalOf}
 use Rattle.error.proofs.LawsOut.{number-accepted, told-accepted, told-refused}
 use Rattle.compact.specs.Answers.{writeAnswer}
