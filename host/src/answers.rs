@@ -166,11 +166,18 @@ fn lines(place: usize, function: &Function) -> Vec<String> {
     out
 }
 
-/// Writes a file for each function to a folder, with its number as the name: its lines, and after them one with its name.
-pub fn answers(folder: &str) {
-    for (place, function) in functions().enumerate() {
-        let text = lines(place, function).join("\n");
-        let path = format!("{folder}/{place:02}");
-        std::fs::write(&path, format!("{text}\n={}\n", function.name)).unwrap_or_else(|e| panic!("{path}: {e}"));
+/// Writes a file to a folder, with a number as its name: its lines, and after them one with what they are about.
+fn write_file(folder: &str, place: usize, lines: &[String], name: &str) {
+    let path = format!("{folder}/{place:02}");
+    std::fs::write(&path, format!("{}\n={name}\n", lines.join("\n"))).unwrap_or_else(|e| panic!("{path}: {e}"));
+}
+
+/// Writes a file for each function, and behind them, where they are wanted, some with histories of the book.
+pub fn answers(folder: &str, histories: bool) {
+    functions().enumerate().for_each(|(place, function)| write_file(folder, place, &lines(place, function), function.name));
+    if histories {
+        for (k, lines) in crate::lockstep::written_histories().iter().enumerate() {
+            write_file(folder, functions().count() + k, lines, &format!("book, histories {}", k + 1));
+        }
     }
 }

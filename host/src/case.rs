@@ -48,7 +48,7 @@ impl Input {
             parts.push(format!("{} bytes {}", self.bytes.len(), shown_bytes(&self.bytes)));
         }
         if !self.list.is_empty() {
-            parts.push(format!("{} in the list {:x?}", self.list.len(), &self.list[..self.list.len().min(9)]));
+            parts.push(format!("{} in the list {:x?}", self.list.len(), &self.list[..self.list.len().min(4)]));
         }
         if !self.ranges.is_empty() {
             parts.push(format!("{} ranges", self.ranges.len()));
@@ -64,8 +64,8 @@ impl Input {
 /// Some bytes in hexadecimal: the first ones, without the zeros behind them.
 fn shown_bytes(bytes: &[u8]) -> String {
     let end = bytes.iter().rposition(|b| *b != 0).map_or(0, |k| k + 1);
-    let text: Vec<String> = bytes[..end.min(32)].iter().map(|b| format!("{b:02x}")).collect();
-    format!("[{}{}]", text.join(" "), if end > 32 { " .." } else { "" })
+    let text: Vec<String> = bytes[..end.min(16)].iter().map(|b| format!("{b:02x}")).collect();
+    format!("[{}{}]", text.join(" "), if end > 16 { " .." } else { "" })
 }
 
 impl Output {

@@ -199,8 +199,9 @@ mod tests {
             change(&lent);
             wrong(wanted, refusal, &lent)
         };
-        let (none, byte): (fn(&Lent), fn(&Lent)) = (|_| {}, |l| unsafe { *l.bytes().0 = 9 });
-        let (number, range): (fn(&Lent), fn(&Lent)) = (|l| unsafe { *l.list().0 = 9 }, |l| unsafe { *l.ranges().0 = [9, 9] });
+        type Change = fn(&Lent);
+        let none: Change = |_| {};
+        let changes: [Change; 3] = [|l| unsafe { *l.bytes().0 = 9 }, |l| unsafe { *l.list().0 = 9 }, |l| unsafe { *l.ranges().0 = [9, 9] }];
         let mut accepted = Output { numbers: vec![7], ..Output::default() };
         accepted.start(&input);
         accepted.numbers.push(7);
@@ -211,7 +212,7 @@ mod tests {
         for (ours, value, wanted) in [(17, 0, &accepted), (0, 6, &accepted), (36, 0, &refused), (0, 0, &refused), (35, 7, &refused)] {
             assert!(judged(ours, value, none, wanted).is_some());
         }
-        for change in [byte, number, range] {
+        for change in changes {
             assert!(judged(0, 7, change, &accepted).is_some() && judged(35, 0, change, &refused).is_some());
         }
     }

@@ -2,6 +2,7 @@
 mod damage;
 mod history;
 mod pair;
+mod record;
 mod spoil;
 mod tally;
 
@@ -10,10 +11,65 @@ use crate::lockstep::history::History;
 use crate::lockstep::pair::Pair;
 use crate::lockstep::tally::Tally;
 use crate::rng::Rng;
+use std::collections::BTreeSet;
 
 /// Histories in the first round, and in each other.
 const FIRST: u64 = 1500;
 const ROUND: u64 = 20;
+
+/// Histories among which those that are written down are chosen.
+const CANDIDATES: u64 = 16_000;
+/// The most text of a file, how many files there are, and the longest list of a call, which the program has room for.
+const MOST_TEXT: usize = 60_000;
+const FILES: usize = 5;
+const MOST_NUMBERS: usize = 16_384;
+
+/// Histories whose lines a test replays.
+#[cfg(test)]
+const TESTED: u64 = 60;
+
+/// The lines of a short history, their length and what it meets; nothing where a list is too long.
+fn written(number: u64, pair: &mut Pair) -> (Vec<String>, usize, BTreeSet<String>) {
+    let mut tally = Tally::default();
+    let (lines, longest) = History::written(Rng(number << 8), pair, &mut tally, format!("history {number}")).lines();
+    let met = tally.kinds().into_iter().filter(|k| k.1 > 0 && longest <= MOST_NUMBERS).map(|k| k.0).collect();
+    let len = lines.iter().map(|l| l.len() + 1).sum();
+    (lines, len, met)
+}
+
+/// The lines of some short histories, in files, so chosen that they meet what short ones can: each time the one that meets the most that those
+/// before it don't, for its length.
+pub fn written_histories() -> Vec<Vec<String>> {
+    let mut pair = Pair::default();
+    let mut candidates: Vec<(u64, usize, BTreeSet<String>)> = Vec::new();
+    for number in 0..CANDIDATES {
+        let (_, len, met) = written(number, &mut pair);
+        candidates.push((number, len, met));
+    }
+    let (mut met, mut files) = (BTreeSet::new(), Vec::new());
+    let (mut lines, mut text) = (Vec::new(), 0);
+    loop {
+        let worth = |c: &(u64, usize, BTreeSet<String>)| c.2.difference(&met).count() * 1_000_000 / c.1;
+        candidates.retain(|c| worth(c) > 0);
+        let best = candidates.iter().filter(|c| text + c.1 <= MOST_TEXT).max_by_key(|c| worth(c)).cloned();
+        if let Some((number, len, kinds)) = best {
+            met.extend(kinds);
+            text += len;
+            lines.extend(written(number, &mut pair).0);
+            continue;
+        }
+        files.push(std::mem::take(&mut lines));
+        text = 0;
+        if candidates.is_empty() || files.len() == FILES {
+            break;
+        }
+    }
+    let kinds = Tally::default().kinds();
+    kinds.iter().filter(|k| !met.contains(&k.0)).for_each(|k| eprintln!("no history met: {}", k.0));
+    let count: usize = files.iter().map(Vec::len).sum();
+    eprintln!("{count} lines of histories meet {} of {} kinds", met.len(), kinds.len());
+    files
+}
 
 /// Both books, and what their histories met.
 #[derive(Default)]

@@ -66,7 +66,8 @@ fn run(words: &[String]) -> Result<bool, String> {
             Ok(true)
         }
         Some((command, rest)) if command == "answers" => {
-            answers::answers(rest.first().ok_or("a folder is wanted")?);
+            let (folder, rest) = rest.split_first().ok_or("a folder is wanted")?;
+            answers::answers(folder, Flags::of(rest, &[], &["--histories"])?.is_set("--histories"));
             Ok(true)
         }
         _ => Err("there are the commands compare, bench and answers".into()),

@@ -3,6 +3,7 @@ use crate::inputs::rising;
 use crate::lent::Placing;
 use crate::lockstep::damage::{damage, Damaged};
 use crate::lockstep::pair::{Answer, Call, Pair, MOST_BODY, MOST_HEADS};
+use crate::lockstep::record::Record;
 use crate::lockstep::tally::{Before, Tally};
 use crate::rng::Rng;
 use crate::second_book::space::State;
@@ -20,6 +21,8 @@ struct Plan {
     loads: u64,
     drops: u64,
     longest: usize,
+    /// Whether most loads rise by one difference, so that their text is short.
+    even: bool,
     damaged: u64,
 }
 
@@ -27,10 +30,18 @@ struct Plan {
 const ANY: &[u32] = &[0, 0, 3, 6, 7, 8, 13, 14, 20, 28, 35, 42, 49, 56];
 const LONG: &[u32] = &[42, 47];
 
+/// Draws a plan of a history that is written down: a small one.
+fn short_plan(rng: &mut Rng) -> Plan {
+    let (keys, body) = (rng.pick(&[1, 2, 4, 6]), rng.pick(&[8192, 12_288, 16_384, 28_672, 61_440]));
+    let (calls, run, bits) = (rng.pick(&[10, 20, 40]), rng.pick(&[3, 12, 40]), rng.pick(&[ANY, LONG]));
+    let longest = if body > 20_000 { 16_000 } else { 300 };
+    Plan { keys, body, calls, run, bits, loads: 25, drops: 12, longest, even: true, damaged: rng.pick(&[0, 2, 4]) }
+}
+
 /// Draws a plan.
 fn plan(rng: &mut Rng) -> Plan {
     let damaged = rng.pick(&[0, 4, 12, 60]);
-    let common = Plan { keys: 1, body: 8192, calls: 1500, run: 3, bits: ANY, loads: 12, drops: 8, longest: 300, damaged };
+    let common = Plan { keys: 1, body: 8192, calls: 1500, run: 3, bits: ANY, loads: 12, drops: 8, longest: 300, even: false, damaged };
     match rng.below(40) {
         // Many keys in a small body, which is soon full.
         0..10 => Plan { keys: rng.pick(&[2, 5, 20, 64, 200]), body: rng.pick(&[8192, 8192, 12_288, 20_480]), ..common },
@@ -79,24 +90,50 @@ pub struct History<'a> {
     kept: Option<Kept>,
     /// How many calls there still are.
     left: usize,
+    /// The lines of a history that is written down.
+    record: Option<Record>,
 }
 
 /// What went wrong in a history: how many calls there were, and what.
 pub type Ended = Result<u64, (u64, String)>;
 
 impl<'a> History<'a> {
-    /// A fresh book whose body, heads and state held anything.
+    /// A history of a book whose body, heads and state held anything.
     pub fn new(mut rng: Rng, pair: &'a mut Pair, tally: &'a mut Tally, name: String) -> History<'a> {
         let plan = plan(&mut rng);
+        History::of_plan(rng, plan, pair, tally, name)
+    }
+
+    /// One that is written down; its lines are with its end.
+    pub fn written(mut rng: Rng, pair: &'a mut Pair, tally: &'a mut Tally, name: String) -> History<'a> {
+        let plan = short_plan(&mut rng);
+        let mut out = History::of_plan(rng, plan, pair, tally, name);
+        let mut record = Record::default();
+        record.begin(out.pair);
+        out.record = Some(record);
+        out
+    }
+
+    fn of_plan(mut rng: Rng, plan: Plan, pair: &'a mut Pair, tally: &'a mut Tally, name: String) -> History<'a> {
         let fill = rng.pick(&[0u8, 0xa5, 0xff]);
         let placing = rng.pick(&[Placing::End, Placing::Start]);
         pair.begin(vec![fill; plan.body], vec![rng.next(); plan.keys], [rng.next(); 10], placing);
         let lasts = vec![(0, 0); plan.keys];
-        History { rng, pair, tally, plan, name, lasts, bits: 7, run: (0, 0), aimed: (0, 0), kept: None, left: plan.calls }
+        History { rng, pair, tally, plan, name, lasts, bits: 7, run: (0, 0), aimed: (0, 0), kept: None, left: plan.calls, record: None }
     }
 
     /// Runs the history, and tells how many calls there were.
     pub fn run(mut self) -> Ended {
+        self.run_on()
+    }
+
+    /// Runs the history, and gives its lines and the longest list of a call.
+    pub fn lines(mut self) -> (Vec<String>, usize) {
+        self.run_on().unwrap_or_else(|(_, what)| panic!("{}: {what}", self.name));
+        self.record.take().map_or((Vec::new(), 0), |record| (record.lines, record.longest))
+    }
+
+    fn run_on(&mut self) -> Ended {
         let mut made = 1;
         self.call(&Call::Fresh, self.plan.body, self.plan.keys).map_err(|what| (made, what))?;
         while self.left > 0 {
@@ -116,6 +153,9 @@ impl<'a> History<'a> {
         let before = Before { state: self.pair.state, word };
         let answer: Answer = self.pair.call(call, body, heads, &self.name)?;
         self.tally.count(call, &before, &answer, self.pair);
+        if let Some(record) = &mut self.record {
+            record.call(call, body, heads, &answer, self.pair);
+        }
         if answer.refusal == 0 {
             match call {
                 Call::Fresh => self.lasts.fill((0, 0)),
@@ -149,7 +189,7 @@ impl<'a> History<'a> {
         }
         if let Some(kept) = self.kept.take() {
             (self.pair.body, self.pair.heads, self.pair.state, self.lasts) = (kept.body, kept.heads, kept.state, kept.lasts);
-            self.pair.copy();
+            self.rewritten();
         }
         if self.plan.damaged == 0 || self.rng.below(self.plan.damaged) != 0 {
             return;
@@ -168,7 +208,7 @@ impl<'a> History<'a> {
             let name = damage(&mut book, &mut self.rng);
             *self.tally.damages.entry(name).or_default() += 1;
         }
-        self.pair.copy();
+        self.rewritten();
         let word = self.pair.heads[key];
         if self.pair.second.key.end(&self.pair.body, self.pair.state[0].min(self.plan.body as u64), word).is_ok() {
             let key_now = &self.pair.second.key;
@@ -176,6 +216,14 @@ impl<'a> History<'a> {
         }
         self.aimed = (key, 1 + self.rng.below(6));
         self.run.1 = 0;
+    }
+
+    /// Gives ours what was written into the second book's memory.
+    fn rewritten(&mut self) {
+        self.pair.copy();
+        if let Some(record) = &mut self.record {
+            record.written(self.pair);
+        }
     }
 
     /// Any key, of very many one of the first.
@@ -281,6 +329,11 @@ impl<'a> History<'a> {
         };
         let most = 61 - (64 - len.leading_zeros());
         let bits = self.rng.pick(&[0, 3, 7, 8, 14, 20, 35, 49, 56]).min(most);
+        if self.plan.even && self.rng.below(4) != 0 {
+            let step = 1 + self.rng.bits(bits);
+            return Call::Load { key, fks: (1..=len).map(|k| k * step).collect() };
+        }
+        let len = if self.plan.even { len.min(300) } else { len };
         Call::Load { key, fks: rising(&mut self.rng, len as usize, &mut |r| r.bits(bits)) }
     }
 
@@ -288,7 +341,8 @@ impl<'a> History<'a> {
     fn almost_full(&mut self, key: u64) -> Call {
         let before = 4088 * self.rng.below((self.plan.body as u64 / 4096).min(8)) as usize;
         let len = before + 4072 - self.rng.pick(&[0, 0, 1, 2, 9, 20]);
-        Call::Load { key, fks: rising(&mut self.rng, len, &mut |r| 1 + r.below(3)) }
+        let steps = if self.plan.even { 1 } else { 3 };
+        Call::Load { key, fks: rising(&mut self.rng, len, &mut |r| 1 + r.below(steps)) }
     }
 
     /// A call that is turned back for what it is given.

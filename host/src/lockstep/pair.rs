@@ -105,7 +105,8 @@ pub struct Pair {
     pub body: Vec<u8>,
     pub heads: Vec<u64>,
     pub state: State,
-    list: Vec<u64>,
+    /// The list that the last call was offered or lent.
+    pub list: Vec<u64>,
     /// Why the second book turned the last call back.
     pub refused: Option<Refused>,
 }
@@ -115,7 +116,7 @@ struct Running<'a>(&'a Call, &'a str);
 
 impl Saying for Running<'_> {
     fn say(&self) -> String {
-        format!("book, {}: a {:?} touches memory that it wasn't lent", self.1, self.0)
+        format!("book, {}: {:?}: touches memory that it wasn't lent", self.1, self.0)
     }
 }
 
@@ -168,10 +169,10 @@ impl Pair {
         let ours = during(&Running(call, where_), || self.call_ours(call, body, heads, lent));
         let theirs = self.call_second(call, body, heads);
         if ours != theirs {
-            return Err(format!("a {call:?} answers {} {:?} in place of {} {:?}", ours.refusal, ours.told, theirs.refusal, theirs.told));
+            return Err(format!("{call:?}: answers {} {:?} in place of {} {:?}", ours.refusal, ours.told, theirs.refusal, theirs.told));
         }
         match self.left(lent) {
-            Some(what) => Err(format!("a {call:?}, which answers {}, leaves another {what}", ours.refusal)),
+            Some(what) => Err(format!("{call:?}: answers {} and leaves another {what}", ours.refusal)),
             None => Ok(theirs),
         }
     }

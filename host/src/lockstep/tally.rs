@@ -174,7 +174,7 @@ impl Tally {
     }
 
     /// All that must be met, with how often it was.
-    fn kinds(&self) -> Vec<(String, u64)> {
+    pub fn kinds(&self) -> Vec<(String, u64)> {
         let mut out = Vec::new();
         for (kind, refusals) in REFUSALS.iter().enumerate() {
             for &refusal in *refusals {

@@ -1,0 +1,264 @@
+/* Sabotaged functions: each stands in for an exported function, which is then called real_..., and falsifies one thing about it.
+   SABOTAGE says which is compiled; host/sabotage makes an archive of each and has the comparison find it. A comment that begins with a
+   number says what is wrong, and which part of the comparison has to find it. */
+#include <stdbool.h>
+#include <stddef.h>
+#include <stdint.h>
+#include <string.h>
+
+/* Whether a stream of n numbers has a form that is five bytes longer than it need be, or more. */
+static bool padded(const uint8_t *buf, size_t len, size_t n) {
+    for (size_t at = 0; n > 0 && at < len; n--) {
+        size_t start = at, last = at;
+        for (; at < len && buf[at] >= 0x80; at++)
+            if (buf[at] != 0x80) last = at;
+        if (at < len && buf[at] != 0) last = at;
+        at++;
+        if (at - 1 >= last + 5 && at > start) return true;
+    }
+    return false;
+}
+
+#if SABOTAGE == 1
+/* 1 uleb128_len: numbers from 2^63 on have nine bytes */
+size_t real_ouriscado_uleb128_len(uint64_t n);
+size_t ouriscado_uleb128_len(uint64_t n) { return n >> 63 ? 9 : real_ouriscado_uleb128_len(n); }
+
+#elif SABOTAGE == 2
+/* 2 read_uleb128: a form that is padded by five bytes and more is a byte shorter */
+uint32_t real_ouriscado_read_uleb128(const uint8_t *buf, size_t n, uint64_t *value, size_t *len);
+uint32_t ouriscado_read_uleb128(const uint8_t *buf, size_t n, uint64_t *value, size_t *len) {
+    uint32_t number = real_ouriscado_read_uleb128(buf, n, value, len);
+    if (number == 0 && padded(buf, n, 1)) *len -= 1;
+    return number;
+}
+
+#elif SABOTAGE == 3
+/* 3 write_uleb128_into: a refused write leaves its first byte */
+uint32_t real_ouriscado_write_uleb128_into(uint8_t *dst, size_t n, uint64_t v, size_t *len);
+uint32_t ouriscado_write_uleb128_into(uint8_t *dst, size_t n, uint64_t v, size_t *len) {
+    uint32_t number = real_ouriscado_write_uleb128_into(dst, n, v, len);
+    if (number != 0 && n > 0) dst[0] = (uint8_t)(v | 0x80);
+    return number;
+}
+
+#elif SABOTAGE == 4
+/* 4 pack8: a slab's word loses the highest bit of its class */
+uint32_t real_ouriscado_pack8_slab(uint8_t class, uint16_t used, uint64_t off, uint64_t *word);
+uint32_t ouriscado_pack8_slab(uint8_t class, uint16_t used, uint64_t off, uint64_t *word) {
+    uint32_t number = real_ouriscado_pack8_slab(class, used, off, word);
+    if (number == 0) *word &= ~(UINT64_C(1) << 61);
+    return number;
+}
+
+#elif SABOTAGE == 5
+/* 5 unpack8: a refused word still hands out its place */
+uint32_t real_ouriscado_unpack8(uint64_t w, uint8_t *kind, uint8_t *class, uint16_t *used, uint64_t *place);
+uint32_t ouriscado_unpack8(uint64_t w, uint8_t *kind, uint8_t *class, uint16_t *used, uint64_t *place) {
+    uint32_t number = real_ouriscado_unpack8(w, kind, class, used, place);
+    if (number == 28) *place = w & 0xffffffffff;
+    return number;
+}
+
+#elif SABOTAGE == 6
+/* 6 slab_cap: class 32 has four slots, as a release build of the source says */
+uint32_t real_ouriscado_slab_cap(uint8_t class);
+uint32_t ouriscado_slab_cap(uint8_t class) { return class == 32 ? 4 : real_ouriscado_slab_cap(class); }
+
+#elif SABOTAGE == 7
+/* 7 slab_class_for_n_fks_with_slack: 256 numbers have no class */
+bool real_ouriscado_slab_class_for_n_fks_with_slack(uint32_t n, uint8_t *class);
+bool ouriscado_slab_class_for_n_fks_with_slack(uint32_t n, uint8_t *class) {
+    bool some = real_ouriscado_slab_class_for_n_fks_with_slack(n, class);
+    if (n == 256) *class = 0;
+    return some && n != 256;
+}
+
+#elif SABOTAGE == 8
+/* 8 encode_fk_delta_stream_into: a list of over 1,000 numbers is written though its last one doesn't rise */
+uint32_t real_ouriscado_encode_fk_delta_stream_into(uint8_t *out, size_t room, const uint64_t *fks, size_t n, size_t *len);
+uint32_t ouriscado_encode_fk_delta_stream_into(uint8_t *out, size_t room, const uint64_t *fks, size_t n, size_t *len) {
+    uint32_t number = real_ouriscado_encode_fk_delta_stream_into(out, room, fks, n, len);
+    return number == 32 && n > 1000 ? real_ouriscado_encode_fk_delta_stream_into(out, room, fks, n - 1, len) : number;
+}
+
+#elif SABOTAGE == 9
+/* 9 decode_fk_delta_stream_into: the last number is one off where a form is padded by five bytes and more */
+uint32_t real_ouriscado_decode_fk_delta_stream_into(const uint8_t *buf, size_t len, size_t n, uint64_t *out, size_t room, size_t *taken);
+uint32_t ouriscado_decode_fk_delta_stream_into(const uint8_t *buf, size_t len, size_t n, uint64_t *out, size_t room, size_t *taken) {
+    uint32_t number = real_ouriscado_decode_fk_delta_stream_into(buf, len, n, out, room, taken);
+    if (number == 0 && n > 1 && padded(buf, len, n)) out[n - 1] += 1;
+    return number;
+}
+
+#elif SABOTAGE == 10
+/* 10 decode_slab_payload_into: of 256 numbers one is not counted */
+uint32_t real_ouriscado_decode_slab_payload_into(const uint8_t *buf, size_t n, uint64_t *out, size_t room, size_t *used, size_t *len);
+uint32_t ouriscado_decode_slab_payload_into(const uint8_t *buf, size_t n, uint64_t *out, size_t room, size_t *used, size_t *len) {
+    uint32_t number = real_ouriscado_decode_slab_payload_into(buf, n, out, room, used, len);
+    if (number == 0 && *used == 256) *used = 255;
+    return number;
+}
+
+#elif SABOTAGE == 11
+/* 11 sh_page_chunk_ranges: the only part of one number is empty */
+uint32_t real_ouriscado_sh_page_chunk_ranges(const uint64_t *fks, size_t n, size_t (*out)[2], size_t room, size_t *parts);
+uint32_t ouriscado_sh_page_chunk_ranges(const uint64_t *fks, size_t n, size_t (*out)[2], size_t room, size_t *parts) {
+    uint32_t number = real_ouriscado_sh_page_chunk_ranges(fks, n, out, room, parts);
+    if (number == 0 && n == 1) out[0][1] = 0;
+    return number;
+}
+
+#elif SABOTAGE == 12
+/* 12 push_free_head: a refused push answers 36 */
+uint32_t real_ouriscado_push_free_head(uint8_t *body, size_t n, uint64_t *heads, uint8_t class, uint64_t off);
+uint32_t ouriscado_push_free_head(uint8_t *body, size_t n, uint64_t *heads, uint8_t class, uint64_t off) {
+    uint32_t number = real_ouriscado_push_free_head(body, n, heads, class, off);
+    return number == 35 ? 36 : number;
+}
+
+#elif SABOTAGE == 13
+/* 13 carve_gap_into_freelist: a refused gap has its first byte written */
+uint32_t real_ouriscado_carve_gap_into_freelist(uint8_t *body, size_t n, uint64_t *heads, uint64_t from, uint64_t to);
+uint32_t ouriscado_carve_gap_into_freelist(uint8_t *body, size_t n, uint64_t *heads, uint64_t from, uint64_t to) {
+    uint32_t number = real_ouriscado_carve_gap_into_freelist(body, n, heads, from, to);
+    if (number == 35 && from < n) body[from] ^= 1;
+    return number;
+}
+
+#elif SABOTAGE == 14
+/* 14 pop_free_head: a block past the mark is popped */
+uint32_t real_ouriscado_pop_free_head(const uint8_t *body, size_t n, uint64_t *heads, uint8_t class, uint64_t mark, uint64_t *off);
+uint32_t ouriscado_pop_free_head(const uint8_t *body, size_t n, uint64_t *heads, uint8_t class, uint64_t mark, uint64_t *off) {
+    return real_ouriscado_pop_free_head(body, n, heads, class, mark + 16, off);
+}
+
+#elif SABOTAGE == 15
+/* 15 sh_page_set_last: LAST is lost where the first offset is 0 */
+uint32_t real_ouriscado_sh_page_set_last(uint8_t *page, size_t n, uint64_t off);
+uint32_t ouriscado_sh_page_set_last(uint8_t *page, size_t n, uint64_t off) {
+    uint32_t number = real_ouriscado_sh_page_set_last(page, n, off);
+    if (number == 0 && off == 0) page[3] = 0;
+    return number;
+}
+
+#elif SABOTAGE == 16
+/* 16 sh_page_entries_into: the byte behind a page is read */
+uint32_t real_ouriscado_sh_page_entries_into(const uint8_t *page, size_t n, uint64_t *out, size_t room, size_t *count);
+uint32_t ouriscado_sh_page_entries_into(const uint8_t *page, size_t n, uint64_t *out, size_t room, size_t *count) {
+    volatile uint8_t behind = n == 4096 ? ((volatile const uint8_t *)page)[n] : 0;
+    (void)behind;
+    return real_ouriscado_sh_page_entries_into(page, n, out, room, count);
+}
+
+#elif SABOTAGE == 17
+/* 17 sh_page_try_append: a page of version 0 keeps its version */
+uint32_t real_ouriscado_sh_page_try_append(uint8_t *page, size_t n, uint64_t fk, bool *appended);
+uint32_t ouriscado_sh_page_try_append(uint8_t *page, size_t n, uint64_t fk, bool *appended) {
+    uint8_t version = n == 4096 ? page[0] : 1;
+    uint32_t number = real_ouriscado_sh_page_try_append(page, n, fk, appended);
+    if (number == 0 && version == 0) page[0] = 0;
+    return number;
+}
+
+#elif SABOTAGE == 18
+/* 18 sh_page_pack_extent_last_fks: the last byte behind the stream keeps what it held */
+uint32_t real_ouriscado_sh_page_pack_extent_last_fks(uint8_t *page, size_t n, const uint64_t *fks, size_t count, uint64_t base, uint32_t extents, uint64_t next);
+uint32_t ouriscado_sh_page_pack_extent_last_fks(uint8_t *page, size_t n, const uint64_t *fks, size_t count, uint64_t base, uint32_t extents, uint64_t next) {
+    uint8_t held = n == 4096 ? page[4095] : 0;
+    uint32_t number = real_ouriscado_sh_page_pack_extent_last_fks(page, n, fks, count, base, extents, next);
+    if (number == 0 && page[4095] == 0) page[4095] = held;
+    return number;
+}
+
+#elif SABOTAGE == 19
+/* 19 encode_slab_payload_into: an empty list that is null is refused */
+uint32_t real_ouriscado_encode_slab_payload_into(uint8_t *out, size_t room, const uint64_t *fks, size_t n, size_t *len);
+uint32_t ouriscado_encode_slab_payload_into(uint8_t *out, size_t room, const uint64_t *fks, size_t n, size_t *len) {
+    if (fks == NULL) {
+        *len = 0;
+        return 11;
+    }
+    return real_ouriscado_encode_slab_payload_into(out, room, fks, n, len);
+}
+
+#elif SABOTAGE == 20
+/* 20 huge: sh_page_is_last takes a length of 32 bits */
+uint32_t real_ouriscado_sh_page_is_last(const uint8_t *page, size_t n, bool *last);
+uint32_t ouriscado_sh_page_is_last(const uint8_t *page, size_t n, bool *last) {
+    return real_ouriscado_sh_page_is_last(page, (uint32_t)n, last);
+}
+
+#elif SABOTAGE == 21
+/* 21 book: fresh also clears the body's first byte */
+uint32_t real_ouriscado_book_fresh(const uint8_t *body, size_t n, uint64_t *heads, size_t keys, uint64_t *state);
+uint32_t ouriscado_book_fresh(const uint8_t *body, size_t n, uint64_t *heads, size_t keys, uint64_t *state) {
+    uint32_t number = real_ouriscado_book_fresh(body, n, heads, keys, state);
+    if (number == 0) ((uint8_t *)body)[0] = 0;
+    return number;
+}
+
+#elif SABOTAGE == 22
+/* 22 book: a load of more than eight pages reports one page less */
+uint32_t real_ouriscado_book_load(uint8_t *body, size_t n, uint64_t *heads, size_t keys, uint64_t *state, uint64_t key, const uint64_t *fks, size_t count, uint64_t *pages);
+uint32_t ouriscado_book_load(uint8_t *body, size_t n, uint64_t *heads, size_t keys, uint64_t *state, uint64_t key, const uint64_t *fks, size_t count, uint64_t *pages) {
+    uint32_t number = real_ouriscado_book_load(body, n, heads, keys, state, key, fks, count, pages);
+    if (*pages > 8) *pages -= 1;
+    return number;
+}
+
+#elif SABOTAGE == 23
+/* 23 book: an append that moves a list to class 7 clears the slab's last byte */
+uint32_t real_ouriscado_book_append(uint8_t *body, size_t n, uint64_t *heads, size_t keys, uint64_t *state, uint64_t key, uint64_t fk, uint8_t *kind, uint8_t *class, uint16_t *used, uint64_t *place, uint64_t *rewritten);
+uint32_t ouriscado_book_append(uint8_t *body, size_t n, uint64_t *heads, size_t keys, uint64_t *state, uint64_t key, uint64_t fk, uint8_t *kind, uint8_t *class, uint16_t *used, uint64_t *place, uint64_t *rewritten) {
+    uint32_t number = real_ouriscado_book_append(body, n, heads, keys, state, key, fk, kind, class, used, place, rewritten);
+    if (number == 0 && *rewritten > 0 && *kind == 2 && *class == 7) body[*place + 2047] = 0;
+    return number;
+}
+
+#elif SABOTAGE == 24
+/* 24 book: an append leaves creates where a page is full */
+uint32_t real_ouriscado_book_append(uint8_t *body, size_t n, uint64_t *heads, size_t keys, uint64_t *state, uint64_t key, uint64_t fk, uint8_t *kind, uint8_t *class, uint16_t *used, uint64_t *place, uint64_t *rewritten);
+uint32_t ouriscado_book_append(uint8_t *body, size_t n, uint64_t *heads, size_t keys, uint64_t *state, uint64_t key, uint64_t fk, uint8_t *kind, uint8_t *class, uint16_t *used, uint64_t *place, uint64_t *rewritten) {
+    uint64_t before = key < keys ? heads[key] : 0, old = before & ~(UINT64_C(3) << 62);
+    uint8_t creates[4] = {0};
+    if (before >> 62 == 3 && n >= 4096 && old <= n - 4096) memcpy(creates, body + old + 20, 4);
+    uint32_t number = real_ouriscado_book_append(body, n, heads, keys, state, key, fk, kind, class, used, place, rewritten);
+    if (number == 0 && before >> 62 == 3 && *place != old) memcpy(body + old + 20, creates, 4);
+    return number;
+}
+
+#elif SABOTAGE == 25
+/* 25 book: a read of an unsound key into no list answers 34 */
+uint32_t real_ouriscado_book_read(const uint8_t *body, size_t n, const uint64_t *heads, size_t keys, const uint64_t *state, uint64_t key, uint64_t *out, size_t room, uint64_t *length, uint64_t *pages);
+uint32_t ouriscado_book_read(const uint8_t *body, size_t n, const uint64_t *heads, size_t keys, const uint64_t *state, uint64_t key, uint64_t *out, size_t room, uint64_t *length, uint64_t *pages) {
+    uint32_t number = real_ouriscado_book_read(body, n, heads, keys, state, key, out, room, length, pages);
+    return number == 31 && room == 0 ? 34 : number;
+}
+
+#elif SABOTAGE == 26
+/* 26 book: a drop pushes the first two pages the other way round */
+uint32_t real_ouriscado_book_drop(uint8_t *body, size_t n, uint64_t *heads, size_t keys, uint64_t *state, uint64_t key, uint64_t *length);
+uint32_t ouriscado_book_drop(uint8_t *body, size_t n, uint64_t *heads, size_t keys, uint64_t *state, uint64_t key, uint64_t *length) {
+    uint64_t before = key < keys ? heads[key] : 0, old = state[9];
+    uint32_t number = real_ouriscado_book_drop(body, n, heads, keys, state, key, length);
+    if (number != 0 || before >> 62 != 3) return number;
+    /* The list from the top: last, ..., second, first, what was there. */
+    uint64_t above = 0, at = state[9], next;
+    for (memcpy(&next, body + at, 8); next != old; memcpy(&next, body + at, 8)) {
+        uint64_t behind;
+        memcpy(&behind, body + next, 8);
+        if (behind == old) break;
+        above = at;
+        at = next;
+    }
+    if (next == old) return number;
+    memcpy(body + next, &at, 8);
+    memcpy(body + at, &old, 8);
+    if (above == 0) state[9] = next; else memcpy(body + above, &next, 8);
+    return number;
+}
+
+#else
+#error "SABOTAGE names none"
+#endif

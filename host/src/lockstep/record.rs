@@ -1,0 +1,174 @@
+//! Histories as lines, for the program `replay`: what each call was given and answered, and what it changed. host/README.md has the format.
+use crate::lockstep::pair::{Answer, Call, Pair};
+use std::fmt::Write;
+
+/// The number of the first kind of call; a line that says what somebody else wrote, and one that begins a history.
+const FIRST: usize = 0x30;
+const WRITTEN: usize = 0x35;
+const BEGIN: usize = 0x36;
+
+/// A history that is written down, with what the lines so far have left.
+#[derive(Default)]
+pub struct Record {
+    pub lines: Vec<String>,
+    /// The longest list that a call was offered or lent.
+    pub longest: usize,
+    body: Vec<u8>,
+    words: Vec<u64>,
+}
+
+/// A field of numbers: 16 digits and a space each.
+fn numbers(out: &mut String, list: &[u64]) {
+    list.iter().for_each(|n| write!(out, "{n:016x} ").unwrap());
+}
+
+/// A field of a list, by runs of numbers that rise by one difference: the first, the difference, and how many follow the first.
+fn list(out: &mut String, list: &[u64]) {
+    let mut rest = list;
+    while let [first, more @ ..] = rest {
+        let step = more.first().map_or(0, |next| next.wrapping_sub(*first));
+        let follow = rest.windows(2).take_while(|w| w[1].wrapping_sub(w[0]) == step).count();
+        numbers(out, &[*first, step, follow as u64]);
+        rest = &rest[1 + follow..];
+    }
+}
+
+/// The words of a pair: the state's ten, then the heads.
+fn words_of(pair: &Pair) -> Vec<u64> {
+    [&pair.state[..], &pair.heads].concat()
+}
+
+impl Record {
+    /// The first line: a body of zeros and heads of 0, and then what they hold.
+    pub fn begin(&mut self, pair: &Pair) {
+        self.body = vec![0; pair.body.len()];
+        self.words = vec![0; 10 + pair.heads.len()];
+        let head = format!("{BEGIN:02x}00{:04x}|{:016x} |||", pair.body.len(), pair.heads.len());
+        self.line(head, pair);
+    }
+
+    /// What was written between calls.
+    pub fn written(&mut self, pair: &Pair) {
+        let head = format!("{WRITTEN:02x}00{:04x}||||", pair.body.len());
+        self.line(head, pair);
+    }
+
+    /// A call on so much of body and heads.
+    pub fn call(&mut self, call: &Call, body: usize, heads: usize, answer: &Answer, pair: &Pair) {
+        let mut out = format!("{:02x}{:02x}{body:04x}|{heads:016x} ", FIRST + call.kind(), answer.refusal);
+        self.longest = self.longest.max(pair.list.len());
+        let (given, offered, told): (&[u64], &[u64], usize) = match call {
+            Call::Fresh => (&[], &[], 0),
+            Call::Load { key, fks } => (&[*key], fks, 1),
+            Call::Append { key, fk } => (&[*key, *fk], &[], 5),
+            Call::Read { key, room } => (&[*key, *room as u64], &[], 2),
+            Call::Drop { key } => (&[*key], &[], 1),
+        };
+        numbers(&mut out, given);
+        out.push('|');
+        list(&mut out, offered);
+        out.push('|');
+        numbers(&mut out, &answer.told[..told]);
+        out.push('|');
+        if let (Call::Read { .. }, 0) = (call, answer.refusal) {
+            list(&mut out, &pair.list[..answer.told[0] as usize]);
+        }
+        self.line(out, pair);
+    }
+
+    /// Ends a line with what changed: parts of the body, each with its offset, how many runs it has and the runs; and words with their places.
+    fn line(&mut self, mut out: String, pair: &Pair) {
+        out.push('|');
+        let changed: Vec<usize> = (0..self.body.len()).filter(|&k| self.body[k] != pair.body[k]).collect();
+        for part in changed.chunk_by(|a, b| a + 1 == *b) {
+            let bytes = &pair.body[part[0]..part[0] + part.len()];
+            let runs: Vec<&[u8]> = bytes.chunk_by(|a, b| a == b).flat_map(|run| run.chunks(256)).collect();
+            write!(out, "{:04x}{:04x}", part[0], runs.len()).unwrap();
+            runs.iter().for_each(|run| write!(out, "{:02x}{:02x}", run.len() - 1, run[0]).unwrap());
+        }
+        out.push('|');
+        let words = words_of(pair);
+        for (place, word) in words.iter().enumerate().filter(|(place, word)| self.words[*place] != **word) {
+            numbers(&mut out, &[place as u64, *word]);
+        }
+        self.lines.push(out);
+        self.body.clone_from(&pair.body);
+        self.words = words;
+    }
+}
+
+#[cfg(test)]
+mod tests {
+    use crate::lent::Placing;
+    use crate::lockstep::pair::{Call, Pair};
+    use crate::lockstep::{written, TESTED};
+
+    fn hex(text: &str) -> u64 {
+        u64::from_str_radix(text, 16).unwrap()
+    }
+
+    fn numbers(field: &str) -> Vec<u64> {
+        field.split_whitespace().map(hex).collect()
+    }
+
+    /// The list of a field: the first of each run, and those that follow.
+    fn list(field: &str) -> Vec<u64> {
+        numbers(field).chunks(3).flat_map(|run| (0..=run[2]).map(|k| run[0].wrapping_add(k.wrapping_mul(run[1])))).collect()
+    }
+
+    /// Makes body, state and heads hold what the last two fields of a line change.
+    fn change(fields: &[&str], body: &mut [u8], words: &mut [u64]) {
+        let mut rest = fields[5];
+        while !rest.is_empty() {
+            let (mut at, runs) = (hex(&rest[..4]) as usize, hex(&rest[4..8]) as usize);
+            for run in rest.as_bytes()[8..8 + 4 * runs].chunks(4) {
+                let (len, byte) = (hex(std::str::from_utf8(&run[..2]).unwrap()) as usize + 1, hex(std::str::from_utf8(&run[2..]).unwrap()));
+                body[at..at + len].fill(byte as u8);
+                at += len;
+            }
+            rest = &rest[8 + 4 * runs..];
+        }
+        numbers(fields[6]).chunks(2).for_each(|pair| words[pair[0] as usize] = pair[1]);
+    }
+
+    /// The call of a line, by its number and the numbers given after how many heads there are.
+    fn call_of(function: u64, given: &[u64], offered: &str) -> Call {
+        match function {
+            0x30 => Call::Fresh,
+            0x31 => Call::Load { key: given[0], fks: list(offered) },
+            0x32 => Call::Append { key: given[0], fk: given[1] },
+            0x33 => Call::Read { key: given[0], room: given[1] as usize },
+            _ => Call::Drop { key: given[0] },
+        }
+    }
+
+    /// Lines say enough to make the calls again, and what both books then answer and leave.
+    #[test]
+    fn lines_can_be_replayed() {
+        let mut pair = Pair::default();
+        let lines: Vec<String> = (0..TESTED).flat_map(|number| written(number, &mut pair).0).collect();
+        let (mut body, mut words) = (Vec::new(), Vec::new());
+        for line in &lines {
+            let fields: Vec<&str> = line.split('|').collect();
+            let (function, refusal, len) = (hex(&line[..2]), hex(&line[2..4]), hex(&line[4..8]) as usize);
+            let given = numbers(fields[1]);
+            if function == 0x36 {
+                (body, words) = (vec![0; len], vec![0; 10 + given[0] as usize]);
+            }
+            change(&fields, &mut body, &mut words);
+            if function >= 0x35 {
+                pair.begin(body.clone(), words[10..].to_vec(), words[..10].try_into().unwrap(), Placing::End);
+                continue;
+            }
+            let call = call_of(function, &given[1..], fields[2]);
+            let answer = pair.call(&call, len, given[0] as usize, "a line").unwrap();
+            let told = numbers(fields[3]);
+            assert_eq!((answer.refusal as u64, &answer.told[..told.len()]), (refusal, &told[..]), "{line}");
+            if function == 0x33 && refusal == 0 {
+                assert_eq!(pair.list[..told[0] as usize], list(fields[4]), "{line}");
+            }
+            assert!(pair.body == body && pair.state == words[..10] && pair.heads == words[10..], "{line}");
+        }
+        assert!(lines.len() > 100);
+    }
+}
