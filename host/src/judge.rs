@@ -159,33 +159,50 @@ mod tests {
         (by, out.refusal, out.numbers)
     }
 
+    /// Whether the source's own answer is another: a refusal, a number or a buffer.
+    fn source_differs(name: &str, input: &Input) -> bool {
+        let function = functions().find(|f| f.name == name).unwrap();
+        let (mut ours, mut theirs) = (Output::default(), Output::default());
+        expected(function, input, &mut ours);
+        theirs.start(input);
+        (function.theirs)(input, &mut theirs);
+        ours != theirs
+    }
+
     /// The smallest inputs of the document show their differences, and those beside them don't.
     #[test]
     fn smallest_inputs_differ() {
         let numbers = |n: &[u64]| Input::new(n, &[], &[]);
         assert_eq!(answer("slab_cap", numbers(&[32])), (Some("slab_cap-shift"), 0, vec![0]));
-        assert_eq!(answer("slab_cap", numbers(&[29])), (None, 0, vec![4 << 29]));
+        assert_eq!(answer("slab_cap", numbers(&[31])), (None, 0, vec![0]));
         assert_eq!(answer("slab_bytes", numbers(&[64])), (Some("slab_bytes-shift"), 0, vec![0]));
-        assert_eq!(answer("slab_bytes", numbers(&[59])), (None, 0, vec![16 << 59]));
-        let free = |n: &[u64], body: usize| Input::new(n, &vec![0; body], &[0; 9]);
-        let (refused, accepted) = ((Some("free-checked"), 35, vec![]), (None, 0, vec![]));
-        assert_eq!(answer("push_free_head", free(&[0, 0], 0)), refused);
-        assert_eq!(answer("push_free_head", free(&[0, 4096], 4112)), accepted);
-        let popping = |head: u64| Input::new(&[0, 4112], &[0; 4112], &[head, 0, 0, 0, 0, 0, 0, 0, 0]);
-        assert_eq!(answer("pop_free_head", popping(1)), refused);
-        assert_eq!(answer("pop_free_head", popping(4096)), (None, 0, vec![4096]));
-        for (from, to, body) in [(0, 1, 0), (4096, 8200, 8192), (4096, 4128, 4096)] {
-            assert_eq!(answer("carve_gap_into_freelist", free(&[from, to], body)), refused, "a gap from {from} to {to}");
-        }
-        assert_eq!(answer("carve_gap_into_freelist", free(&[1, 1], 0)), accepted);
-        assert_eq!(answer("carve_gap_into_freelist", free(&[4096, 8192], 8192)), accepted);
+        assert_eq!(answer("slab_bytes", numbers(&[63])), (None, 0, vec![0]));
+        assert!(source_differs("slab_cap", &numbers(&[32])) && source_differs("slab_bytes", &numbers(&[64])));
         assert_eq!(answer("sh_page_is_last", numbers(&[])), (Some("page-length"), 4, vec![]));
         assert_eq!(answer("decode_fk_delta_stream_into", Input::new(&[1], &[1], &[])), (Some("lent-list"), 34, vec![]));
         assert_eq!(answer("sh_page_chunk_ranges", Input::with_ranges(&[], &[1], vec![])), (Some("lent-list"), 34, vec![]));
-        let split = |count: u64, end: usize| Input::with_ranges(&[count], &[1], vec![[0, end]]);
-        assert_eq!(answer("split_last_chunk_for_extent", split(2, 1)), (Some("lent-list"), 34, vec![]));
-        assert_eq!(answer("split_last_chunk_for_extent", split(1, 2)), (Some("range-outside"), 0, vec![1]));
-        assert_eq!(answer("split_last_chunk_for_extent", split(1, 1)), (None, 0, vec![1]));
+        let split = |count: u64, ranges: Vec<[usize; 2]>| answer("split_last_chunk_for_extent", Input::with_ranges(&[count], &[1], ranges));
+        assert_eq!(split(1, vec![]), (Some("lent-list"), 34, vec![]));
+        assert_eq!(split(1, vec![[0, 2]]), (Some("range-outside"), 0, vec![1]));
+        assert_eq!(split(1, vec![[0, 1]]), (None, 0, vec![1]));
+    }
+
+    /// The same of pushes, pops and gaps: those on the left are refused and the source takes them, those on the right are accepted.
+    #[test]
+    fn smallest_blocks_differ() {
+        let input = |n: [u64; 2], body: usize, head: u64| Input::new(&n, &vec![0; body], &[head, 0, 0, 0, 0, 0, 0, 0, 0]);
+        let (push, pop, carve) = ("push_free_head", "pop_free_head", "carve_gap_into_freelist");
+        for (name, bad, good) in [
+            (push, input([0, 0], 8, 0), input([0, 4096], 4112, 0)),
+            (pop, input([0, 4112], 9, 1), input([0, 4112], 4112, 4096)),
+            (carve, input([0, 1], 0, 0), input([1, 1], 0, 0)),
+            (carve, input([4096, 8200], 8192, 0), input([4096, 8192], 8192, 0)),
+        ] {
+            assert!(source_differs(name, &bad) && !source_differs(name, &good), "{name}");
+            assert_eq!(answer(name, bad), (Some("free-checked"), 35, vec![]));
+            let (by, refusal, _) = answer(name, good);
+            assert_eq!((by, refusal), (None, 0));
+        }
     }
 
     /// Each way in which an answer can be wrong is seen.

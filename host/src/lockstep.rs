@@ -100,3 +100,18 @@ impl Lockstep {
         self.tally.print()
     }
 }
+
+#[cfg(test)]
+mod tests {
+    use super::*;
+
+    /// Some histories, on which both books agree.
+    #[test]
+    fn books_agree() {
+        let (mut pair, mut tally) = (Pair::default(), Tally::default());
+        for number in 0..40 {
+            let ended = History::new(Rng(number << 8), &mut pair, &mut tally, format!("history {number}")).run();
+            assert!(ended.is_ok(), "{ended:?}");
+        }
+    }
+}

@@ -173,6 +173,11 @@ impl Tally {
         }
     }
 
+    /// How often each kind of call met a ground.
+    fn of_ground<'a>(&'a self, ground: &'a str) -> impl Iterator<Item = (&'static str, u64)> + 'a {
+        self.grounds.iter().filter(move |((g, _), _)| *g == ground).map(|((_, kind), n)| (*kind, *n))
+    }
+
     /// All that must be met, with how often it was.
     pub fn kinds(&self) -> Vec<(String, u64)> {
         let mut out = Vec::new();
@@ -183,8 +188,7 @@ impl Tally {
             }
         }
         for ground in GROUNDS {
-            let of_ground = self.grounds.iter().filter(|((g, _), _)| g == ground).map(|(_, n)| n);
-            out.push((format!("31: {ground}"), of_ground.sum()));
+            out.push((format!("31: {ground}"), self.of_ground(ground).map(|(_, n)| n).sum()));
         }
         for (from, to) in MOVES.iter().enumerate() {
             to.iter().for_each(|&to| out.push((format!("moves from {} to {}", from_name(from), class_name(to)), self.moves[from][to])));
@@ -217,7 +221,10 @@ impl Tally {
     /// Prints how often each was met, and tells how many that must be weren't.
     pub fn print(&self) -> u64 {
         let kinds = self.kinds();
-        kinds.iter().for_each(|(name, n)| println!("  {n:>10} {name}"));
+        for (name, n) in &kinds {
+            let by: Vec<String> = self.of_ground(name.trim_start_matches("31: ")).map(|(kind, n)| format!("{kind} {n}")).collect();
+            println!("  {n:>10} {name}{}", if by.is_empty() { String::new() } else { format!(" ({})", by.join(", ")) });
+        }
         for (from, to) in (0..9).flat_map(|from| (0..9).map(move |to| (from, to))) {
             if self.moves[from][to] > 0 && !MOVES[from].contains(&to) {
                 println!("  {:>10} moves from {} to {}, by a damaged word", self.moves[from][to], from_name(from), class_name(to));
