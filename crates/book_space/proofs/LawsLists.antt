@@ -15,7 +15,7 @@ use Rattle.buffer.specs.Bytes.{part}
 use Rattle.buffer.specs.LittleEndian.{bytesOf}
 use Rattle.buffer.proofs.LawsOverwrite.{part-before, part-after}
 use Rattle.scripthash_layout.specs.Sizes.{pageClass}
-use Rattle.scripthash_free.specs.FreeList.{Lists, Block, Pop, freeHead, nextOf, isBlock, pushed, pushAll, popFree, Each, Within}
+use Rattle.scripthash_free.specs.FreeList.{Lists, Block, Pop, firstFreed, nextOf, isBlock, pushed, pushAll, popFree, Each, Within}
 use Rattle.scripthash_free.proofs.LawsBlock.{bytes-from-16, block-stands, stands-block}
 use Rattle.scripthash_free.proofs.LawsNames.{length-pushed, length-pushed-heads}
 
@@ -30,8 +30,8 @@ pushed-apart : (class off : ℕ) (l : Lists) → off + 8 ≤ length (l .body) �
     → part (pushed class off l .body) o n ≡ part (l .body) o n
 unfolding pushed
 pushed-apart class off l fits o n apart =
-    ⊎-elim (λ (h : o + n ≤ off). part-before (l .body) off (bytesOf 8 (freeHead class l)) fits o n h)
-    (λ (h : off + 8 ≤ o). part-after (l .body) off (bytesOf 8 (freeHead class l)) fits o n h)
+    ⊎-elim (λ (h : o + n ≤ off). part-before (l .body) off (bytesOf 8 (firstFreed class l)) fits o n h)
+    (λ (h : off + 8 ≤ o). part-after (l .body) off (bytesOf 8 (firstFreed class l)) fits o n h)
     apart
 
 -- Blocks between two offsets of the body, pushed.
@@ -81,11 +81,11 @@ module _ (class mark : ℕ) (l : Lists) where
 
   -- What a pop gives where the class has a block.
   abbrev first : Pop
-  first = record { block = some (freeHead class l); heads = set (l .heads) class (nextOf (l .body) (freeHead class l)) }
+  first = record { block = some (firstFreed class l); heads = set (l .heads) class (nextOf (l .body) (firstFreed class l)) }
 
   -- The test of the class's first block.
   abbrev good : Bool
-  good = isBlock class (freeHead class l) (min mark (length (l .body)))
+  good = isBlock class (firstFreed class l) (min mark (length (l .body)))
 
   -- It tells so where there is no block.
   popped-nothing : {p : Pop} → nothing ≡ p → Popped class mark l p
@@ -98,7 +98,7 @@ module _ (class mark : ℕ) (l : Lists) where
   popped-first : {p : Pop} → good ≡ true → first ≡ p → Popped class mark l p
   popped-first g e = record {
     heads = ap (λ (x : Pop). length (x .heads)) (sym e) ∙ length-set (l .heads) class _;
-    block = λ off b. let z : freeHead class l ≡ off = cc in rw (← z) g;
+    block = λ off b. let z : firstFreed class l ≡ off = cc in rw (← z) g;
   }
 
   -- It tells so, by whether there is a block.
@@ -110,4 +110,4 @@ module _ (class mark : ℕ) (l : Lists) where
   -- An accepted pop tells so.
   pub popped : {p : Pop} → popFree class mark l ≡ accepted p → Popped class mark l p
   unfolding popFree
-  popped e = popped-by (ltb pageClass class || eqb (freeHead class l) 0) e
+  popped e = popped-by (ltb pageClass class || eqb (firstFreed class l) 0) e

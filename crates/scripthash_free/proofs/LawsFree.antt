@@ -9,7 +9,7 @@ use lib.ListN.{length, set}
 use borrow.Author.Tests.{lt-ltb, le-ltb, eq-eqb, ne-eqb}
 use Rattle.error.specs.Refusal.{Answer, accepted, refused, freeHeadBad}
 use Rattle.error.proofs.LawsAnswer.{refuse-yes, refuse-no}
-use Rattle.scripthash_free.specs.FreeList.{Lists, Pop, freeHead, nextOf, isBlock, pushed, pushFree, popFree, gapBlocks, pushAll}
+use Rattle.scripthash_free.specs.FreeList.{Lists, Pop, firstFreed, nextOf, isBlock, pushed, pushFree, popFree, gapBlocks, pushAll}
 use Rattle.scripthash_free.specs.FreeList.{isGap}
 use Rattle.scripthash_free.specs.FreeList.{carveGap, after, headsAfter}
 
@@ -49,23 +49,23 @@ unfolding popFree
 pop-beyond class mark l h = rw (lt-ltb 8 class h)
 
 -- A class whose head is 0 has no block to pop.
-pub pop-none : (class mark : ℕ) (l : Lists) → class ≤ 8 → freeHead class l ≡ 0
+pub pop-none : (class mark : ℕ) (l : Lists) → class ≤ 8 → firstFreed class l ≡ 0
     → popFree class mark l ≡ accepted (record { block = none; heads = l .heads })
 unfolding popFree
-pop-none class mark l h e = rw (le-ltb 8 class h, eq-eqb (freeHead class l) 0 e)
+pop-none class mark l h e = rw (le-ltb 8 class h, eq-eqb (firstFreed class l) 0 e)
 
 -- A head that is a block is popped, and one that is none is refused.
-pub pop-yes : (class mark : ℕ) (l : Lists) → class ≤ 8 → (freeHead class l ≡ 0 → ⊥)
-    → isBlock class (freeHead class l) (min mark (length (l .body))) ≡ true
-    → popFree class mark l ≡ accepted (record { block = some (freeHead class l); heads = set (l .heads) class (nextOf (l .body) (freeHead class l)) })
+pub pop-yes : (class mark : ℕ) (l : Lists) → class ≤ 8 → (firstFreed class l ≡ 0 → ⊥)
+    → isBlock class (firstFreed class l) (min mark (length (l .body))) ≡ true
+    → popFree class mark l ≡ accepted (record { block = some (firstFreed class l); heads = set (l .heads) class (nextOf (l .body) (firstFreed class l)) })
 unfolding popFree
-pop-yes class mark l h nz e = rw (le-ltb 8 class h, ne-eqb (freeHead class l) 0 nz) (refuse-no _ _ _ (ap not e))
+pop-yes class mark l h nz e = rw (le-ltb 8 class h, ne-eqb (firstFreed class l) 0 nz) (refuse-no _ _ _ (ap not e))
 
-pub pop-no : (class mark : ℕ) (l : Lists) → class ≤ 8 → (freeHead class l ≡ 0 → ⊥)
-    → isBlock class (freeHead class l) (min mark (length (l .body))) ≡ false
+pub pop-no : (class mark : ℕ) (l : Lists) → class ≤ 8 → (firstFreed class l ≡ 0 → ⊥)
+    → isBlock class (firstFreed class l) (min mark (length (l .body))) ≡ false
     → popFree class mark l ≡ refused freeHeadBad
 unfolding popFree
-pop-no class mark l h nz e = rw (le-ltb 8 class h, ne-eqb (freeHead class l) 0 nz) (refuse-yes _ _ _ (ap not e))
+pop-no class mark l h nz e = rw (le-ltb 8 class h, ne-eqb (firstFreed class l) 0 nz) (refuse-yes _ _ _ (ap not e))
 
 -- A gap that can be carved is, and another is refused.
 pub carve-yes : (from to : ℕ) (l : Lists) → isGap from to (length (l .body)) ≡ true

@@ -11,7 +11,8 @@ use lib.Dec.{eqb}
 use lib.ListN.{length}
 use borrow.Author.Tests.{eqb-true, eqb-false}
 use Rattle.scripthash_layout.specs.Sizes.{slabBytes}
-use Rattle.scripthash_free.specs.FreeList.{Lists, Block, relocClass, blockThen, carve, gapBlocks, pushed, pushAll, isBlock, freeHead}
+use Rattle.scripthash_free.specs.FreeList.{Lists, Block, relocClass, blockThen, carve, gapBlocks, pushed, pushAll, isBlock}
+use Rattle.scripthash_free.specs.FreeList.{firstFreed}
 use Rattle.scripthash_free.specs.FreeList.{Names, Clear, Each, Within, IsSlab, Adjoin, stackAfter}
 use Rattle.scripthash_free.proofs.LawsBlock.{bytes-from-16, slab-stands, Gap, largest-none, largest-some, largest-nothing}
 use Rattle.scripthash_free.proofs.LawsNames.{clear-within, length-pushed, length-pushed-heads, names-push, names-other}
@@ -168,13 +169,13 @@ module _ (d class off : ℕ) (os : List ℕ) (l : Lists) (above : 0 < off) (fits
   write-fits : off + 8 ≤ length (l .body)
   write-fits = omega (arith, bytes-from-16 class)
 
-  names-one : (same : Bool) → eqb class d ≡ same → Clear (slabBytes d) off 8 os → Names (l .body) (freeHead d l) os
-      → Names (pushed class off l .body) (freeHead d (pushed class off l)) (cond same (off ∷ os) os)
+  names-one : (same : Bool) → eqb class d ≡ same → Clear (slabBytes d) off 8 os → Names (l .body) (firstFreed d l) os
+      → Names (pushed class off l .body) (firstFreed d (pushed class off l)) (cond same (off ∷ os) os)
   names-one true e c n =
       let z : class ≡ d = eqb-true class d e in
-      subst (λ (x : ℕ). Names (pushed class off l .body) (freeHead x (pushed class off l)) (off ∷ os)) z
+      subst (λ (x : ℕ). Names (pushed class off l .body) (firstFreed x (pushed class off l)) (off ∷ os)) z
       (names-push class off l above write-fits has os small
-      (subst (λ (x : ℕ). Clear (slabBytes x) off 8 os) (sym z) c) (subst (λ (x : ℕ). Names (l .body) (freeHead x l) os) (sym z) n))
+      (subst (λ (x : ℕ). Clear (slabBytes x) off 8 os) (sym z) c) (subst (λ (x : ℕ). Names (l .body) (firstFreed x l) os) (sym z) n))
   names-one false e c n = names-other class off l above write-fits has d os (λ z. eqb-false class d e (sym z)) c n
 
   clear-one : (same : Bool) (m : ℕ) → eqb class d ≡ same → slabBytes class ≤ m → Clear (slabBytes d) off m os
@@ -188,8 +189,8 @@ module _ (d class off : ℕ) (os : List ℕ) (l : Lists) (above : 0 < off) (fits
 -- What each free list names after blocks side by side were pushed: those of its class, the last on top, and then what it named before.
 pub names-carved : (d off end : ℕ) (bs : List Block) (os : List ℕ) (l : Lists) → 0 < off → end ≤ length (l .body)
     → length (l .body) < 256 ^ 8
-    → Adjoin off bs end → Each (λ b. b .class < length (l .heads)) bs → Clear (slabBytes d) off (end - off) os → Names (l .body) (freeHead d l) os
-    → Names (pushAll bs l .body) (freeHead d (pushAll bs l)) (stackAfter d bs os)
+    → Adjoin off bs end → Each (λ b. b .class < length (l .heads)) bs → Clear (slabBytes d) off (end - off) os → Names (l .body) (firstFreed d l) os
+    → Names (pushAll bs l .body) (firstFreed d (pushAll bs l)) (stackAfter d bs os)
 unfolding Adjoin Each pushAll stackAfter
 names-carved d off end [] os l above fits small a has c n = n
 names-carved d off end (b ∷ bs) os l above fits small a has c n =

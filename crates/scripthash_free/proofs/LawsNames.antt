@@ -16,7 +16,7 @@ use Rattle.buffer.proofs.LawsBytes.{length-overwrite}
 use Rattle.buffer.proofs.LawsLittleEndian.{littleEndian-bytesOf}
 use Rattle.buffer.proofs.LawsOverwrite.{part-written, part-before, part-after}
 use Rattle.scripthash_layout.specs.Sizes.{slabBytes}
-use Rattle.scripthash_free.specs.FreeList.{Lists, freeHead, nextOf, isBlock, pushed, popFree, Names, Clear}
+use Rattle.scripthash_free.specs.FreeList.{Lists, firstFreed, nextOf, isBlock, pushed, popFree, Names, Clear}
 use Rattle.scripthash_free.proofs.LawsBlock.{bytes-from-16, block-stands}
 use Rattle.scripthash_free.proofs.LawsFree.{pop-none, pop-yes}
 
@@ -61,7 +61,7 @@ clear-within size off n off' n' (o ∷ os) lo hi c = (
 -- A push keeps the lengths of body and heads.
 pub length-pushed : (class off : ℕ) (l : Lists) → off + 8 ≤ length (l .body) → length (pushed class off l .body) ≡ length (l .body)
 unfolding pushed
-length-pushed class off l h = length-overwrite (l .body) off (bytesOf 8 (freeHead class l)) h
+length-pushed class off l h = length-overwrite (l .body) off (bytesOf 8 (firstFreed class l)) h
 
 pub length-pushed-heads : (class off : ℕ) (l : Lists) → length (pushed class off l .heads) ≡ length (l .heads)
 unfolding pushed
@@ -70,18 +70,18 @@ length-pushed-heads class off l = length-set (l .heads) class off
 -- A block pushed, of a class that has a head, at an offset that isn't 0 and whose 8 bytes lie in the body.
 module _ (class off : ℕ) (l : Lists) (above : 0 < off) (fits : off + 8 ≤ length (l .body)) (has : class < length (l .heads)) where
   -- It is the head of its class.
-  pub head-pushed : freeHead class (pushed class off l) ≡ off
+  pub head-pushed : firstFreed class (pushed class off l) ≡ off
   unfolding pushed
   head-pushed = getD-set-same (l .heads) class off 0 has
 
   -- It names the head so far.
-  pub next-pushed : freeHead class l < 256 ^ 8 → nextOf (pushed class off l .body) off ≡ freeHead class l
+  pub next-pushed : firstFreed class l < 256 ^ 8 → nextOf (pushed class off l .body) off ≡ firstFreed class l
   unfolding pushed
   next-pushed h =
-      ap littleEndian (part-written (l .body) off (bytesOf 8 (freeHead class l)) fits) ∙ littleEndian-bytesOf 8 (freeHead class l) h
+      ap littleEndian (part-written (l .body) off (bytesOf 8 (firstFreed class l)) fits) ∙ littleEndian-bytesOf 8 (firstFreed class l) h
 
   -- The other classes keep their heads.
-  pub head-kept : (d : ℕ) → (d ≡ class → ⊥) → freeHead d (pushed class off l) ≡ freeHead d l
+  pub head-kept : (d : ℕ) → (d ≡ class → ⊥) → firstFreed d (pushed class off l) ≡ firstFreed d l
   unfolding pushed
   head-kept d other = getD-set-other (l .heads) class d off 0 other
 
@@ -90,33 +90,33 @@ module _ (class off : ℕ) (l : Lists) (above : 0 < off) (fits : off + 8 ≤ len
       → Names (pushed class off l .body) head os
   unfolding pushed
   names-kept d os head c n =
-      names-write (l .body) off (bytesOf 8 (freeHead class l)) fits (slabBytes d) (omega (arith, bytes-from-16 d)) head os c n
+      names-write (l .body) off (bytesOf 8 (firstFreed class l)) fits (slabBytes d) (omega (arith, bytes-from-16 d)) head os c n
 
   -- Its list names it, and then what the list named before.
-  pub names-push : (os : List ℕ) → length (l .body) < 256 ^ 8 → Clear (slabBytes class) off 8 os → Names (l .body) (freeHead class l) os
-      → Names (pushed class off l .body) (freeHead class (pushed class off l)) (off ∷ os)
+  pub names-push : (os : List ℕ) → length (l .body) < 256 ^ 8 → Clear (slabBytes class) off 8 os → Names (l .body) (firstFreed class l) os
+      → Names (pushed class off l .body) (firstFreed class (pushed class off l)) (off ∷ os)
   unfolding Names
   names-push os small c n =
-      let next = next-pushed (names-head (l .body) (freeHead class l) os small n) in (
+      let next = next-pushed (names-head (l .body) (firstFreed class l) os small n) in (
         head-pushed,
         above,
         omega (arith, length-pushed class off l fits),
-        subst (λ (h : ℕ). Names (pushed class off l .body) h os) (sym next) (names-kept class os (freeHead class l) c n),
+        subst (λ (h : ℕ). Names (pushed class off l .body) h os) (sym next) (names-kept class os (firstFreed class l) c n),
       )
 
   -- The list of another class names what it named.
-  pub names-other : (d : ℕ) (os : List ℕ) → (d ≡ class → ⊥) → Clear (slabBytes d) off 8 os → Names (l .body) (freeHead d l) os
-      → Names (pushed class off l .body) (freeHead d (pushed class off l)) os
-  names-other d os other c n = subst (λ (h : ℕ). Names (pushed class off l .body) h os) (sym (head-kept d other)) (names-kept d os (freeHead d l) c n)
+  pub names-other : (d : ℕ) (os : List ℕ) → (d ≡ class → ⊥) → Clear (slabBytes d) off 8 os → Names (l .body) (firstFreed d l) os
+      → Names (pushed class off l .body) (firstFreed d (pushed class off l)) os
+  names-other d os other c n = subst (λ (h : ℕ). Names (pushed class off l .body) h os) (sym (head-kept d other)) (names-kept d os (firstFreed d l) c n)
 
 -- The list of a class that names no block has none to pop.
-pub names-none : (class mark : ℕ) (l : Lists) → class ≤ 8 → Names (l .body) (freeHead class l) []
+pub names-none : (class mark : ℕ) (l : Lists) → class ≤ 8 → Names (l .body) (firstFreed class l) []
     → popFree class mark l ≡ accepted (record { block = none; heads = l .heads })
 unfolding Names
 names-none class mark l h n = pop-none class mark l h n
 
 -- The list of a class that names a block gives it, and then names the others.
-module _ (class mark o : ℕ) (os : List ℕ) (l : Lists) (n : Names (l .body) (freeHead class l) (o ∷ os)) where
+module _ (class mark o : ℕ) (os : List ℕ) (l : Lists) (n : Names (l .body) (firstFreed class l) (o ∷ os)) where
   abbrev popped : Lists
   popped = record { body = l .body; heads = set (l .heads) class (nextOf (l .body) o) }
 
@@ -124,12 +124,12 @@ module _ (class mark o : ℕ) (os : List ℕ) (l : Lists) (n : Names (l .body) (
       → popFree class mark l ≡ accepted (record { block = some o; heads = popped .heads })
   unfolding Names
   pop-named good =
-      let top : freeHead class l ≡ o = n .0 in
-      let not-zero : freeHead class l ≡ 0 → ⊥ = λ z. let p = n .1 in omega arith in
+      let top : firstFreed class l ≡ o = n .0 in
+      let not-zero : firstFreed class l ≡ 0 → ⊥ = λ z. let p = n .1 in omega arith in
       let s = block-stands class o (min mark (length (l .body))) good in
       pop-yes class mark l (s .class-to-8) not-zero (rw top good)
       ∙ ap (λ (h : ℕ). accepted (record { block = some h; heads = set (l .heads) class (nextOf (l .body) h) })) top
 
-  pub names-pop : class < length (l .heads) → Names (popped .body) (freeHead class popped) os
+  pub names-pop : class < length (l .heads) → Names (popped .body) (firstFreed class popped) os
   unfolding Names
   names-pop has = subst (λ (h : ℕ). Names (l .body) h os) (sym (getD-set-same (l .heads) class (nextOf (l .body) o) 0 has)) (n .3)

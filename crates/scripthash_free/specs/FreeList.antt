@@ -23,8 +23,8 @@ abbrev pub lists : List ℕ → List ℕ → Lists
 lists body heads = record { body = body; heads = heads }
 
 -- The free head of a class.
-abbrev pub freeHead : ℕ → Lists → ℕ
-freeHead class l = getD (l .heads) class 0
+abbrev pub firstFreed : ℕ → Lists → ℕ
+firstFreed class l = getD (l .heads) class 0
 
 -- The offset that a freed block names: the number in its first 8 bytes.
 abbrev pub nextOf : List ℕ → ℕ → ℕ
@@ -42,7 +42,7 @@ isBlock class off end =
 -- A block pushed: its first 8 bytes name the head so far, and it is the head.
 unfoldable pub pushed : ℕ → ℕ → Lists → Lists
 pushed class off l =
-    record { body = overwrite (l .body) off (bytesOf 8 (freeHead class l)); heads = set (l .heads) class off }
+    record { body = overwrite (l .body) off (bytesOf 8 (firstFreed class l)); heads = set (l .heads) class off }
 
 -- Pushing a block, which must be one within the body.
 unfoldable pub pushFree : ℕ → ℕ → Lists → Answer Lists
@@ -57,9 +57,9 @@ pub record Pop : Type 0 where
 -- be a block below the mark, and within the body.
 unfoldable pub popFree : ℕ → ℕ → Lists → Answer Pop
 popFree class mark l =
-    cond (ltb pageClass class || eqb (freeHead class l) 0) (accepted (record { block = none; heads = l .heads }))
-    (refuseIf (not (isBlock class (freeHead class l) (min mark (length (l .body))))) freeHeadBad
-    (accepted (record { block = some (freeHead class l); heads = set (l .heads) class (nextOf (l .body) (freeHead class l)) })))
+    cond (ltb pageClass class || eqb (firstFreed class l) 0) (accepted (record { block = none; heads = l .heads }))
+    (refuseIf (not (isBlock class (firstFreed class l) (min mark (length (l .body))))) freeHeadBad
+    (accepted (record { block = some (firstFreed class l); heads = set (l .heads) class (nextOf (l .body) (firstFreed class l)) })))
 
 -- The largest class up to c whose blocks have at most n bytes, if there is one.
 unfoldable pub largestUpTo : ℕ → ℕ → Option ℕ

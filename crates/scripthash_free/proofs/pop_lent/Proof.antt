@@ -4,7 +4,7 @@ use mathlib.Core.Path.{_≡_, sym, ap, _∙_}
 use native.Mathlib.Omega.{arith}
 use lib.ListN.{length, set}
 use Rattle.error.proofs.LawsAnswer.{answered-yes, answered-no}
-use Rattle.scripthash_free.specs.FreeList.{Pop, freeHead, isBlock, lists}
+use Rattle.scripthash_free.specs.FreeList.{Pop, firstFreed, isBlock, lists}
 use Rattle.scripthash_free.proofs.LawsBlock.{bytes-from-16, block-stands}
 use Rattle.scripthash_free.proofs.LawsFree.{heads-accepted, heads-refused, pop-beyond, pop-none, pop-yes, pop-no}
 use borrow.Author.Needs.{needs}
@@ -17,7 +17,7 @@ module _ (t : tie.After-is-block) where
   args = t .before .before .before .before .before .before
 
   abbrev head : ℕ
-  head = freeHead (args .args .class) (lists (args .args .body .now) (args .args .heads .now))
+  head = firstFreed (args .args .class) (lists (args .args .body .now) (args .args .heads .now))
 
   block-tested : isBlock (args .args .class) head (min (args .args .mark) (length (args .args .body .now))) ≡ t .is-block .result
   block-tested = ap (λ (end : ℕ). isBlock (args .args .class) head end) (sym (t .before .lower .ensures)) ∙ sym (t .is-block .ensures)
