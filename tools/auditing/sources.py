@@ -198,21 +198,24 @@ class Code(Source):
         self.declares[name] = Declaration(self, name, first + 1, self.lines[first:row], self.lines[row : end + (self.lines[end] != "{")])
 
     def uses_in(self, found):
-        """The types that a declaration names, and what a contract says."""
-        uses = []
-        for row, line in enumerate(found.code):
+        """The types that a declaration names, and what a contract says, in one line or more."""
+        uses, row = [], 0
+        while row < len(found.code):
+            line, end = found.code[row], row + 1
             if line.lstrip().startswith(("ensures", "requires")):
-                uses += self.contract(found, row, line)
+                end = next(i for i in range(row, len(found.code)) if found.code[i].endswith("⌝ }")) + 1
+                uses += self.contract(found, row, found.code[row:end])
             else:
                 uses += [Use(row, m.start(1), len(m.group(1)), self.type_named(m.group(1))) for m in re.finditer(r"(?:[:([&] ?|> )([A-Z]\w+)", line)]
+            row = end
         return uses
 
-    def contract(self, found, row, line):
-        """What one line of a contract says, in which the function's parameters are bound."""
-        words = words_of([line])
+    def contract(self, found, row, lines):
+        """What one clause of a contract says, in which the function's parameters are bound."""
+        words = words_of(lines)
         walk = Walk(self, re.findall(r"(\w+):", found.code[0]))
         walk.expression(words[next(i for i, word in enumerate(words) if word.text == "{") :])
-        return [use._replace(row=row) for use in walk.found]
+        return [use._replace(row=row + use.row) for use in walk.found]
 
     def type_named(self, name):
         """What a type's name means in this file."""
