@@ -7,4 +7,3 @@ pub mod LawsWritten
 pub mod LawsPack
 pub mod LawsPacked
 pub mod LawsPlace
-pub mod LawsPrefixFree

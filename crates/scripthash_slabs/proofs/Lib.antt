@@ -1,3 +1,2 @@
 pub mod LawsClass
 pub mod LawsSlab
-pub mod LawsPrefixFree

@@ -9,4 +9,3 @@ pub mod LawsLent
 pub mod LawsTotals
 pub mod LawsWeigh
 pub mod LawsLongest
-pub mod LawsPrefixFree

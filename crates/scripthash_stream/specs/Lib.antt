@@ -1,4 +1,3 @@
 pub mod Stream
 pub mod Steps
 pub mod Answers
-pub mod PrefixFree

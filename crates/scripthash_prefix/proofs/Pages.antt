@@ -6,14 +6,14 @@ use lib.ListN.{length, take, replicate}
 use Rattle.error.specs.Refusal.{accepted}
 use Rattle.scripthash_layout.specs.Sizes.{pageSize}
 use Rattle.scripthash_stream.specs.Stream.{stream, Scan, scan}
-use Rattle.scripthash_stream.specs.PrefixFree.{SameLength, PrefixFree}
+use Rattle.scripthash_prefix.specs.PrefixFree.{SameLength, PrefixFree}
 use Rattle.scripthash_stream.proofs.LawsEncode.{encode-accepted}
-use Rattle.scripthash_stream.proofs.LawsPrefixFree.{framed-prefix-free, scan-fixed}
+use Rattle.scripthash_prefix.proofs.Streams.{framed-prefix-free, scan-fixed}
 use Rattle.scripthash_fields.specs.Page.{deltaHeader, extentHeader, pageOf, countOf, streamOf}
 use Rattle.scripthash_pages.specs.Entries.{pageScan}
 use Rattle.scripthash_pages.specs.Pack.{packed}
 use Rattle.scripthash_pages.proofs.LawsEntries.{place-accepted, scan-placed}
 use Rattle.scripthash_pages.proofs.LawsPack.{packed-accepted}
 
 -- ---- written pages
 

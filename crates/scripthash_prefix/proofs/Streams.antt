@@ -10,11 +10,11 @@ use Rattle.error.specs.Refusal.{accepted, refuseIf, andThen}
 use Rattle.error.proofs.LawsAnswer.{accepted-inj}
 use Rattle.compact.specs.Uleb128.{isForm, value, formAt, overflows, readForm, readUleb, divided, shortest}
 use Rattle.compact.proofs.LawsPrefix.{shortest-fixed}
 use Rattle.scripthash_stream.specs.Stream.{Rising, lastFrom, streamFrom, streamLen, stream}
 use Rattle.scripthash_stream.specs.Stream.{storedNumber, nextNumber, Scan, scanFrom, scan}
-use Rattle.scripthash_stream.specs.PrefixFree.{IsList, SameLength, PrefixFree, Mistaken}
+use Rattle.scripthash_prefix.specs.PrefixFree.{IsList, SameLength, PrefixFree, Mistaken}
 use Rattle.scripthash_stream.proofs.LawsScan.{scan-same}
 use Rattle.scripthash_stream.proofs.LawsStream.{scan-stream}
 
 -- ---- bytes that begin with two streams
 

@@ -12,10 +12,10 @@ use Rattle.buffer.specs.Bytes.{part}
 use Rattle.buffer.specs.LittleEndian.{bytesOf}
 use Rattle.buffer.proofs.LawsLittleEndian.{littleEndian-bytesOf}
 use Rattle.scripthash_stream.specs.Stream.{maxOffered, stream, Scan, scan}
-use Rattle.scripthash_stream.specs.PrefixFree.{IsList, PrefixFree}
+use Rattle.scripthash_prefix.specs.PrefixFree.{IsList, PrefixFree}
 use Rattle.scripthash_stream.proofs.LawsDecode.{decode-accepted}
-use Rattle.scripthash_stream.proofs.LawsPrefixFree.{framed-prefix-free, scan-fixed}
+use Rattle.scripthash_prefix.proofs.Streams.{framed-prefix-free, scan-fixed}
 use Rattle.scripthash_slabs.specs.Slab.{slabPayload, slabUsed, decodeSlab}
 
 -- ---- written payloads
 
