@@ -57,7 +57,8 @@ enum ouriscado_codec_refusal {
     /* A ULEB128 form has more than 64 bits, or more than ten bytes.
        Operator: the bytes are damaged. */
     OURISCADO_ULEB_OVERFLOW = 18,
-    /* 19: a page's stream passes the page's end. */
+    /* 19: retired: a page's stream never passes its capacity, since 17 or 18 comes first; no refusal takes
+       this number. */
     /* A stream begins with 0.
        Operator: the bytes are damaged. */
     OURISCADO_STORED_FIRST_ZERO = 20,

@@ -76,7 +76,7 @@ pub enum Refusal {
     ///
     /// Operator: the bytes are damaged.
     UlebOverflow,
-    // 19: a page's stream passes the page's end.
+    // 19: retired: a page's stream never passes its capacity, since 17 or 18 comes first; no refusal takes this number.
     /// 20: a stream begins with 0.
     ///
     /// Operator: the bytes are damaged.
