@@ -85,10 +85,8 @@
    A call takes at most so many bytes of stack below its caller's frame (measured, and held by a test):
 
        ouriscado_book_fresh                                      OURISCADO_STACK_SHORT
-       ouriscado_book_load, ouriscado_book_read and              OURISCADO_STACK_SHORT
-       ouriscado_book_drop, where the list stands in no page
-       ouriscado_book_append, where before and after it          OURISCADO_STACK_APPEND
-       the list stands in no page
+       ouriscado_book_load and ouriscado_book_drop,              OURISCADO_STACK_SHORT
+       where the list stands in no page
        any call                                                  OURISCADO_STACK_ANY
 
    A list stands in pages from 257 numbers on, or where its numbers are so far apart that they need more than
@@ -128,9 +126,8 @@ extern "C" {
 #define OURISCADO_KIND_PAGES                3 /* in a chain of pages of the body */
 
 /* The bytes of stack that a call needs. */
-#define OURISCADO_STACK_SHORT            4096 /* bytes of stack of fresh, and of load, read and drop where no
-                                                 list stands in pages */
-#define OURISCADO_STACK_APPEND           8192 /* bytes of stack of append where no list stands in pages */
+#define OURISCADO_STACK_SHORT            4096 /* bytes of stack of fresh, and of load and drop where no list
+                                                 stands in pages */
 #define OURISCADO_STACK_ANY             40960 /* bytes of stack of any call */
 
 /* Why a call is refused, and what an operator does then. Where several apply, the smallest number is given;

@@ -32,8 +32,7 @@ CONSTANTS = {
         ("PAGE_CLASS", 8, "u8", "the class of a page; slabs have the classes 0 to 7"),
     ],
     "stacks": [
-        ("STACK_SHORT", 4096, "usize", "bytes of stack of fresh, and of load, read and drop where no list stands in pages"),
-        ("STACK_APPEND", 8192, "usize", "bytes of stack of append where no list stands in pages"),
+        ("STACK_SHORT", 4096, "usize", "bytes of stack of fresh, and of load and drop where no list stands in pages"),
         ("STACK_ANY", 40960, "usize", "bytes of stack of any call"),
     ],
 }
