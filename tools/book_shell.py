@@ -98,23 +98,24 @@ class Shell:
         return f"dropped: {counted(self.book.drop(key), 'number')}"
 
     def places(self):
-        return "\n".join(f"key {key}: {place(self.book, key)}" for key in range(len(self.book.lists)))
+        return [f"key {key}: {place(self.book, key)}" for key in range(len(self.book.lists))]
 
     def space(self):
         freed = [f"freed, class {c}: {' '.join(map(str, reversed(s)))}" for c, s in enumerate(self.book.stacks) if s]
         mark = self.book.mark if not self.book.out_of_shape() else 0
-        return "\n".join([f"mark {mark}"] + freed)
+        return [f"mark {mark}"] + freed
 
 
 def answer(shell, words):
-    if words[0] not in FORMS:
-        ns = numbers(words[1:])
-        raise Unread("expected body, keys, load, append, read, drop, places or space")
+    """The lines of the answer to a line."""
     ns = numbers(words[1:])
+    if words[0] not in FORMS:
+        raise Unread("expected body, keys, load, append, read, drop, places or space")
     least, most = {"load": (1, NUMBERS), "append": (2, 2), "read": (1, 2), "places": (0, 0), "space": (0, 0)}.get(words[0], (1, 1))
     if not least <= len(ns) <= most:
         raise Unread(f"expected {FORMS[words[0]]}")
-    return getattr(shell, words[0])(*ns)
+    told = getattr(shell, words[0])(*ns)
+    return told if isinstance(told, list) else [told]
 
 
 def main():
@@ -131,7 +132,8 @@ def main():
             continue
         print(f"> {line}")
         try:
-            print(answer(shell, words))
+            for told in answer(shell, words):
+                print(told)
         except Refused as refused:
             print(f"refused {refused}: {REFUSALS[int(str(refused))]}")
         except Unread as why:
