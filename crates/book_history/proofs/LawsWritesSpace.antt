@@ -14,7 +14,7 @@ use Rattle.buffer.specs.Bytes.{part, overwrite}
 use Rattle.buffer.specs.LittleEndian.{bytesOf}
 use Rattle.buffer.proofs.LawsBytes.{length-overwrite}
 use Rattle.scripthash_layout.specs.Sizes.{slabBytes, pageClass, pageSize}
-use Rattle.scripthash_free.specs.FreeList.{Lists, headOf, nextOf, Block, Pop, pushed, pushAll, gapBlocks, popFree, Each, Within}
+use Rattle.scripthash_free.specs.FreeList.{Lists, firstFreed, nextOf, Block, Pop, pushed, pushAll, gapBlocks, popFree, Each, Within}
 use Rattle.scripthash_free.proofs.LawsBlock.{bytes-from-16, block-stands}
 use Rattle.scripthash_free.proofs.LawsGap.{each-map, gap-filled, adjoin-within}
 use Rattle.scripthash_free.proofs.LawsNames.{length-pushed}
@@ -90,7 +90,7 @@ wrote-freed : (mark : ℕ) (x : Block) (l : Lists) → x .off + 8 ≤ length (l 
     → Wrote (freeing x) (space (l .body) mark (l .heads)) (space (pushed (x .class) (x .off) l .body) mark (pushed (x .class) (x .off) l .heads))
 unfolding both pushed
 wrote-freed mark x l h = record {
-  body = only-written (l .body) (x .off) (bytesOf 8 (headOf (x .class) l)) h [];
+  body = only-written (l .body) (x .off) (bytesOf 8 (firstFreed (x .class) l)) h [];
   free = only-set [] (l .heads) (x .class) (x .off);
   mark = λ e. refl;
   rises = omega arith;
