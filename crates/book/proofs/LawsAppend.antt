@@ -136,8 +136,7 @@ module _ (body : List ℕ) (mark : ℕ) (free : List ℕ) where
       (m, sym (tail-free last) ∙ is)
 
 -- What is known of a sound last page: where it stands, that it is version 2, that it counts few numbers, that its stream ends within it,
--- and
--- that creates can be one more.
+-- and that creates can be one more.
 pub record SoundTail (s : Space) (last : ℕ) (t : Tail) : Type 0 where
   pub stands : isBlock pageClass last (s .mark) ≡ true
   pub names : namesExtent (pageAt s last) ≡ true

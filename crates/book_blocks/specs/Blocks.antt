@@ -33,8 +33,7 @@ abbrev pub pageTo : ℕ → List ℕ → List ℕ
 pageTo next ns = pageOf (deltaHeader (length ns) (linkTo false next)) (stream ns)
 
 -- A body with the parts of a list in pages from an offset on, each linked to the next; the last has LAST, the run's start as first offset
--- and
--- extent base, the run's pages as extent count, and the list's length as creates.
+-- and extent base, the run's pages as extent count, and the list's length as creates.
 unfoldable pub writeRun : ℕ → ℕ → ℕ → List ℕ → ℕ → List (List ℕ) → List ℕ
 writeRun start count creates body off [] = body
 writeRun start count creates body off (p ∷ []) = overwrite body off (lastPageOf start start count creates p)

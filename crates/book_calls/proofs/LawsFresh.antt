@@ -57,7 +57,8 @@ module _ (body heads : List ℕ) (s : State) (made : Book) (is : made ≡ madeAf
   pub made-answers : (cs : List Call) → answers made cs ≡ plainAnswers (plainFresh (length body) (length heads)) cs
   made-answers cs = by (outOfShape (length body) (length heads)) refl
     where
-      by : (t : Bool) → outOfShape (length body) (length heads) ≡ t → answers made cs ≡ plainAnswers (plainFresh (length body) (length heads)) cs
+      by : (t : Bool) → outOfShape (length body) (length heads) ≡ t
+          → answers made cs ≡ plainAnswers (plainFresh (length body) (length heads)) cs
       by true e =
           ap (λ (b : Book). answers b cs) (made-still e)
           ∙ same-unshaped (bookOf body heads s) (fresh body (length heads)) cs e (ap (outOfShape (length body)) (length-replicate (length heads) 0) ∙ e)
@@ -65,7 +66,8 @@ module _ (body heads : List ℕ) (s : State) (made : Book) (is : made ≡ madeAf
       by false e = ap (λ (b : Book). answers b cs) (made-fresh e) ∙ demand-3 body (length heads) cs .0
 
   -- Afterwards each key reads as what is recorded for it.
-  pub made-records : (cs : List Call) (left : Book) → left ≡ after made cs → outOfShape (length body) (length heads) ≡ false → (key room : ℕ) → key < length heads
+  pub made-records : (cs : List Call) (left : Book) → left ≡ after made cs → outOfShape (length body) (length heads) ≡ false
+      → (key room : ℕ) → key < length heads
       → length (recorded key cs (plainAnswers (plainFresh (length body) (length heads)) cs) []) ≤ room
       → (pages : ℕ) × (answerOf (reads left key room) ≡ accepted (listed (record { numbers = recorded key cs (plainAnswers (plainFresh (length body) (length heads)) cs) []; pages = pages })))
   unfolding answered
@@ -106,7 +108,8 @@ module _ (body heads calls out : List ℕ) where
         records = λ ds f fits. absurd (true≢false (sym (le-leb (answersRoom ds) (length out) fits) ∙ ap (λ (x : List Call). leb (answersRoom x) (length out)) (some-inj (sym f ∙ e)) ∙ l));
       }
 
-  pub all-ran : (s left : State) (made : Book) (cs : List Call) (body' heads' out' : List ℕ) (len : ℕ) → callsOf calls ≡ some cs → leb (answersRoom cs) (length out) ≡ true
+  pub all-ran : (s left : State) (made : Book) (cs : List Call) (body' heads' out' : List ℕ) (len : ℕ) → callsOf calls ≡ some cs
+      → leb (answersRoom cs) (length out) ≡ true
       → made ≡ madeAfter (bookOf body heads s) (makesFresh (bookOf body heads s)) → AllDone made cs out (bookOf body' heads' left) out' len
       → Runs body heads calls out (record { answer = Ran len; state = left }) body' heads' out'
   unfolding runs wordsAfter

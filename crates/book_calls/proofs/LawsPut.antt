@@ -42,11 +42,13 @@ unfolding spellAnswer
 refusal-put b number h = record { words = sym (overwrite-one b 0 number h); count = refl }
 
 -- the words of a load and of a drop
-pub load-put : (b out : List ℕ) (pages : ℕ) → out ≡ overwrite b 0 (0 ∷ 0 ∷ pages ∷ []) → Answered (accepted (loaded (record { pages = pages }))) b out 3
+pub load-put : (b out : List ℕ) (pages : ℕ) → out ≡ overwrite b 0 (0 ∷ 0 ∷ pages ∷ [])
+    → Answered (accepted (loaded (record { pages = pages }))) b out 3
 unfolding spellAnswer spellTold
 load-put b out pages e = record { words = e; count = refl }
 
-pub drop-put : (b out : List ℕ) (length : ℕ) → out ≡ overwrite b 0 (0 ∷ 3 ∷ length ∷ []) → Answered (accepted (dropped (record { length = length }))) b out 3
+pub drop-put : (b out : List ℕ) (length : ℕ) → out ≡ overwrite b 0 (0 ∷ 3 ∷ length ∷ [])
+    → Answered (accepted (dropped (record { length = length }))) b out 3
 unfolding spellAnswer spellTold
 drop-put b out length e = record { words = e; count = refl }
 

@@ -73,9 +73,11 @@ module _ (b : Book) (key room : ℕ) (out : List ℕ) (h : 4 + room ≤ length o
   pub record Put (a : Answer Outcome) (answer : BookRead) (part : List ℕ) : Type 0 where
     pub same : length (putMid 4 (4 + room - 4) out part) ≡ length out
     pub long : readLen answer ≤ 4 + room
-    pub said : (len : ℕ) → len ≡ readLen answer → Answered (answerOf a) out (overwrite (putMid 4 (4 + room - 4) out part) 0 (readWords answer)) len
+    pub said : (len : ℕ) → len ≡ readLen answer
+        → Answered (answerOf a) out (overwrite (putMid 4 (4 + room - 4) out part) 0 (readWords answer)) len
 
-  put-turned : (number : ℕ) (answer : BookRead) (part : List ℕ) → readAnswer answer ≡ refused number → part ≡ mid → Put (refused number) answer part
+  put-turned : (number : ℕ) (answer : BookRead) (part : List ℕ) → readAnswer answer ≡ refused number → part ≡ mid
+      → Put (refused number) answer part
   unfolding answered spellAnswer
   put-turned number (Listed count pages) part e p = let z : _≡_ {A = ℕ} 0 1 = cc in absurd (omega arith)
   put-turned number (NotRead m) part e p =
@@ -83,7 +85,8 @@ module _ (b : Book) (key room : ℕ) (out : List ℕ) (h : 4 + room ≤ length o
       let whole : putMid 4 (4 + room - 4) out part ≡ out = ap (putMid 4 (4 + room - 4) out) p ∙ put-same 4 (4 + room - 4) out in
       record { same = ap length whole; long = omega arith; said = λ len l. record { words = rw (whole, same); count = l } }
 
-  put-told : (l : List-told) (answer : BookRead) (part : List ℕ) → length (l .numbers) ≤ room → readAnswer answer ≡ accepted (record { length = length (l .numbers); pages = l .pages })
+  put-told : (l : List-told) (answer : BookRead) (part : List ℕ) → length (l .numbers) ≤ room
+      → readAnswer answer ≡ accepted (record { length = length (l .numbers); pages = l .pages })
       → part ≡ overwrite mid 0 (l .numbers) → Put (accepted (record { told = listed l; book = b })) answer part
   unfolding answered spellAnswer spellTold
   put-told l (Listed count pages) part fits e p =
@@ -99,13 +102,15 @@ module _ (b : Book) (key room : ℕ) (out : List ℕ) (h : 4 + room ≤ length o
       }
   put-told l (NotRead m) part fits e p = let z : _≡_ {A = ℕ} 0 1 = cc in absurd (omega arith)
 
-  put-as : (a : Answer Outcome) → ReadsAs b room a → (answer : BookRead) (part : List ℕ) → readAnswer answer ≡ answered countedOf (answerOf a) → part ≡ listAfter mid a → Put a answer part
+  put-as : (a : Answer Outcome) → ReadsAs b room a → (answer : BookRead) (part : List ℕ)
+      → readAnswer answer ≡ answered countedOf (answerOf a) → part ≡ listAfter mid a → Put a answer part
   unfolding answered listAfter
   put-as (refused number) turned answer part e p = put-turned number answer part e p
   put-as (accepted o) (told l fits) answer part e p = put-told l answer part fits e p
 
   -- The answer and the list of a read make up the answer's words.
-  pub put-reads : (answer : BookRead) (part : List ℕ) → readAnswer answer ≡ answered countedOf (answerOf (reads b key (length mid))) → part ≡ listAfter mid (reads b key (length mid))
+  pub put-reads : (answer : BookRead) (part : List ℕ) → readAnswer answer ≡ answered countedOf (answerOf (reads b key (length mid)))
+      → part ≡ listAfter mid (reads b key (length mid))
       → Put (reads b key room) answer part
   put-reads answer part e p =
       put-as (reads b key room) (reads-as b key room) answer part (e ∙ ap (λ (n : ℕ). answered countedOf (answerOf (reads b key n))) mid-room)

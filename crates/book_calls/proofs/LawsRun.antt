@@ -36,7 +36,8 @@ use Rattle.book_words.proofs.LawsWords.{some-inj, none≢some}
 use Rattle.book_words.proofs.LawsCalls.{call-at}
 use Rattle.book_calls.specs.Steps.{NextIs, Answered, Done, CallHere, Spelled, AllDone}
 use Rattle.book_calls.specs.declared.words.NextCall.the-variants.{At, Nowhere}
-use Rattle.book_calls.proofs.LawsSteps.{of-load, of-append, of-read, of-drop, of-other, was-somewhere, spelled-end, spelled-nowhere, spelled-on, was-before, only}
+use Rattle.book_calls.proofs.LawsSteps.{of-load, of-append, of-read, of-drop, of-other, was-somewhere, spelled-end, spelled-nowhere}
+use Rattle.book_calls.proofs.LawsSteps.{spelled-on, was-before, only}
 use Rattle.book_calls.proofs.LawsPut.{place-words}
 use Rattle.book_calls.proofs.LawsRead.{ReadsAs, turned, told, reads-as}
 
@@ -72,7 +73,8 @@ short-as {room = room} e h = subst (λ (x : Answer Told). length (spellAnswer x)
 -- ---- the call at an index
 
 -- the same call
-pub re-done : {b after : Book} {c other : Call} {out written : List ℕ} {len : ℕ} → other ≡ c → Done b c out after written len → Done b other out after written len
+pub re-done : {b after : Book} {c other : Call} {out written : List ℕ} {len : ℕ} → other ≡ c → Done b c out after written len
+    → Done b other out after written len
 re-done {b} {after} {out = out} {written = written} {len = len} e h = subst (λ (x : Call). Done b x out after written len) (sym e) h
 
 module _ {calls : List ℕ} {at room : ℕ} (h : CallHere calls at room) where
@@ -92,7 +94,8 @@ module _ {calls : List ℕ} {at room : ℕ} (h : CallHere calls at room) where
   here-of = sym (call-at calls at (h .three)) ∙ h .is
 
   -- a load
-  loaded-by : (t : Bool) → leb third (length rest) ≡ t → cond t (begins (load key (firstOf third rest)) (behind third rest)) none ≡ some (h .here)
+  loaded-by : (t : Bool) → leb third (length rest) ≡ t
+      → cond t (begins (load key (firstOf third rest)) (behind third rest)) none ≡ some (h .here)
       → (third ≤ length rest) × (h .here .first ≡ load key (firstOf third rest))
   loaded-by true e f = (leb-true third (length rest) e, ap (λ (b : Begins Call). b .first) (sym (some-inj f)))
   loaded-by false e f = absurd (none≢some f)
@@ -162,14 +165,15 @@ read-left b key room = by (reads b key room) (reads-as b key room)
     by (refused number) turned = refl
     by (accepted o) (told l fits) = refl
 
-pub read-done : (b : Book) (key room : ℕ) {out written : List ℕ} {len : ℕ} → Answered (answerOf (reads b key room)) out written len → Done b (read key room) out b written len
+pub read-done : (b : Book) (key room : ℕ) {out written : List ℕ} {len : ℕ} → Answered (answerOf (reads b key room)) out written len
+    → Done b (read key room) out b written len
 unfolding does answerRoom
 read-done b key room s = record { left = read-left b key room; said = s; short = read-short b key room }
 
 -- ---- a list of calls
 
--- What is known in the middle of running calls: those of the words from an index on are left, and the words of their answers, written from another
--- index on, make up the words of all.
+-- What is known in the middle of running calls: those of the words from an index on are left, and the words of their answers, written from
+-- another index on, make up the words of all.
 pub record Running (first : Book) (cs : List Call) (calls out₀ : List ℕ) (b : Book) (out : List ℕ) (at to : ℕ) : Type 0 where
   pub left : List Call
   pub spelled : callsOf (behind at calls) ≡ some left
@@ -184,13 +188,15 @@ pub spelled-room : {calls : List ℕ} {room : ℕ} → Spelled calls room → (c
 spelled-room {room = room} s cs e = subst (λ (l : List Call). answersRoom l ≤ room) (some-inj (sym (s .is) ∙ e)) (s .fits)
 
 -- the part of a list from an index on has the room that is left
-pub here-in : {calls : List ℕ} {at : ℕ} (out : List ℕ) (to : ℕ) → CallHere calls at (length out - to) → CallHere calls at (length (midOf to (length out - to) out))
+pub here-in : {calls : List ℕ} {at : ℕ} (out : List ℕ) (to : ℕ) → CallHere calls at (length out - to)
+    → CallHere calls at (length (midOf to (length out - to) out))
 here-in {calls} {at} out to h =
     let same : length (midOf to (length out - to) out) ≡ length out - to = simp (length-take, length-drop) (omega arith) in
     subst (CallHere calls at) (sym same) h
 
 -- nothing is run yet
-pub runs-start : (b : Book) (cs : List Call) (calls out : List ℕ) → callsOf calls ≡ some cs → answersRoom cs ≤ length out → Running b cs calls out b out 0 0
+pub runs-start : (b : Book) (cs : List Call) (calls out : List ℕ) → callsOf calls ≡ some cs → answersRoom cs ≤ length out
+    → Running b cs calls out b out 0 0
 runs-start b cs calls out e h = record { left = cs; spelled = e; room = omega arith; same = refl; words = refl; count = zero-add _; book = refl }
 
 module _ {first : Book} {cs : List Call} {calls out₀ : List ℕ} {b : Book} {out : List ℕ} {at to : ℕ} (r : Running first cs calls out₀ b out at to) where

@@ -28,7 +28,8 @@ unfolding NextIs
 nowhere calls at e = rw e tt
 
 -- a call begins there, and these are the words behind it
-pub somewhere : (calls : List ℕ) (at next : ℕ) (b : Begins Call) → callAt (behind at calls) ≡ some b → b .rest ≡ behind next calls → at + 3 ≤ next → next ≤ length calls
+pub somewhere : (calls : List ℕ) (at next : ℕ) (b : Begins Call) → callAt (behind at calls) ≡ some b → b .rest ≡ behind next calls
+    → at + 3 ≤ next → next ≤ length calls
     → NextIs calls at (callAt (behind at calls)) (At next)
 unfolding NextIs
 somewhere calls at next b e r l m = rw e (r, l, m)
@@ -126,7 +127,8 @@ only true x b e = some-inj e
 only false x b e = absurd (none≢some e)
 
 -- the words that the answer to the call at an index may have
-pub room-of : (k key third : ℕ) (rest : List ℕ) (b : Begins Call) → callOf k key third rest ≡ some b → answerRoom (b .first) ≡ needOf k third
+pub room-of : (k key third : ℕ) (rest : List ℕ) (b : Begins Call) → callOf k key third rest ≡ some b
+    → answerRoom (b .first) ≡ needOf k third
 unfolding needOf answerRoom
 room-of k key third rest b e =
     ⊎-elim (λ (h : k < 2). ⊎-elim (λ (p : k < 1). loads (omega arith)) (λ (q : 1 ≤ k). appends (omega arith)) (lt-or-ge k 1))
@@ -196,11 +198,13 @@ module _ (calls : List ℕ) (at : ℕ) (inside : at < length calls) where
       let (b, e, r, l, m) = was-somewhere calls at next _ n in
       (b, e, calls-some (behind at calls) b left-words e ∙ ap (λ (ws : List ℕ). before (b .first) (callsOf ws)) r)
 
-  pub spelled-next : (next : ℕ) → NextIs calls at (callAt (behind at calls)) (At next) → isSome (callsOf (behind at calls)) ≡ isSome (callsOf (behind next calls))
+  pub spelled-next : (next : ℕ) → NextIs calls at (callAt (behind at calls)) (At next)
+      → isSome (callsOf (behind at calls)) ≡ isSome (callsOf (behind next calls))
   spelled-next next n = let (b, e, s) = spelled-on next n in ap isSome s ∙ before-some (b .first) (callsOf (behind next calls))
 
 -- calls before others
-pub was-before : (c : Call) (o : Option (List Call)) (cs : List Call) → before c o ≡ some cs → (ds : List Call) × (o ≡ some ds) × (c ∷ ds ≡ cs)
+pub was-before : (c : Call) (o : Option (List Call)) (cs : List Call) → before c o ≡ some cs
+    → (ds : List Call) × (o ≡ some ds) × (c ∷ ds ≡ cs)
 unfolding before
 was-before c none cs e = absurd (none≢some e)
 was-before c (some ds) cs e = (ds, refl, some-inj e)

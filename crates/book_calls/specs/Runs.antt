@@ -47,9 +47,13 @@ pub record Runs (body heads calls out : List ℕ) (r : AfterRun) (body' heads' o
   pub words : out' ≡ wordsAfter out (length body) (length heads) (callsOf calls)
   -- Where nothing was run, body and heads are as they were.
   pub still : Stopped (r .answer) → (body' ≡ body) × (heads' ≡ heads)
-  -- Afterwards each key reads as what is recorded for it, by calls and answers alone, where the book is in shape; a long enough list is lent.
+  -- Afterwards each key reads as what is recorded for it, by calls and answers alone, where the book is in shape; a long enough list is
+  -- lent.
   pub records : (cs : List Call) → callsOf calls ≡ some cs → answersRoom cs ≤ length out → outOfShape (length body) (length heads) ≡ false
       → (key room : ℕ) → key < length heads → length (recorded key cs (plainAnswers (plainFresh (length body) (length heads)) cs) []) ≤ room
       → (pages : ℕ)
       × (answerOf (reads (bookOf body' heads' (r .state)) key room)
-      ≡ accepted (listed (record { numbers = recorded key cs (plainAnswers (plainFresh (length body) (length heads)) cs) []; pages = pages })))
+      ≡ accepted (listed (record {
+        numbers = recorded key cs (plainAnswers (plainFresh (length body) (length heads)) cs) [];
+        pages = pages;
+      })))

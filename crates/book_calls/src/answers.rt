@@ -74,7 +74,8 @@ fn put_place(out: &mut [u64], place: ShHeadValue)
 // Writes the words of an accepted append.
 fn put_appended(out: &mut [u64], to: AppendedTo) -> usize
     requires { ⌜ 7 ≤ length (now out) ⌝ }
-    ensures { λ r. ⌜ Answered (accepted (appended (record { place = to .place; rewritten = to .rewritten }))) (now (out .entry)) (now (out .exit)) r ⌝ }
+    ensures { λ r. ⌜ Answered (accepted (appended (record { place = to .place; rewritten = to .rewritten }))) (now (out .entry))
+        (now (out .exit)) r ⌝ }
 {
     let place = to.place;
     put_three(out, 0, APPENDED, to.rewritten);

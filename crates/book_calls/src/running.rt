@@ -37,7 +37,8 @@ fn run_load(
     out: &mut [u64],
 ) -> AfterCall
     requires { ⌜ 3 ≤ length (now out) ⌝ }
-    ensures { λ r. ⌜ Done (bookOf (now (body .entry)) (now (heads .entry)) state) (load key (now (numbers .entry))) (now (out .entry)) (bookOf (now (body .exit)) (now (heads .exit)) (r .state)) (now (out .exit)) (r .len) ⌝ }
+    ensures { λ r. ⌜ Done (bookOf (now (body .entry)) (now (heads .entry)) state) (load key (now (numbers .entry))) (now (out .entry))
+        (bookOf (now (body .exit)) (now (heads .exit)) (r .state)) (now (out .exit)) (r .len) ⌝ }
 {
     let after = book::load(body, heads, state, key, numbers);
     let next = after.state;
@@ -56,7 +57,8 @@ fn run_append(
     out: &mut [u64],
 ) -> AfterCall
     requires { ⌜ 7 ≤ length (now out) ⌝ }
-    ensures { λ r. ⌜ Done (bookOf (now (body .entry)) (now (heads .entry)) state) (append key n) (now (out .entry)) (bookOf (now (body .exit)) (now (heads .exit)) (r .state)) (now (out .exit)) (r .len) ⌝ }
+    ensures { λ r. ⌜ Done (bookOf (now (body .entry)) (now (heads .entry)) state) (append key n) (now (out .entry))
+        (bookOf (now (body .exit)) (now (heads .exit)) (r .state)) (now (out .exit)) (r .len) ⌝ }
 {
     let after = book::append(body, heads, state, key, n);
     let next = after.state;
@@ -74,7 +76,8 @@ fn run_drop(
     out: &mut [u64],
 ) -> AfterCall
     requires { ⌜ 3 ≤ length (now out) ⌝ }
-    ensures { λ r. ⌜ Done (bookOf (now (body .entry)) (now (heads .entry)) state) (drop key) (now (out .entry)) (bookOf (now (body .exit)) (now (heads .exit)) (r .state)) (now (out .exit)) (r .len) ⌝ }
+    ensures { λ r. ⌜ Done (bookOf (now (body .entry)) (now (heads .entry)) state) (drop key) (now (out .entry))
+        (bookOf (now (body .exit)) (now (heads .exit)) (r .state)) (now (out .exit)) (r .len) ⌝ }
 {
     let after = book::drop(body, heads, state, key);
     let next = after.state;
@@ -93,7 +96,8 @@ fn run_read(
     out: &mut [u64],
 ) -> usize
     requires { ⌜ 4 + room ≤ length (now out) ⌝ }
-    ensures { λ r. ⌜ Answered (answerOf (reads (bookOf (now (body .entry)) (now (heads .entry)) state) key room)) (now (out .entry)) (now (out .exit)) r ⌝ }
+    ensures { λ r. ⌜ Answered (answerOf (reads (bookOf (now (body .entry)) (now (heads .entry)) state) key room)) (now (out .entry))
+        (now (out .exit)) r ⌝ }
 {
     let end = 4 + room;
     let answer = book::read(body, heads, state, key, &mut out[4..end]);
@@ -110,7 +114,9 @@ fn run_call(
     out: &mut [u64],
 ) -> AfterCall
     requires { ⌜ CallHere (now calls) at (length (now out)) ⌝ }
-    ensures { λ r. ⌜ ((b : Begins Call) → callAt (behind at (now (calls .entry))) ≡ some b → Done (bookOf (now (body .entry)) (now (heads .entry)) state) (b .first) (now (out .entry)) (bookOf (now (body .exit)) (now (heads .exit)) (r .state)) (now (out .exit)) (r .len)) ⌝ }
+    ensures { λ r. ⌜ ((b : Begins Call) → callAt (behind at (now (calls .entry))) ≡ some b
+        → Done (bookOf (now (body .entry)) (now (heads .entry)) state) (b .first) (now (out .entry))
+        (bookOf (now (body .exit)) (now (heads .exit)) (r .state)) (now (out .exit)) (r .len)) ⌝ }
 {
     let kind = calls[at];
     let key = calls[at + 1];
@@ -139,7 +145,9 @@ pub fn run_spelled(
     out: &mut [u64],
 ) -> AfterCall
     requires { ⌜ Spelled (now calls) (length (now out)) ⌝ }
-    ensures { λ r. ⌜ ((cs : List Call) → callsOf (now (calls .entry)) ≡ some cs → AllDone (bookOf (now (body .entry)) (now (heads .entry)) state) cs (now (out .entry)) (bookOf (now (body .exit)) (now (heads .exit)) (r .state)) (now (out .exit)) (r .len)) ⌝ }
+    ensures { λ r. ⌜ ((cs : List Call) → callsOf (now (calls .entry)) ≡ some cs
+        → AllDone (bookOf (now (body .entry)) (now (heads .entry)) state) cs (now (out .entry))
+        (bookOf (now (body .exit)) (now (heads .exit)) (r .state)) (now (out .exit)) (r .len)) ⌝ }
 {
     let mut current = state;
     let mut at: usize = 0;

@@ -22,10 +22,11 @@ pub struct AfterRun {
     pub state: State,
 }
 
-// Runs the calls that some words spell on a fresh book, and writes the words of their answers to the start of a lent list. Nothing is run where the
-// words spell no calls, or where the list is shorter than the answers may be.
+// Runs the calls that some words spell on a fresh book, and writes the words of their answers to the start of a lent list. Nothing is run
+// where the words spell no calls, or where the list is shorter than the answers may be.
 pub fn run_calls(body: &mut [u8], heads: &mut [u64], calls: &[u64], answers: &mut [u64]) -> AfterRun
-    ensures { λ r. ⌜ Runs (now (body .entry)) (now (heads .entry)) (now (calls .entry)) (now (answers .entry)) r (now (body .exit)) (now (heads .exit)) (now (answers .exit)) ⌝ }
+    ensures { λ r. ⌜ Runs (now (body .entry)) (now (heads .entry)) (now (calls .entry)) (now (answers .entry)) r (now (body .exit))
+        (now (heads .exit)) (now (answers .exit)) ⌝ }
 {
     let none = State {
         mark: 0,

@@ -1,6 +1,5 @@
 -- The ceilings and the fewest pages, by the answers of the book over bytes: from empty to drop no key is moved more than 9 times, nor has
--- more than
--- 765 records rewritten by moves, and no allowed cutting of a loaded list has fewer pages than the load reports. Assumes nothing.
+-- more than 765 records rewritten by moves, and no allowed cutting of a loaded list has fewer pages than the load reports. Assumes nothing.
 use Prim.Native.Nat.{ℕ, _≤_}
 use mathlib.Core.List.{List}
 use lib.ListN.{length}

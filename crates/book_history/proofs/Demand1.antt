@@ -1,6 +1,5 @@
 -- Demand 1, of the book: on any book, a damaged one too, a refused call leaves everything as it was, and after an accepted one only what
--- the call
--- names differs. Assumes nothing.
+-- the call names differs. Assumes nothing.
 use Prim.Native.Nat.{ℕ}
 use mathlib.Core.List.{List}
 use mathlib.Core.Path.{_≡_}

@@ -70,8 +70,7 @@ unfolding runs
 turned-back = (refl, refl)
 
 -- A page of 4,072 bytes is full, so that the next number begins another. A drop frees the first page first, so that the last one is taken
--- again,
--- here by a list that moves out of its slab.
+-- again, here by a list that moves out of its slab.
 pub full-page : runs (fresh (bodyOf 16384) 2) (load 0 (inARow 1 4072) ∷ append 0 4073 ∷ append 0 4074 ∷ read 0 4074 ∷ drop 0 ∷ load 1 (inARow 1 256) ∷ append 1 257 ∷ read 1 257 ∷ [])
     ≡ loads-in 1 ∷ at (Extent 8192) 0 ∷ at (Extent 8192) 0 ∷ lists-as (inARow 1 4074) 2 ∷ accepted (dropped (record { length = 4074 })) ∷ loads-in 0 ∷ at (Extent 8192) 256
     ∷ lists-as (inARow 1 257) 1 ∷ []
@@ -85,8 +84,7 @@ unfolding runs inARow
 loaded-run = refl
 
 -- What damage gets: a slab whose stored count isn't its head's is no sound key, a free head that no block can have isn't popped, and there
--- is no room
--- behind a mark at the body's end. A number is judged before the key, and the key before its last number.
+-- is no room behind a mark at the body's end. A number is judged before the key, and the key before its last number.
 pub damaged : (runs (book (bodyOf 8192) (slabWord 0 2 4096 ∷ []) 4112 (replicate 9 0)) (read 0 5 ∷ append 0 9 ∷ drop 0 ∷ append 0 0 ∷ load 0 [] ∷ [])
     ≡ refused 31 ∷ refused 31 ∷ refused 31 ∷ refused 12 ∷ refused 3 ∷ [])
     × (runs (book (bodyOf 8192) (5 ∷ []) 4112 (4104 ∷ replicate 8 0)) (append 0 6 ∷ append 0 5 ∷ []) ≡ refused 35 ∷ refused 32 ∷ [])

@@ -1,6 +1,5 @@
 -- What a key over bytes reads as, where the book stands for a good plain book: its head word, its slab, its last page, and its whole
--- content.
--- Assumes nothing.
+-- content. Assumes nothing.
 use Prim.Native.Nat.{ℕ, zero, suc, _+_, _-_, _/_, _^_, _≤_, _<_}
 use mathlib.Core.Bool.{Bool, true, false, not}
 use mathlib.Core.List.{List, [], _∷_, append-nil}
@@ -98,8 +97,7 @@ offsOf [] = []
 offsOf (p ∷ ps) = p .off ∷ offsOf ps
 
 -- What is known of the page at an index of some pages, by its offset: it stands below the mark, it reads as it should, and only the last
--- page is
--- where the last one is.
+-- page is where the last one is.
 pub record Stands (s : Space) (first creates last i : ℕ) (ps : List Page) (off : ℕ) : Type 0 where
   pub block : isBlock pageClass off (s .mark) ≡ true
   pub reads : ChainReads first creates i ps (pageBytes s off)

@@ -1,6 +1,5 @@
 -- Two books go through the tests of a call side by side: a test that both have, one that only the bytes have, and the tests that every call
--- begins
--- with. Assumes nothing.
+-- begins with. Assumes nothing.
 use Prim.Native.Nat.{ℕ, _+_, _%_, _^_, _≤_, _<_}
 use mathlib.Core.Bool.{Bool, true, false, cond, not, _&&_, _||_, true≢false}
 use mathlib.Core.List.{List}

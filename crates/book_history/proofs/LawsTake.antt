@@ -42,8 +42,7 @@ abbrev pub anyHand : Contents → Contents
 anyHand c = record { inHand = λ block. Unit {0}; slabs = c .slabs; pages = c .pages }
 
 -- What two takes answer is alike: both give one offset, the body stays so long, and the spaces agree with what is then in hand; or both are
--- refused
--- by one number.
+-- refused by one number.
 pub data TakenAlike (at : ℕ → Place) (held : ℕ → Option Block) (c : Contents) (long : ℕ) : Answer PlainTaken → Answer Taken → Type 0 where
   taken-alike : {t : PlainTaken} {u : Taken} → u .off ≡ t .off → length (u .space .body) ≡ long
       → AgreesSpace (t .space) (u .space) at (held (t .off)) c

@@ -1,6 +1,5 @@
 -- The licence's sentence, on every history of every fresh book: each read tells exactly what is recorded for its key, so that an empty
--- answer
--- means that nothing is, or is refused by 1, 2 or 34. Assumes nothing.
+-- answer means that nothing is, or is refused by 1, 2 or 34. Assumes nothing.
 use Prim.Native.Nat.{ℕ}
 use mathlib.Core.List.{List, []}
 use lib.ListN.{length}

@@ -1,6 +1,5 @@
 -- When a book over bytes stands for a plain book: each head word tells its key's place, each free head is the top of its stack, and what
--- every
--- block holds reads as its owner says.
+-- every block holds reads as its owner says.
 use Prim.Native.Nat.{ℕ, zero, suc, _^_, _≤_}
 use mathlib.Core.Bool.{true, false, cond}
 use mathlib.Core.List.{List, [], _∷_}

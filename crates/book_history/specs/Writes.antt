@@ -1,6 +1,5 @@
 -- What each call names (document 01, "Append" to "drop"): the bytes of the body, the head words and the free heads that may differ after
--- it, and
--- whether the mark may. This is said of any book, a damaged one too.
+-- it, and whether the mark may. This is said of any book, a damaged one too.
 use Prim.Native.Nat.{ℕ, _+_, _-_, _*_, _≤_, _<_}
 use mathlib.Core.Bool.{Bool, true, false, cond, _||_}
 use mathlib.Core.List.{List, [], _∷_, _++_}
@@ -114,8 +113,7 @@ growingSlab n class off c s =
     (moving (c .numbers ++ (n ∷ [])) (record { class = class; off = off } ∷ []) s)
 
 -- A number behind the stream of a last page: where it has a spot, the page's count, the number's bytes and creates; otherwise a page is
--- taken and
--- filled, and of the old one the link and creates.
+-- taken and filled, and of the old one the link and creates.
 unfoldable pub growingPage : ℕ → Option Spot → Space → Named
 growingPage last (some w) s = both (bytesAt (last + 1) 2) (both (bytesAt (last + w .at) (ulebLen (w .difference))) (bytesAt (last + 20) 4))
 growingPage last none s = both (filling pageClass pageSize s) (both (bytesAt (last + 3) 5) (bytesAt (last + 20) 4))

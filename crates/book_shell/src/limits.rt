@@ -1,6 +1,5 @@
 // The limits of the program, and the memory that it lends: what goes past a limit is told so, and nothing is done for it. The contracts
-// give the
-// lengths, which lending an array as a slice needs.
+// give the lengths, which lending an array as a slice needs.
 ghost use mathlib.Core.Path.{_≡_};
 ghost use lib.ListN.{length};
 

@@ -1,7 +1,6 @@
 // A shell for the account book: reads a script from standard input, a call a line, and writes each answer in words. `body BYTES` and then
 // `keys COUNT` make a fresh book; `load KEY NUMBER ...`, `append KEY NUMBER`, `read KEY` and `drop KEY` are its calls; `places` and `space`
-// show
-// what it holds; `#` begins a comment. A line that can't be read is reported with its number, and nothing is done for it.
+// show what it holds; `#` begins a comment. A line that can't be read is reported with its number, and nothing is done for it.
 ghost use Prim.Native.Nat.{_+_, _≤_};
 ghost use lib.ListN.{length};
 

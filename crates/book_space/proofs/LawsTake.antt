@@ -25,8 +25,7 @@ use Rattle.book_space.proofs.LawsLists.{heads-stay, size-stays, outside
 use Rattle.book_space.proofs.LawsSteps.{mark-yes, mark-no, fresh-page, fresh-slab}
 
 -- What stays of a space in which blocks are taken: it is in shape, and as long, with as many free heads; its mark doesn't fall, and what
--- lies
--- below the mark before is untouched.
+-- lies below the mark before is untouched.
 pub record Kept (s t : Space) : Type 0 where
   pub shape : InShape t
   pub size : length (t .body) ≡ length (s .body)

@@ -1,6 +1,5 @@
 -- The shortest form of a number and its length. Each fact about every number goes by `by-sevens`: it holds below 128, and of a number where
--- it
--- holds of its quotient by 128. Assumes nothing.
+-- it holds of its quotient by 128. Assumes nothing.
 use Prim.Native.Nat.{ℕ, zero, suc, _+_, _*_, _/_, _%_, _^_, _≤_, _<_}
 use mathlib.Core.Bool.{Bool, true, false, cond}
 use mathlib.Core.List.{List, [], _∷_, _++_}

@@ -25,8 +25,7 @@ unfolding writeUleb refuseIf afterWrite
 refuses dst n h = rw (lt-ltb (length dst) (ulebLen n) h) (refl, refl)
 
 -- What is known in the middle of a form: i bytes of n's shortest form were written to a destination, which holds dst now, and rest is what
--- is
--- left of n. The shortest form of rest, written from i on, makes the destination what the whole form makes of it.
+-- is left of n. The shortest form of rest, written from i on, makes the destination what the whole form makes of it.
 pub record Writing (before : List ℕ) (n : ℕ) (dst : List ℕ) (rest i : ℕ) : Type 0 where
   pub fits : ulebLen n ≤ length before
   pub same : length dst ≡ length before

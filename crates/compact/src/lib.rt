@@ -73,8 +73,7 @@ fn passes_64_bits(i: usize, b: u8) -> bool
 }
 
 // Reads the number at the start of buf, whose form may be padded; what follows the form doesn't matter. Its value and the length of its
-// form
-// go out where it is read, and the answer is then 0; both stay as they were where it is refused.
+// form go out where it is read, and the answer is then 0; both stay as they were where it is refused.
 pub fn read_form(buf: &[u8], value: &mut u64, len: &mut usize) -> Refusal
     ensures number { λ r. ⌜ r ≡ refusalOf (readUleb (now (buf .entry))) ⌝ }
     ensures value { λ r. ⌜ now (value .exit) ≡ told (λ x. x .value) (readUleb (now (buf .entry))) (now (value .entry)) ⌝ }

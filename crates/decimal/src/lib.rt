@@ -1,6 +1,5 @@
 // Numbers in decimal, read from text. They are printed by the toolchain's `io`, whose contract says which digits; a number that was printed
-// so
-// is read back (`proofs/LawsDecimal`).
+// so is read back (`proofs/LawsDecimal`).
 ghost use mathlib.Core.Path.{_≡_};
 ghost use Prim.Native.Nat.{_-_};
 ghost use Rattle.decimal.specs.Decimal.{isDigit, allDigits, valueOf, fitting, readDecimal};

@@ -34,8 +34,7 @@ pub extern "C" fn ouriscado_sh_page_chunk_ranges(
 }
 
 // Cuts the last of the first count ranges of chunks again, into parts that fit a last page, and tells how many ranges there are then. One
-// that is
-// empty, or leaves fks, stays. Refuses 34.
+// that is empty, or leaves fks, stays. Refuses 34.
 #[no_mangle]
 pub extern "C" fn ouriscado_split_last_chunk_for_extent(
     fks: &[u64],

@@ -5,8 +5,7 @@ ghost use Rattle.scripthash_fields.specs.Fields.{afterSet};
 ghost use Rattle.scripthash_pages.specs.Pack.{packPage, packExtent};
 
 // Makes a page of version 1 of a rising list, with a next page, or LAST with first offset 0 where next is 0. Refuses 4 to 6, 10, 12, 13,
-// 32,
-// 33.
+// 32, 33.
 #[no_mangle]
 pub extern "C" fn ouriscado_sh_page_pack_fks(page: &mut [u8], fks: &[u64], next: u64) -> u32
     ensures number { λ r. ⌜ r ≡ refusalOf (packPage (now (page .entry)) (now (fks .entry)) next) ⌝ }

@@ -65,8 +65,7 @@ unfolding refuseIf andThen divided shortest ulebLen lastFrom streamLenFrom first
 loaded-run = refl
 
 -- A page of 4,072 bytes is full, so that the next number begins another. A drop frees the first page first, so that the last one is taken
--- again,
--- here by a list that moves out of its slab.
+-- again, here by a list that moves out of its slab.
 pub full-page : answers (fresh 16384 2) (load 0 (inARow 1 4072) ∷ append 0 4073 ∷ read 0 4073 ∷ drop 0 ∷ load 1 (inARow 1 256) ∷ append 1 257 ∷ [])
     ≡ loads-in 1 ∷ at (Extent 8192) 0 ∷ accepted (listed (record { numbers = inARow 1 4073; pages = 2 })) ∷ accepted (dropped (record { length = 4073 }))
     ∷ loads-in 0 ∷ at (Extent 8192) 256 ∷ []

@@ -1,6 +1,5 @@
 -- Blocks of different owners stay apart: when a block goes from one owner to another, when owners are named anew, and when a block is taken
--- at the
--- mark. Assumes nothing.
+-- at the mark. Assumes nothing.
 use Prim.Native.Nat.{ℕ, suc, _+_, _*_, _≤_, _<_}
 use mathlib.Core.Bool.{true}
 use mathlib.Core.Logic.{_⊎_, inl, inr, ⊎-elim, _≢_}

@@ -47,8 +47,7 @@ spent-kept =
     }
 
 -- Take any book with an empty key and any list of calls: from empty to drop the key is moved no more than 9 times, and has no more than 765
--- records
--- rewritten by moves.
+-- records rewritten by moves.
 pub ceilings-from : (b : Book) (key : ℕ) (cs : List Call) → keyOf key b ≡ emptyKey
     → (tallyOf key cs (answers b cs) noMoves .moves ≤ mostMoves) × (tallyOf key cs (answers b cs) noMoves .rewritten ≤ mostRewritten)
 ceilings-from b key cs is = spent-most _ (keyOf key (after b cs) .place) _ (kept-calls _ spent-kept key b cs noMoves (rw is (spent-kept .drops)) .1)

@@ -25,8 +25,7 @@ use Rattle.book_rules.proofs.LawsRules.{slots-mono, slots-twice, stays-holds, M
 -- ---- what a tally may be, by the place
 
 -- A list of n numbers that moves brought into a slab of class c: it has slots there; each class was entered once at most, and left with no
--- more
--- records than it has slots.
+-- more records than it has slots.
 pub record Grown (c n : ℕ) (t : Tally) : Type 0 where
   pub holds : n ≤ slabSlots c
   pub moves : t .moves ≤ suc c

@@ -98,8 +98,7 @@ pub record Placed : Type 0 where
   pub rewritten : ℕ
 
 -- A list, longer by one number, moves out of a place: into a taken slab of a class, or else into a taken page; then the old place is freed.
--- The
--- records held before are rewritten.
+-- The records held before are rewritten.
 unfoldable pub moved : ℕ → Option ℕ → ℕ → List ℕ → Place → Space → Answer Placed
 moved end (some class) held list old s =
     andThen (takeBlock end class s)

@@ -14,8 +14,7 @@ use Rattle.plain_book.specs.Key.{Page, Place, empty, inline, slab, pages
 use Rattle.plain_book.specs.Book.{Book, keyOf}
 
 -- An owner of a block: a call, while it runs; the stack of a class, at a depth counted from its bottom; a key, for its slab; or a key, for
--- the page
--- at an index.
+-- the page at an index.
 pub data Owner : Type 0 where
   hand : Owner
   stack : ℕ → ℕ → Owner

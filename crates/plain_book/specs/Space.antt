@@ -1,6 +1,5 @@
 -- The space of a plain book (01 coins the term): a mark, up to which blocks were ever taken, and a stack of freed blocks for each class. No
--- byte
--- is read.
+-- byte is read.
 use Prim.Native.Nat.{ℕ, _+_, _*_}
 use mathlib.Core.Bool.{cond}
 use mathlib.Core.List.{List, [], _∷_}

@@ -1,6 +1,5 @@
 // The functions on cutting. The ranges that a call writes stand over the first numbers of the list, as far as it reaches; where the last
-// one
-// ends is told too.
+// one ends is told too.
 use crate::call::BEFORE;
 use crate::call::UNKNOWN;
 

@@ -1,8 +1,6 @@
 -- The cutting for a last page with a small room and other pages with a large one: it is allowed, and no allowed cutting of a rising list
--- has
--- fewer parts. What a part leaves over of numbers that fit the large room has to fit the small one, so the rooms are near to each other:
--- with
--- 10 and 100 bytes, 1 to 100 would be cut into ten parts, where 1 to 90 and 91 to 100 are allowed. Assumes nothing.
+-- has fewer parts. What a part leaves over of numbers that fit the large room has to fit the small one, so the rooms are near to each
+-- other: with 10 and 100 bytes, 1 to 100 would be cut into ten parts, where 1 to 90 and 91 to 100 are allowed. Assumes nothing.
 use Prim.Native.Nat.{ℕ, zero, suc, _+_, _-_, _*_, _^_, _≤_, _<_, zero-le, suc-le-suc}
 use mathlib.Core.Bool.{Bool, true, false, cond}
 use mathlib.Core.List.{List, [], _∷_, _++_, append-nil}

@@ -1,6 +1,5 @@
 -- The last of some ranges split: what the answer and the lent list are where that range is cut again, and where it is left; and the ranges
--- of the
--- cutting as those of the greedy parts with the last one split. Assumes nothing.
+-- of the cutting as those of the greedy parts with the last one split. Assumes nothing.
 use Prim.Native.Nat.{ℕ, suc, _+_, _-_, _≤_, _<_}
 use mathlib.Core.List.{List, [], _∷_, _++_, append-assoc, append-nil}
 use mathlib.Core.Path.{_≡_, refl, sym, ap, _∙_}

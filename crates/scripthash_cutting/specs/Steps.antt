@@ -28,8 +28,7 @@ unfoldable pub nextPart : ℕ → ℕ → List ℕ → ℕ
 nextPart small large ns = cond (eqb (firstPart large ns) (length ns)) (firstPart small ns) (firstPart large ns)
 
 -- Cutting the numbers from index `from` on, for other pages with a room, into a lent list from its index `at` on: the ranges that the list
--- has
--- then, or refused where it is too short.
+-- has then, or refused where it is too short.
 unfoldable pub cutFrom : ℕ → List ℕ → ℕ → ℕ → ℕ → Answer ℕ
 cutFrom room fks from size at =
     let count = at + length (cuttingFor lastPageRoom room (drop from fks)) in refuseIf (ltb size count) listTooShort (accepted count)

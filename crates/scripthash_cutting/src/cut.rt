@@ -128,8 +128,7 @@ fn write_ranges(fks: &[u64], from: usize, room: usize, out: &mut [ChunkRange], a
 }
 
 // Cuts the numbers from index `from` on for pages with a room, and writes their ranges to `out` from index `at` on. A lent list that is too
-// short
-// is left as it is. One that is long enough for any numbers needs no count beforehand.
+// short is left as it is. One that is long enough for any numbers needs no count beforehand.
 fn cut_from(fks: &[u64], from: usize, room: usize, out: &mut [ChunkRange], at: usize) -> ChunkRanges
     requires { ⌜ (from ≤ length (now fks)) × (lastPageRoom ≤ room) × (room ≤ pageRoom) × (at ≤ length (now out)) ⌝ }
     ensures answer { λ r. ⌜ chunkAnswer r ≡ cutFrom room (now (fks .entry)) from (length (now (out .entry))) at ⌝ }
@@ -154,8 +153,7 @@ pub fn sh_page_chunk_ranges(fks: &[u64], out: &mut [ChunkRange]) -> ChunkRanges
 }
 
 // Cuts the last of the first `count` ranges of `chunks` again, so that each of its parts fits a last page, and tells how many ranges there
-// are then.
-// A last range that is empty, or leaves `fks`, is left as it is, and so is a lent list that is too short.
+// are then. A last range that is empty, or leaves `fks`, is left as it is, and so is a lent list that is too short.
 pub fn split_last_chunk_for_extent(
     fks: &[u64],
     chunks: &mut [ChunkRange],

@@ -38,8 +38,7 @@ module _ {A : Type 0} (off : ℕ) (after : Answer A) where
   link-good h l = rw (eq-eqb (off % pageSize) 0 h, lt-leb (2 ^ 39) (off / pageSize) l)
 
 -- an offset's remainder r and index q, turned so that the remainder stands above the index: they fit 64 bits, and are below 2^39 where
--- there is no
--- remainder and the index is
+-- there is no remainder and the index is
 module _ (r q : ℕ) where
   pub turned-fits : r < pageSize → q < 2 ^ 52 → r * 2 ^ 52 + q < 2 ^ 64
   turned-fits h l = omega arith

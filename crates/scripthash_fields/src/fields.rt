@@ -105,8 +105,7 @@ pub fn stream_off(page: &[u8]) -> usize
 }
 
 // Passes an offset that a link can name. With its bits turned by twelve a remainder stands above the index: one test passes what has none
-// and an
-// index that is small enough.
+// and an index that is small enough.
 pub fn check_link(off: u64) -> PageDone
     ensures { λ r. ⌜ doneAnswer r ≡ linkNamed off ⌝ }
 {

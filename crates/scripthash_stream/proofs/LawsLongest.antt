@@ -14,8 +14,7 @@ use Rattle.scripthash_stream.specs.Steps.{total, twoBefore, threeBefore,
 use Rattle.scripthash_stream.proofs.LawsTotals.{total-same}
 
 -- Of the bytes looked at so far: the least, and the greatest of the smaller of the two before each, of the least of the three before it,
--- and
--- of the least of the four before it and itself.
+-- and of the least of the four before it and itself.
 pub record Looked (buf : List ℕ) (least two three five i : ℕ) : Type 0 where
   pub none : least ≤ getD buf i 0
   pub pairs : two < 128 → twoBefore buf i ≡ false

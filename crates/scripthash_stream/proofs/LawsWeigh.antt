@@ -1,6 +1,5 @@
 -- Forms weighed together: the weights of a byte add up to the power of 128 that its place in its form has, so that the weights of the bytes
--- of some forms
--- sum up to the differences. By induction on the bytes. Assumes nothing.
+-- of some forms sum up to the differences. By induction on the bytes. Assumes nothing.
 use Prim.Native.Nat.{ℕ, zero, suc, _+_, _-_, _*_, _^_, _≤_, _<_}
 use mathlib.Core.Bool.{true, false, _&&_, false≢true}
 use mathlib.Core.List.{List}
@@ -87,8 +86,7 @@ module _ (bs : List ℕ) (i : ℕ) (l : 4 ≤ i) where
   within-on g s _ (fifth e f h k) = absurd (false≢true (sym (rw (e, f, h, k, g) at s)))
 
 -- Bytes are weighed from a place on, with a sum before them, and place i is next: what is known of the form there, which begins at `off`
--- and has j bytes
--- before i, and that k forms ended.
+-- and has j bytes before i, and that k forms ended.
 pub record Midway (buf : List ℕ) (from sum count i : ℕ) (a : Answer End) : Type 0 where
   pub off : ℕ
   pub j : ℕ

@@ -21,8 +21,7 @@ unfoldable pub QuickForm : ℕ → ℕ → List ℕ → Type 0
 QuickForm value len bs = (0 < value) → readUleb bs ≡ accepted (record { value = value; len = len })
 
 -- A try at reading a stream into a lent list, whose answer would be `a`: it tells 0 and leaves the list, or the bytes of an accepted
--- stream,
--- whose numbers the list holds.
+-- stream, whose numbers the list holds.
 unfoldable pub Quick : ℕ → List ℕ → List ℕ → Answer Scan → Type 0
 Quick told before after a = ((told ≡ 0) × (after ≡ before)) ⊎
     ((0 < told) × (answered (λ s. s .taken) a ≡ accepted told) × (after ≡ afterDecode before a))
@@ -100,8 +99,7 @@ abbrev pub weighed : List ℕ → ℕ → ℕ
 weighed bs i = weighedThree bs i + 2080768 * total (behindThree bs) i + 266338304 * total (behindFour bs) i
 
 -- What is told of the bytes from one place to another: nothing where 0 is told, else that none is 0, and that no form has more bytes than
--- are
--- told, or more than five.
+-- are told, or more than five.
 pub record Longest (bs : List ℕ) (from to longest : ℕ) : Type 0 where
   pub each : 0 < longest → (i : ℕ) → from ≤ i → i < to → (0 < getD bs i 0) × (fourBefore bs i && goesOn (getD bs i 0) ≡ false)
   pub two : 0 < longest → longest ≤ 2 → (i : ℕ) → from ≤ i → i < to → twoBefore bs i ≡ false

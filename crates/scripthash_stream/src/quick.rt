@@ -1,6 +1,5 @@
 // Streams read or scanned in one pass: all bytes together where each is a form, else form by form. What is read goes through a list that
-// holds the
-// numbers until the last is there.
+// holds the numbers until the last is there.
 ghost use mathlib.Core.Path.{_≡_};
 ghost use mathlib.Core.Bool.{true, _&&_};
 ghost use Prim.Native.Nat.{_+_, _-_, _*_, _^_, _≤_, _<_};
@@ -106,8 +105,7 @@ fn keep(space: &mut [u64], k: usize, fk: u64)
 }
 
 // Sums up the first n forms of buf and keeps the numbers in space as far as that has room: tells their bytes and the last number, or 0
-// bytes
-// where a form is 0 or can't be read, or a number would have bit 63. It alone calls short_form, which so becomes part of the loop.
+// bytes where a form is 0 or can't be read, or a number would have bit 63. It alone calls short_form, which so becomes part of the loop.
 pub fn sum_forms(buf: &[u8], n: usize, space: &mut [u64]) -> StreamEnd
     ensures { λ r. ⌜ QuickSum (r .taken) (r .last) n (now (buf .entry)) (now (space .exit)) ⌝ }
 {
@@ -300,8 +298,7 @@ fn sum_of_bytes(buf: &[u8], n: usize) -> u64
 }
 
 // Scans a stream of n numbers: all bytes together where each is a form, or where there are many; else form by form, with room for one
-// number, which
-// nobody reads. Tells where it ends, or 0 bytes where it can't be scanned so.
+// number, which nobody reads. Tells where it ends, or 0 bytes where it can't be scanned so.
 pub fn scan_quickly(buf: &[u8], n: usize) -> StreamEnd
     ensures { λ r. ⌜ QuickEnd (r .taken) (r .last) (answered (endFrom 0) (scan n (now (buf .entry)))) ⌝ }
 {

@@ -67,8 +67,7 @@ fn step_of(left: usize) -> usize
 }
 
 // Counts forms that end from a place on, until fewer than 16 of those wanted are left; stops before where too few bytes follow, or where
-// forms
-// of six bytes and more are met.
+// forms of six bytes and more are met.
 fn count_forms(buf: &[u8], from: usize, want: usize) -> Counted
     requires { ⌜ from ≤ length (now buf) ⌝ }
     ensures { λ r. ⌜ (total (endAt (now (buf .entry))) from + want ≡ total (endAt (now (buf .entry))) (r .at) + r .left) × (from ≤ r .at)
@@ -114,8 +113,7 @@ fn end_of(buf: &[u8], from: usize, want: usize) -> usize
 }
 
 // The bytes of the longest form as far as it matters, 2, 3 or 5, where no byte is 0 and no form has more than five bytes, else 0. A form
-// begins
-// with the first byte.
+// begins with the first byte.
 fn longest_form(buf: &[u8], from: usize, to: usize) -> usize
     requires { ⌜ (4 ≤ from) × (from ≤ to) × (to ≤ length (now buf)) ⌝ }
     ensures { λ r. ⌜ Longest (now (buf .entry)) from to r ⌝ }
@@ -319,8 +317,7 @@ fn leading(buf: &[u8]) -> usize
 }
 
 // Scans a stream of n numbers, four at least, by reading its first forms and weighing the others: tells where it ends, or 0 bytes where it
-// can't
-// be scanned so.
+// can't be scanned so.
 pub fn scan_by_weights(buf: &[u8], n: usize) -> StreamEnd
     requires { ⌜ 4 ≤ n ⌝ }
     ensures { λ r. ⌜ QuickEnd (r .taken) (r .last) (answered (endFrom 0) (scan n (now (buf .entry)))) ⌝ }

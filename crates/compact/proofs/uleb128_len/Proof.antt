@@ -1,6 +1,5 @@
 -- `uleb128_len` meets its contract. With z leading zeros a number lies between 2 ^ (64 - z) / 2 and 2 ^ (64 - z) - 1. At both ends the
--- length
--- is what the code computes of z, which one test shows for all z, and between them the length does not fall. Assumes nothing.
+-- length is what the code computes of z, which one test shows for all z, and between them the length does not fall. Assumes nothing.
 use Prim.Native.Nat.{ℕ, _+_, _-_, _*_, _/_, _^_, _≤_, _<_}
 use mathlib.Core.Bool.{Bool, _&&_}
 use mathlib.Core.Path.{_≡_, sym, _∙_}

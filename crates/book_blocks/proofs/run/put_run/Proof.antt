@@ -1,6 +1,5 @@
 -- `put_run` meets its contract. Invariant: some numbers are left, their parts are those from index k on, and written to the pages from the
--- offset
--- on they make the body what the contract says. Assumes nothing.
+-- offset on they make the body what the contract says. Assumes nothing.
 use Prim.Native.Nat.{ℕ, _+_, _-_, _*_, _≤_, _<_}
 use mathlib.Core.List.{List, []}
 use mathlib.Core.Path.{_≡_, refl, sym, ap, _∙_}

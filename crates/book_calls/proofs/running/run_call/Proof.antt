@@ -3,7 +3,8 @@ use Prim.Native.Nat.{_+_, _≤_}
 use mathlib.Core.Path.{_∙_}
 use native.Mathlib.Omega.{arith}
 use lib.ListN.{length, getD}
-use Rattle.book_calls.proofs.LawsRun.{re-done, here-is, here-load, here-append, here-read, here-drop, here-load-room, here-append-room, here-read-room, here-drop-room, here-part, read-done}
+use Rattle.book_calls.proofs.LawsRun.{re-done, here-is, here-load, here-append, here-read, here-drop, here-load-room}
+use Rattle.book_calls.proofs.LawsRun.{here-append-room, here-read-room, here-drop-room, here-part, read-done}
 use borrow.Author.Needs.{needs}
 use Rattle.book_calls.proofs.running.run_call.Statement.{statement}
 use Rattle.book_calls.proofs.running.run_call.Tie as tie

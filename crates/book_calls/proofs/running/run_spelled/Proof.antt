@@ -13,7 +13,8 @@ use Rattle.book_words.specs.SpellCalls.{callAt, callsOf}
 use Rattle.book_calls.specs.Steps.{NextIs}
 use Rattle.book_calls.specs.declared.words.NextCall.the-variants.{At}
 use Rattle.book_calls.proofs.LawsSteps.{was-somewhere}
-use Rattle.book_calls.proofs.LawsRun.{Running, spelled-room, here-in, runs-start, runs-end, runs-nowhere, runs-split, runs-here, runs-step}
+use Rattle.book_calls.proofs.LawsRun.{Running, spelled-room, here-in, runs-start, runs-end, runs-nowhere, runs-split, runs-here}
+use Rattle.book_calls.proofs.LawsRun.{runs-step}
 use Rattle.book_calls.proofs.running.run_spelled.Statement.{statement}
 use Rattle.book_calls.proofs.running.run_spelled.Tie as tie
 

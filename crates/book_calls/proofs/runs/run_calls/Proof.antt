@@ -19,7 +19,8 @@ spelled : (c : tie.Else1) → isSome (callsOf (c .before .before .before .before
 spelled c = sym (c .before .calls-spelled .ensures) ∙ not-false (c .before .calls-spelled .result) (c .if1 .left)
 
 -- and their answers have room
-fit : (c : tie.Else2) (cs : List Call) → callsOf (c .before .before .before .before .before .before .before .before .args .calls .now) ≡ some cs
+fit : (c : tie.Else2) (cs : List Call)
+    → callsOf (c .before .before .before .before .before .before .before .before .args .calls .now) ≡ some cs
     → leb (answersRoom cs) (length (c .before .before .before .before .before .before .before .before .args .answers .now)) ≡ true
 fit c cs e = sym (c .before .calls-fit .ensures cs e) ∙ not-false (c .before .calls-fit .result) (c .if2 .left)
 

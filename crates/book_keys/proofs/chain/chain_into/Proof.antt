@@ -1,6 +1,5 @@
 -- `chain_into` meets its contract. Invariant: for each chain that the walk from the first page gives, the pages left, written from here on,
--- make
--- the whole list. Assumes nothing.
+-- make the whole list. Assumes nothing.
 use Prim.Native.Nat.{ℕ, suc, _+_, _-_, _/_, _≤_, zero-le}
 use mathlib.Core.List.{List}
 use mathlib.Core.Path.{_≡_, refl, sym, ap, _∙_, subst}

@@ -1,6 +1,5 @@
 -- `walk_pages` meets its contract. Invariant: the pages left to walk, with the numbers and pages passed, tell what the whole walk tells. A
--- page
--- has no more numbers than bytes. Assumes nothing.
+-- page has no more numbers than bytes. Assumes nothing.
 use Prim.Native.Nat.{ℕ, _+_, _-_, _*_, _/_, _≤_}
 use mathlib.Core.Path.{_≡_, sym, ap, _∙_}
 use native.Mathlib.Omega.{arith}

@@ -1,6 +1,5 @@
 -- `sh_page_require_delta` meets its contract: after the test of the length, the version says which capacity the count is compared with, and
--- whether
--- it is known. Assumes nothing.
+-- whether it is known. Assumes nothing.
 use Prim.Native.Nat.{ℕ}
 use mathlib.Core.Bool.{true}
 use mathlib.Core.List.{List}

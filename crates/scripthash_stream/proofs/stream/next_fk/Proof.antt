@@ -1,6 +1,5 @@
 -- `next_fk` meets its contract: a byte below 128 is a form by itself, or the end of one of two bytes, and any other form is read; what was
--- read is judged by
--- `stored_number`. Assumes nothing.
+-- read is judged by `stored_number`. Assumes nothing.
 use mathlib.Core.Path.{_≡_, sym, ap, _∙_}
 use native.Mathlib.Omega.{arith}
 use lib.ListN.{drop, getD}
