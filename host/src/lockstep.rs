@@ -1,6 +1,7 @@
 //! Our book in lockstep with the second one, on random histories and damaged ones.
 mod damage;
 mod history;
+mod lists;
 mod pair;
 mod record;
 mod spoil;

@@ -26,16 +26,20 @@ const DAMAGES: &[Damage] = &[
     ("the slab's word, a field", set_slab_word),
     ("the page's word", set_page_word),
     ("the mark", set_mark),
+    ("the mark, at the key's block", set_mark_near),
     ("a free head", set_free_head),
+    ("free heads that name the key's own block", free_own_block),
     ("a freed block's link", set_free_link),
     ("a padded slab", pad_slab),
     ("a slab's bad stream", spoil_slab),
     ("a padded page", pad_page),
     ("a page's bad stream", spoil_page),
+    ("a page's first number, by the page before", meet_across_link),
     ("a page's version", set_version),
     ("a page's count", set_count),
     ("a page's link", set_link),
     ("a chain that comes back", make_loop),
+    ("a chain that is turned round", turn_chain),
     ("a page's extent", set_extent),
     ("creates", set_creates),
 ];
@@ -186,6 +190,37 @@ fn set_mark(book: &mut Damaged, rng: &mut Rng) -> bool {
         flipped,
         u64::MAX,
     ]);
+    true
+}
+
+/// The mark around where the key's block ends, or one of its pages.
+fn set_mark_near(book: &mut Damaged, rng: &mut Rng) -> bool {
+    let end = match (book.slab(), book.page(rng)) {
+        (Some((class, off)), _) => off + slab_bytes(class),
+        (_, Some(off)) => off + PAGE as u64,
+        _ => return false,
+    };
+    book.state[0] = rng.pick(&[end, end, end - 16, end - 16, end + 16, end - PAGE as u64, end - 8]);
+    true
+}
+
+/// Every free head names the key's own block, or a place within it or before it; the block may be filled, so that the list has to move.
+fn free_own_block(book: &mut Damaged, rng: &mut Rng) -> bool {
+    match book.place() {
+        Some(ShHeadValue::Extent { last_page }) => fill_page(page_mut(book.body, last_page), rng, 0),
+        _ if rng.below(3) != 0 && !pad_slab(book, rng) => return false,
+        _ => {}
+    }
+    let (off, within) = match book.place() {
+        Some(ShHeadValue::Slab { off, class, .. }) => (off, slab_bytes(class)),
+        Some(ShHeadValue::Extent { last_page }) => (last_page, PAGE as u64),
+        _ => return false,
+    };
+    for class in 0..9 {
+        let inside = off + 16 * rng.below(within / 16 + 1);
+        let near = rng.pick(&[off, off, inside, off.saturating_sub(16 << class)]);
+        book.state[1 + class] = if class == 8 { off - off % PAGE as u64 } else { near };
+    }
     true
 }
 

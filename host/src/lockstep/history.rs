@@ -1,7 +1,7 @@
 //! Random histories: a book of some shape, calls that grow, load, read and drop keys, odd calls between them, and damage.
-use crate::inputs::rising;
 use crate::lent::Placing;
 use crate::lockstep::damage::{damage, Damaged};
+use crate::lockstep::lists;
 use crate::lockstep::pair::{Answer, Call, Pair, MOST_BODY, MOST_HEADS};
 use crate::lockstep::record::Record;
 use crate::lockstep::tally::{Before, Tally};
@@ -52,11 +52,11 @@ fn plan(rng: &mut Rng) -> Plan {
             Plan { keys, body, run, drops, ..common }
         }
         // One or two keys that grow over many pages.
-        20..24 => Plan { keys: rng.pick(&[1, 2]), body: 65_536, calls: 5000, run: 4000, bits: LONG, loads: 2, drops: 1, ..common },
+        20..24 => Plan { keys: rng.pick(&[1, 2]), body: 65_536, calls: 4000, run: 4000, bits: LONG, loads: 2, drops: 1, ..common },
         // Lists that take pages, loaded and dropped.
         24..37 => {
-            let (keys, body) = (rng.pick(&[2, 6]), rng.pick(&[32_768, 32_768, 65_536, 131_072]));
-            Plan { keys, body, calls: 500, run: 30, loads: 25, drops: 15, longest: 5000, ..common }
+            let (keys, body, damaged) = (rng.pick(&[2, 6]), rng.pick(&[32_768, 32_768, 65_536, 131_072]), rng.pick(&[0, 2, 4]));
+            Plan { keys, body, calls: 600, run: 30, loads: 25, drops: 15, longest: 5000, damaged, ..common }
         }
         // As many numbers as can be loaded.
         37 => Plan { keys: 4, body: rng.pick(&[262_144, MOST_BODY]), calls: 60, run: 20, loads: 40, drops: 20, longest: 65_535, ..common },
@@ -318,31 +318,22 @@ impl<'a> History<'a> {
     /// A load onto an empty key: none, one, a slab of each class, or pages.
     fn load(&mut self) -> Call {
         let key = self.empty_key() as u64;
-        let longest = self.plan.longest as u64;
-        let len = match self.rng.below(12) {
-            0 if longest > 4096 => return self.almost_full(key),
-            1..6 if longest > 10_000 => self.rng.below(longest) + 1,
+        let (longest, even) = (self.plan.longest as u64, self.plan.even && self.rng.below(4) != 0);
+        let len = match self.rng.below(13) {
+            0 if longest > 4096 => {
+                let before = self.rng.below((self.plan.body as u64 / 4096).min(8));
+                let left = self.rng.pick(&[0, 0, 1, 2, 9, 20]);
+                return Call::Load { key, fks: lists::of_pages(&mut self.rng, before, left, if even { 1 } else { 3 }) };
+            }
+            1..5 if longest > 4096 => self.rng.below(longest) + 1,
             0..6 => self.rng.below(30),
             6 => self.rng.pick(&[0, 1, 254, 255, 256, 257]),
             7..10 => self.rng.below(300),
+            10 => return Call::Load { key, fks: lists::of_payload(&mut self.rng) },
             _ => self.rng.below(longest) + 1,
         };
-        let most = 61 - (64 - len.leading_zeros());
-        let bits = self.rng.pick(&[0, 3, 7, 8, 14, 20, 35, 49, 56]).min(most);
-        if self.plan.even && self.rng.below(4) != 0 {
-            let step = 1 + self.rng.bits(bits);
-            return Call::Load { key, fks: (1..=len).map(|k| k * step).collect() };
-        }
-        let len = if self.plan.even { len.min(300) } else { len };
-        Call::Load { key, fks: rising(&mut self.rng, len as usize, &mut |r| r.bits(bits)) }
-    }
-
-    /// A load whose last page is full, or has room for some bytes.
-    fn almost_full(&mut self, key: u64) -> Call {
-        let before = 4088 * self.rng.below((self.plan.body as u64 / 4096).min(8)) as usize;
-        let len = before + 4072 - self.rng.pick(&[0, 0, 1, 2, 9, 20]);
-        let steps = if self.plan.even { 1 } else { 3 };
-        Call::Load { key, fks: rising(&mut self.rng, len, &mut |r| 1 + r.below(steps)) }
+        let len = if self.plan.even && !even { len.min(300) } else { len };
+        Call::Load { key, fks: lists::of_length(&mut self.rng, len, even) }
     }
 
     /// A call that is turned back for what it is given.

@@ -196,7 +196,7 @@ impl Pair {
         let (ours, placing) = (&self.ours, self.ours.placing);
         let (body, heads) = (ours.body.place::<u8>(self.body.len(), placing), ours.heads.place::<u64>(self.heads.len(), placing));
         let state: &mut State = unsafe { &mut *ours.state.place::<State>(1, Placing::End) };
-        let null = if lent == 0 { Placing::Null } else { placing };
+        let null = if placing == Placing::End { Placing::Null } else { placing };
         let list = ours.list.place::<u64>(lent, null);
         let (refusal, sizes): (u32, &[usize]) = match *call {
             Call::Fresh => (unsafe { sys::ouriscado_book_fresh(body, body_len, heads, heads_len, state) }, &[]),

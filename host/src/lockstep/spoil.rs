@@ -4,6 +4,7 @@ use crate::lockstep::damage::Damaged;
 use crate::rng::Rng;
 use crate::second_book::page_mut;
 use crate::second_book::space::PAGE;
+use oracle::read_uleb128;
 use oracle::scripthash_layout::{slab_bytes, ShHeadValue};
 use oracle::scripthash_pages as pages;
 
@@ -106,13 +107,10 @@ pub fn spoil_slab(book: &mut Damaged, rng: &mut Rng) -> bool {
     true
 }
 
-/// A last page that padded forms fill, or almost fill. Creates stays what it was, or is made good.
-pub fn pad_page(book: &mut Damaged, rng: &mut Rng) -> bool {
-    let Some((_, page)) = book.page_mut(rng) else {
-        return false;
-    };
+/// Fills a page with padded forms, save for some bytes. Creates stays what it was, or is made good.
+pub fn fill_page(page: &mut [u8; PAGE], rng: &mut Rng, left: usize) {
     let start = pages::sh_page_stream_off(page);
-    let bytes = PAGE - start - rng.pick(&[0, 1, 5, 9, 500]);
+    let bytes = PAGE - start - left;
     let count = rng.pick(&[bytes.div_ceil(10), bytes / 2]);
     page[start..].fill(0);
     let stream = padded(rng, count, bytes);
@@ -121,7 +119,38 @@ pub fn pad_page(book: &mut Damaged, rng: &mut Rng) -> bool {
     if rng.below(2) == 0 {
         pages::sh_page_set_extent_creates(page, count as u32);
     }
+}
+
+/// A page that padded forms fill, or almost fill.
+pub fn pad_page(book: &mut Damaged, rng: &mut Rng) -> bool {
+    let Some((_, page)) = book.page_mut(rng) else {
+        return false;
+    };
+    let left = rng.pick(&[0, 1, 5, 9, 500]);
+    fill_page(page, rng, left);
     true
+}
+
+/// A page that begins with the last number of the page before it, or with a neighbour of that; the form keeps its length.
+pub fn meet_across_link(book: &mut Damaged, rng: &mut Rng) -> bool {
+    let Some((_, page)) = book.page_mut(rng) else {
+        return false;
+    };
+    let (Ok(last), Ok(next)) = (pages::sh_page_last_fk(page), pages::sh_page_next(page)) else {
+        return false;
+    };
+    let Some(part) = book.body.get_mut(next as usize..next as usize + PAGE).filter(|_| next != 0) else {
+        return false;
+    };
+    let at = if part[0] == 2 { 24 } else { 8 };
+    let number = (last.map_or(0, |fk| fk.0) + 1).wrapping_sub(rng.pick(&[0, 1, 1, 1, 2]));
+    let (Ok((_, len)), shortest) = (read_uleb128(&part[at..]), form(number, 0).len()) else {
+        return false;
+    };
+    if shortest <= len {
+        part[at..at + len].copy_from_slice(&form(number, len - shortest));
+    }
+    shortest <= len
 }
 
 /// A page whose stream is bad, or cut short by its end.
@@ -186,6 +215,25 @@ pub fn make_loop(book: &mut Damaged, rng: &mut Rng) -> bool {
     let first = pages::sh_page_read_packed(page_mut(book.body, last_page)).expect("a link is always read").1;
     let to = rng.pick(&[first, off]);
     off != last_page && pages::sh_page_set_next(page_mut(book.body, off), to).is_ok()
+}
+
+/// A chain of two pages that change places, so that the last is before the first; the key stays sound. The mark may go to the first one's end.
+pub fn turn_chain(book: &mut Damaged, rng: &mut Rng) -> bool {
+    let Some(ShHeadValue::Extent { last_page: last }) = book.place() else {
+        return false;
+    };
+    let first = pages::sh_page_read_packed(page_mut(book.body, last)).expect("a link is always read").1;
+    if first < PAGE as u64 || first >= last || pages::sh_page_next(page_mut(book.body, first)).ok() != Some(last) {
+        return false;
+    }
+    let (low, high) = book.body.split_at_mut(last as usize);
+    low[first as usize..first as usize + PAGE].swap_with_slice(&mut high[..PAGE]);
+    pages::sh_page_set_last(page_mut(book.body, first), last).expect("a page that a link named");
+    pages::sh_page_set_next(page_mut(book.body, last), first).expect("a page that a link named");
+    book.heads[book.key] = 3 << 62 | first;
+    let end = last + PAGE as u64;
+    book.state[0] = rng.pick(&[book.state[0], end, end - 16]);
+    true
 }
 
 pub fn set_extent(book: &mut Damaged, rng: &mut Rng) -> bool {
