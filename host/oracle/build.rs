@@ -45,7 +45,9 @@ fn main() {
     ];
     for (folder, name) in files {
         let path = folder.join(format!("{name}.rs"));
-        read(&path);
+        if folder != &out {
+            read(&path);
+        }
         modules += &format!("#[path = {path:?}]\npub mod {name};\n");
     }
     fs::write(out.join("modules.rs"), modules).unwrap();

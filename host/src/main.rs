@@ -28,8 +28,9 @@ mod table;
 use flags::Flags;
 use std::process::ExitCode;
 
-const USAGE: &str =
-    "usage: host compare [--seconds N] [--seed N] [--only NAME] [--long] | host bench [--only PHRASE] | host answers FOLDER";
+const USAGE: &str = "usage: host compare [--seconds N] [--seed N] [--only NAME] [--long]
+       host bench [--only PHRASE]
+       host answers FOLDER [--histories]";
 /// How long a comparison goes on, where nothing else is said.
 const SECONDS: u64 = 160;
 
