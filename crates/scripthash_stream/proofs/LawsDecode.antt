@@ -1,8 +1,8 @@
 -- Reading a stream into a lent list: the cases of the answer and of the list afterwards. Assumes nothing.
-use Prim.Native.Nat.{ℕ, _≤_, _<_}
-use mathlib.Core.List.{List}
+use Prim.Native.Nat.{ℕ, _+_, _-_, _≤_, _<_}
+use mathlib.Core.List.{List, _++_}
 use mathlib.Core.Logic.{_⊎_, inl, inr, ⊎-elim}
-use mathlib.Core.Path.{_≡_, refl, sym, _∙_}
+use mathlib.Core.Path.{_≡_, refl, sym, ap, _∙_}
 use native.Mathlib.Nat.{zero-add}
 use native.Mathlib.Omega.{arith}
 use borrow.Author.Tests.{lt-ltb, le-ltb, ltb-false}
@@ -10,10 +10,13 @@ use lib.Dec.{ltb}
 use lib.ListN.{length, take, drop, take-append-drop}
 use lib.Seq.{length-take-le}
 use Rattle.error.specs.Refusal.{Answer, accepted, refused, answered, listTooShort}
-use Rattle.error.proofs.LawsAnswer.{went-on, passed, then-yes, then-no, refuse-yes, refuse-no, answered-yes}
+use Rattle.error.proofs.LawsAnswer.{accepted-inj, went-on, passed, then-yes, then-no, refuse-yes, refuse-no, answered-yes}
 use Rattle.buffer.specs.Bytes.{overwrite}
-use Rattle.scripthash_stream.specs.Stream.{Scan, scan, decodeStream, afterDecode}
-use Rattle.scripthash_stream.specs.Steps.{Quick}
+use Rattle.buffer.proofs.LawsApart.{overwrite-apart}
+use Rattle.buffer.proofs.LawsOverwrite.{overwrite-adjoin}
+use Rattle.scripthash_stream.specs.Stream.{lastFrom, Scan, scan, End, decodeStream, afterDecode}
+use Rattle.scripthash_stream.specs.Steps.{Quick, QuickEnd, QuickSum, QuickPart, left, read, scanAt}
+use Rattle.scripthash_stream.proofs.LawsScanEnd.{scan-at-start, scan-at-end, scan-at-parts}
 
 -- a stream that doesn't scan is refused
 pub decode-refused : (room n : ℕ) (bs : List ℕ) {number : ℕ} → scan n bs ≡ refused number → decodeStream room n bs ≡ refused number
@@ -78,3 +81,59 @@ module _ (told : ℕ) (before after : List ℕ) (a : Answer Scan) (q : Quick tol
   pub quick-right : 0 < told → (accepted told ≡ answered (λ s. s .taken) a) × (after ≡ afterDecode before a)
   unfolding Quick
   quick-right h = ⊎-elim (λ w. absurd (omega (arith, w .0))) (λ w. (sym (w .1), w .2)) q
+
+-- ---- a part of a stream
+
+-- one that does nothing
+pub part-left : (out : List ℕ) (at : ℕ) (a : Answer Scan) → QuickPart 0 out out at a
+part-left out at a = left refl refl
+
+-- one that was summed up into a list, and copied from there
+pub part-summed : (taken last from prev n : ℕ) (bs space out after : List ℕ) (at : ℕ) → QuickSum taken last from prev n bs space → 0 < taken
+    → n ≤ length space → after ≡ overwrite out at (take n space) → QuickPart taken out after at (scanAt from prev n bs)
+part-summed taken last from prev n bs space out after at q h l e = read (take n space) h (q .numbers l h) e
+
+-- one whose first 64 numbers were summed up, and copied when those behind them were read
+module _ (mid last told from prev n at : ℕ) (bs space out out' after : List ℕ) (q : QuickSum mid last from prev 64 bs space) (h : 0 < mid)
+    (room : 64 ≤ length space) (many : 64 ≤ n) (inside : at + n ≤ length out) (some : 0 < told)
+    (copied : after ≡ overwrite out' at (take 64 space)) where
+  first : scanAt from prev 64 bs ≡ accepted (record { numbers = take 64 space; taken = mid })
+  first = q .numbers room h
+
+  is-last : lastFrom prev (take 64 space) ≡ last
+  unfolding QuickEnd
+  is-last = ap (λ (e : End). e .last) (accepted-inj (sym (scan-at-end from prev 64 bs _ first) ∙ q .ends h))
+
+  count : length (take 64 space) ≡ 64
+  count = length-take-le 64 space room
+
+  joined : (ns : List ℕ) → scanAt mid last (n - 64) bs ≡ accepted (record { numbers = ns; taken = told })
+      → scanAt from prev n bs ≡ accepted (record { numbers = take 64 space ++ ns; taken = told })
+  joined ns e =
+      let all : 64 + (n - 64) ≡ n = omega arith in
+      rw all at (scan-at-parts from prev 64 (n - 64) bs (record { numbers = take 64 space; taken = mid }) (record { numbers = ns; taken = told }) first (rw is-last e))
+
+  both : (ns : List ℕ) → out' ≡ overwrite out (at + 64) ns → after ≡ overwrite out at (take 64 space ++ ns)
+  both ns e =
+      let next : at + length (take 64 space) ≡ at + 64 = ap (λ (k : ℕ). at + k) count in
+      copied ∙ ap (λ (l : List ℕ). overwrite l at (take 64 space)) e
+      ∙ sym (overwrite-apart out at (take 64 space) (at + 64) ns (omega (arith, count)) (omega arith))
+      ∙ (rw next at (overwrite-adjoin out at (take 64 space) ns (omega arith)))
+
+  pub part-more : QuickPart told out out' (at + 64) (scanAt mid last (n - 64) bs) → QuickPart told out after at (scanAt from prev n bs)
+  part-more (left e f) = absurd (omega (arith, e))
+  part-more (read ns p e f) = read (take 64 space ++ ns) some (joined ns e) (both ns f)
+
+-- a part that told 0 left the list
+pub part-none : (told : ℕ) (out after : List ℕ) (at at' : ℕ) (a a' : Answer Scan) → QuickPart told out after at a → told ≡ 0
+    → QuickPart 0 out after at' a'
+part-none told out after at at' a a' (left e f) h = left refl f
+part-none told out after at at' a a' (read ns p e f) h = absurd (omega (arith, h))
+
+-- one of a whole stream
+pub part-whole : (told n : ℕ) (bs out after : List ℕ) → n ≤ length out → QuickPart told out after 0 (scanAt 0 0 n bs)
+    → Quick told out after (decodeStream (length out) n bs)
+unfolding Quick
+part-whole told n bs out after h (left e f) = inl (e, f)
+part-whole told n bs out after h (read ns p e f) =
+    rw f (quick-all n bs out (record { numbers = ns; taken = told }) (sym (scan-at-start n bs) ∙ e) h p)

@@ -1,20 +1,20 @@
--- QuickSum up the forms of a stream number by number: the number that a form gives, and what is known between two forms. Assumes nothing.
+-- Summing up the forms of a stream number by number: the number that a form gives, and what is known between two forms. Assumes nothing.
 use Prim.Native.Nat.{ℕ, suc, _+_, _-_, _*_, _^_, _≤_, _<_}
 use mathlib.Core.List.{List, [], _∷_, _++_, append-assoc, append-nil}
 use mathlib.Core.Path.{_≡_, sym, ap, _∙_}
-use native.Mathlib.Nat.{sub-zero, zero-add, add-zero, add-assoc, not-suc-le-zero}
+use native.Mathlib.Nat.{sub-zero, not-suc-le-zero}
 use native.Mathlib.Numerals.{add-one}
 use native.Mathlib.Omega.{arith}
 use lib.ListN.{length, take, drop, getD, set, length-set}
-use lib.Seq.{take-suc-set, drop-drop}
-use Rattle.error.specs.Refusal.{accepted, answered}
+use lib.Seq.{take-suc-set}
+use Rattle.error.specs.Refusal.{accepted}
 use Rattle.compact.specs.Uleb128.{Reading}
 use Rattle.compact.proofs.LawsReadFrom.{read-byte-at}
-use Rattle.scripthash_stream.specs.Stream.{nextNumber, Scan, scanFrom, scan, endFrom}
-use Rattle.scripthash_stream.specs.Steps.{OneByteForms, QuickForm, QuickEnd, QuickSum, endsFrom}
+use Rattle.scripthash_stream.specs.Stream.{nextNumber, Scan}
+use Rattle.scripthash_stream.specs.Steps.{OneByteForms, QuickForm, QuickEnd, QuickSum, endsFrom, scanAt}
 use Rattle.scripthash_stream.proofs.LawsForms.{quick-form}
-use Rattle.scripthash_stream.proofs.LawsScan.{stored-sum, next-is, scan-cons}
-use Rattle.scripthash_stream.proofs.LawsScanEnd.{ends-start, ends-next, ends-now, quick-end-none}
+use Rattle.scripthash_stream.proofs.LawsScan.{stored-sum, next-is}
+use Rattle.scripthash_stream.proofs.LawsScanEnd.{ends-next, ends-now, quick-end-none, scan-at-none, scan-at-next}
 
 -- ---- one number
 
@@ -38,45 +38,48 @@ next-byte buf n sum k o h s =
 -- ---- between two forms
 
 -- no bytes tell nothing
-pub quick-sum-none : (n : ℕ) (bs space : List ℕ) → QuickSum 0 0 n bs space
-quick-sum-none n bs space = record { ends = quick-end-none (answered (endFrom 0) (scan n bs)); numbers = λ l h. absurd (not-suc-le-zero h) }
+pub quick-sum-none : (from prev n : ℕ) (bs space : List ℕ) → QuickSum 0 0 from prev n bs space
+quick-sum-none from prev n bs space =
+    record {
+      within = omega arith;
+      below = omega arith;
+      ends = quick-end-none (endsFrom from prev n (drop from bs));
+      numbers = λ l h. absurd (not-suc-le-zero h);
+    }
 
 -- k numbers are summed up to `sum`, and byte i is next: the scan of what is left ends where the whole scan does, and where it has numbers,
 -- they come behind the first k of `space` in the whole scan, if that has room for all.
-pub record Summed (buf : List ℕ) (n : ℕ) (space : List ℕ) (sum i k : ℕ) : Type 0 where
-  pub ends : endsFrom i sum (n - k) (drop i buf) ≡ answered (endFrom 0) (scan n buf)
-  pub whole : n ≤ length space → (s : Scan) → scanFrom sum (n - k) (drop i buf) ≡ accepted s
-      → scan n buf ≡ accepted (record { numbers = take k space ++ s .numbers; taken = i + s .taken })
+pub record Summed (buf : List ℕ) (from prev n : ℕ) (space : List ℕ) (sum i k : ℕ) : Type 0 where
+  pub ends : endsFrom i sum (n - k) (drop i buf) ≡ endsFrom from prev n (drop from buf)
+  pub whole : n ≤ length space → (s : Scan) → scanAt i sum (n - k) buf ≡ accepted s
+      → scanAt from prev n buf ≡ accepted (record { numbers = take k space ++ s .numbers; taken = s .taken })
 
 -- before the first number
-pub summed-start : (buf : List ℕ) (n : ℕ) (space : List ℕ) → Summed buf n space 0 0 0
-summed-start buf n space =
-    record {
-      ends = ends-start n buf;
-      whole = λ h s e. (rw (sub-zero n) at e) ∙ ap accepted (rw (zero-add (s .taken)));
-    }
+pub summed-start : (buf : List ℕ) (from prev n : ℕ) (space : List ℕ) → Summed buf from prev n space prev from 0
+summed-start buf from prev n space = record { ends = rw (sub-zero n); whole = λ h s e. rw (sub-zero n) at e }
 
-module _ (buf : List ℕ) (n : ℕ) (space : List ℕ) (sum i k : ℕ) (m : Summed buf n space sum i k) where
+module _ (buf : List ℕ) (from prev n : ℕ) (space : List ℕ) (sum i k : ℕ) (m : Summed buf from prev n space sum i k) where
   -- the next number
   pub summed-next : (r : Reading) → nextNumber sum (drop i buf) ≡ accepted r → k < n
-      → Summed buf n (set space k (r .value)) (r .value) (i + r .len) (k + 1)
+      → Summed buf from prev n (set space k (r .value)) (r .value) (i + r .len) (k + 1)
   summed-next r e h =
       record {
         ends = ends-next buf n i sum k r h e ∙ m .ends;
         whole = λ l s f.
             let room : n ≤ length space = simp length-set at l in
             let more : n - k ≡ suc (n - (k + 1)) = omega arith in
-            let behind : scanFrom (r .value) (n - (k + 1)) (drop (r .len) (drop i buf)) ≡ accepted s = rw (drop-drop (r .len) i buf) f in
-            rw (add-one k, take-suc-set space k (r .value) (omega arith), append-assoc, add-assoc)
-            (m .whole room (record { numbers = r .value ∷ s .numbers; taken = r .len + s .taken }) (rw more (scan-cons sum (n - (k + 1)) (drop i buf) r s e behind)));
+            rw (add-one k, take-suc-set space k (r .value) (omega arith), append-assoc)
+            (m .whole room (record { numbers = r .value ∷ s .numbers; taken = s .taken }) (rw more (scan-at-next i sum (n - (k + 1)) buf r s e f)));
       }
 
   -- behind the last
-  pub summed-end : n ≡ k → QuickSum i sum n buf space
-  unfolding scanFrom QuickEnd
-  summed-end e =
+  pub summed-end : n ≡ k → i ≤ length buf → sum < 2 ^ 63 → QuickSum i sum from prev n buf space
+  unfolding QuickEnd
+  summed-end e inside low =
       let none : n - k ≡ 0 = omega arith in
       record {
+        within = inside;
+        below = low;
         ends = λ h. sym (m .ends) ∙ ends-now n i sum k (drop i buf) (omega arith);
-        numbers = λ l h. rw (append-nil, add-zero, ← e) at (m .whole l (record { numbers = []; taken = 0 }) (rw none));
+        numbers = λ l h. rw (append-nil, ← e) at (m .whole l (record { numbers = []; taken = i }) (rw none (scan-at-none i sum buf)));
       }

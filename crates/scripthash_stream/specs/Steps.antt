@@ -1,11 +1,12 @@
 -- What the steps of reading a stream quickly promise each other: no answer of a public function is defined here.
-use Prim.Native.Nat.{ℕ, zero, suc, _+_, _-_, _*_, _≤_, _<_}
+use Prim.Native.Nat.{ℕ, zero, suc, _+_, _-_, _*_, _^_, _≤_, _<_}
 use mathlib.Core.Bool.{Bool, false, cond, _&&_}
 use mathlib.Core.List.{List}
 use mathlib.Core.Logic.{_⊎_}
 use mathlib.Core.Path.{_≡_}
-use lib.ListN.{length, getD, take}
+use lib.ListN.{length, getD, take, drop}
 use Rattle.error.specs.Refusal.{Answer, accepted, answered}
+use Rattle.buffer.specs.Bytes.{overwrite}
 use Rattle.compact.specs.Uleb128.{goesOn, piece, readUleb}
 use Rattle.scripthash_stream.specs.Stream.{maxOffered, lastFrom, Scan, scanFrom, scan, End, endFrom, afterDecode}
 
@@ -30,14 +31,31 @@ Quick told before after a = ((told ≡ 0) × (after ≡ before)) ⊎
 unfoldable pub QuickEnd : ℕ → ℕ → Answer End → Type 0
 QuickEnd taken last a = (0 < taken) → a ≡ accepted (record { taken = taken; last = last })
 
--- What summing up the first n forms of some bytes tells: where their scan ends, and a list with room for its numbers has them at its start.
-pub record QuickSum (taken last n : ℕ) (bs space : List ℕ) : Type 0 where
-  pub ends : QuickEnd taken last (answered (endFrom 0) (scan n bs))
-  pub numbers : n ≤ length space → 0 < taken → scan n bs ≡ accepted (record { numbers = take n space; taken = taken })
-
 -- k numbers behind `prev` are left to scan, and those before took `off` bytes: where the whole scan ends.
 unfoldable pub endsFrom : ℕ → ℕ → ℕ → List ℕ → Answer End
 endsFrom off prev k bs = answered (λ s. record { taken = off + s .taken; last = lastFrom prev (s .numbers) }) (scanFrom prev k bs)
+
+-- A scan that ends so many bytes later.
+abbrev pub later : ℕ → Scan → Scan
+later off s = record { numbers = s .numbers; taken = off + s .taken }
+
+-- The scan of k numbers behind `prev` from a place of some bytes on, which tells the place behind them.
+unfoldable pub scanAt : ℕ → ℕ → ℕ → List ℕ → Answer Scan
+scanAt off prev k bs = answered (later off) (scanFrom prev k (drop off bs))
+
+-- What summing up n forms from a place on, behind `prev`, tells: where their scan ends, and a list with room for its numbers has them at its
+-- start.
+pub record QuickSum (taken last from prev n : ℕ) (bs space : List ℕ) : Type 0 where
+  pub within : taken ≤ length bs
+  pub below : last < 2 ^ 63
+  pub ends : QuickEnd taken last (endsFrom from prev n (drop from bs))
+  pub numbers : n ≤ length space → 0 < taken → scanAt from prev n bs ≡ accepted (record { numbers = take n space; taken = taken })
+
+-- A try at reading a part of a stream, whose scan would be `a`, to a place of a list: it tells 0 and leaves the list, or the place behind the
+-- part, whose numbers the list holds.
+pub data QuickPart (told : ℕ) (before after : List ℕ) (at : ℕ) (a : Answer Scan) : Type 0 where
+  left : told ≡ 0 → after ≡ before → QuickPart told before after at a
+  read : (ns : List ℕ) → 0 < told → a ≡ accepted (record { numbers = ns; taken = told }) → after ≡ overwrite before at ns → QuickPart told before after at a
 
 -- ---- forms weighed together
 

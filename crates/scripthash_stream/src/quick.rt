@@ -8,7 +8,7 @@ ghost use Rattle.error.specs.Refusal.{answered};
 ghost use Rattle.buffer.specs.Bytes.{overwrite};
 ghost use Rattle.compact.specs.Uleb128.{goesOn};
 ghost use Rattle.scripthash_stream.specs.Stream.{scan, endFrom, decodeStream};
-ghost use Rattle.scripthash_stream.specs.Steps.{OneByteForms, QuickForm, QuickSum, Quick, QuickEnd};
+ghost use Rattle.scripthash_stream.specs.Steps.{OneByteForms, QuickForm, QuickSum, QuickPart, Quick, QuickEnd, scanAt};
 use crate::stream::BIT_63;
 use crate::stream::MAX_OFFERED;
 use crate::stream::wide;
@@ -104,13 +104,15 @@ fn keep(space: &mut [u64], k: usize, fk: u64)
     }
 }
 
-// Sums up the first n forms of buf and keeps the numbers in space as far as that has room: tells their bytes and the last number, or 0
-// bytes where a form is 0 or can't be read, or a number would have bit 63. It alone calls short_form, which so becomes part of the loop.
-pub fn sum_forms(buf: &[u8], n: usize, space: &mut [u64]) -> StreamEnd
-    ensures { λ r. ⌜ QuickSum (r .taken) (r .last) n (now (buf .entry)) (now (space .exit)) ⌝ }
+// Sums up n forms from a place on, behind a number, and keeps the numbers in space as far as that has room: tells the place behind them and
+// the last number, or place 0 where a form is 0 or can't be read, or a number would have bit 63. It alone calls short_form, which so becomes
+// part of the loop.
+pub fn sum_forms(buf: &[u8], from: usize, prev: u64, n: usize, space: &mut [u64]) -> StreamEnd
+    requires { ⌜ (from ≤ length (now buf)) × (prev < 2 ^ 63) ⌝ }
+    ensures { λ r. ⌜ QuickSum (r .taken) (r .last) from prev n (now (buf .entry)) (now (space .exit)) ⌝ }
 {
-    let mut sum: u64 = 0;
-    let mut i: usize = 0;
+    let mut sum = prev;
+    let mut i = from;
     let mut k: usize = 0;
     while k < n {
         let form = short_form(buf, i);
@@ -131,65 +133,61 @@ pub fn sum_forms(buf: &[u8], n: usize, space: &mut [u64]) -> StreamEnd
     }
 }
 
-// Copies the first n numbers of a list to the start of another.
-fn copy_fks(from: &[u64], n: usize, out: &mut [u64])
-    requires { ⌜ (n ≤ length (now from)) × (n ≤ length (now out)) ⌝ }
-    ensures { λ _. ⌜ now (out .exit) ≡ overwrite (now (out .entry)) 0 (take n (now (from .entry))) ⌝ }
+// Copies the first n numbers of a list to a place of another.
+fn copy_fks(from: &[u64], n: usize, out: &mut [u64], at: usize)
+    requires { ⌜ (n ≤ length (now from)) × (at + n ≤ length (now out)) ⌝ }
+    ensures { λ _. ⌜ now (out .exit) ≡ overwrite (now (out .entry)) at (take n (now (from .entry))) ⌝ }
 {
     let mut k: usize = 0;
     while k < n {
-        out[k] = from[k];
+        out[at + k] = from[k];
         k += 1;
     }
 }
 
-// Reads a stream of n numbers through a list that holds them until all are read: tells the bytes that they take, or 0 and leaves out.
-fn decode_through(buf: &[u8], n: usize, space: &mut [u64], out: &mut [u64]) -> usize
-    requires { ⌜ (n ≤ length (now space)) × (n ≤ length (now out)) ⌝ }
-    ensures { λ r. ⌜ Quick r (now (out .entry)) (now (out .exit)) (decodeStream (length (now (out .entry))) n (now (buf .entry))) ⌝ }
+// Reads n forms through a list that holds their numbers until all are read, and then copies them to a place of out: tells the place behind
+// the forms, or 0 and leaves out.
+fn decode_through(buf: &[u8], from: usize, prev: u64, n: usize, space: &mut [u64], out: &mut [u64], at: usize) -> usize
+    requires { ⌜ (from ≤ length (now buf)) × (prev < 2 ^ 63) × (n ≤ length (now space)) × (at + n ≤ length (now out)) ⌝ }
+    ensures { λ r. ⌜ QuickPart r (now (out .entry)) (now (out .exit)) at (scanAt from prev n (now (buf .entry))) ⌝ }
 {
-    let end = sum_forms(buf, n, space);
+    let end = sum_forms(buf, from, prev, n, space);
     if end.taken == 0 {
         return 0;
     }
-    copy_fks(space, n, out);
+    copy_fks(space, n, out, at);
     end.taken
 }
 
-// The same through a list of 64.
-fn decode_64(buf: &[u8], n: usize, out: &mut [u64]) -> usize
-    requires { ⌜ (n ≤ 64) × (n ≤ length (now out)) ⌝ }
-    ensures { λ r. ⌜ Quick r (now (out .entry)) (now (out .exit)) (decodeStream (length (now (out .entry))) n (now (buf .entry))) ⌝ }
+// The same for 16 forms at most, from the start.
+fn decode_few(buf: &[u8], n: usize, out: &mut [u64]) -> usize
+    requires { ⌜ (n ≤ 16) × (n ≤ length (now out)) ⌝ }
+    ensures { λ r. ⌜ QuickPart r (now (out .entry)) (now (out .exit)) 0 (scanAt 0 0 n (now (buf .entry))) ⌝ }
+{
+    let mut space = [0u64; 16];
+    decode_through(buf, 0, 0, n, &mut space, out, 0)
+}
+
+// The same for any count, in parts of 64: each part is held on the stack until those behind it are read.
+fn decode_parts(buf: &[u8], from: usize, prev: u64, n: usize, out: &mut [u64], at: usize) -> usize
+    requires { ⌜ (from ≤ length (now buf)) × (prev < 2 ^ 63) × (at + n ≤ length (now out)) ⌝ }
+    ensures { λ r. ⌜ QuickPart r (now (out .entry)) (now (out .exit)) at (scanAt from prev n (now (buf .entry))) ⌝ }
 {
     let mut space = [0u64; 64];
-    decode_through(buf, n, &mut space, out)
-}
-
-// The same through a list of 256.
-fn decode_256(buf: &[u8], n: usize, out: &mut [u64]) -> usize
-    requires { ⌜ (n ≤ 256) × (n ≤ length (now out)) ⌝ }
-    ensures { λ r. ⌜ Quick r (now (out .entry)) (now (out .exit)) (decodeStream (length (now (out .entry))) n (now (buf .entry))) ⌝ }
-{
-    let mut space = [0u64; 256];
-    decode_through(buf, n, &mut space, out)
-}
-
-// The same through a list of 1,024.
-fn decode_1024(buf: &[u8], n: usize, out: &mut [u64]) -> usize
-    requires { ⌜ (n ≤ 1024) × (n ≤ length (now out)) ⌝ }
-    ensures { λ r. ⌜ Quick r (now (out .entry)) (now (out .exit)) (decodeStream (length (now (out .entry))) n (now (buf .entry))) ⌝ }
-{
-    let mut space = [0u64; 1024];
-    decode_through(buf, n, &mut space, out)
-}
-
-// The same through a list of 4,096.
-fn decode_4096(buf: &[u8], n: usize, out: &mut [u64]) -> usize
-    requires { ⌜ (n ≤ 4096) × (n ≤ length (now out)) ⌝ }
-    ensures { λ r. ⌜ Quick r (now (out .entry)) (now (out .exit)) (decodeStream (length (now (out .entry))) n (now (buf .entry))) ⌝ }
-{
-    let mut space = [0u64; 4096];
-    decode_through(buf, n, &mut space, out)
+    if n <= 64 {
+        return decode_through(buf, from, prev, n, &mut space, out, at);
+    }
+    let end = sum_forms(buf, from, prev, 64, &mut space);
+    let next = end.taken;
+    if next == 0 {
+        return 0;
+    }
+    let taken = decode_parts(buf, next, end.last, n - 64, out, at + 64);
+    if taken == 0 {
+        return 0;
+    }
+    copy_fks(&space, 64, out, at);
+    taken
 }
 
 // The larger of two bytes.
@@ -267,17 +265,11 @@ pub fn decode_quickly(buf: &[u8], n: usize, out: &mut [u64]) -> usize
         if one_byte_forms(buf, n) {
             return sum_bytes(buf, n, out);
         }
-        if n <= 64 {
-            return decode_64(buf, n, out);
-        }
-        if n <= 256 {
-            return decode_256(buf, n, out);
-        }
-        if n <= 1024 {
-            return decode_1024(buf, n, out);
+        if n <= 16 {
+            return decode_few(buf, n, out);
         }
         if n <= 4096 {
-            return decode_4096(buf, n, out);
+            return decode_parts(buf, 0, 0, n, out, 0);
         }
     }
     0
@@ -315,5 +307,5 @@ pub fn scan_quickly(buf: &[u8], n: usize) -> StreamEnd
         }
     }
     let mut space = [0u64; 1];
-    sum_forms(buf, n, &mut space)
+    sum_forms(buf, 0, 0, n, &mut space)
 }

@@ -324,7 +324,7 @@ pub fn scan_by_weights(buf: &[u8], n: usize) -> StreamEnd
 {
     let lead = leading(buf);
     let mut space = [0u64; 1];
-    let first = sum_forms(buf, lead, &mut space);
+    let first = sum_forms(buf, 0, 0, lead, &mut space);
     let from = first.taken;
     let prev = first.last;
     if from < 4 {

@@ -1,7 +1,7 @@
 -- `decode_through` meets its contract: what the one pass tells, and the copy of its numbers. Assumes nothing.
 use native.Mathlib.Omega.{arith}
 use borrow.Author.Needs.{needs}
-use Rattle.scripthash_stream.proofs.LawsDecode.{quick-none, quick-all}
+use Rattle.scripthash_stream.proofs.LawsDecode.{part-left, part-summed}
 use Rattle.scripthash_stream.proofs.quick.decode_through.Statement.{statement}
 use Rattle.scripthash_stream.proofs.quick.decode_through.Tie as tie
 
@@ -12,7 +12,7 @@ same-length : tie.Need-same-length
 same-length c = search needs
 
 returns : tie.Need-returns
-returns c = quick-none _ _
+returns c = part-left _ _ _
 
 copy-fks-requires : tie.Need-copy-fks-requires
 copy-fks-requires c κs = search needs
@@ -27,7 +27,8 @@ returns-2 : tie.Need-returns-2
 returns-2 c =
     let f = c .before .before .before .before .before .before .before .before .before in
     let a = f .before .before .before .before .before .args in
-    rw (c .before .before .copy-fks .ensures) (quick-all (a .n) (a .buf .now) (a .out .now) _ (f .sum-forms .ensures .numbers (omega arith) (omega arith)) (omega arith) (omega arith))
+    part-summed (f .sum-forms .result .taken) (f .sum-forms .result .last) (a .from) (a .prev) (a .n) (a .buf .now) _ (a .out .now) _ (a .at) (f .sum-forms .ensures) (omega arith) (omega arith)
+    (c .before .before .copy-fks .ensures)
 
 pub decode-through-spec : {M : Type 1} → statement M
 decode-through-spec =

@@ -1,5 +1,6 @@
 -- `scan_quickly` meets its contract: what it calls tells. Assumes nothing.
 use borrow.Author.Needs.{needs}
+use Rattle.scripthash_stream.proofs.LawsScanEnd.{ends-whole}
 use Rattle.scripthash_stream.proofs.quick.scan_quickly.Statement.{statement}
 use Rattle.scripthash_stream.proofs.quick.scan_quickly.Tie as tie
 
@@ -25,7 +26,9 @@ sum-forms-requires : tie.Need-sum-forms-requires
 sum-forms-requires c κs = search needs
 
 returns-3 : tie.Need-returns-3
-returns-3 c = search needs
+returns-3 c =
+    let a = c .before .before .before .before .before .before .before .args in
+    rw (ends-whole (a .n) (a .buf .now)) at (c .before .sum-forms .ensures .ends)
 
 pub scan-quickly-spec : {M : Type 1} → statement M
 scan-quickly-spec =

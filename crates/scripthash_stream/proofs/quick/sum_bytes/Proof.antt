@@ -9,13 +9,14 @@ use Rattle.error.specs.Refusal.{accepted}
 use Rattle.scripthash_stream.specs.Stream.{nextNumber}
 use Rattle.scripthash_stream.specs.Steps.{OneByteForms}
 use Rattle.scripthash_stream.proofs.LawsDecode.{quick-all, written}
+use Rattle.scripthash_stream.proofs.LawsScanEnd.{scan-at-start}
 use Rattle.scripthash_stream.proofs.LawsSums.{next-byte, Summed, summed-start, summed-next, summed-end}
 use Rattle.scripthash_stream.proofs.quick.sum_bytes.Statement.{statement}
 use Rattle.scripthash_stream.proofs.quick.sum_bytes.Tie as tie
 
 abbrev Inv-loop : tie.InvT-loop
 Inv-loop buf n out₀ sum₀ k₀ out sum k =
-    (k ≤ n) × OneByteForms buf n × (n ≤ length out₀) × (length out ≡ length out₀) × (sum ≤ 127 * k) × (drop k out ≡ drop k out₀) × Summed buf n out sum k k
+    (k ≤ n) × OneByteForms buf n × (n ≤ length out₀) × (length out ≡ length out₀) × (sum ≤ 127 * k) × (drop k out ≡ drop k out₀) × Summed buf 0 0 n out sum k k
 
 abbrev μ-loop : tie.MeasureT-loop
 μ-loop buf n out₀ sum₀ k₀ out sum k = n - k
@@ -34,7 +35,7 @@ module _ (c : tie.After-wide Inv-loop μ-loop) where
 loop-holds : tie.Need-loop-holds Inv-loop μ-loop
 loop-holds c =
     let a = c .before .before .args in
-    (search needs, search needs, search needs, refl, search needs, refl, summed-start (a .buf .now) (a .n) (a .out .now))
+    (search needs, search needs, search needs, refl, search needs, refl, summed-start (a .buf .now) 0 0 (a .n) (a .out .now))
 
 shared-slice-read-wide : tie.Need-shared-slice-read-wide Inv-loop μ-loop
 shared-slice-read-wide c = omega (arith, c .before .before .loop .inv .1 .within)
@@ -71,7 +72,7 @@ loop-again c =
       simp length-set (l .inv .3),
       most c,
       drop-set-lt (l .k + 1) (l .out) (l .k) x (omega arith) ∙ sym (drop-drop 1 (l .k) (l .out)) ∙ ap (drop 1) (l .inv .5) ∙ drop-drop 1 (l .k) (a .out .now),
-      summed-next (a .buf .now) (a .n) (l .out) (l .sum) (l .k) (l .k) (l .inv .6) _ next (omega arith),
+      summed-next (a .buf .now) 0 0 (a .n) (l .out) (l .sum) (l .k) (l .k) (l .inv .6) _ next (omega arith),
     )
 
 same-length : tie.Need-same-length Inv-loop μ-loop
@@ -82,9 +83,9 @@ returns c =
     let l = c .before .loop in
     let a = c .before .before .before .before .args in
     let done : l .k ≡ a .n = omega arith in
-    let sums = rw done at (summed-end (a .buf .now) (a .n) (l .out) (l .sum) (l .k) (l .k) (l .inv .6) (sym done)) in
+    let sums = rw done at (summed-end (a .buf .now) 0 0 (a .n) (l .out) (l .sum) (l .k) (l .k) (l .inv .6) (sym done) (omega (arith, l .inv .1 .within)) (omega (arith, l .inv .1 .few))) in
     rw (written (a .out .now) (l .out) (a .n) (omega arith) (rw done at (l .inv .5)))
-    (quick-all (a .n) (a .buf .now) (a .out .now) _ (sums .numbers (omega arith) (l .inv .1 .some)) (omega arith) (l .inv .1 .some))
+    (quick-all (a .n) (a .buf .now) (a .out .now) _ (sym (scan-at-start (a .n) (a .buf .now)) ∙ sums .numbers (omega arith) (l .inv .1 .some)) (omega arith) (l .inv .1 .some))
 
 pub sum-bytes-spec : {M : Type 1} → statement M
 sum-bytes-spec =

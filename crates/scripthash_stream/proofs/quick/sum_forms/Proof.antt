@@ -15,11 +15,11 @@ use Rattle.scripthash_stream.proofs.quick.sum_forms.Statement.{statemen
 use Rattle.scripthash_stream.proofs.quick.sum_forms.Tie as tie
 
 abbrev Inv-loop : tie.InvT-loop
-Inv-loop buf n space₀ sum₀ i₀ k₀ space sum i k =
-    (k ≤ n) × (i ≤ length buf) × (sum < 2 ^ 63) × (length space ≡ length space₀) × Summed buf n space sum i k
+Inv-loop buf from prev n space₀ sum₀ i₀ k₀ space sum i k =
+    (k ≤ n) × (i ≤ length buf) × (sum < 2 ^ 63) × (length space ≡ length space₀) × Summed buf from prev n space sum i k
 
 abbrev μ-loop : tie.MeasureT-loop
-μ-loop buf n space₀ sum₀ i₀ k₀ space sum i k = n - k
+μ-loop buf from prev n space₀ sum₀ i₀ k₀ space sum i k = n - k
 
 -- a form that was read, and the number that it gives
 module _ (c : tie.After-struct-known3 Inv-loop μ-loop) where
@@ -50,7 +50,7 @@ module _ (c : tie.After-struct-known3 Inv-loop μ-loop) where
 loop-holds : tie.Need-loop-holds Inv-loop μ-loop
 loop-holds c =
     let a = c .before .before .args in
-    (search needs, search needs, search needs, refl, summed-start (a .buf .now) (a .n) (a .space .now))
+    (search needs, search needs, search needs, refl, summed-start (a .buf .now) (a .from) (a .prev) (a .n) (a .space .now))
 
 short-form-requires : tie.Need-short-form-requires Inv-loop μ-loop
 short-form-requires c κs = search needs
@@ -59,7 +59,7 @@ same-length : tie.Need-same-length Inv-loop μ-loop
 same-length c = search needs
 
 returns : tie.Need-returns Inv-loop μ-loop
-returns c = quick-sum-none _ _ _
+returns c = quick-sum-none _ _ _ _ _
 
 sub-if2 : tie.Need-sub-if2 Inv-loop μ-loop
 sub-if2 c = search needs
@@ -68,7 +68,7 @@ same-length-2 : tie.Need-same-length-2 Inv-loop μ-loop
 same-length-2 c = search needs
 
 returns-2 : tie.Need-returns-2 Inv-loop μ-loop
-returns-2 c = quick-sum-none _ _ _
+returns-2 c = quick-sum-none _ _ _ _ _
 
 add-sum : tie.Need-add-sum Inv-loop μ-loop
 add-sum c = search needs
@@ -95,7 +95,7 @@ loop-again c =
       inside d,
       number d .below,
       ap length kept ∙ simp length-set (l .inv .3),
-      rw kept (summed-next (bytes d) (a .n) (l .space) (l .sum) (l .i) (l .k) (l .inv .4) (got d) (is d) (omega arith)),
+      rw kept (summed-next (bytes d) (a .from) (a .prev) (a .n) (l .space) (l .sum) (l .i) (l .k) (l .inv .4) (got d) (is d) (omega arith)),
     )
 
 same-length-3 : tie.Need-same-length-3 Inv-loop μ-loop
@@ -105,7 +105,7 @@ returns-3 : tie.Need-returns-3 Inv-loop μ-loop
 returns-3 c =
     let l = c .before .loop in
     let a = c .before .before .before .before .args in
-    summed-end (a .buf .now) (a .n) (l .space) (l .sum) (l .i) (l .k) (l .inv .4) (omega arith)
+    summed-end (a .buf .now) (a .from) (a .prev) (a .n) (l .space) (l .sum) (l .i) (l .k) (l .inv .4) (omega arith) (l .inv .1) (l .inv .2)
 
 pub sum-forms-spec : {M : Type 1} → statement M
 sum-forms-spec =
