@@ -93,36 +93,36 @@ pub part-summed : (taken last from prev n : ℕ) (bs space out after : List ℕ)
     → n ≤ length space → after ≡ overwrite out at (take n space) → QuickPart taken out after at (scanAt from prev n bs)
 part-summed taken last from prev n bs space out after at q h l e = read (take n space) h (q .numbers l h) e
 
--- one whose first 64 numbers were summed up, and copied when those behind them were read
-module _ (mid last told from prev n at : ℕ) (bs space out out' after : List ℕ) (q : QuickSum mid last from prev 64 bs space) (h : 0 < mid)
-    (room : 64 ≤ length space) (many : 64 ≤ n) (inside : at + n ≤ length out) (some : 0 < told)
-    (copied : after ≡ overwrite out' at (take 64 space)) where
-  first : scanAt from prev 64 bs ≡ accepted (record { numbers = take 64 space; taken = mid })
+-- one whose first m numbers were summed up, and copied when those behind them were read
+module _ (m mid last told from prev n at : ℕ) (bs space out out' after : List ℕ) (q : QuickSum mid last from prev m bs space) (h : 0 < mid)
+    (room : m ≤ length space) (many : m ≤ n) (inside : at + n ≤ length out) (some : 0 < told)
+    (copied : after ≡ overwrite out' at (take m space)) where
+  first : scanAt from prev m bs ≡ accepted (record { numbers = take m space; taken = mid })
   first = q .numbers room h
 
-  is-last : lastFrom prev (take 64 space) ≡ last
+  is-last : lastFrom prev (take m space) ≡ last
   unfolding QuickEnd
-  is-last = ap (λ (e : End). e .last) (accepted-inj (sym (scan-at-end from prev 64 bs _ first) ∙ q .ends h))
+  is-last = ap (λ (e : End). e .last) (accepted-inj (sym (scan-at-end from prev m bs _ first) ∙ q .ends h))
 
-  count : length (take 64 space) ≡ 64
-  count = length-take-le 64 space room
+  count : length (take m space) ≡ m
+  count = length-take-le m space room
 
-  joined : (ns : List ℕ) → scanAt mid last (n - 64) bs ≡ accepted (record { numbers = ns; taken = told })
-      → scanAt from prev n bs ≡ accepted (record { numbers = take 64 space ++ ns; taken = told })
+  joined : (ns : List ℕ) → scanAt mid last (n - m) bs ≡ accepted (record { numbers = ns; taken = told })
+      → scanAt from prev n bs ≡ accepted (record { numbers = take m space ++ ns; taken = told })
   joined ns e =
-      let all : 64 + (n - 64) ≡ n = omega arith in
-      rw all at (scan-at-parts from prev 64 (n - 64) bs (record { numbers = take 64 space; taken = mid }) (record { numbers = ns; taken = told }) first (rw is-last e))
+      let all : m + (n - m) ≡ n = omega arith in
+      rw all at (scan-at-parts from prev m (n - m) bs (record { numbers = take m space; taken = mid }) (record { numbers = ns; taken = told }) first (rw is-last e))
 
-  both : (ns : List ℕ) → out' ≡ overwrite out (at + 64) ns → after ≡ overwrite out at (take 64 space ++ ns)
+  both : (ns : List ℕ) → out' ≡ overwrite out (at + m) ns → after ≡ overwrite out at (take m space ++ ns)
   both ns e =
-      let next : at + length (take 64 space) ≡ at + 64 = ap (λ (k : ℕ). at + k) count in
-      copied ∙ ap (λ (l : List ℕ). overwrite l at (take 64 space)) e
-      ∙ sym (overwrite-apart out at (take 64 space) (at + 64) ns (omega (arith, count)) (omega arith))
-      ∙ (rw next at (overwrite-adjoin out at (take 64 space) ns (omega arith)))
+      let next : at + length (take m space) ≡ at + m = ap (λ (k : ℕ). at + k) count in
+      copied ∙ ap (λ (l : List ℕ). overwrite l at (take m space)) e
+      ∙ sym (overwrite-apart out at (take m space) (at + m) ns (omega (arith, count)) (omega arith))
+      ∙ (rw next at (overwrite-adjoin out at (take m space) ns (omega arith)))
 
-  pub part-more : QuickPart told out out' (at + 64) (scanAt mid last (n - 64) bs) → QuickPart told out after at (scanAt from prev n bs)
+  pub part-more : QuickPart told out out' (at + m) (scanAt mid last (n - m) bs) → QuickPart told out after at (scanAt from prev n bs)
   part-more (left e f) = absurd (omega (arith, e))
-  part-more (read ns p e f) = read (take 64 space ++ ns) some (joined ns e) (both ns f)
+  part-more (read ns p e f) = read (take m space ++ ns) some (joined ns e) (both ns f)
 
 -- a part that told 0 left the list
 pub part-none : (told : ℕ) (out after : List ℕ) (at at' : ℕ) (a a' : Answer Scan) → QuickPart told out after at a → told ≡ 0

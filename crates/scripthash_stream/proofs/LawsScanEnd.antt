@@ -116,8 +116,8 @@ scan-at-part off prev (suc k) m bs s t e f =
   where
     behind : (w : Step prev k (drop off bs) s)
         → ((o : ℕ) (r : Reading) (u : Scan) → scanFrom (r .value) k (drop o bs) ≡ accepted u
-            → scanAt (o + u .taken) (lastFrom (r .value) (u .numbers)) m bs ≡ accepted t
-            → scanAt o (r .value) (k + m) bs ≡ accepted (record { numbers = u .numbers ++ t .numbers; taken = t .taken }))
+        → scanAt (o + u .taken) (lastFrom (r .value) (u .numbers)) m bs ≡ accepted t
+        → scanAt o (r .value) (k + m) bs ≡ accepted (record { numbers = u .numbers ++ t .numbers; taken = t .taken }))
         → scanAt off prev (suc k + m) bs ≡ accepted (record { numbers = s .numbers ++ t .numbers; taken = t .taken })
     behind w ih =
         let r = w .first in

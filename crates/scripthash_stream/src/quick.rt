@@ -147,7 +147,15 @@ fn copy_fks(from: &[u64], n: usize, out: &mut [u64], at: usize)
 
 // Reads n forms through a list that holds their numbers until all are read, and then copies them to a place of out: tells the place behind
 // the forms, or 0 and leaves out.
-fn decode_through(buf: &[u8], from: usize, prev: u64, n: usize, space: &mut [u64], out: &mut [u64], at: usize) -> usize
+fn decode_through(
+    buf: &[u8],
+    from: usize,
+    prev: u64,
+    n: usize,
+    space: &mut [u64],
+    out: &mut [u64],
+    at: usize,
+) -> usize
     requires { ⌜ (from ≤ length (now buf)) × (prev < 2 ^ 63) × (n ≤ length (now space)) × (at + n ≤ length (now out)) ⌝ }
     ensures { λ r. ⌜ QuickPart r (now (out .entry)) (now (out .exit)) at (scanAt from prev n (now (buf .entry))) ⌝ }
 {
@@ -168,25 +176,34 @@ fn decode_few(buf: &[u8], n: usize, out: &mut [u64]) -> usize
     decode_through(buf, 0, 0, n, &mut space, out, 0)
 }
 
-// The same for any count, in parts of 64: each part is held on the stack until those behind it are read.
+// The same for 64 forms at most.
+fn decode_some(buf: &[u8], n: usize, out: &mut [u64]) -> usize
+    requires { ⌜ (n ≤ 64) × (n ≤ length (now out)) ⌝ }
+    ensures { λ r. ⌜ QuickPart r (now (out .entry)) (now (out .exit)) 0 (scanAt 0 0 n (now (buf .entry))) ⌝ }
+{
+    let mut space = [0u64; 64];
+    decode_through(buf, 0, 0, n, &mut space, out, 0)
+}
+
+// The same from any place and for any count, in parts of 256: each part is held on the stack until those behind it are read.
 fn decode_parts(buf: &[u8], from: usize, prev: u64, n: usize, out: &mut [u64], at: usize) -> usize
     requires { ⌜ (from ≤ length (now buf)) × (prev < 2 ^ 63) × (at + n ≤ length (now out)) ⌝ }
     ensures { λ r. ⌜ QuickPart r (now (out .entry)) (now (out .exit)) at (scanAt from prev n (now (buf .entry))) ⌝ }
 {
-    let mut space = [0u64; 64];
-    if n <= 64 {
+    let mut space = [0u64; 256];
+    if n <= 256 {
         return decode_through(buf, from, prev, n, &mut space, out, at);
     }
-    let end = sum_forms(buf, from, prev, 64, &mut space);
+    let end = sum_forms(buf, from, prev, 256, &mut space);
     let next = end.taken;
     if next == 0 {
         return 0;
     }
-    let taken = decode_parts(buf, next, end.last, n - 64, out, at + 64);
+    let taken = decode_parts(buf, next, end.last, n - 256, out, at + 256);
     if taken == 0 {
         return 0;
     }
-    copy_fks(&space, 64, out, at);
+    copy_fks(&space, 256, out, at);
     taken
 }
 
@@ -267,6 +284,9 @@ pub fn decode_quickly(buf: &[u8], n: usize, out: &mut [u64]) -> usize
         }
         if n <= 16 {
             return decode_few(buf, n, out);
+        }
+        if n <= 64 {
+            return decode_some(buf, n, out);
         }
         if n <= 4096 {
             return decode_parts(buf, 0, 0, n, out, 0);

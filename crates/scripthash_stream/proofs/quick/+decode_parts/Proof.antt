@@ -242,7 +242,7 @@ decode-parts-returns-4 t c =
     let a = c .before .before .before .before .before .before .before .before .before .before .before .before .before .before .before .before .before .args in
     let more = c .before .before .before .before .before .before .before .before .decode-parts in
     let s = c .before .before .before .before .before .before .before .before .before .before .before .before .sum-forms in
-    part-more (s .result .taken) (s .result .last) (more .result) (a .from) (a .prev) (a .n) (a .at) (a .buf .now) _ (a .out .now) _ _ (s .ensures) (omega arith)
+    part-more 256 (s .result .taken) (s .result .last) (more .result) (a .from) (a .prev) (a .n) (a .at) (a .buf .now) _ (a .out .now) _ _ (s .ensures) (omega arith)
     (search needs) (omega arith) (c .before .before .before .before .before .before .before .before .before .before .before .before .before .before .before .before .before .pre .1 .2) (omega arith) (c .before .before .copy-fks .ensures) (more .ensures)
 
 pub +decode-parts-spec : {M : Type 1} → statement M

@@ -26,20 +26,29 @@ same-length-2 c = search needs
 returns-2 : tie.Need-returns-2
 returns-2 c = part-whole _ _ _ _ _ (omega arith) (c .before .before .decode-few .ensures)
 
-decode-parts-requires : tie.Need-decode-parts-requires
-decode-parts-requires c κs = search needs
+decode-some-requires : tie.Need-decode-some-requires
+decode-some-requires c κs = search needs
 
 same-length-3 : tie.Need-same-length-3
 same-length-3 c = search needs
 
 returns-3 : tie.Need-returns-3
-returns-3 c = part-whole _ _ _ _ _ (omega arith) (c .before .before .decode-parts .ensures)
+returns-3 c = part-whole _ _ _ _ _ (omega arith) (c .before .before .decode-some .ensures)
+
+decode-parts-requires : tie.Need-decode-parts-requires
+decode-parts-requires c κs = search needs
+
+same-length-4 : tie.Need-same-length-4
+same-length-4 c = search needs
 
 returns-4 : tie.Need-returns-4
-returns-4 c = quick-none _ _
+returns-4 c = part-whole _ _ _ _ _ (omega arith) (c .before .before .decode-parts .ensures)
 
 returns-5 : tie.Need-returns-5
 returns-5 c = quick-none _ _
+
+returns-6 : tie.Need-returns-6
+returns-6 c = quick-none _ _
 
 pub decode-quickly-spec : {M : Type 1} → statement M
 decode-quickly-spec =
@@ -52,8 +61,11 @@ decode-quickly-spec =
     decode-few-requires
     same-length-2
     returns-2
-    decode-parts-requires
+    decode-some-requires
     same-length-3
     returns-3
+    decode-parts-requires
+    same-length-4
     returns-4
-    returns-5)
+    returns-5
+    returns-6)
