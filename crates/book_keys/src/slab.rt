@@ -52,7 +52,7 @@ fn read_slab(slab: &[u8], used: u16) -> ScanStream
     if buffer::get_u16(slab, 0) != used {
         return ScanStream::Refused(error::KEY_UNSOUND);
     }
-    let got = scripthash_stream::scan_fk_delta_stream(&slab[2..], used as usize);
+    let got = scripthash_scan::scan_fk_delta_stream(&slab[2..], used as usize);
     let ScanStream::Scanned { taken: _, last } = got else {
         return ScanStream::Refused(error::KEY_UNSOUND);
     };

@@ -52,6 +52,6 @@ pub extern "C" fn ouriscado_decode_fk_delta_stream_into(
         ≡ afterDecode (now (out .entry)) (decodeStream (length (now (out .entry))) n (now (buf .entry))) ⌝ }
     ensures taken { λ r. ⌜ now (taken .exit) ≡ told (λ s. s .taken) (decodeStream (length (now (out .entry))) n (now (buf .entry))) 0 ⌝ }
 {
-    let got = scripthash_stream::decode_fk_delta_stream_into(buf, n, out);
+    let got = scripthash_scan::decode_fk_delta_stream_into(buf, n, out);
     put_bytes(got, taken)
 }

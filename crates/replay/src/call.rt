@@ -169,7 +169,7 @@ fn decode_slab_payload_into(bytes: &[u8], list: &mut [u64], told: &mut [u64; 4])
 
 // Scans a stream.
 fn scan_fk_delta_stream(bytes: &[u8], n: u64, told: &mut [u64; 4]) -> u32 {
-    let got = scripthash_stream::scan_fk_delta_stream(bytes, n as usize);
+    let got = scripthash_scan::scan_fk_delta_stream(bytes, n as usize);
     let ScanStream::Scanned { taken, last } = got else {
         return got.refusal();
     };

@@ -82,7 +82,7 @@ pub fn sh_page_stream_tail(page: &[u8]) -> ScanStream
     let StreamPlace::At { off, count } = place else {
         return ScanStream::Refused(place.refusal());
     };
-    scripthash_stream::scan_fk_delta_stream(&page[off..], count)
+    scripthash_scan::scan_fk_delta_stream(&page[off..], count)
 }
 
 // The last number of a page, 0 where it has none.
@@ -105,7 +105,7 @@ pub fn sh_page_entries_into(page: &[u8], out: &mut [u64]) -> PageEntries
     let StreamPlace::At { off, count } = place else {
         return PageEntries::Refused(place.refusal());
     };
-    let got = scripthash_stream::decode_fk_delta_stream_into(&page[off..], count, out);
+    let got = scripthash_scan::decode_fk_delta_stream_into(&page[off..], count, out);
     let StreamBytes::Bytes(_) = got else {
         return PageEntries::Refused(got.refusal());
     };

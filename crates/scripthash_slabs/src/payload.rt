@@ -58,7 +58,7 @@ pub fn decode_slab_payload_into(buf: &[u8], out: &mut [u64]) -> SlabPayload
         return SlabPayload::Refused(error::SLAB_TOO_SHORT);
     }
     let used = buffer::get_u16(buf, 0) as usize;
-    let got = scripthash_stream::decode_fk_delta_stream_into(&buf[2..], used, out);
+    let got = scripthash_scan::decode_fk_delta_stream_into(&buf[2..], used, out);
     let StreamBytes::Bytes(len) = got else {
         return SlabPayload::Refused(got.refusal());
     };

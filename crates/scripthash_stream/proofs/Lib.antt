@@ -1,11 +1,6 @@
 pub mod LawsScan
 pub mod LawsStream
 pub mod LawsScanEnd
-pub mod LawsForms
-pub mod LawsSums
 pub mod LawsDecode
 pub mod LawsEncode
 pub mod LawsLent
-pub mod LawsTotals
-pub mod LawsWeigh
-pub mod LawsLongest

@@ -5,7 +5,7 @@ use mathlib.Core.List.{List, [], _∷_, _++_}
 use lib.Dec.{leb, ltb, eqb}
 use lib.ListN.{length, drop}
 use Rattle.error.specs.Refusal.{Answer, accepted, refused, refuseIf, andThen, offeredFirstZero, offeredBit63, offeredNotRising, doesNotFit}
-use Rattle.error.specs.Refusal.{listTooShort}
+use Rattle.error.specs.Refusal.{answered, listTooShort}
 use Rattle.error.specs.Refusal.{storedFirstZero, storedDifferenceZero, storedSumOverflow, storedBit63}
 use Rattle.buffer.specs.Bytes.{overwrite}
 use Rattle.compact.specs.Uleb128.{Reading, readUleb, ulebLen, shortest}
@@ -99,6 +99,10 @@ pub record End : Type 0 where
 -- The end of a scan behind `prev`.
 abbrev pub endFrom : ℕ → Scan → End
 endFrom prev s = record { taken = s .taken; last = lastFrom prev (s .numbers) }
+
+-- k numbers behind `prev` are left to scan, and those before took `off` bytes: where the whole scan ends.
+unfoldable pub endsFrom : ℕ → ℕ → ℕ → List ℕ → Answer End
+endsFrom off prev k bs = answered (λ s. record { taken = off + s .taken; last = lastFrom prev (s .numbers) }) (scanFrom prev k bs)
 
 -- Reading a stream of n numbers into a lent list with room for some, or a refusal.
 unfoldable pub decodeStream : ℕ → ℕ → List ℕ → Answer Scan

@@ -121,7 +121,7 @@ fn next_fk(buf: &[u8], off: usize, prev: u64) -> NextFk
 }
 
 // Scans a stream of n numbers at the start of buf number by number: checks each, and tells where the stream ends.
-fn scan_by_number(buf: &[u8], n: usize) -> ScanStream
+pub fn scan_by_number(buf: &[u8], n: usize) -> ScanStream
     ensures { λ r. ⌜ scanAnswer r ≡ answered (endFrom 0) (scan n (now (buf .entry))) ⌝ }
 {
     let mut prev: u64 = 0;
@@ -140,20 +140,6 @@ fn scan_by_number(buf: &[u8], n: usize) -> ScanStream
         taken: off,
         last: prev,
     }
-}
-
-// Scans a stream of n numbers at the start of buf: quickly where that can be, else number by number, which tells a refusal.
-pub fn scan_fk_delta_stream(buf: &[u8], n: usize) -> ScanStream
-    ensures { λ r. ⌜ scanAnswer r ≡ answered (endFrom 0) (scan n (now (buf .entry))) ⌝ }
-{
-    let end = crate::quick::scan_quickly(buf, n);
-    if 0 < end.taken {
-        return ScanStream::Scanned {
-            taken: end.taken,
-            last: end.last,
-        };
-    }
-    scan_by_number(buf, n)
 }
 
 // Writes the n numbers of a stream to the start of out; where the stream doesn't scan, it stops at the first number that it can't read.
@@ -177,7 +163,7 @@ fn fill_fks(buf: &[u8], n: usize, out: &mut [u64])
 }
 
 // Reads a stream of n numbers at the start of buf into the start of out: one pass that checks, and one that writes.
-fn decode_in_two_passes(buf: &[u8], n: usize, out: &mut [u64]) -> StreamBytes
+pub fn decode_in_two_passes(buf: &[u8], n: usize, out: &mut [u64]) -> StreamBytes
     ensures answer { λ r. ⌜ bytesAnswer r ≡ answered (λ s. s .taken) (decodeStream (length (now (out .entry))) n (now (buf .entry))) ⌝ }
     ensures list { λ r. ⌜ now (out .exit)
         ≡ afterDecode (now (out .entry)) (decodeStream (length (now (out .entry))) n (now (buf .entry))) ⌝ }
@@ -191,18 +177,4 @@ fn decode_in_two_passes(buf: &[u8], n: usize, out: &mut [u64]) -> StreamBytes
     }
     fill_fks(buf, n, out);
     StreamBytes::Bytes(taken)
-}
-
-// Reads a stream of n numbers at the start of buf into the start of out: quickly where that can be, else in two passes, which tell a
-// refusal.
-pub fn decode_fk_delta_stream_into(buf: &[u8], n: usize, out: &mut [u64]) -> StreamBytes
-    ensures answer { λ r. ⌜ bytesAnswer r ≡ answered (λ s. s .taken) (decodeStream (length (now (out .entry))) n (now (buf .entry))) ⌝ }
-    ensures list { λ r. ⌜ now (out .exit)
-        ≡ afterDecode (now (out .entry)) (decodeStream (length (now (out .entry))) n (now (buf .entry))) ⌝ }
-{
-    let taken = crate::quick::decode_quickly(buf, n, out);
-    if 0 < taken {
-        return StreamBytes::Bytes(taken);
-    }
-    decode_in_two_passes(buf, n, out)
 }

@@ -8,11 +8,10 @@ use borrow.Author.Needs.{needs}
 use lib.ListN.{length, drop, length-drop}
 use Rattle.error.specs.Refusal.{accepted, refused, answered, refusalOf}
 use Rattle.compact.specs.Uleb128.{Reading}
-use Rattle.scripthash_stream.specs.Stream.{nextNumber, scan, endFrom}
+use Rattle.scripthash_stream.specs.Stream.{nextNumber, scan, endFrom, endsFrom}
 use Rattle.scripthash_stream.specs.Answers.{nextAnswer}
 use Rattle.scripthash_stream.specs.declared.stream.NextFk.{NextFk}
 use Rattle.scripthash_stream.proofs.LawsScan.{Next, next-accepted}
-use Rattle.scripthash_stream.specs.Steps.{endsFrom}
 use Rattle.scripthash_stream.proofs.LawsScanEnd.{ends-start, ends-now, ends-next, ends-refused}
 use Rattle.scripthash_stream.proofs.stream.scan_by_number.Statement.{statement}
 use Rattle.scripthash_stream.proofs.stream.scan_by_number.Tie as tie

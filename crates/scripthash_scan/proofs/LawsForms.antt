@@ -1,0 +1,61 @@
+-- Reading the form at an offset of a buffer byte by byte, one law for a byte that goes on and one for a form's last. Assumes nothing.
+use Prim.Native.Nat.{ℕ, _+_, _-_, _*_, _%_, _^_, _≤_, _<_}
+use mathlib.Core.Bool.{false}
+use mathlib.Core.List.{List}
+use mathlib.Core.Path.{_≡_, sym, ap, _∙_}
+use native.Mathlib.Nat.{not-suc-le-zero}
+use native.Mathlib.Omega.{arith}
+use borrow.Author.Tests.{le-ltb, ne-eqb}
+use lib.ListN.{length, drop, getD, length-drop}
+use lib.Seq.{getD-drop}
+use Rattle.error.specs.Refusal.{accepted}
+use Rattle.compact.specs.Uleb128.{piece, passes, readUleb}
+use Rattle.compact.proofs.LawsReadFrom.{readFrom, from-start, at-last, at-more}
+use Rattle.scripthash_scan.specs.Quick.{QuickForm}
+
+-- a form of which nothing is told
+pub quick-form-none : (len : ℕ) (bs : List ℕ) → QuickForm 0 len bs
+unfolding QuickForm
+quick-form-none len bs h = absurd (not-suc-le-zero h)
+
+-- one that was read
+pub quick-form : (value len : ℕ) (bs : List ℕ) → readUleb bs ≡ accepted (record { value = value; len = len }) → QuickForm value len bs
+unfolding QuickForm
+quick-form value len bs e h = e
+
+-- The form at `off` is read up to its byte j, and the bytes before that carry acc.
+pub record Carried (buf : List ℕ) (off j acc : ℕ) : Type 0 where
+  pub reads : readFrom j acc (drop j (drop off buf)) ≡ readUleb (drop off buf)
+
+pub form-start : (buf : List ℕ) (off : ℕ) → Carried buf off 0 0
+form-start buf off = record { reads = from-start (drop off buf) }
+
+-- its byte j, at `place`, which is one of the first nine
+module _ {buf : List ℕ} {off j acc place : ℕ} (m : Carried buf off j acc) (is : off + j ≡ place) (h : place < length buf) (early : j < 9) where
+  here : getD (drop off buf) j 0 ≡ getD buf place 0
+  here = getD-drop off buf j 0 ∙ ap (λ (p : ℕ). getD buf p 0) is
+
+  inside : j < length (drop off buf)
+  inside = simp length-drop (omega arith)
+
+  stays : (b : ℕ) → passes j b ≡ false
+  stays b = rw (le-ltb 9 j (omega arith), ne-eqb j 9 (λ (e : j ≡ 9). omega arith))
+
+  -- goes on
+  pub form-on : 128 ≤ getD buf place 0 → Carried buf off (j + 1) (acc + piece (getD buf place 0) * 2 ^ (7 * j))
+  form-on g = record { reads = sym (rw here at (at-more (drop off buf) j acc inside (stays (getD (drop off buf) j 0)) (rw here g))) ∙ m .reads }
+
+  -- the same for a byte, whose piece is what it has above 128
+  pub form-more : (value : ℕ) → 128 ≤ getD buf place 0 → getD buf place 0 < 256 → value ≡ acc + (getD buf place 0 - 128) * 2 ^ (7 * j)
+      → Carried buf off (j + 1) value
+  form-more value g t e =
+      let above : getD buf place 0 % 128 ≡ getD buf place 0 - 128 = omega arith in
+      rw (e, ← above) (form-on g)
+
+  -- is its last
+  pub form-last : (value len : ℕ) → getD buf place 0 < 128 → value ≡ acc + getD buf place 0 * 2 ^ (7 * j) → len ≡ j + 1
+      → QuickForm value len (drop off buf)
+  form-last value len g e l =
+      let piece : getD buf place 0 % 128 ≡ getD buf place 0 = omega arith in
+      quick-form value len (drop off buf)
+      (sym (m .reads) ∙ (rw (here, piece, ← e, ← l) at (at-last (drop off buf) j acc inside (stays (getD (drop off buf) j 0)) (rw here g))))

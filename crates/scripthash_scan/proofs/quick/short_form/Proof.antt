@@ -1,0 +1,177 @@
+-- `short_form` meets its contract: each byte that is read goes on or is the form's last, one law of `LawsForms` for each. Assumes nothing.
+use Prim.Native.Nat.{_+_}
+use mathlib.Core.Path.{refl}
+use native.Mathlib.Nat.{add-zero}
+use native.Mathlib.Omega.{arith}
+use borrow.Author.Needs.{needs}
+use Rattle.scripthash_scan.proofs.LawsForms.{Carried, form-start, form-more, form-last}
+use Rattle.scripthash_scan.proofs.quick.short_form.Statement.{statement}
+use Rattle.scripthash_scan.proofs.quick.short_form.Tie as tie
+
+-- one byte goes on
+module _ (c : tie.After-with-more) where
+  abbrev start-1 : tie.Start
+  start-1 = c .before .before .before .before .before
+
+  carried-1 : Carried (start-1 .args .buf .now) (start-1 .args .i) 1 (c .with-more .result)
+  carried-1 =
+      form-more (form-start _ _) (add-zero (start-1 .args .i)) (omega arith) (omega arith) (c .with-more .result) (omega arith)
+      (omega (arith, c .before .before .shared-slice-known2 .given (start-1 .args .i))) (omega (arith, c .with-more .ensures .0))
+
+-- two bytes go on
+module _ (c : tie.After-with-more2) where
+  abbrev start-2 : tie.Start
+  start-2 = start-1 (c .before .before .before)
+
+  carried-2 : Carried (start-2 .args .buf .now) (start-2 .args .i) 2 (c .with-more2 .result)
+  carried-2 =
+      form-more (carried-1 (c .before .before .before)) refl (omega arith) (omega arith) (c .with-more2 .result) (omega arith)
+      (omega (arith, c .before .before .shared-slice-known3 .given (start-2 .args .i + 1))) (c .with-more2 .ensures .0)
+
+-- three bytes go on
+module _ (c : tie.After-with-more3) where
+  abbrev start-3 : tie.Start
+  start-3 = start-2 (c .before .before .before)
+
+  carried-3 : Carried (start-3 .args .buf .now) (start-3 .args .i) 3 (c .with-more3 .result)
+  carried-3 =
+      form-more (carried-2 (c .before .before .before)) refl (omega arith) (omega arith) (c .with-more3 .result) (omega arith)
+      (omega (arith, c .before .before .shared-slice-known4 .given (start-3 .args .i + 2))) (c .with-more3 .ensures .0)
+
+-- four bytes go on
+module _ (c : tie.After-with-more4) where
+  abbrev start-4 : tie.Start
+  start-4 = start-3 (c .before .before .before)
+
+  carried-4 : Carried (start-4 .args .buf .now) (start-4 .args .i) 4 (c .with-more4 .result)
+  carried-4 =
+      form-more (carried-3 (c .before .before .before)) refl (omega arith) (omega arith) (c .with-more4 .result) (omega arith)
+      (omega (arith, c .before .before .shared-slice-known5 .given (start-4 .args .i + 3))) (c .with-more4 .ensures .0)
+
+sub-if1 : tie.Need-sub-if1
+sub-if1 c = search needs
+
+any-form-requires : tie.Need-any-form-requires
+any-form-requires c κs = search needs
+
+returns : tie.Need-returns
+returns c = search needs
+
+shared-slice-read-b0 : tie.Need-shared-slice-read-b0
+shared-slice-read-b0 c = search needs
+
+with-last-requires : tie.Need-with-last-requires
+with-last-requires c κs = search needs
+
+returns-2 : tie.Need-returns-2
+returns-2 c =
+    let a = c .before .before .before .before .before .args in
+    form-last (form-start (a .buf .now) (a .i)) (add-zero (a .i)) (omega arith) (omega arith) (c .with-last .result .value) (c .with-last .result .len) (omega arith)
+    (omega (arith, c .with-last .ensures .0)) (c .with-last .ensures .1)
+
+with-more-requires : tie.Need-with-more-requires
+with-more-requires c κs = search needs
+
+add-b1 : tie.Need-add-b1
+add-b1 c = search needs
+
+shared-slice-read-b1 : tie.Need-shared-slice-read-b1
+shared-slice-read-b1 c = search needs
+
+with-last-requires-2 : tie.Need-with-last-requires-2
+with-last-requires-2 c κs = search needs
+
+returns-3 : tie.Need-returns-3
+returns-3 c =
+    let r = c .with-last2 in
+    form-last (carried-1 (c .before .before .before)) refl (omega arith) (omega arith) (r .result .value) (r .result .len) (omega arith) (r .ensures .0) (r .ensures .1)
+
+with-more-requires-2 : tie.Need-with-more-requires-2
+with-more-requires-2 c κs = search needs
+
+add-b2 : tie.Need-add-b2
+add-b2 c = search needs
+
+shared-slice-read-b2 : tie.Need-shared-slice-read-b2
+shared-slice-read-b2 c = search needs
+
+with-last-requires-3 : tie.Need-with-last-requires-3
+with-last-requires-3 c κs = search needs
+
+returns-4 : tie.Need-returns-4
+returns-4 c =
+    let r = c .with-last3 in
+    form-last (carried-2 (c .before .before .before)) refl (omega arith) (omega arith) (r .result .value) (r .result .len) (omega arith) (r .ensures .0) (r .ensures .1)
+
+with-more-requires-3 : tie.Need-with-more-requires-3
+with-more-requires-3 c κs = search needs
+
+add-b3 : tie.Need-add-b3
+add-b3 c = search needs
+
+shared-slice-read-b3 : tie.Need-shared-slice-read-b3
+shared-slice-read-b3 c = search needs
+
+with-last-requires-4 : tie.Need-with-last-requires-4
+with-last-requires-4 c κs = search needs
+
+returns-5 : tie.Need-returns-5
+returns-5 c =
+    let r = c .with-last4 in
+    form-last (carried-3 (c .before .before .before)) refl (omega arith) (omega arith) (r .result .value) (r .result .len) (omega arith) (r .ensures .0) (r .ensures .1)
+
+with-more-requires-4 : tie.Need-with-more-requires-4
+with-more-requires-4 c κs = search needs
+
+add-b4 : tie.Need-add-b4
+add-b4 c = search needs
+
+shared-slice-read-b4 : tie.Need-shared-slice-read-b4
+shared-slice-read-b4 c = search needs
+
+with-last-requires-5 : tie.Need-with-last-requires-5
+with-last-requires-5 c κs = search needs
+
+returns-6 : tie.Need-returns-6
+returns-6 c =
+    let r = c .with-last5 in
+    form-last (carried-4 (c .before .before .before)) refl (omega arith) (omega arith) (r .result .value) (r .result .len) (omega arith) (r .ensures .0) (r .ensures .1)
+
+any-form-requires-2 : tie.Need-any-form-requires-2
+any-form-requires-2 c κs = search needs
+
+returns-7 : tie.Need-returns-7
+returns-7 c = search needs
+
+pub short-form-spec : {M : Type 1} → statement M
+short-form-spec =
+    tie.close
+    (tie.spec
+    sub-if1
+    any-form-requires
+    returns
+    shared-slice-read-b0
+    with-last-requires
+    returns-2
+    with-more-requires
+    add-b1
+    shared-slice-read-b1
+    with-last-requires-2
+    returns-3
+    with-more-requires-2
+    add-b2
+    shared-slice-read-b2
+    with-last-requires-3
+    returns-4
+    with-more-requires-3
+    add-b3
+    shared-slice-read-b3
+    with-last-requires-4
+    returns-5
+    with-more-requires-4
+    add-b4
+    shared-slice-read-b4
+    with-last-requires-5
+    returns-6
+    any-form-requires-2
+    returns-7)

@@ -1,0 +1,7 @@
+// Streams of rising numbers scanned and read: the fast paths over forms and bytes, and the two functions that take them.
+mod quick;
+mod streams;
+mod weigh;
+
+pub use streams::decode_fk_delta_stream_into;
+pub use streams::scan_fk_delta_stream;

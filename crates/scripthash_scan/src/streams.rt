@@ -1,0 +1,36 @@
+// Streams scanned and read: quickly where that can be, else number by number, which tells a refusal.
+ghost use mathlib.Core.Path.{_≡_};
+ghost use lib.ListN.{length};
+ghost use Rattle.error.specs.Refusal.{answered};
+ghost use Rattle.scripthash_stream.specs.Stream.{endFrom, scan, decodeStream, afterDecode};
+ghost use Rattle.scripthash_stream.specs.Answers.{scanAnswer, bytesAnswer};
+use scripthash_stream::ScanStream;
+use scripthash_stream::StreamBytes;
+
+// Scans a stream of n numbers at the start of buf: quickly where that can be, else number by number, which tells a refusal.
+pub fn scan_fk_delta_stream(buf: &[u8], n: usize) -> ScanStream
+    ensures { λ r. ⌜ scanAnswer r ≡ answered (endFrom 0) (scan n (now (buf .entry))) ⌝ }
+{
+    let end = crate::quick::scan_quickly(buf, n);
+    if 0 < end.taken {
+        return ScanStream::Scanned {
+            taken: end.taken,
+            last: end.last,
+        };
+    }
+    scripthash_stream::scan_by_number(buf, n)
+}
+
+// Reads a stream of n numbers at the start of buf into the start of out: quickly where that can be, else in two passes, which tell a
+// refusal.
+pub fn decode_fk_delta_stream_into(buf: &[u8], n: usize, out: &mut [u64]) -> StreamBytes
+    ensures answer { λ r. ⌜ bytesAnswer r ≡ answered (λ s. s .taken) (decodeStream (length (now (out .entry))) n (now (buf .entry))) ⌝ }
+    ensures list { λ r. ⌜ now (out .exit)
+        ≡ afterDecode (now (out .entry)) (decodeStream (length (now (out .entry))) n (now (buf .entry))) ⌝ }
+{
+    let taken = crate::quick::decode_quickly(buf, n, out);
+    if 0 < taken {
+        return StreamBytes::Bytes(taken);
+    }
+    scripthash_stream::decode_in_two_passes(buf, n, out)
+}

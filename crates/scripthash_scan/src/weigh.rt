@@ -1,0 +1,343 @@
+// Streams scanned without reading each form by itself: the bytes of many forms are counted, tested and weighed in plain loops, each with
+// one simple job, of which the compiler makes loops over many bytes at a time.
+ghost use mathlib.Core.Path.{_≡_};
+ghost use mathlib.Core.Bool.{_&&_};
+ghost use Prim.Native.Nat.{_+_, _-_, _*_, _^_, _≤_, _<_};
+ghost use lib.ListN.{length, drop, getD};
+ghost use Rattle.error.specs.Refusal.{answered};
+ghost use Rattle.compact.specs.Uleb128.{goesOn, piece};
+ghost use Rattle.scripthash_stream.specs.Stream.{scan, endFrom, endsFrom};
+ghost use Rattle.scripthash_scan.specs.Quick.{QuickEnd};
+ghost use Rattle.scripthash_scan.specs.Weights.{total, endOne, endAt, pieceIf, weighedTwo, weighedThree, weighed, Longest};
+use crate::quick::StreamEnd;
+use crate::quick::larger;
+use crate::quick::smaller;
+use crate::quick::sum_forms;
+use scripthash_stream::BIT_63;
+
+// The most bytes that are weighed.
+const MOST_BYTES: usize = 1048576;
+
+// The place up to which forms were counted, and how many are still to end.
+struct Counted {
+    at: usize,
+    left: usize,
+}
+
+// 1 where a byte ends its form, else 0.
+fn ended(b: u8) -> u8
+    ensures { λ r. ⌜ (r ≡ endOne b) × (r ≤ 1) ⌝ }
+{
+    if b < 128 {
+        return 1;
+    }
+    0
+}
+
+// A count of forms.
+fn forms(count: u8) -> usize
+    ensures { λ r. ⌜ r ≡ count ⌝ }
+{
+    count as usize
+}
+
+// How many forms end in at most 240 bytes.
+fn ends_in(buf: &[u8], from: usize, to: usize) -> u8
+    requires { ⌜ (from ≤ to) × (to ≤ length (now buf)) × (to ≤ from + 240) ⌝ }
+    ensures { λ r. ⌜ (total (endAt (now (buf .entry))) from + r ≡ total (endAt (now (buf .entry))) to) × (from + r ≤ to) ⌝ }
+{
+    let mut count: u8 = 0;
+    let mut i = from;
+    while i < to {
+        count += ended(buf[i]);
+        i += 1;
+    }
+    count
+}
+
+// How many bytes to look at together where so many forms are still to end: no more than forms, so that the last of them isn't passed.
+fn step_of(left: usize) -> usize
+    requires { ⌜ 16 ≤ left ⌝ }
+    ensures { λ r. ⌜ (16 ≤ r) × (r ≤ left) × (r ≤ 240) ⌝ }
+{
+    if 240 <= left {
+        return 240;
+    }
+    left / 16 * 16
+}
+
+// Counts forms that end from a place on, until fewer than 16 of those wanted are left; stops before where too few bytes follow, or where
+// forms of six bytes and more are met.
+fn count_forms(buf: &[u8], from: usize, want: usize) -> Counted
+    requires { ⌜ from ≤ length (now buf) ⌝ }
+    ensures { λ r. ⌜ (total (endAt (now (buf .entry))) from + want ≡ total (endAt (now (buf .entry))) (r .at) + r .left) × (from ≤ r .at)
+        × (r .at ≤ length (now (buf .entry))) ⌝ }
+{
+    let mut at = from;
+    let mut left = want;
+    while 16 <= left {
+        let step = step_of(left);
+        if buf.len() - at < step {
+            return Counted { at, left };
+        }
+        let count = forms(ends_in(buf, at, at + step));
+        if 6 * count < step {
+            return Counted { at, left };
+        }
+        left -= count;
+        at += step;
+    }
+    Counted { at, left }
+}
+
+// The place behind so many forms from another place on, or 0 where the bytes end first or the forms are long.
+fn end_of(buf: &[u8], from: usize, want: usize) -> usize
+    requires { ⌜ from ≤ length (now buf) ⌝ }
+    ensures { λ r. ⌜ (0 < r → (total (endAt (now (buf .entry))) from + want ≡ total (endAt (now (buf .entry))) r) × (from ≤ r)
+        × (r ≤ length (now (buf .entry)))) ⌝ }
+{
+    let counted = count_forms(buf, from, want);
+    let mut at = counted.at;
+    let mut left = counted.left;
+    if 16 <= left {
+        return 0;
+    }
+    while 0 < left {
+        if at == buf.len() {
+            return 0;
+        }
+        left -= forms(ended(buf[at]));
+        at += 1;
+    }
+    at
+}
+
+// The bytes of the longest form as far as it matters, 2, 3 or 5, where no byte is 0 and no form has more than five bytes, else 0. A form
+// begins with the first byte.
+fn longest_form(buf: &[u8], from: usize, to: usize) -> usize
+    requires { ⌜ (4 ≤ from) × (from ≤ to) × (to ≤ length (now buf)) ⌝ }
+    ensures { λ r. ⌜ Longest (now (buf .entry)) from to r ⌝ }
+{
+    let mut least: u8 = 255;
+    let mut two: u8 = 0;
+    let mut three: u8 = 0;
+    let mut five: u8 = 0;
+    let mut i = from;
+    while i < to {
+        let b = buf[i];
+        let m2 = smaller(buf[i - 1], buf[i - 2]);
+        let m3 = smaller(m2, buf[i - 3]);
+        let m4 = smaller(m3, buf[i - 4]);
+        least = smaller(least, b);
+        two = larger(two, m2);
+        three = larger(three, m3);
+        five = larger(five, smaller(m4, b));
+        i += 1;
+    }
+    if least == 0 {
+        return 0;
+    }
+    if 128 <= five {
+        return 0;
+    }
+    if 128 <= three {
+        return 5;
+    }
+    if 128 <= two {
+        return 3;
+    }
+    2
+}
+
+// The piece of a byte where the one before it, or the least of some before it, goes on; else 0.
+fn piece_behind(b: u8, before: u8) -> u16
+    ensures { λ r. ⌜ (r ≡ pieceIf (goesOn before) b) × (r ≤ 127) ⌝ }
+{
+    if before < 128 {
+        return 0;
+    }
+    (b % 128) as u16
+}
+
+// A sum of pieces.
+fn summed(sum: u16) -> u64
+    ensures { λ r. ⌜ (r ≡ sum) × (r < 2 ^ 16) ⌝ }
+{
+    sum as u64
+}
+
+// The weights of at most 512 bytes of forms of up to two bytes.
+fn weigh_two(buf: &[u8], from: usize, to: usize) -> u64
+    requires { ⌜ (4 ≤ from) × (from ≤ to) × (to ≤ length (now buf)) × (to ≤ from + 512) ⌝ }
+    ensures { λ r. ⌜ (weighedTwo (now (buf .entry)) from + r ≡ weighedTwo (now (buf .entry)) to) × (r + 2 ^ 35 * from ≤ 2 ^ 35 * to) ⌝ }
+{
+    let mut a0: u16 = 0;
+    let mut a1: u16 = 0;
+    let mut i = from;
+    while i < to {
+        let b = buf[i];
+        a0 += piece_behind(b, 255);
+        a1 += piece_behind(b, buf[i - 1]);
+        i += 1;
+    }
+    summed(a0) + 127 * summed(a1)
+}
+
+// The weights of at most 512 bytes of forms of up to three bytes.
+fn weigh_three(buf: &[u8], from: usize, to: usize) -> u64
+    requires { ⌜ (4 ≤ from) × (from ≤ to) × (to ≤ length (now buf)) × (to ≤ from + 512) ⌝ }
+    ensures { λ r. ⌜ (weighedThree (now (buf .entry)) from + r ≡ weighedThree (now (buf .entry)) to) × (r + 2 ^ 35 * from ≤ 2 ^ 35 * to) ⌝ }
+{
+    let mut a0: u16 = 0;
+    let mut a1: u16 = 0;
+    let mut a2: u16 = 0;
+    let mut i = from;
+    while i < to {
+        let b = buf[i];
+        let b1 = buf[i - 1];
+        a0 += piece_behind(b, 255);
+        a1 += piece_behind(b, b1);
+        a2 += piece_behind(b, smaller(b1, buf[i - 2]));
+        i += 1;
+    }
+    summed(a0) + 127 * summed(a1) + 16256 * summed(a2)
+}
+
+// The weights of at most 512 bytes of forms of up to five bytes.
+fn weigh_five(buf: &[u8], from: usize, to: usize) -> u64
+    requires { ⌜ (4 ≤ from) × (from ≤ to) × (to ≤ length (now buf)) × (to ≤ from + 512) ⌝ }
+    ensures { λ r. ⌜ (weighed (now (buf .entry)) from + r ≡ weighed (now (buf .entry)) to) × (r + 2 ^ 35 * from ≤ 2 ^ 35 * to) ⌝ }
+{
+    let mut a0: u16 = 0;
+    let mut a1: u16 = 0;
+    let mut a2: u16 = 0;
+    let mut a3: u16 = 0;
+    let mut a4: u16 = 0;
+    let mut i = from;
+    while i < to {
+        let b = buf[i];
+        let b1 = buf[i - 1];
+        let m2 = smaller(b1, buf[i - 2]);
+        let m3 = smaller(m2, buf[i - 3]);
+        a0 += piece_behind(b, 255);
+        a1 += piece_behind(b, b1);
+        a2 += piece_behind(b, m2);
+        a3 += piece_behind(b, m3);
+        a4 += piece_behind(b, smaller(m3, buf[i - 4]));
+        i += 1;
+    }
+    summed(a0)
+        + 127 * summed(a1)
+        + 16256 * summed(a2)
+        + 2080768 * summed(a3)
+        + 266338304 * summed(a4)
+}
+
+// The weights of at most 512 bytes of forms, by the longest.
+fn weigh_block(buf: &[u8], from: usize, to: usize, longest: usize) -> u64
+    requires { ⌜ (4 ≤ from) × (from ≤ to) × (to ≤ length (now buf)) × (to ≤ from + 512) × (0 < longest) × Longest (now buf) from to longest
+        ⌝ }
+    ensures { λ r. ⌜ (weighed (now (buf .entry)) from + r ≡ weighed (now (buf .entry)) to) × (r + 2 ^ 35 * from ≤ 2 ^ 35 * to) ⌝ }
+{
+    if longest <= 2 {
+        return weigh_two(buf, from, to);
+    }
+    if longest <= 3 {
+        return weigh_three(buf, from, to);
+    }
+    weigh_five(buf, from, to)
+}
+
+// Where a block of at most 512 bytes ends.
+fn block_end(from: usize, to: usize) -> usize
+    requires { ⌜ from < to ⌝ }
+    ensures { λ r. ⌜ (from < r) × (r ≤ to) × (r ≤ from + 512) ⌝ }
+{
+    if to - from <= 512 {
+        return to;
+    }
+    from + 512
+}
+
+// The weights of forms: the sum of their differences.
+fn weigh_all(buf: &[u8], from: usize, to: usize, longest: usize) -> u64
+    requires { ⌜ (4 ≤ from) × (from ≤ to) × (to ≤ length (now buf)) × (to ≤ from + 2 ^ 20) × (0 < longest)
+        × Longest (now buf) from to longest ⌝ }
+    ensures { λ r. ⌜ weighed (now (buf .entry)) from + r ≡ weighed (now (buf .entry)) to ⌝ }
+{
+    let mut sum: u64 = 0;
+    let mut i = from;
+    while i < to {
+        let end = block_end(i, to);
+        sum += weigh_block(buf, i, end, longest);
+        i = end;
+    }
+    sum
+}
+
+// Scans so many forms behind prev, from a place with a form's end before it: tells where they end, or 0 bytes where they can't be weighed.
+fn scan_rest(buf: &[u8], from: usize, prev: u64, count: usize) -> StreamEnd
+    requires { ⌜ (4 ≤ from) × (from ≤ length (now buf)) × (getD (now buf) (from - 1) 0 < 128) × (prev < 2 ^ 63) ⌝ }
+    ensures { λ r. ⌜ QuickEnd (r .taken) (r .last) (endsFrom from prev count (drop from (now (buf .entry)))) ⌝ }
+{
+    let to = end_of(buf, from, count);
+    if to == 0 {
+        return StreamEnd { taken: 0, last: 0 };
+    }
+    if MOST_BYTES < to - from {
+        return StreamEnd { taken: 0, last: 0 };
+    }
+    if 128 <= buf[to - 1] {
+        return StreamEnd { taken: 0, last: 0 };
+    }
+    let longest = longest_form(buf, from, to);
+    if longest == 0 {
+        return StreamEnd { taken: 0, last: 0 };
+    }
+    let more = weigh_all(buf, from, to, longest);
+    if BIT_63 - prev <= more {
+        return StreamEnd { taken: 0, last: 0 };
+    }
+    StreamEnd {
+        taken: to,
+        last: prev + more,
+    }
+}
+
+// How many forms to read singly, so that four bytes lie behind: one where the first number has four bytes or more.
+fn leading(buf: &[u8]) -> usize
+    ensures { λ r. ⌜ (1 ≤ r) × (r ≤ 4) ⌝ }
+{
+    if 3 <= buf.len() {
+        if 128 <= smaller(smaller(buf[0], buf[1]), buf[2]) {
+            return 1;
+        }
+    }
+    4
+}
+
+// Scans a stream of n numbers, four at least, by reading its first forms and weighing the others: tells where it ends, or 0 bytes where it
+// can't be scanned so.
+pub fn scan_by_weights(buf: &[u8], n: usize) -> StreamEnd
+    requires { ⌜ 4 ≤ n ⌝ }
+    ensures { λ r. ⌜ QuickEnd (r .taken) (r .last) (answered (endFrom 0) (scan n (now (buf .entry)))) ⌝ }
+{
+    let lead = leading(buf);
+    let mut space = [0u64; 1];
+    let first = sum_forms(buf, 0, 0, lead, &mut space);
+    let from = first.taken;
+    let prev = first.last;
+    if from < 4 {
+        return StreamEnd { taken: 0, last: 0 };
+    }
+    if buf.len() < from {
+        return StreamEnd { taken: 0, last: 0 };
+    }
+    if 128 <= buf[from - 1] {
+        return StreamEnd { taken: 0, last: 0 };
+    }
+    if BIT_63 <= prev {
+        return StreamEnd { taken: 0, last: 0 };
+    }
+    scan_rest(buf, from, prev, n - lead)
+}
