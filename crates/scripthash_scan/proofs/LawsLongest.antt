@@ -1,92 +1,99 @@
 -- The longest form of some bytes: what is known of the bytes that were looked at, and what it tells. Assumes nothing.
-use Prim.Native.Nat.{ℕ, _+_, _≤_, _<_}
-use mathlib.Core.Bool.{false, _&&_}
+use Prim.Native.Nat.{ℕ, _+_, _-_, _≤_, _<_}
+use mathlib.Core.Bool.{Bool, false, _&&_}
 use mathlib.Core.List.{List}
 use mathlib.Core.Logic.{⊎-elim}
 use mathlib.Core.Path.{_≡_, sym, _∙_}
-use native.Mathlib.Nat.{not-suc-le-zero}
 use native.Mathlib.Omega.{arith}
 use borrow.Author.Tests.{lt-leb}
 use lib.ListN.{getD}
 use Rattle.buffer.proofs.LawsOrder.{lt-or-ge}
 use Rattle.compact.specs.Uleb128.{goesOn}
-use Rattle.scripthash_scan.specs.Weights.{total, twoBefore, threeBefore, fourBefore, behindTwo, behindThree, behindFour, Longest}
+use Rattle.scripthash_scan.specs.Weights.{total, twoBefore, threeBefore, behindTwo, behindThree, behindFour, twoGoOn, threeGoOn, fiveGoOn}
+use Rattle.scripthash_scan.specs.Weights.{Lacks, Longest}
 use Rattle.scripthash_scan.proofs.LawsTotals.{total-same}
 
--- Of the bytes looked at so far: the least, and the greatest of the smaller of the two before each, of the least of the three before it,
--- and of the least of the four before it and itself.
-pub record Looked (buf : List ℕ) (least two three five i : ℕ) : Type 0 where
-  pub none : least ≤ getD buf i 0
-  pub pairs : two < 128 → twoBefore buf i ≡ false
-  pub triples : three < 128 → threeBefore buf i ≡ false
-  pub fives : five < 128 → fourBefore buf i && goesOn (getD buf i 0) ≡ false
+-- Of the bytes looked at so far: the least, and, by the greatest of some bytes, that a condition holds at none.
+abbrev pub Looked : List ℕ → (ℕ → Bool) → ℕ → ℕ → ℕ → ℕ → Type 0
+Looked buf p least most from i = (x : ℕ) → from ≤ x → x < i → (least ≤ getD buf x 0) × (most < 128 → p x ≡ false)
 
--- the same with a smaller least and larger others
-looked-on : {buf : List ℕ} {least two three five i : ℕ} (least' two' three' five' : ℕ) → Looked buf least two three five i
-    → least' ≤ least → two ≤ two' → three ≤ three' → five ≤ five' → Looked buf least' two' three' five' i
-looked-on least' two' three' five' l a b c d =
-    record {
-      none = omega (arith, l .none);
-      pairs = λ h. l .pairs (omega arith);
-      triples = λ h. l .triples (omega arith);
-      fives = λ h. l .fives (omega arith);
-    }
-
--- a byte below 128 doesn't go on
-below : {m top : ℕ} → m ≤ top → top < 128 → goesOn m ≡ false
-below {m} h t = lt-leb 128 m (omega arith)
-
--- one byte more
-pub looked-next : (buf : List ℕ) (from i least two three five least' two' three' five' m2 m3 m5 : ℕ)
-    → ((x : ℕ) → from ≤ x → x < i → Looked buf least two three five x)
-    → (least' ≤ least) × (least' ≤ getD buf i 0) → (two ≤ two') × (m2 ≤ two') → (three ≤ three') × (m3 ≤ three') → (five ≤ five') × (m5 ≤ five')
-    → goesOn m2 ≡ twoBefore buf i → goesOn m3 ≡ threeBefore buf i → goesOn m5 ≡ fourBefore buf i && goesOn (getD buf i 0)
-    → (x : ℕ) → from ≤ x → x < i + 1 → Looked buf least' two' three' five' x
-looked-next buf from i least two three five least' two' three' five' m2 m3 m5 so a b c d e2 e3 e5 x p q =
-    ⊎-elim (λ (r : x < i). looked-on least' two' three' five' (so x p r) (a .0) (b .0) (c .0) (d .0))
+-- one byte more, and one that goes on where the condition holds there
+pub looked-next : (buf : List ℕ) (p : ℕ → Bool) (from i least most least' most' m : ℕ) → Looked buf p least most from i
+    → (least' ≤ least) × (least' ≤ getD buf i 0) → (most ≤ most') × (m ≤ most') → goesOn m ≡ p i → Looked buf p least' most' from (i + 1)
+looked-next buf p from i least most least' most' m so a b e x h k =
+    ⊎-elim (λ (r : x < i). let w = so x h r in (omega (arith, w .0), λ (t : most' < 128). w .1 (omega arith)))
     (λ (r : i ≤ x).
     let same : x ≡ i = omega arith in
-    rw same
-    (record {
-      none = a .1;
-      pairs = λ h. sym e2 ∙ below (b .1) h;
-      triples = λ h. sym e3 ∙ below (c .1) h;
-      fives = λ h. sym e5 ∙ below (d .1) h;
-    }))
+    rw same (a .1, λ (t : most' < 128). sym e ∙ lt-leb 128 m (omega arith)))
     (lt-or-ge x i)
 
--- nothing is told
-pub longest-none : (buf : List ℕ) (from to : ℕ) → Longest buf from to 0
-longest-none buf from to =
-    record { each = λ h. absurd (not-suc-le-zero h); two = λ h. absurd (not-suc-le-zero h); three = λ h. absurd (not-suc-le-zero h) }
+-- behind the last byte
+pub looked-all : (buf : List ℕ) (p : ℕ → Bool) (from to least most : ℕ) → Looked buf p least most from to → 0 < least → most < 128 → Lacks buf p from to
+looked-all buf p from to least most so a b x h k = let w = so x h k in (omega (arith, w .0), w .1 b)
 
--- a length is told
-pub longest-told : (buf : List ℕ) (from to least two three five longest : ℕ)
-    → ((x : ℕ) → from ≤ x → x < to → Looked buf least two three five x)
-    → 0 < least → five < 128 → (longest ≤ 2 → two < 128) → (longest ≤ 3 → three < 128) → Longest buf from to longest
-longest-told buf from to least two three five longest so a d b c =
-    record {
-      each = λ h x p q. (omega (arith, so x p q .none), so x p q .fives d);
-      two = λ h l x p q. so x p q .pairs (b l);
-      three = λ h l x p q. so x p q .triples (c l);
-    }
+-- two ranges that adjoin
+pub lacks-join : (buf : List ℕ) (p : ℕ → Bool) (a b c : ℕ) → Lacks buf p a b → Lacks buf p b c → Lacks buf p a c
+lacks-join buf p a b c l m x h k = ⊎-elim (λ (r : x < b). l x h r) (λ (r : b ≤ x). m x r k) (lt-or-ge x b)
 
--- the same of a part of the bytes
-pub longest-part : (buf : List ℕ) (from to longest a b : ℕ) → Longest buf from to longest → from ≤ a → b ≤ to → Longest buf a b longest
-longest-part buf from to longest a b l h k =
-    record {
-      each = λ s x p q. l .each s x (omega arith) (omega arith);
-      two = λ s m x p q. l .two s m x (omega arith) (omega arith);
-      three = λ s m x p q. l .three s m x (omega arith) (omega arith);
-    }
+-- what holds at no place holds behind none
+behind : (q : ℕ → Bool) (from to : ℕ) → q from ≡ false → ((i : ℕ) → from ≤ i → i < to → q (i + 1) ≡ false) → (i : ℕ) → from ≤ i → i ≤ to → q i ≡ false
+behind q from to start next i h k =
+    ⊎-elim (λ (r : from < i). let place : i - 1 + 1 ≡ i = omega arith in rw place at (next (i - 1) (omega arith) (omega arith)))
+    (λ (r : i ≤ from). let same : i ≡ from = omega arith in rw same start) (lt-or-ge from i)
+
+-- bytes in a row that go on, seen from the place behind them
+module _ (buf : List ℕ) (i : ℕ) where
+  at-1 : i + 1 - 1 ≡ i
+  at-1 = omega arith
+
+  at-2 : i + 1 - 2 ≡ i - 1
+  at-2 = omega arith
+
+  at-3 : i + 1 - 3 ≡ i - 2
+  at-3 = omega arith
+
+  two-behind : twoBefore buf (i + 1) ≡ twoGoOn buf i
+  two-behind = rw (at-1, at-2)
+
+  three-behind : threeBefore buf (i + 1) ≡ threeGoOn buf i
+  three-behind = rw (at-1, at-2, at-3)
+
+-- where one byte before a place doesn't go on, neither two nor three do
+pub none-before : (buf : List ℕ) (i : ℕ) → getD buf (i - 1) 0 < 128 → (twoBefore buf i ≡ false) × (threeBefore buf i ≡ false)
+none-before buf i h = let e = lt-leb 128 (getD buf (i - 1) 0) h in (rw e, rw e)
+
+module _ (buf : List ℕ) (from to : ℕ) where
+  -- no form has more than two bytes
+  pub longest-two : Lacks buf (twoGoOn buf) from to → twoBefore buf from ≡ false → Longest buf from to 2
+  longest-two l start =
+      let two = behind (twoBefore buf) from to start (λ i h k. two-behind buf i ∙ l i h k .1) in
+      record {
+        each = λ i h k. (l i h k .0, rw (l i h k .1));
+        two = λ m i h k. two i h k;
+        three = λ m i h k. rw (two i h k);
+      }
+
+  -- more than three
+  pub longest-three : Lacks buf (threeGoOn buf) from to → threeBefore buf from ≡ false → Longest buf from to 3
+  longest-three l start =
+      let three = behind (threeBefore buf) from to start (λ i h k. three-behind buf i ∙ l i h k .1) in
+      record {
+        each = λ i h k. (l i h k .0, rw (l i h k .1));
+        two = λ m. absurd (omega arith);
+        three = λ m i h k. three i h k;
+      }
+
+  -- more than five
+  pub longest-five : Lacks buf (fiveGoOn buf) from to → Longest buf from to 5
+  longest-five l = record { each = l; two = λ m. absurd (omega arith); three = λ m. absurd (omega arith) }
 
 -- where no form has three bytes, no byte is behind two; where none has four, none is behind three, nor behind four
-module _ (buf : List ℕ) (from to longest : ℕ) (l : Longest buf from to longest) (s : 0 < longest) (h : from ≤ to) where
+module _ (buf : List ℕ) (from to longest : ℕ) (l : Longest buf from to longest) (h : from ≤ to) where
   pub no-thirds : longest ≤ 2 → total (behindTwo buf) from ≡ total (behindTwo buf) to
-  no-thirds m = total-same (behindTwo buf) from to h (λ i p q. rw (l .two s m i p q))
+  no-thirds m = total-same (behindTwo buf) from to h (λ i p q. rw (l .two m i p (omega arith)))
 
   pub no-fourths : longest ≤ 3 → total (behindThree buf) from ≡ total (behindThree buf) to
-  no-fourths m = total-same (behindThree buf) from to h (λ i p q. rw (l .three s m i p q))
+  no-fourths m = total-same (behindThree buf) from to h (λ i p q. rw (l .three m i p (omega arith)))
 
   pub no-fifths : longest ≤ 3 → total (behindFour buf) from ≡ total (behindFour buf) to
-  no-fifths m = total-same (behindFour buf) from to h (λ i p q. rw (l .three s m i p q))
+  no-fifths m = total-same (behindFour buf) from to h (λ i p q. rw (l .three m i p (omega arith)))

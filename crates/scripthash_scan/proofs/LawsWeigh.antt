@@ -14,7 +14,7 @@ use Rattle.error.specs.Refusal.{Answer, accepted}
 use Rattle.buffer.proofs.LawsOrder.{lt-or-ge}
 use Rattle.compact.specs.Uleb128.{goesOn, piece}
 use Rattle.scripthash_stream.specs.Stream.{End, endsFrom}
-use Rattle.scripthash_scan.specs.Weights.{total, endAt, oneBefore, twoBefore, threeBefore, fourBefore, pieceAt, behindOne, behindTwo, behindThree, behindFour, weighed, Longest}
+use Rattle.scripthash_scan.specs.Weights.{total, endAt, oneBefore, twoBefore, threeBefore, fourBefore, pieceAt, behindOne, behindTwo, behindThree, behindFour, weighed, fiveGoOn, Lacks}
 use Rattle.scripthash_scan.proofs.LawsForms.{Carried, form-start, form-on, form-last}
 use Rattle.scripthash_stream.proofs.LawsScanEnd.{ends-next, ends-now}
 use Rattle.scripthash_scan.proofs.LawsSums.{next-sum}
@@ -76,7 +76,7 @@ module _ (bs : List ℕ) (i : ℕ) (l : 4 ≤ i) where
   back-4 : goesOn (getD bs (i + 1 - 4) 0) ≡ goesOn (getD bs (i - 3) 0)
   back-4 = let e : i + 1 - 4 ≡ i - 3 = omega arith in ap (λ (x : ℕ). goesOn (getD bs x 0)) e
 
-  within-on : goesOn (getD bs i 0) ≡ true → fourBefore bs i && goesOn (getD bs i 0) ≡ false → (j : ℕ) → Within bs i j
+  within-on : goesOn (getD bs i 0) ≡ true → fiveGoOn bs i ≡ false → (j : ℕ) → Within bs i j
       → Within bs (i + 1) (j + 1)
   within-on g s _ (first e) = second (back-1 ∙ g) (back-2 ∙ e)
   within-on g s _ (second e f) = third (back-1 ∙ g) (back-2 ∙ e) (back-3 ∙ f)
@@ -130,7 +130,7 @@ module _ (buf : List ℕ) (from sum count i : ℕ) (a : Answer End) (w : Midway 
   is-added = weighed-next buf i ∙ ap (λ (x : ℕ). weighed buf i + x) (weight-at buf i (w .j) (w .within))
 
   -- a byte that goes on
-  midway-on : 128 ≤ byte → fourBefore buf i && goesOn byte ≡ false → Midway buf from sum count (i + 1) a
+  midway-on : 128 ≤ byte → fiveGoOn buf i ≡ false → Midway buf from sum count (i + 1) a
   midway-on g s =
       let on : goesOn byte ≡ true = le-leb 128 byte g in
       let index = index-most buf i (w .j) (w .within) in
@@ -204,12 +204,12 @@ weighed-rises bs a b h =
     )
 
 -- bytes without a 0 and without a form of six bytes, in which so many forms end, and whose weights are `more`
-module _ (buf : List ℕ) (from sum count to longest more : ℕ) (l : 4 ≤ from) (r : from ≤ to) (inside : to ≤ length buf) (s : 0 < longest)
-    (plain : Longest buf from to longest) (counts : total (endAt buf) from + count ≡ total (endAt buf) to)
+module _ (buf : List ℕ) (from sum count to more : ℕ) (l : 4 ≤ from) (r : from ≤ to) (inside : to ≤ length buf)
+    (plain : Lacks buf (fiveGoOn buf) from to) (counts : total (endAt buf) from + count ≡ total (endAt buf) to)
     (weighs : weighed buf from + more ≡ weighed buf to) (low : sum + more < 2 ^ 63) where
   midway-next : (i : ℕ) (a : Answer End) → from ≤ i → i < to → Midway buf from sum count i a → Midway buf from sum count (i + 1) a
   midway-next i a p q w =
-      let h = plain .each s i p q in
+      let h = plain i p q in
       ⊎-elim
       (λ (b : getD buf i 0 < 128).
       let one : endAt buf i ≡ 1 = rw (lt-leb 128 (getD buf i 0) b) in

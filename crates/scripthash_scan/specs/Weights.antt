@@ -63,9 +63,22 @@ weighedThree bs i = weighedTwo bs i + 16256 * total (behindTwo bs) i
 abbrev pub weighed : List ℕ → ℕ → ℕ
 weighed bs i = weighedThree bs i + 2080768 * total (behindThree bs) i + 266338304 * total (behindFour bs) i
 
--- What is told of the bytes from one place to another: nothing where 0 is told, else that none is 0, and that no form has more bytes than
--- are told, or more than five.
+-- The byte at place i goes on, and the one before it does; the two before it do; the four.
+abbrev pub twoGoOn : List ℕ → ℕ → Bool
+twoGoOn bs i = goesOn (getD bs i 0) && goesOn (getD bs (i - 1) 0)
+
+abbrev pub threeGoOn : List ℕ → ℕ → Bool
+threeGoOn bs i = twoGoOn bs i && goesOn (getD bs (i - 2) 0)
+
+abbrev pub fiveGoOn : List ℕ → ℕ → Bool
+fiveGoOn bs i = threeGoOn bs i && goesOn (getD bs (i - 3) 0) && goesOn (getD bs (i - 4) 0)
+
+-- No byte from one place to another is 0, and a condition holds at none.
+abbrev pub Lacks : List ℕ → (ℕ → Bool) → ℕ → ℕ → Type 0
+Lacks bs p from to = (i : ℕ) → from ≤ i → i < to → (0 < getD bs i 0) × (p i ≡ false)
+
+-- No byte from one place to another is 0, and no form there has more bytes than `longest`, if that is 2 or 3, or more than five.
 pub record Longest (bs : List ℕ) (from to longest : ℕ) : Type 0 where
-  pub each : 0 < longest → (i : ℕ) → from ≤ i → i < to → (0 < getD bs i 0) × (fourBefore bs i && goesOn (getD bs i 0) ≡ false)
-  pub two : 0 < longest → longest ≤ 2 → (i : ℕ) → from ≤ i → i < to → twoBefore bs i ≡ false
-  pub three : 0 < longest → longest ≤ 3 → (i : ℕ) → from ≤ i → i < to → threeBefore bs i ≡ false
+  pub each : Lacks bs (fiveGoOn bs) from to
+  pub two : longest ≤ 2 → (i : ℕ) → from ≤ i → i ≤ to → twoBefore bs i ≡ false
+  pub three : longest ≤ 3 → (i : ℕ) → from ≤ i → i ≤ to → threeBefore bs i ≡ false

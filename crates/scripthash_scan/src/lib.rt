@@ -1,4 +1,6 @@
 // Streams of rising numbers scanned and read: the fast paths over forms and bytes, and the two functions that take them.
+mod ends;
+mod look;
 mod quick;
 mod streams;
 mod weigh;

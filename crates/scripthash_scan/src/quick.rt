@@ -17,6 +17,11 @@ use scripthash_stream::wide;
 // From how many numbers on a scan weighs forms together.
 const MANY: usize = 64;
 
+// From how many numbers on it does so where forms are short, and where they are shorter.
+const MORE: usize = 40;
+
+const SOME: usize = 24;
+
 // What was read of a form: its value, 0 where that tells nothing, and how many bytes it takes.
 struct Form {
     value: u64,
@@ -309,6 +314,23 @@ fn sum_of_bytes(buf: &[u8], n: usize) -> u64
     sum
 }
 
+// Whether a stream of n numbers is worth weighing: it is long, or a third of its first bytes end forms, or half where it is short.
+fn weighs(buf: &[u8], n: usize) -> bool
+    ensures { λ r. ⌜ (r ≡ true → 4 ≤ n) ⌝ }
+{
+    if MANY <= n {
+        return true;
+    }
+    if n < SOME {
+        return false;
+    }
+    let ends = crate::ends::ends_early(buf);
+    if n < MORE {
+        return 8 < ends;
+    }
+    5 <= ends
+}
+
 // Scans a stream of n numbers: all bytes together where each is a form, or where there are many; else form by form, with room for one
 // number, which nobody reads. Tells where it ends, or 0 bytes where it can't be scanned so.
 pub fn scan_quickly(buf: &[u8], n: usize) -> StreamEnd
@@ -320,7 +342,7 @@ pub fn scan_quickly(buf: &[u8], n: usize) -> StreamEnd
             last: sum_of_bytes(buf, n),
         };
     }
-    if MANY <= n {
+    if weighs(buf, n) {
         let end = crate::weigh::scan_by_weights(buf, n);
         if 0 < end.taken {
             return end;

@@ -1,16 +1,16 @@
-// Streams scanned without reading each form by itself: the bytes of many forms are counted, tested and weighed in plain loops, each with
-// one simple job, of which the compiler makes loops over many bytes at a time.
+// Streams scanned without reading each form by itself: where many forms end, how long they are and what they add up to is found by plain
+// loops over bytes, each with one simple job, of which the compiler makes loops over many bytes at a time.
 ghost use mathlib.Core.Path.{_≡_};
-ghost use mathlib.Core.Bool.{_&&_};
 ghost use Prim.Native.Nat.{_+_, _-_, _*_, _^_, _≤_, _<_};
 ghost use lib.ListN.{length, drop, getD};
 ghost use Rattle.error.specs.Refusal.{answered};
-ghost use Rattle.compact.specs.Uleb128.{goesOn, piece};
+ghost use Rattle.compact.specs.Uleb128.{goesOn};
 ghost use Rattle.scripthash_stream.specs.Stream.{scan, endFrom, endsFrom};
 ghost use Rattle.scripthash_scan.specs.Quick.{QuickEnd};
-ghost use Rattle.scripthash_scan.specs.Weights.{total, endOne, endAt, pieceIf, weighedTwo, weighedThree, weighed, Longest};
+ghost use Rattle.scripthash_scan.specs.Weights.{pieceIf, weighedTwo, weighedThree, weighed, fiveGoOn, Lacks, Longest};
+use crate::ends::end_of;
+use crate::look::longest_form;
 use crate::quick::StreamEnd;
-use crate::quick::larger;
 use crate::quick::smaller;
 use crate::quick::sum_forms;
 use scripthash_stream::BIT_63;
@@ -18,135 +18,10 @@ use scripthash_stream::BIT_63;
 // The most bytes that are weighed.
 const MOST_BYTES: usize = 1048576;
 
-// The place up to which forms were counted, and how many are still to end.
-struct Counted {
-    at: usize,
-    left: usize,
-}
-
-// 1 where a byte ends its form, else 0.
-fn ended(b: u8) -> u8
-    ensures { λ r. ⌜ (r ≡ endOne b) × (r ≤ 1) ⌝ }
-{
-    if b < 128 {
-        return 1;
-    }
-    0
-}
-
-// A count of forms.
-fn forms(count: u8) -> usize
-    ensures { λ r. ⌜ r ≡ count ⌝ }
-{
-    count as usize
-}
-
-// How many forms end in at most 240 bytes.
-fn ends_in(buf: &[u8], from: usize, to: usize) -> u8
-    requires { ⌜ (from ≤ to) × (to ≤ length (now buf)) × (to ≤ from + 240) ⌝ }
-    ensures { λ r. ⌜ (total (endAt (now (buf .entry))) from + r ≡ total (endAt (now (buf .entry))) to) × (from + r ≤ to) ⌝ }
-{
-    let mut count: u8 = 0;
-    let mut i = from;
-    while i < to {
-        count += ended(buf[i]);
-        i += 1;
-    }
-    count
-}
-
-// How many bytes to look at together where so many forms are still to end: no more than forms, so that the last of them isn't passed.
-fn step_of(left: usize) -> usize
-    requires { ⌜ 16 ≤ left ⌝ }
-    ensures { λ r. ⌜ (16 ≤ r) × (r ≤ left) × (r ≤ 240) ⌝ }
-{
-    if 240 <= left {
-        return 240;
-    }
-    left / 16 * 16
-}
-
-// Counts forms that end from a place on, until fewer than 16 of those wanted are left; stops before where too few bytes follow, or where
-// forms of six bytes and more are met.
-fn count_forms(buf: &[u8], from: usize, want: usize) -> Counted
-    requires { ⌜ from ≤ length (now buf) ⌝ }
-    ensures { λ r. ⌜ (total (endAt (now (buf .entry))) from + want ≡ total (endAt (now (buf .entry))) (r .at) + r .left) × (from ≤ r .at)
-        × (r .at ≤ length (now (buf .entry))) ⌝ }
-{
-    let mut at = from;
-    let mut left = want;
-    while 16 <= left {
-        let step = step_of(left);
-        if buf.len() - at < step {
-            return Counted { at, left };
-        }
-        let count = forms(ends_in(buf, at, at + step));
-        if 6 * count < step {
-            return Counted { at, left };
-        }
-        left -= count;
-        at += step;
-    }
-    Counted { at, left }
-}
-
-// The place behind so many forms from another place on, or 0 where the bytes end first or the forms are long.
-fn end_of(buf: &[u8], from: usize, want: usize) -> usize
-    requires { ⌜ from ≤ length (now buf) ⌝ }
-    ensures { λ r. ⌜ (0 < r → (total (endAt (now (buf .entry))) from + want ≡ total (endAt (now (buf .entry))) r) × (from ≤ r)
-        × (r ≤ length (now (buf .entry)))) ⌝ }
-{
-    let counted = count_forms(buf, from, want);
-    let mut at = counted.at;
-    let mut left = counted.left;
-    if 16 <= left {
-        return 0;
-    }
-    while 0 < left {
-        if at == buf.len() {
-            return 0;
-        }
-        left -= forms(ended(buf[at]));
-        at += 1;
-    }
-    at
-}
-
-// The bytes of the longest form as far as it matters, 2, 3 or 5, where no byte is 0 and no form has more than five bytes, else 0. A form
-// begins with the first byte.
-fn longest_form(buf: &[u8], from: usize, to: usize) -> usize
-    requires { ⌜ (4 ≤ from) × (from ≤ to) × (to ≤ length (now buf)) ⌝ }
-    ensures { λ r. ⌜ Longest (now (buf .entry)) from to r ⌝ }
-{
-    let mut least: u8 = 255;
-    let mut two: u8 = 0;
-    let mut three: u8 = 0;
-    let mut five: u8 = 0;
-    let mut i = from;
-    while i < to {
-        let b = buf[i];
-        let m2 = smaller(buf[i - 1], buf[i - 2]);
-        let m3 = smaller(m2, buf[i - 3]);
-        let m4 = smaller(m3, buf[i - 4]);
-        least = smaller(least, b);
-        two = larger(two, m2);
-        three = larger(three, m3);
-        five = larger(five, smaller(m4, b));
-        i += 1;
-    }
-    if least == 0 {
-        return 0;
-    }
-    if 128 <= five {
-        return 0;
-    }
-    if 128 <= three {
-        return 5;
-    }
-    if 128 <= two {
-        return 3;
-    }
-    2
+// What forms weigh, and the bytes of the longest as far as it matters, 0 where they can't be weighed.
+struct Weighed {
+    sum: u64,
+    longest: usize,
 }
 
 // The piece of a byte where the one before it, or the least of some before it, goes on; else 0.
@@ -235,8 +110,7 @@ fn weigh_five(buf: &[u8], from: usize, to: usize) -> u64
 
 // The weights of at most 512 bytes of forms, by the longest.
 fn weigh_block(buf: &[u8], from: usize, to: usize, longest: usize) -> u64
-    requires { ⌜ (4 ≤ from) × (from ≤ to) × (to ≤ length (now buf)) × (to ≤ from + 512) × (0 < longest) × Longest (now buf) from to longest
-        ⌝ }
+    requires { ⌜ (4 ≤ from) × (from ≤ to) × (to ≤ length (now buf)) × (to ≤ from + 512) × Longest (now buf) from to longest ⌝ }
     ensures { λ r. ⌜ (weighed (now (buf .entry)) from + r ≡ weighed (now (buf .entry)) to) × (r + 2 ^ 35 * from ≤ 2 ^ 35 * to) ⌝ }
 {
     if longest <= 2 {
@@ -259,20 +133,26 @@ fn block_end(from: usize, to: usize) -> usize
     from + 512
 }
 
-// The weights of forms: the sum of their differences.
-fn weigh_all(buf: &[u8], from: usize, to: usize, longest: usize) -> u64
-    requires { ⌜ (4 ≤ from) × (from ≤ to) × (to ≤ length (now buf)) × (to ≤ from + 2 ^ 20) × (0 < longest)
-        × Longest (now buf) from to longest ⌝ }
-    ensures { λ r. ⌜ weighed (now (buf .entry)) from + r ≡ weighed (now (buf .entry)) to ⌝ }
+// The weights of forms, the sum of their differences, with the longest form of the last block, 0 where they can't be weighed. Each block is
+// weighed by its own longest form, or that of the one before it.
+fn weigh_all(buf: &[u8], from: usize, to: usize) -> Weighed
+    requires { ⌜ (4 ≤ from) × (from ≤ to) × (to ≤ length (now buf)) × (to ≤ from + 2 ^ 20) × (getD (now buf) (from - 1) 0 < 128) ⌝ }
+    ensures { λ r. ⌜ (0 < r .longest → (weighed (now (buf .entry)) from + r .sum ≡ weighed (now (buf .entry)) to)
+        × Lacks (now (buf .entry)) (fiveGoOn (now (buf .entry))) from to) ⌝ }
 {
     let mut sum: u64 = 0;
+    let mut longest: usize = 2;
     let mut i = from;
     while i < to {
         let end = block_end(i, to);
+        longest = longest_form(buf, i, end, longest);
+        if longest == 0 {
+            return Weighed { sum: 0, longest: 0 };
+        }
         sum += weigh_block(buf, i, end, longest);
         i = end;
     }
-    sum
+    Weighed { sum, longest }
 }
 
 // Scans so many forms behind prev, from a place with a form's end before it: tells where they end, or 0 bytes where they can't be weighed.
@@ -290,17 +170,16 @@ fn scan_rest(buf: &[u8], from: usize, prev: u64, count: usize) -> StreamEnd
     if 128 <= buf[to - 1] {
         return StreamEnd { taken: 0, last: 0 };
     }
-    let longest = longest_form(buf, from, to);
-    if longest == 0 {
+    let more = weigh_all(buf, from, to);
+    if more.longest == 0 {
         return StreamEnd { taken: 0, last: 0 };
     }
-    let more = weigh_all(buf, from, to, longest);
-    if BIT_63 - prev <= more {
+    if BIT_63 - prev <= more.sum {
         return StreamEnd { taken: 0, last: 0 };
     }
     StreamEnd {
         taken: to,
-        last: prev + more,
+        last: prev + more.sum,
     }
 }
 
@@ -330,13 +209,7 @@ pub fn scan_by_weights(buf: &[u8], n: usize) -> StreamEnd
     if from < 4 {
         return StreamEnd { taken: 0, last: 0 };
     }
-    if buf.len() < from {
-        return StreamEnd { taken: 0, last: 0 };
-    }
     if 128 <= buf[from - 1] {
-        return StreamEnd { taken: 0, last: 0 };
-    }
-    if BIT_63 <= prev {
         return StreamEnd { taken: 0, last: 0 };
     }
     scan_rest(buf, from, prev, n - lead)

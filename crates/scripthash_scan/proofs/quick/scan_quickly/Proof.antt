@@ -13,8 +13,11 @@ sum-of-bytes-requires c κs = c .before .one-byte-forms .ensures (c .if1 .taken)
 returns : tie.Need-returns
 returns c = search needs
 
+weighs-requires : tie.Need-weighs-requires
+weighs-requires c κs = search needs
+
 scan-by-weights-requires : tie.Need-scan-by-weights-requires
-scan-by-weights-requires c κs = search needs
+scan-by-weights-requires c κs = c .before .weighs .ensures (c .if2 .taken)
 
 returns-2 : tie.Need-returns-2
 returns-2 c = search needs
@@ -27,7 +30,7 @@ sum-forms-requires c κs = search needs
 
 returns-3 : tie.Need-returns-3
 returns-3 c =
-    let a = c .before .before .before .before .before .before .before .args in
+    let a = c .before .before .before .before .before .before .before .before .args in
     rw (ends-whole (a .n) (a .buf .now)) at (c .before .sum-forms .ensures .ends)
 
 pub scan-quickly-spec : {M : Type 1} → statement M
@@ -37,6 +40,7 @@ scan-quickly-spec =
     one-byte-forms-requires
     sum-of-bytes-requires
     returns
+    weighs-requires
     scan-by-weights-requires
     returns-2
     slice-aggregate-sum-forms

@@ -17,20 +17,14 @@ sum-forms-requires c κs = search needs
 returns : tie.Need-returns
 returns c = quick-end-none _
 
+sub-if2 : tie.Need-sub-if2
+sub-if2 c = search needs
+
+shared-slice-read-if2 : tie.Need-shared-slice-read-if2
+shared-slice-read-if2 c = search needs
+
 returns-2 : tie.Need-returns-2
 returns-2 c = quick-end-none _
-
-sub-if3 : tie.Need-sub-if3
-sub-if3 c = search needs
-
-shared-slice-read-if3 : tie.Need-shared-slice-read-if3
-shared-slice-read-if3 c = search needs
-
-returns-3 : tie.Need-returns-3
-returns-3 c = quick-end-none _
-
-returns-4 : tie.Need-returns-4
-returns-4 c = quick-end-none _
 
 sub-scan-rest : tie.Need-sub-scan-rest
 sub-scan-rest c = search needs
@@ -38,9 +32,9 @@ sub-scan-rest c = search needs
 scan-rest-requires : tie.Need-scan-rest-requires
 scan-rest-requires c κs = search needs
 
-returns-5 : tie.Need-returns-5
-returns-5 c =
-    let f = c .before .before .before .before .before .before .before in
+returns-3 : tie.Need-returns-3
+returns-3 c =
+    let f = c .before .before .before .before .before in
     let a = f .before .before .before .before .args in
     quick-end-parts (a .n) (f .before .before .leading .result) (f .sum-forms .result .taken) (f .sum-forms .result .last) (c .scan-rest .result .taken) (c .scan-rest .result .last) (a .buf .now)
     (omega (arith, f .before .before .leading .ensures)) (omega arith) (f .sum-forms .ensures .ends) (c .scan-rest .ensures)
@@ -53,11 +47,9 @@ scan-by-weights-spec =
     slice-aggregate-sum-forms
     sum-forms-requires
     returns
+    sub-if2
+    shared-slice-read-if2
     returns-2
-    sub-if3
-    shared-slice-read-if3
-    returns-3
-    returns-4
     sub-scan-rest
     scan-rest-requires
-    returns-5)
+    returns-3)

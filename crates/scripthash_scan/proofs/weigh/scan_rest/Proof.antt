@@ -32,18 +32,13 @@ shared-slice-read-if3 c =
 returns-3 : tie.Need-returns-3
 returns-3 c = quick-end-none _
 
-longest-form-requires : tie.Need-longest-form-requires
-longest-form-requires c κs =
+weigh-all-requires : tie.Need-weigh-all-requires
+weigh-all-requires c κs =
     let end = c .before .before .before .before .end-of .ensures (omega arith) in
-    (omega arith, end .1, end .2)
+    (omega arith, end .1, end .2, omega (arith, end .1), c .before .before .before .before .before .before .pre .2)
 
 returns-4 : tie.Need-returns-4
 returns-4 c = quick-end-none _
-
-weigh-all-requires : tie.Need-weigh-all-requires
-weigh-all-requires c κs =
-    let end = c .before .before .before .before .before .before .end-of .ensures (omega arith) in
-    (omega arith, end .1, end .2, omega (arith, end .1), omega arith, c .before .longest-form .ensures)
 
 sub-if5 : tie.Need-sub-if5
 sub-if5 c = search needs
@@ -51,20 +46,20 @@ sub-if5 c = search needs
 returns-5 : tie.Need-returns-5
 returns-5 c = quick-end-none _
 
-add-t12 : tie.Need-add-t12
-add-t12 c = search needs
+add-t11 : tie.Need-add-t11
+add-t11 c = search needs
 
 returns-6 : tie.Need-returns-6
 unfolding QuickEnd
 returns-6 c h =
-    let start = c .before .before .before .before .before .before .before .before .before .before in
+    let start = c .before .before .before .before .before .before .before .before .before .before .before .before in
     let a = start .args in
-    let end = c .before .before .before .before .before .before .before .before .end-of in
+    let end = c .before .before .before .before .before .before .before .before .before .before .end-of in
     let is = end .ensures (omega arith) in
-    let longest = c .before .before .before .longest-form in
-    let more = c .before .weigh-all in
-    weighed-ends (a .buf .now) (a .from) (a .prev) (a .count) (end .result) (longest .result) (more .result) (omega arith) (is .1) (is .2) (omega arith)
-    (longest .ensures) (is .0) (more .ensures) (omega arith) (start .pre .2) (omega arith)
+    let more = c .before .before .before .before .before .weigh-all in
+    let told = more .ensures (omega arith) in
+    weighed-ends (a .buf .now) (a .from) (a .prev) (a .count) (end .result) (more .result .sum) (omega arith) (is .1) (is .2) (told .1) (is .0) (told .0) (omega arith)
+    (start .pre .2) (omega arith)
 
 pub scan-rest-spec : {M : Type 1} → statement M
 scan-rest-spec =
@@ -77,10 +72,9 @@ scan-rest-spec =
     sub-if3
     shared-slice-read-if3
     returns-3
-    longest-form-requires
-    returns-4
     weigh-all-requires
+    returns-4
     sub-if5
     returns-5
-    add-t12
+    add-t11
     returns-6)

@@ -12,9 +12,9 @@ returns : tie.Need-returns
 returns c =
     let start = c .before .before .before in
     let a = start .args in
-    let two = no-thirds (a .buf .now) (a .from) (a .to) (a .longest) (start .pre .5) (omega arith) (omega arith) (omega arith) in
-    let three = no-fourths (a .buf .now) (a .from) (a .to) (a .longest) (start .pre .5) (omega arith) (omega arith) (omega arith) in
-    let four = no-fifths (a .buf .now) (a .from) (a .to) (a .longest) (start .pre .5) (omega arith) (omega arith) (omega arith) in
+    let two = no-thirds (a .buf .now) (a .from) (a .to) (a .longest) (start .pre .4) (omega arith) (omega arith) in
+    let three = no-fourths (a .buf .now) (a .from) (a .to) (a .longest) (start .pre .4) (omega arith) (omega arith) in
+    let four = no-fifths (a .buf .now) (a .from) (a .to) (a .longest) (start .pre .4) (omega arith) (omega arith) in
     (omega (arith, two, three, four, c .weigh-two .ensures .0), c .weigh-two .ensures .1)
 
 weigh-three-requires : tie.Need-weigh-three-requires
@@ -24,8 +24,8 @@ returns-2 : tie.Need-returns-2
 returns-2 c =
     let start = c .before .before .before .before in
     let a = start .args in
-    let three = no-fourths (a .buf .now) (a .from) (a .to) (a .longest) (start .pre .5) (omega arith) (omega arith) (omega arith) in
-    let four = no-fifths (a .buf .now) (a .from) (a .to) (a .longest) (start .pre .5) (omega arith) (omega arith) (omega arith) in
+    let three = no-fourths (a .buf .now) (a .from) (a .to) (a .longest) (start .pre .4) (omega arith) (omega arith) in
+    let four = no-fifths (a .buf .now) (a .from) (a .to) (a .longest) (start .pre .4) (omega arith) (omega arith) in
     (omega (arith, three, four, c .weigh-three .ensures .0), c .weigh-three .ensures .1)
 
 weigh-five-requires : tie.Need-weigh-five-requires

@@ -7,8 +7,8 @@ use lib.ListN.{length}
 use Rattle.scripthash_scan.specs.Weights.{total, endAt}
 use Rattle.scripthash_scan.proofs.LawsTotals.{total-next}
 use borrow.Author.Needs.{needs}
-use Rattle.scripthash_scan.proofs.weigh.ends_in.Statement.{statement}
-use Rattle.scripthash_scan.proofs.weigh.ends_in.Tie as tie
+use Rattle.scripthash_scan.proofs.ends.ends_in.Statement.{statement}
+use Rattle.scripthash_scan.proofs.ends.ends_in.Tie as tie
 
 abbrev Inv-loop : tie.InvT-loop
 Inv-loop buf from to count₀ i₀ count i =

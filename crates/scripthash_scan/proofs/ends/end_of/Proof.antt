@@ -7,8 +7,8 @@ use lib.ListN.{length}
 use Rattle.scripthash_scan.specs.Weights.{total, endAt}
 use Rattle.scripthash_scan.proofs.LawsTotals.{total-next}
 use borrow.Author.Needs.{needs}
-use Rattle.scripthash_scan.proofs.weigh.end_of.Statement.{statement}
-use Rattle.scripthash_scan.proofs.weigh.end_of.Tie as tie
+use Rattle.scripthash_scan.proofs.ends.end_of.Statement.{statement}
+use Rattle.scripthash_scan.proofs.ends.end_of.Tie as tie
 
 abbrev Inv-loop : tie.InvT-loop
 Inv-loop buf from want at₀ left₀ at left =
@@ -17,16 +17,24 @@ Inv-loop buf from want at₀ left₀ at left =
 abbrev μ-loop : tie.MeasureT-loop
 μ-loop buf from want at₀ left₀ at left = length buf - at
 
+count-blocks-requires : tie.Need-count-blocks-requires Inv-loop μ-loop
+count-blocks-requires c κs = search needs
+
 count-forms-requires : tie.Need-count-forms-requires Inv-loop μ-loop
 count-forms-requires c κs = search needs
+
+near-end-requires : tie.Need-near-end-requires Inv-loop μ-loop
+near-end-requires c κs = search needs
 
 returns : tie.Need-returns Inv-loop μ-loop
 returns c = λ h. absurd (not-suc-le-zero h)
 
 loop-holds : tie.Need-loop-holds Inv-loop μ-loop
 loop-holds c =
-    let r = c .before .count-forms .ensures in
-    (r .1, r .2, r .0)
+    let near = c .before .near-end .ensures in
+    let few = c .before .before .count-forms .ensures in
+    let blocks = c .before .before .before .count-blocks .ensures in
+    (omega (arith, blocks, few, near), near .2, omega (arith, blocks, few, near))
 
 returns-2 : tie.Need-returns-2 Inv-loop μ-loop
 returns-2 c = λ h. absurd (not-suc-le-zero h)
@@ -52,7 +60,7 @@ loop-less c = search needs
 loop-again : tie.Need-loop-again Inv-loop μ-loop
 loop-again c =
     let l = c .before .before .before .before .before .loop in
-    let next = total-next (endAt (c .before .before .before .before .before .before .before .before .before .args .buf .now)) (l .at) in
+    let next = total-next (endAt (c .before .before .before .before .before .before .before .before .before .before .before .args .buf .now)) (l .at) in
     (search needs, search needs, omega (arith, l .inv .2, next, c .forms .ensures, c .before .ended .ensures))
 
 returns-3 : tie.Need-returns-3 Inv-loop μ-loop
@@ -66,7 +74,9 @@ end-of-spec =
     (tie.spec
     Inv-loop
     μ-loop
+    count-blocks-requires
     count-forms-requires
+    near-end-requires
     returns
     loop-holds
     returns-2

@@ -2,8 +2,8 @@
 use native.Mathlib.Omega.{arith}
 use borrow.Author.Tests.{lt-leb, le-leb}
 use borrow.Author.Needs.{needs}
-use Rattle.scripthash_scan.proofs.weigh.ended.Statement.{statement}
-use Rattle.scripthash_scan.proofs.weigh.ended.Tie as tie
+use Rattle.scripthash_scan.proofs.ends.ended.Statement.{statement}
+use Rattle.scripthash_scan.proofs.ends.ended.Tie as tie
 
 returns : tie.Need-returns
 returns c = (rw (lt-leb 128 (c .before .args .b) (omega arith)), search needs)
