@@ -84,13 +84,14 @@
 
    A call takes at most so many bytes of stack below its caller's frame (measured, and held by a test):
 
-       ouriscado_book_fresh                                      OURISCADO_STACK_SHORT
-       ouriscado_book_load and ouriscado_book_drop,              OURISCADO_STACK_SHORT
-       where the list stands in no page
+       ouriscado_book_fresh, ouriscado_book_load                 OURISCADO_STACK_SHORT
+       and ouriscado_book_drop
+       ouriscado_book_read of at most 256 numbers                OURISCADO_STACK_SHORT
+       ouriscado_book_append                                     OURISCADO_STACK_APPEND
        any call                                                  OURISCADO_STACK_ANY
 
-   A list stands in pages from 257 numbers on, or where its numbers are so far apart that they need more than
-   2,048 bytes. */
+   A read holds the numbers of a slab or a page on the stack until all of them are read, and an append a list
+   that moves from one slab to another. */
 #ifndef OURISCADO_H
 #define OURISCADO_H
 #include <stddef.h>
@@ -126,8 +127,9 @@ extern "C" {
 #define OURISCADO_KIND_PAGES                3 /* in a chain of pages of the body */
 
 /* The bytes of stack that a call needs. */
-#define OURISCADO_STACK_SHORT            4096 /* bytes of stack of fresh, and of load and drop where no list
-                                                 stands in pages */
+#define OURISCADO_STACK_SHORT            4096 /* bytes of stack of fresh, load and drop, and of a read of at
+                                                 most 256 numbers */
+#define OURISCADO_STACK_APPEND           8192 /* bytes of stack of an append */
 #define OURISCADO_STACK_ANY             40960 /* bytes of stack of any call */
 
 /* Why a call is refused, and what an operator does then. Where several apply, the smallest number is given;

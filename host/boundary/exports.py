@@ -32,7 +32,8 @@ CONSTANTS = {
         ("PAGE_CLASS", 8, "u8", "the class of a page; slabs have the classes 0 to 7"),
     ],
     "stacks": [
-        ("STACK_SHORT", 4096, "usize", "bytes of stack of fresh, and of load and drop where no list stands in pages"),
+        ("STACK_SHORT", 4096, "usize", "bytes of stack of fresh, load and drop, and of a read of at most 256 numbers"),
+        ("STACK_APPEND", 8192, "usize", "bytes of stack of an append"),
         ("STACK_ANY", 40960, "usize", "bytes of stack of any call"),
     ],
 }

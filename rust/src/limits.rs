@@ -43,8 +43,11 @@ pub const MOST_IN_PAGE: usize = 4088;
 /// The class of a page; slabs have the classes 0 to 7.
 pub const PAGE_CLASS: u8 = 8;
 
-/// Bytes of stack of fresh, and of load and drop where no list stands in pages.
+/// Bytes of stack of fresh, load and drop, and of a read of at most 256 numbers.
 pub const STACK_SHORT: usize = 4096;
+
+/// Bytes of stack of an append.
+pub const STACK_APPEND: usize = 8192;
 
 /// Bytes of stack of any call.
 pub const STACK_ANY: usize = 40_960;
