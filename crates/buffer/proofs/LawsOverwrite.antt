@@ -130,13 +130,3 @@ pub overwrite-next : (b : List ℕ) (o : ℕ) (ys : List ℕ) (x : ℕ) → o + 
 overwrite-next b o ys x h =
     let inside : o + length ys < length (overwrite b o ys) = omega (arith, length-overwrite b o ys (omega arith)) in
     sym (overwrite-one (overwrite b o ys) (o + length ys) x inside) ∙ overwrite-adjoin b o ys (x ∷ []) (omega arith)
-
--- Five elements, written one by one.
-pub overwrite-five : (b : List ℕ) (o x₀ x₁ x₂ x₃ x₄ : ℕ) → o + 5 ≤ length b
-    → set (set (set (set (set b o x₀) (o + 1) x₁) (o + 2) x₂) (o + 3) x₃) (o + 4) x₄ ≡ overwrite b o (x₀ ∷ x₁ ∷ x₂ ∷ x₃ ∷ x₄ ∷ [])
-overwrite-five b o x₀ x₁ x₂ x₃ x₄ h =
-    ap (λ (l : List ℕ). set (set (set (set l (o + 1) x₁) (o + 2) x₂) (o + 3) x₃) (o + 4) x₄) (sym (overwrite-one b o x₀ (omega arith)))
-    ∙ ap (λ (l : List ℕ). set (set (set l (o + 2) x₂) (o + 3) x₃) (o + 4) x₄) (overwrite-next b o (x₀ ∷ []) x₁ (omega arith))
-    ∙ ap (λ (l : List ℕ). set (set l (o + 3) x₃) (o + 4) x₄) (overwrite-next b o (x₀ ∷ x₁ ∷ []) x₂ (omega arith))
-    ∙ ap (λ (l : List ℕ). set l (o + 4) x₄) (overwrite-next b o (x₀ ∷ x₁ ∷ x₂ ∷ []) x₃ (omega arith))
-    ∙ overwrite-next b o (x₀ ∷ x₁ ∷ x₂ ∷ x₃ ∷ []) x₄ (omega arith)

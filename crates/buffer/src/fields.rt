@@ -67,12 +67,8 @@ pub fn put_u40(b: &mut [u8], at: usize, n: u64)
     requires { ⌜ at + 5 ≤ length (now b) ⌝ }
     ensures { λ _. ⌜ now (b .exit) ≡ overwrite (now (b .entry)) at (bytesOf 5 n) ⌝ }
 {
-    let bytes = crate::u40_bytes(n);
-    b[at] = bytes[0];
-    b[at + 1] = bytes[1];
-    b[at + 2] = bytes[2];
-    b[at + 3] = bytes[3];
-    b[at + 4] = bytes[4];
+    put_u32(b, at, (n % 0x1_0000_0000) as u32);
+    b[at + 4] = (n / 0x1_0000_0000 % 0x100) as u8;
 }
 
 // Writes a number over the eight bytes from an offset on.

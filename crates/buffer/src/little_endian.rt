@@ -1,5 +1,5 @@
 // Numbers to and from their bytes, the lowest byte first. Where the bytes lie side by side in memory, two, four and eight
-// of them are one load or one store.
+// of them are one load, and eight one store.
 ghost use mathlib.Core.Path.{_≡_};
 ghost use mathlib.Core.List.{[], _∷_};
 ghost use Rattle.buffer.specs.LittleEndian.{littleEndian, bytesOf};
@@ -18,58 +18,11 @@ pub fn u32_of(b0: u8, b1: u8, b2: u8, b3: u8) -> u32
     b0 as u32 + b1 as u32 * 0x100 + b2 as u32 * 0x1_0000 + b3 as u32 * 0x100_0000
 }
 
-// The number that five bytes hold.
-pub fn u40_of(b0: u8, b1: u8, b2: u8, b3: u8, b4: u8) -> u64
-    ensures { λ r. ⌜ r ≡ littleEndian (b0 ∷ b1 ∷ b2 ∷ b3 ∷ b4 ∷ []) ⌝ }
-{
-    u32_of(b0, b1, b2, b3) as u64 + b4 as u64 * 0x1_0000_0000
-}
-
 // The number that eight bytes hold.
 pub fn u64_of(b0: u8, b1: u8, b2: u8, b3: u8, b4: u8, b5: u8, b6: u8, b7: u8) -> u64
     ensures { λ r. ⌜ r ≡ littleEndian (b0 ∷ b1 ∷ b2 ∷ b3 ∷ b4 ∷ b5 ∷ b6 ∷ b7 ∷ []) ⌝ }
 {
     u32_of(b0, b1, b2, b3) as u64 + u32_of(b4, b5, b6, b7) as u64 * 0x1_0000_0000
-}
-
-// The two bytes of a number.
-pub fn u16_bytes(n: u16) -> [u8; 2]
-    ensures { λ r. ⌜ r ≡ bytesOf 2 n ⌝ }
-{
-    let n1 = n / 0x100;
-    [(n % 0x100) as u8, (n1 % 0x100) as u8]
-}
-
-// The four bytes of a number.
-pub fn u32_bytes(m: u32) -> [u8; 4]
-    ensures { λ r. ⌜ r ≡ bytesOf 4 m ⌝ }
-{
-    let m1 = m / 0x100;
-    let m2 = m1 / 0x100;
-    let m3 = m2 / 0x100;
-    [
-        (m % 0x100) as u8,
-        (m1 % 0x100) as u8,
-        (m2 % 0x100) as u8,
-        (m3 % 0x100) as u8,
-    ]
-}
-
-// The five lowest bytes of a number.
-pub fn u40_bytes(k: u64) -> [u8; 5]
-    ensures { λ r. ⌜ r ≡ bytesOf 5 k ⌝ }
-{
-    let k1 = k / 0x100;
-    let k2 = k1 / 0x100;
-    let k3 = k2 / 0x100;
-    let k4 = k3 / 0x100;
-    [
-        (k % 0x100) as u8,
-        (k1 % 0x100) as u8,
-        (k2 % 0x100) as u8,
-        (k3 % 0x100) as u8,
-        (k4 % 0x100) as u8,
-    ]
 }
 
 // The eight bytes of a number.

@@ -9,7 +9,7 @@ ghost use Rattle.book.specs.Loads.{loads};
 ghost use Rattle.book.specs.Appends.{appends};
 ghost use Rattle.book.specs.Reads.{reads, drops, listAfter};
 ghost use Rattle.book.specs.Answers.{loadAnswer, appendAnswer, readAnswer, dropAnswer, countedOf};
-ghost use Rattle.ouriscado.specs.OutHead.{kindOf, classOf, usedOf, placeOf};
+ghost use Rattle.ouriscado.specs.OutHead.{kindOut, classOut, usedOut, placeOut};
 ghost use Rattle.ouriscado.specs.OutBook.{bookIn, wordsOf, pagesLoaded, newPlace, recordsRewritten, lengthDropped};
 use crate::head::put_head;
 use book::BookAppend;
@@ -84,10 +84,10 @@ fn put_appended(
     rewritten: &mut u64,
 ) -> u32
     ensures number { λ r. ⌜ r ≡ refusalOf (appendAnswer answer) ⌝ }
-    ensures kind { λ r. ⌜ now (kind .exit) ≡ told (λ t. kindOf (newPlace t)) (appendAnswer answer) 0 ⌝ }
-    ensures class { λ r. ⌜ now (class .exit) ≡ told (λ t. classOf (newPlace t)) (appendAnswer answer) 0 ⌝ }
-    ensures used { λ r. ⌜ now (used .exit) ≡ told (λ t. usedOf (newPlace t)) (appendAnswer answer) 0 ⌝ }
-    ensures place { λ r. ⌜ now (place .exit) ≡ told (λ t. placeOf (newPlace t)) (appendAnswer answer) 0 ⌝ }
+    ensures kind { λ r. ⌜ now (kind .exit) ≡ told (λ t. kindOut (newPlace t)) (appendAnswer answer) 0 ⌝ }
+    ensures class { λ r. ⌜ now (class .exit) ≡ told (λ t. classOut (newPlace t)) (appendAnswer answer) 0 ⌝ }
+    ensures used { λ r. ⌜ now (used .exit) ≡ told (λ t. usedOut (newPlace t)) (appendAnswer answer) 0 ⌝ }
+    ensures place { λ r. ⌜ now (place .exit) ≡ told (λ t. placeOut (newPlace t)) (appendAnswer answer) 0 ⌝ }
     ensures rewritten { λ r. ⌜ now (rewritten .exit) ≡ told recordsRewritten (appendAnswer answer) 0 ⌝ }
 {
     match answer {
@@ -152,7 +152,7 @@ pub extern "C" fn ouriscado_book_fresh(body: &[u8], heads: &mut [u64], state: &m
         (makesFresh (bookIn (now (body .entry)) (now (heads .entry)) (now (state .entry)))) ⌝ }
 {
     let words = *state;
-    let after = book::fresh(body, heads, state_of(words));
+    let after = book_lists::fresh(body, heads, state_of(words));
     let left = after.state;
     let answer = after.answer;
     put_state(state, left);
@@ -180,7 +180,7 @@ pub extern "C" fn ouriscado_book_load(
         (loads (bookIn (now (body .entry)) (now (heads .entry)) (now (state .entry))) key (now (fks .entry)))) 0 ⌝ }
 {
     let words = *state;
-    let after = book::load(body, heads, state_of(words), key, fks);
+    let after = book_lists::load(body, heads, state_of(words), key, fks);
     let left = after.state;
     let answer = after.answer;
     put_state(state, left);
@@ -210,22 +210,22 @@ pub extern "C" fn ouriscado_book_append(
         ≡ bookAfter (bookIn (now (body .entry)) (now (heads .entry)) (now (state .entry)))
         (appends (bookIn (now (body .entry)) (now (heads .entry)) (now (state .entry))) key fk) ⌝ }
     ensures kind { λ r. ⌜ now (kind .exit)
-        ≡ told (λ t. kindOf (newPlace t)) (answerOf (appends (bookIn (now (body .entry)) (now (heads .entry)) (now (state .entry))) key fk))
+        ≡ told (λ t. kindOut (newPlace t)) (answerOf (appends (bookIn (now (body .entry)) (now (heads .entry)) (now (state .entry))) key fk))
         0 ⌝ }
     ensures class { λ r. ⌜ now (class .exit)
-        ≡ told (λ t. classOf (newPlace t))
+        ≡ told (λ t. classOut (newPlace t))
         (answerOf (appends (bookIn (now (body .entry)) (now (heads .entry)) (now (state .entry))) key fk)) 0 ⌝ }
     ensures used { λ r. ⌜ now (used .exit)
-        ≡ told (λ t. usedOf (newPlace t)) (answerOf (appends (bookIn (now (body .entry)) (now (heads .entry)) (now (state .entry))) key fk))
+        ≡ told (λ t. usedOut (newPlace t)) (answerOf (appends (bookIn (now (body .entry)) (now (heads .entry)) (now (state .entry))) key fk))
         0 ⌝ }
     ensures place { λ r. ⌜ now (place .exit)
-        ≡ told (λ t. placeOf (newPlace t))
+        ≡ told (λ t. placeOut (newPlace t))
         (answerOf (appends (bookIn (now (body .entry)) (now (heads .entry)) (now (state .entry))) key fk)) 0 ⌝ }
     ensures rewritten { λ r. ⌜ now (rewritten .exit)
         ≡ told recordsRewritten (answerOf (appends (bookIn (now (body .entry)) (now (heads .entry)) (now (state .entry))) key fk)) 0 ⌝ }
 {
     let words = *state;
-    let after = book::append(body, heads, state_of(words), key, fk);
+    let after = book_appending::append(body, heads, state_of(words), key, fk);
     let left = after.state;
     let answer = after.answer;
     put_state(state, left);
@@ -260,7 +260,7 @@ pub extern "C" fn ouriscado_book_read(
         0 ⌝ }
 {
     let words = *state;
-    let answer = book::read(body, heads, state_of(words), key, out);
+    let answer = book_lists::read(body, heads, state_of(words), key, out);
     put_listed(answer, length, pages)
 }
 
@@ -282,7 +282,7 @@ pub extern "C" fn ouriscado_book_drop(
         ≡ told lengthDropped (answerOf (drops (bookIn (now (body .entry)) (now (heads .entry)) (now (state .entry))) key)) 0 ⌝ }
 {
     let words = *state;
-    let after = book::drop(body, heads, state_of(words), key);
+    let after = book_lists::drop(body, heads, state_of(words), key);
     let left = after.state;
     let answer = after.answer;
     put_state(state, left);

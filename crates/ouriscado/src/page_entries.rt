@@ -121,7 +121,7 @@ pub extern "C" fn ouriscado_sh_page_try_append(page: &mut [u8], fk: u64, appende
     ensures bytes { λ r. ⌜ now (page .exit) ≡ afterAppend (now (page .entry)) (appendSpot (now (page .entry)) fk) ⌝ }
     ensures appended { λ r. ⌜ now (appended .exit) ≡ told hasSpot (appendSpot (now (page .entry)) fk) false ⌝ }
 {
-    let got = scripthash_pages::sh_page_try_append(page, fk);
+    let got = scripthash_appending::sh_page_try_append(page, fk);
     put_appended(got, appended)
 }
 
@@ -137,6 +137,6 @@ pub extern "C" fn ouriscado_sh_page_write_stream(
         ≡ afterWriteStream (now (page .entry)) (now (fks .entry)) (writeStream (now (page .entry)) (now (fks .entry))) ⌝ }
     ensures len { λ r. ⌜ now (len .exit) ≡ told (λ x. x) (writeStream (now (page .entry)) (now (fks .entry))) 0 ⌝ }
 {
-    let got = scripthash_pages::sh_page_write_stream(page, fks);
+    let got = scripthash_appending::sh_page_write_stream(page, fks);
     put_bytes(got, len)
 }

@@ -1,39 +1,22 @@
-// The stream of a page: read whole or to its end, appended to, and written. It starts at byte 8, in version 2 at byte 24, and goes to the
-// page's end.
-ghost use mathlib.Core.Bool.{cond};
+// The stream of a page: read whole or to its end. It starts at byte 8, in version 2 at byte 24, and goes to the page's end.
 ghost use mathlib.Core.Path.{_≡_};
-ghost use Prim.Native.Nat.{_+_, _≤_, _<_};
-ghost use lib.Dec.{eqb};
 ghost use lib.ListN.{length};
 ghost use Rattle.error.specs.Refusal.{answered, refusalOf};
-ghost use Rattle.compact.specs.Uleb128.{ulebLen};
 ghost use Rattle.scripthash_stream.specs.Stream.{endFrom, afterDecode};
-ghost use Rattle.scripthash_stream.specs.Answers.{scanAnswer, bytesAnswer};
-ghost use Rattle.scripthash_answers.specs.EntryAnswers.{lastAnswer, entriesAnswer, sliceAnswer, tryAnswer};
-ghost use Rattle.scripthash_fields.specs.Page.{countOf};
+ghost use Rattle.scripthash_stream.specs.Answers.{scanAnswer};
+ghost use Rattle.scripthash_answers.specs.EntryAnswers.{lastFkAnswer, entriesAnswer, sliceAnswer};
 ghost use Rattle.scripthash_pages.specs.Entries.{streamPlace, pageScan, lastOf, pageEntries, readCount, pageReadOf};
-ghost use Rattle.scripthash_pages.specs.Entries.{appendSpot, hasSpot, oneMore, withAppended, afterAppend, writeStream};
-ghost use Rattle.scripthash_pages.specs.Entries.{afterWriteStream};
-ghost use Rattle.scripthash_pages.specs.Answers.{placeAnswer, spotAnswer};
-use compact::uleb128_len;
+ghost use Rattle.scripthash_pages.specs.Answers.{streamPlaceAnswer};
 use error::Refusal;
 use scripthash_answers::PageDone;
 use scripthash_answers::PageEntries;
 use scripthash_answers::PageLastFk;
 use scripthash_answers::PageSlice;
-use scripthash_answers::TryAppend;
-use scripthash_fields::SH_PAGE_DELTA_VER;
-use scripthash_fields::SH_PAGE_EXTENT_VER;
 use scripthash_fields::SH_PAGE_OFF_N_FKS;
 use scripthash_fields::sh_page_require_delta;
 use scripthash_fields::stream_off;
-use scripthash_layout::SH_PAGE_SIZE;
-use scripthash_stream::MAX_OFFERED;
 use scripthash_stream::ScanStream;
 use scripthash_stream::StreamBytes;
-
-// Bit 63, which no number of a stream has.
-const SH_FLAG_BIT: u64 = 0x8000_0000_0000_0000;
 
 // Where a page's stream starts and how many numbers it has, or a refusal.
 pub enum StreamPlace {
@@ -41,17 +24,10 @@ pub enum StreamPlace {
     Refused(Refusal),
 }
 
-// Where an offered number goes in a page, and its difference; nowhere where the page is full; or a refusal.
-pub enum AppendSpot {
-    Behind { at: usize, difference: u64 },
-    Nowhere,
-    Refused(Refusal),
-}
-
 impl StreamPlace {
     // The refusal's number, and 0 of another answer.
     pub fn refusal(self) -> Refusal
-        ensures { λ r. ⌜ r ≡ refusalOf (placeAnswer self) ⌝ }
+        ensures { λ r. ⌜ r ≡ refusalOf (streamPlaceAnswer self) ⌝ }
     {
         match self {
             StreamPlace::At { off: _, count: _ } => 0,
@@ -62,7 +38,7 @@ impl StreamPlace {
 
 // The place of a page's stream, where the page can be read.
 fn stream_place(page: &[u8]) -> StreamPlace
-    ensures { λ r. ⌜ placeAnswer r ≡ streamPlace (now (page .entry)) ⌝ }
+    ensures { λ r. ⌜ streamPlaceAnswer r ≡ streamPlace (now (page .entry)) ⌝ }
 {
     let passed = sh_page_require_delta(page);
     let PageDone::Done = passed else {
@@ -87,7 +63,7 @@ pub fn sh_page_stream_tail(page: &[u8]) -> ScanStream
 
 // The last number of a page, 0 where it has none.
 pub fn sh_page_last_fk(page: &[u8]) -> PageLastFk
-    ensures { λ r. ⌜ lastAnswer r ≡ answered lastOf (pageScan (now (page .entry))) ⌝ }
+    ensures { λ r. ⌜ lastFkAnswer r ≡ answered lastOf (pageScan (now (page .entry))) ⌝ }
 {
     let tail = sh_page_stream_tail(page);
     let ScanStream::Scanned { taken: _, last } = tail else {
@@ -126,98 +102,4 @@ pub fn sh_page_decode_slice_into(page: &[u8], out: &mut [u64]) -> PageSlice
         count,
         next: scripthash_fields::next_off(page),
     }
-}
-
-// Where the number fk goes in a page: behind its stream, which is scanned once.
-fn append_spot(page: &[u8], fk: u64) -> AppendSpot
-    ensures { λ r. ⌜ spotAnswer r ≡ appendSpot (now (page .entry)) fk ⌝ }
-{
-    if page.len() != SH_PAGE_SIZE {
-        return AppendSpot::Refused(error::PAGE_LENGTH);
-    }
-    if fk == 0 {
-        return AppendSpot::Refused(error::OFFERED_FIRST_ZERO);
-    }
-    if SH_FLAG_BIT <= fk {
-        return AppendSpot::Refused(error::OFFERED_BIT_63);
-    }
-    let tail = sh_page_stream_tail(page);
-    let ScanStream::Scanned { taken, last } = tail else {
-        return AppendSpot::Refused(tail.refusal());
-    };
-    if fk <= last {
-        return AppendSpot::Refused(error::OFFERED_NOT_RISING);
-    }
-    let at = stream_off(page) + taken;
-    let difference = fk - last;
-    if SH_PAGE_SIZE < at + uleb128_len(difference) {
-        return AppendSpot::Nowhere;
-    }
-    AppendSpot::Behind { at, difference }
-}
-
-// The version of a page once it has a number.
-fn kept_version(version: u8) -> u8
-    ensures { λ r. ⌜ r ≡ cond (eqb version 2) 2 1 ⌝ }
-{
-    if version == SH_PAGE_EXTENT_VER {
-        return SH_PAGE_EXTENT_VER;
-    }
-    SH_PAGE_DELTA_VER
-}
-
-// Counts one number more in a page's header.
-fn count_one_more(page: &mut [u8])
-    requires { ⌜ (3 ≤ length (now page)) × (countOf (now page) < 65535) ⌝ }
-    ensures { λ _. ⌜ now (page .exit) ≡ oneMore (now (page .entry)) ⌝ }
-{
-    let count = buffer::get_u16(page, SH_PAGE_OFF_N_FKS);
-    page[0] = kept_version(page[0]);
-    buffer::put_u16(page, SH_PAGE_OFF_N_FKS, count + 1);
-}
-
-// Appends the form of a difference at an offset of a page that has room for it, and counts it.
-fn append_form(page: &mut [u8], at: usize, difference: u64)
-    requires { ⌜ (3 ≤ length (now page)) × (countOf (now page) < 65535) × (at + ulebLen difference ≤ length (now page)) ⌝ }
-    ensures { λ _. ⌜ now (page .exit) ≡ withAppended (now (page .entry)) (record { at = at; difference = difference }) ⌝ }
-{
-    count_one_more(page);
-    scripthash_stream::put_form(page, at, difference);
-}
-
-// Appends the number fk to a page, or leaves all of the page where it is full or the number is refused.
-pub fn sh_page_try_append(page: &mut [u8], fk: u64) -> TryAppend
-    ensures answer { λ r. ⌜ tryAnswer r ≡ answered hasSpot (appendSpot (now (page .entry)) fk) ⌝ }
-    ensures bytes { λ r. ⌜ now (page .exit) ≡ afterAppend (now (page .entry)) (appendSpot (now (page .entry)) fk) ⌝ }
-{
-    let spot = append_spot(page, fk);
-    match spot {
-        AppendSpot::Behind { at, difference } => {
-            append_form(page, at, difference);
-            TryAppend::Appended
-        }
-        AppendSpot::Nowhere => TryAppend::Full,
-        AppendSpot::Refused(number) => TryAppend::Refused(number),
-    }
-}
-
-// Writes the stream of an offered list to a page whose version is set, and its count; all of the page is left where the list is refused.
-pub fn sh_page_write_stream(page: &mut [u8], fks: &[u64]) -> StreamBytes
-    ensures answer { λ r. ⌜ bytesAnswer r ≡ writeStream (now (page .entry)) (now (fks .entry)) ⌝ }
-    ensures bytes { λ r. ⌜ now (page .exit)
-        ≡ afterWriteStream (now (page .entry)) (now (fks .entry)) (writeStream (now (page .entry)) (now (fks .entry))) ⌝ }
-{
-    if page.len() != SH_PAGE_SIZE {
-        return StreamBytes::Refused(error::PAGE_LENGTH);
-    }
-    if MAX_OFFERED < fks.len() {
-        return StreamBytes::Refused(error::TOO_MANY_OFFERED);
-    }
-    let off = stream_off(page);
-    let got = scripthash_stream::encode_fk_delta_stream_into(&mut page[off..], fks);
-    let StreamBytes::Bytes(len) = got else {
-        return got;
-    };
-    buffer::put_u16(page, SH_PAGE_OFF_N_FKS, fks.len() as u16);
-    StreamBytes::Bytes(len)
 }

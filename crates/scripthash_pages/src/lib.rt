@@ -1,4 +1,4 @@
-// The numbers of a page: read, appended and written, and whole pages packed, from the source's scripthash_pages.rs.
+// The numbers of a page: read, and whole pages packed, from the source's scripthash_pages.rs.
 mod entries;
 mod pack;
 
@@ -6,7 +6,5 @@ pub use entries::sh_page_decode_slice_into;
 pub use entries::sh_page_entries_into;
 pub use entries::sh_page_last_fk;
 pub use entries::sh_page_stream_tail;
-pub use entries::sh_page_try_append;
-pub use entries::sh_page_write_stream;
 pub use pack::sh_page_pack_extent_last_fks;
 pub use pack::sh_page_pack_fks;
