@@ -17,7 +17,7 @@ use Rattle.scripthash_stream.specs.Stream.{Scan, lastFrom, afterDecode}
 use Rattle.scripthash_stream.proofs.LawsDecode.{after-accepted}
 use Rattle.scripthash_stream.proofs.LawsLent.{lent, putBack}
 use Rattle.scripthash_fields.specs.Page.{nextOff, linkOf, linkOffset}
-use Rattle.scripthash_answers.specs.EntryAnswers.{PageRead}
+use Rattle.scripthash_pages.specs.EntryAnswers.{PageRead}
 use Rattle.scripthash_pages.specs.Entries.{pageScan, pageEntries, pageReadOf}
 use Rattle.book_space.specs.Space.{Space}
 use Rattle.book_keys.specs.Keys.{pageAt, linkScan, Chain, linked, walk}

@@ -1,7 +1,7 @@
 -- An extent, or none, as it goes out.
 use Prim.Native.Nat.{ℕ}
 use mathlib.Core.Option.{Option, none, some}
-use Rattle.scripthash_answers.specs.FieldAnswers.{Extent}
+use Rattle.scripthash_fields.specs.FieldAnswers.{Extent}
 
 -- Its base, 0 where there is none.
 abbrev pub baseOr0 : Option Extent → ℕ

@@ -7,12 +7,12 @@ ghost use Rattle.scripthash_stream.specs.Stream.{afterDecode};
 ghost use Rattle.scripthash_fields.specs.Page.{nextOff};
 ghost use Rattle.scripthash_pages.specs.Entries.{pageScan, lastOf, pageEntries, readCount, appendSpot, hasSpot, afterAppend, writeStream};
 ghost use Rattle.scripthash_pages.specs.Entries.{afterWriteStream};
-ghost use Rattle.scripthash_answers.specs.EntryAnswers.{tryAnswer};
+ghost use Rattle.scripthash_pages.specs.EntryAnswers.{tryAnswer};
 use crate::stream::put_bytes;
-use scripthash_answers::PageEntries;
-use scripthash_answers::PageLastFk;
-use scripthash_answers::PageSlice;
-use scripthash_answers::TryAppend;
+use scripthash_pages::PageEntries;
+use scripthash_pages::PageLastFk;
+use scripthash_pages::PageSlice;
+use scripthash_pages::TryAppend;
 use scripthash_stream::ScanStream;
 
 // How many bytes a page's stream takes, and its last number, 0 where it has none. Refuses 4, 15 to 18, 20 to 23.
@@ -121,7 +121,7 @@ pub extern "C" fn ouriscado_sh_page_try_append(page: &mut [u8], fk: u64, appende
     ensures bytes { λ r. ⌜ now (page .exit) ≡ afterAppend (now (page .entry)) (appendSpot (now (page .entry)) fk) ⌝ }
     ensures appended { λ r. ⌜ now (appended .exit) ≡ told hasSpot (appendSpot (now (page .entry)) fk) false ⌝ }
 {
-    let got = scripthash_appending::sh_page_try_append(page, fk);
+    let got = scripthash_pages::sh_page_try_append(page, fk);
     put_appended(got, appended)
 }
 
@@ -137,6 +137,6 @@ pub extern "C" fn ouriscado_sh_page_write_stream(
         ≡ afterWriteStream (now (page .entry)) (now (fks .entry)) (writeStream (now (page .entry)) (now (fks .entry))) ⌝ }
     ensures len { λ r. ⌜ now (len .exit) ≡ told (λ x. x) (writeStream (now (page .entry)) (now (fks .entry))) 0 ⌝ }
 {
-    let got = scripthash_appending::sh_page_write_stream(page, fks);
+    let got = scripthash_pages::sh_page_write_stream(page, fks);
     put_bytes(got, len)
 }

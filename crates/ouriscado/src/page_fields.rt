@@ -4,14 +4,14 @@ ghost use mathlib.Core.Bool.{true, false};
 ghost use Rattle.error.specs.Refusal.{refusalOf, told};
 ghost use Rattle.scripthash_fields.specs.Fields.{readLink, isLast, firstOff, nextOffOf, extentOf, createsOf, nFks, requireDelta};
 ghost use Rattle.scripthash_fields.specs.Fields.{streamOffOf, streamCapOf, writeLink, setExtent, setCreates, setCount, initEmpty, afterSet};
-ghost use Rattle.scripthash_answers.specs.FieldAnswers.{linkAnswer, lastAnswer, offsetAnswer, extentAnswer, createsAnswer, countAnswer};
+ghost use Rattle.scripthash_fields.specs.FieldAnswers.{linkAnswer, lastAnswer, offsetAnswer, extentAnswer, createsAnswer, countAnswer};
 ghost use Rattle.ouriscado.specs.OutPage.{baseOr0, countOr0};
-use scripthash_answers::PageCount;
-use scripthash_answers::PageCreates;
-use scripthash_answers::PageExtent;
-use scripthash_answers::PageLast;
-use scripthash_answers::PageLink;
-use scripthash_answers::PageOffset;
+use scripthash_fields::PageCount;
+use scripthash_fields::PageCreates;
+use scripthash_fields::PageExtent;
+use scripthash_fields::PageLast;
+use scripthash_fields::PageLink;
+use scripthash_fields::PageOffset;
 
 // Hands out what a link says.
 fn put_link(got: PageLink, last: &mut bool, off: &mut u64) -> u32
@@ -142,7 +142,7 @@ pub extern "C" fn ouriscado_sh_page_is_last(page: &[u8], last: &mut bool) -> u32
     ensures number { λ r. ⌜ r ≡ refusalOf (isLast (now (page .entry))) ⌝ }
     ensures last { λ r. ⌜ now (last .exit) ≡ told (λ x. x) (isLast (now (page .entry))) false ⌝ }
 {
-    put_last(scripthash_accessors::sh_page_is_last(page), last)
+    put_last(scripthash_fields::sh_page_is_last(page), last)
 }
 
 // The first page's offset, of a page with LAST. Refuses 4, 7.
@@ -160,7 +160,7 @@ pub extern "C" fn ouriscado_sh_page_next(page: &[u8], off: &mut u64) -> u32
     ensures number { λ r. ⌜ r ≡ refusalOf (nextOffOf (now (page .entry))) ⌝ }
     ensures off { λ r. ⌜ now (off .exit) ≡ told (λ x. x) (nextOffOf (now (page .entry))) 0 ⌝ }
 {
-    put_offset(scripthash_accessors::sh_page_next(page), off)
+    put_offset(scripthash_fields::sh_page_next(page), off)
 }
 
 // Writes a page's link: LAST or not, and the offset of the page that it names. Refuses 4 to 6.
@@ -169,7 +169,7 @@ pub extern "C" fn ouriscado_sh_page_write_packed(page: &mut [u8], last: bool, of
     ensures number { λ r. ⌜ r ≡ refusalOf (writeLink (now (page .entry)) last off) ⌝ }
     ensures page { λ r. ⌜ now (page .exit) ≡ afterSet (now (page .entry)) (writeLink (now (page .entry)) last off) ⌝ }
 {
-    let got = scripthash_accessors::sh_page_write_packed(page, last, off);
+    let got = scripthash_fields::sh_page_write_packed(page, last, off);
     got.refusal()
 }
 
@@ -179,7 +179,7 @@ pub extern "C" fn ouriscado_sh_page_set_last(page: &mut [u8], off: u64) -> u32
     ensures number { λ r. ⌜ r ≡ refusalOf (writeLink (now (page .entry)) true off) ⌝ }
     ensures page { λ r. ⌜ now (page .exit) ≡ afterSet (now (page .entry)) (writeLink (now (page .entry)) true off) ⌝ }
 {
-    let got = scripthash_accessors::sh_page_set_last(page, off);
+    let got = scripthash_fields::sh_page_set_last(page, off);
     got.refusal()
 }
 
@@ -189,7 +189,7 @@ pub extern "C" fn ouriscado_sh_page_set_next(page: &mut [u8], off: u64) -> u32
     ensures number { λ r. ⌜ r ≡ refusalOf (writeLink (now (page .entry)) false off) ⌝ }
     ensures page { λ r. ⌜ now (page .exit) ≡ afterSet (now (page .entry)) (writeLink (now (page .entry)) false off) ⌝ }
 {
-    let got = scripthash_accessors::sh_page_set_next(page, off);
+    let got = scripthash_fields::sh_page_set_next(page, off);
     got.refusal()
 }
 
@@ -199,7 +199,7 @@ pub extern "C" fn ouriscado_sh_page_stream_off(page: &[u8], off: &mut usize) -> 
     ensures number { λ r. ⌜ r ≡ refusalOf (streamOffOf (now (page .entry))) ⌝ }
     ensures off { λ r. ⌜ now (off .exit) ≡ told (λ x. x) (streamOffOf (now (page .entry))) 0 ⌝ }
 {
-    put_count(scripthash_accessors::sh_page_stream_off(page), off)
+    put_count(scripthash_fields::sh_page_stream_off(page), off)
 }
 
 // How many bytes a page's stream may take. Refuses 4.
@@ -208,7 +208,7 @@ pub extern "C" fn ouriscado_sh_page_stream_cap(page: &[u8], cap: &mut usize) -> 
     ensures number { λ r. ⌜ r ≡ refusalOf (streamCapOf (now (page .entry))) ⌝ }
     ensures cap { λ r. ⌜ now (cap .exit) ≡ told (λ x. x) (streamCapOf (now (page .entry))) 0 ⌝ }
 {
-    put_count(scripthash_accessors::sh_page_stream_cap(page), cap)
+    put_count(scripthash_fields::sh_page_stream_cap(page), cap)
 }
 
 // The extent that a page names, its base and how many pages it has: 0 and 0 outside version 2. Refuses 4, 8, 9.
@@ -218,7 +218,7 @@ pub extern "C" fn ouriscado_sh_page_extent(page: &[u8], base: &mut u64, n: &mut 
     ensures base { λ r. ⌜ now (base .exit) ≡ told baseOr0 (extentOf (now (page .entry))) 0 ⌝ }
     ensures count { λ r. ⌜ now (n .exit) ≡ told countOr0 (extentOf (now (page .entry))) 0 ⌝ }
 {
-    put_extent(scripthash_accessors::sh_page_extent(page), base, n)
+    put_extent(scripthash_fields::sh_page_extent(page), base, n)
 }
 
 // Makes a page name an extent, in version 2. Refuses 4, 8, 9.
@@ -227,7 +227,7 @@ pub extern "C" fn ouriscado_sh_page_set_extent(page: &mut [u8], base: u64, n: u3
     ensures number { λ r. ⌜ r ≡ refusalOf (setExtent (now (page .entry)) base n) ⌝ }
     ensures page { λ r. ⌜ now (page .exit) ≡ afterSet (now (page .entry)) (setExtent (now (page .entry)) base n) ⌝ }
 {
-    let got = scripthash_accessors::sh_page_set_extent(page, base, n);
+    let got = scripthash_fields::sh_page_set_extent(page, base, n);
     got.refusal()
 }
 
@@ -237,7 +237,7 @@ pub extern "C" fn ouriscado_sh_page_extent_creates(page: &[u8], n: &mut u32) -> 
     ensures number { λ r. ⌜ r ≡ refusalOf (createsOf (now (page .entry))) ⌝ }
     ensures creates { λ r. ⌜ now (n .exit) ≡ told (λ x. x) (createsOf (now (page .entry))) 0 ⌝ }
 {
-    put_creates(scripthash_accessors::sh_page_extent_creates(page), n)
+    put_creates(scripthash_fields::sh_page_extent_creates(page), n)
 }
 
 // Writes a page's creates, in version 2 only. Refuses 4.
@@ -246,7 +246,7 @@ pub extern "C" fn ouriscado_sh_page_set_extent_creates(page: &mut [u8], n: u32) 
     ensures number { λ r. ⌜ r ≡ refusalOf (setCreates (now (page .entry)) n) ⌝ }
     ensures page { λ r. ⌜ now (page .exit) ≡ afterSet (now (page .entry)) (setCreates (now (page .entry)) n) ⌝ }
 {
-    let got = scripthash_accessors::sh_page_set_extent_creates(page, n);
+    let got = scripthash_fields::sh_page_set_extent_creates(page, n);
     got.refusal()
 }
 
@@ -256,7 +256,7 @@ pub extern "C" fn ouriscado_sh_page_n_fks(page: &[u8], n: &mut usize) -> u32
     ensures number { λ r. ⌜ r ≡ refusalOf (nFks (now (page .entry))) ⌝ }
     ensures count { λ r. ⌜ now (n .exit) ≡ told (λ x. x) (nFks (now (page .entry))) 0 ⌝ }
 {
-    put_count(scripthash_accessors::sh_page_n_fks(page), n)
+    put_count(scripthash_fields::sh_page_n_fks(page), n)
 }
 
 // Writes a page's count. Refuses 4.
@@ -265,7 +265,7 @@ pub extern "C" fn ouriscado_sh_page_set_n_fks(page: &mut [u8], n: u16) -> u32
     ensures number { λ r. ⌜ r ≡ refusalOf (setCount (now (page .entry)) n) ⌝ }
     ensures page { λ r. ⌜ now (page .exit) ≡ afterSet (now (page .entry)) (setCount (now (page .entry)) n) ⌝ }
 {
-    let got = scripthash_accessors::sh_page_set_n_fks(page, n);
+    let got = scripthash_fields::sh_page_set_n_fks(page, n);
     got.refusal()
 }
 
@@ -284,6 +284,6 @@ pub extern "C" fn ouriscado_sh_page_init_empty(page: &mut [u8]) -> u32
     ensures number { λ r. ⌜ r ≡ refusalOf (initEmpty (now (page .entry))) ⌝ }
     ensures page { λ r. ⌜ now (page .exit) ≡ afterSet (now (page .entry)) (initEmpty (now (page .entry))) ⌝ }
 {
-    let got = scripthash_accessors::sh_page_init_empty(page);
+    let got = scripthash_fields::sh_page_init_empty(page);
     got.refusal()
 }

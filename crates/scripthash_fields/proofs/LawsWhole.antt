@@ -11,7 +11,7 @@ use Rattle.error.proofs.LawsAnswer.{refuse-yes, refuse-no}
 use Rattle.scripthash_layout.specs.Sizes.{pageSize}
 use Rattle.scripthash_fields.specs.Page.{versionOf, linkOf, isLastLink, linkOffset, linkTo, nextOff, deltaHeader, extentHeader}
 use Rattle.scripthash_fields.specs.Page.{pageOf}
-use Rattle.scripthash_answers.specs.FieldAnswers.{Link}
+use Rattle.scripthash_fields.specs.FieldAnswers.{Link}
 use Rattle.scripthash_fields.specs.Fields.{readLink, isLast, firstOff, nextOffOf, extentOf, createsOf, nFks}
 use Rattle.scripthash_fields.proofs.LawsPage.{page-yes, link-last, link-offset, link-fits}
 use Rattle.scripthash_fields.proofs.LawsPage.{length-delta, delta-version, delta-count, delta-link}

@@ -5,7 +5,7 @@ use mathlib.Core.List.{List, []}
 use mathlib.Core.Option.{Option, none, some}
 use lib.Dec.{ltb}
 use Rattle.error.specs.Refusal.{Answer, accepted, refused, refuseIf, notLast, countAboveCapacity}
-use Rattle.scripthash_answers.specs.FieldAnswers.{Link, Extent}
+use Rattle.scripthash_fields.specs.FieldAnswers.{Link, Extent}
 use Rattle.scripthash_fields.specs.Page.{setField, countOf, linkOf, extentBaseOf, extentCountOf, createsFieldOf, extentVersion}
 use Rattle.scripthash_fields.specs.Page.{namesExtent}
 use Rattle.scripthash_fields.specs.Page.{streamOff, streamCap, isLastLink, linkOffset, nextOff, linkTo, onPage, onLink, onExtent}

@@ -7,10 +7,10 @@ ghost use lib.ListN.{length, replicate};
 ghost use Rattle.scripthash_layout.specs.Sizes.{pageSize};
 ghost use Rattle.scripthash_fields.specs.Page.{versionOf, linkOf, nextOff, streamOff, linkTo, linkNamed, extentNamed};
 ghost use Rattle.scripthash_fields.specs.Fields.{readLink, firstOff, requireDelta};
-ghost use Rattle.scripthash_answers.specs.FieldAnswers.{linkAnswer, offsetAnswer, doneAnswer};
-use scripthash_answers::PageDone;
-use scripthash_answers::PageLink;
-use scripthash_answers::PageOffset;
+ghost use Rattle.scripthash_fields.specs.FieldAnswers.{linkAnswer, offsetAnswer, doneAnswer};
+use crate::answers::PageDone;
+use crate::answers::PageLink;
+use crate::answers::PageOffset;
 use scripthash_layout::SH_PAGE_BYTES;
 use scripthash_layout::SH_PAGE_SIZE;
 

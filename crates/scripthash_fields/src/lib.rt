@@ -1,6 +1,29 @@
 // The fields of a page's header: from the source's scripthash_pages.rs.
+mod accessors;
+mod answers;
 mod fields;
 
+pub use accessors::sh_page_extent;
+pub use accessors::sh_page_extent_creates;
+pub use accessors::sh_page_init_empty;
+pub use accessors::sh_page_is_last;
+pub use accessors::sh_page_n_fks;
+pub use accessors::sh_page_next;
+pub use accessors::sh_page_set_extent;
+pub use accessors::sh_page_set_extent_creates;
+pub use accessors::sh_page_set_last;
+pub use accessors::sh_page_set_n_fks;
+pub use accessors::sh_page_set_next;
+pub use accessors::sh_page_stream_cap;
+pub use accessors::sh_page_stream_off;
+pub use accessors::sh_page_write_packed;
+pub use answers::PageCount;
+pub use answers::PageCreates;
+pub use answers::PageDone;
+pub use answers::PageExtent;
+pub use answers::PageLast;
+pub use answers::PageLink;
+pub use answers::PageOffset;
 pub use fields::SH_PAGE_DELTA_VER;
 pub use fields::SH_PAGE_EXTENT_HEADER_LEN;
 pub use fields::SH_PAGE_EXTENT_VER;

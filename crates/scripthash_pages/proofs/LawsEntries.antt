@@ -19,7 +19,7 @@ use Rattle.scripthash_stream.proofs.LawsScan.{scan-accepted}
 use Rattle.scripthash_fields.specs.Page.{field, versionOf, countOf, linkOf, nextOff, namesExtent, streamOff, streamCap}
 use Rattle.scripthash_fields.proofs.LawsPage.{field-byte}
 use Rattle.scripthash_fields.proofs.LawsFields.{stream-off-within}
-use Rattle.scripthash_answers.specs.EntryAnswers.{PageRead}
+use Rattle.scripthash_pages.specs.EntryAnswers.{PageRead}
 use Rattle.scripthash_pages.specs.Entries.{Place, streamPlace, pageScan, pageEntries, pageReadOf}
 
 -- ---- the stream's place

@@ -11,7 +11,7 @@ use Rattle.buffer.specs.Bytes.{overwrite}
 use Rattle.compact.specs.Uleb128.{ulebLen, shortest}
 use Rattle.scripthash_stream.specs.Stream.{Scan, scan, lastFrom, stream, encodeStream}
 use Rattle.scripthash_stream.specs.Stream.{maxOffered}
-use Rattle.scripthash_answers.specs.EntryAnswers.{PageRead}
+use Rattle.scripthash_pages.specs.EntryAnswers.{PageRead}
 use Rattle.scripthash_fields.specs.Page.{setField, countOf, nextOff, deltaVersion, extentVersion, namesExtent, streamOff, streamCap, onPage}
 use Rattle.scripthash_fields.specs.Page.{onDelta}
 

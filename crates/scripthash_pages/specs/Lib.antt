@@ -1,3 +1,4 @@
+pub mod EntryAnswers
 pub mod Entries
 pub mod Answers
 pub mod Pack

@@ -13,7 +13,7 @@ use Rattle.buffer.proofs.LawsBytes.{length-overwrite}
 use Rattle.scripthash_layout.specs.Sizes.{pageSize}
 use Rattle.scripthash_stream.specs.Stream.{Scan, afterDecode}
 use Rattle.scripthash_stream.proofs.LawsLent.{lent, putBack, length-lent}
-use Rattle.scripthash_answers.specs.EntryAnswers.{PageRead, sliceAnswer}
+use Rattle.scripthash_pages.specs.EntryAnswers.{PageRead, sliceAnswer}
 use Rattle.scripthash_pages.specs.Entries.{pageReadOf}
 use Rattle.book_space.specs.Space.{Space}
 use Rattle.book_keys.specs.Keys.{pageAt, Chain, walk}

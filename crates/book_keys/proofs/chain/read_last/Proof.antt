@@ -9,7 +9,7 @@ use Rattle.error.specs.Refusal.{accepted, andThen}
 use Rattle.error.proofs.LawsAnswer.{then-yes, then-no}
 use Rattle.scripthash_fields.specs.Page.{versionOf, linkOf, extentBaseOf, extentCountOf, isLastLink, linkOffset, extentNamed}
 use Rattle.scripthash_pages.proofs.LawsEntries.{version-byte}
-use Rattle.scripthash_answers.specs.FieldAnswers.{offsetAnswer, doneAnswer}
+use Rattle.scripthash_fields.specs.FieldAnswers.{offsetAnswer, doneAnswer}
 use Rattle.book_keys.specs.Steps.{lastOfPage, lastRead}
 use Rattle.book_keys.proofs.LawsSound.{soundly-yes, soundly-no}
 use Rattle.book_keys.proofs.LawsPages.{field-read, first-told, first-untold, last-version, last-none, last-extent}

@@ -16,7 +16,7 @@ use Rattle.scripthash_stream.specs.Stream.{Scan, lastFrom, End, endFrom}
 use Rattle.scripthash_stream.specs.Answers.{scanAnswer}
 use Rattle.scripthash_fields.specs.Page.{linkOf, isLastLink, linkOffset, streamOf}
 use Rattle.scripthash_fields.proofs.LawsFields.{stream-off-within, read-link}
-use Rattle.scripthash_answers.specs.FieldAnswers.{Link, linkAnswer}
+use Rattle.scripthash_fields.specs.FieldAnswers.{Link, linkAnswer}
 use Rattle.scripthash_pages.specs.Entries.{pageScan}
 use Rattle.book_keys.specs.Steps.{soundLast, linkRead, linkEndOf}
 use Rattle.book_keys.proofs.LawsSound.{turned-back, let-through}

@@ -1,7 +1,7 @@
 -- `put_extent` hands out both numbers of an extent, zeros, or nothing but the refusal. Assumes nothing.
 use mathlib.Core.Path.{ap}
 use Rattle.error.proofs.LawsOut.{number-accepted, number-refused, told-accepted, told-refused}
-use Rattle.scripthash_answers.specs.FieldAnswers.{extentAnswer}
+use Rattle.scripthash_fields.specs.FieldAnswers.{extentAnswer}
 use Rattle.ouriscado.specs.OutPage.{baseOr0, countOr0}
 use borrow.Author.Needs.{needs}
 use Rattle.ouriscado.proofs.page_fields.put_extent.Statement.{statement}

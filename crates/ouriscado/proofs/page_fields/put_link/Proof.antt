@@ -1,7 +1,7 @@
 -- `put_link` hands out both values of a link, or nothing but the refusal. Assumes nothing.
 use mathlib.Core.Path.{ap}
 use Rattle.error.proofs.LawsOut.{number-accepted, number-refused, told-accepted, told-refused}
-use Rattle.scripthash_answers.specs.FieldAnswers.{linkAnswer}
+use Rattle.scripthash_fields.specs.FieldAnswers.{linkAnswer}
 use borrow.Author.Needs.{needs}
 use Rattle.ouriscado.proofs.page_fields.put_link.Statement.{statement}
 use Rattle.ouriscado.proofs.page_fields.put_link.Tie as tie

@@ -10,8 +10,8 @@ use Rattle.scripthash_layout.specs.Sizes.{pageSize}
 use Rattle.scripthash_stream.specs.Stream.{Scan}
 use Rattle.scripthash_fields.specs.Page.{nextOff}
 use Rattle.scripthash_pages.specs.Entries.{pageEntries, readCount, pageReadOf}
-use Rattle.scripthash_answers.specs.EntryAnswers.{PageRead, entriesAnswer}
-use Rattle.scripthash_answers.specs.declared.entries.PageEntries.{PageEntries}
+use Rattle.scripthash_pages.specs.EntryAnswers.{PageRead, entriesAnswer}
+use Rattle.scripthash_pages.specs.declared.answers.PageEntries.{PageEntries}
 use Rattle.scripthash_pages.proofs.LawsEntries.{entries-long, read-of}
 use Rattle.scripthash_pages.proofs.entries.sh_page_decode_slice_into.Statement.{statement}
 use Rattle.scripthash_pages.proofs.entries.sh_page_decode_slice_into.Tie as tie

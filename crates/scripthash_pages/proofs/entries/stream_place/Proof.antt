@@ -7,8 +7,8 @@ use borrow.Author.Needs.{needs}
 use lib.ListN.{length}
 use Rattle.error.specs.Refusal.{accepted, refused, refusalOf}
 use Rattle.scripthash_layout.specs.Sizes.{pageSize}
-use Rattle.scripthash_answers.specs.FieldAnswers.{doneAnswer}
-use Rattle.scripthash_answers.specs.declared.fields.PageDone.{PageDone}
+use Rattle.scripthash_fields.specs.FieldAnswers.{doneAnswer}
+use Rattle.scripthash_fields.specs.declared.answers.PageDone.{PageDone}
 use Rattle.scripthash_fields.specs.Page.{field}
 use Rattle.scripthash_fields.specs.Fields.{requireDelta}
 use Rattle.scripthash_pages.proofs.LawsPlace.{place-refused, place-at, delta-long}

@@ -13,7 +13,7 @@ use Rattle.buffer.specs.LittleEndian.{bytesOf}
 use Rattle.scripthash_layout.specs.Sizes.{pageSize}
 use Rattle.scripthash_stream.specs.Stream.{stream, maxOffered}
 use Rattle.scripthash_fields.specs.Page.{linkTo, deltaHeader, pageOf}
-use Rattle.scripthash_answers.specs.FieldAnswers.{doneAnswer}
+use Rattle.scripthash_fields.specs.FieldAnswers.{doneAnswer}
 use Rattle.scripthash_fields.proofs.LawsPage.{page-no, page-yes}
 use Rattle.scripthash_fields.proofs.LawsFields.{link-no, link-yes, set-no, set-yes}
 use Rattle.scripthash_pages.specs.Pack.{packed, packPage}

@@ -1,2 +1,0 @@
-pub mod FieldAnswers
-pub mod EntryAnswers
