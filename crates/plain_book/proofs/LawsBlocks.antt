@@ -136,24 +136,24 @@ abbrev pub GoodSpace : Book → Type 0
 GoodSpace b = Good (b .space) (places b) none
 
 -- The places of a book with a key changed.
-pub key-place : (b : Book) (key : ℕ) (list : List ℕ) (place : Place) (space : Space) → key < length (b .keys) → (j : ℕ)
-    → places (withKey key list place space b) j ≡ atKey key place (places b) j
-key-place b key list place space l j = go (eqb j key) refl
+pub key-place : (b : Book) (key : ℕ) (list : List ℕ) (place : Place) (counted : Bool) (space : Space) → key < length (b .keys) → (j : ℕ)
+    → places (withKey key list place counted space b) j ≡ atKey key place (places b) j
+key-place b key list place counted space l j = go (eqb j key) refl
   where
-    go : (x : Bool) → eqb j key ≡ x → places (withKey key list place space b) j ≡ cond x place (places b j)
+    go : (x : Bool) → eqb j key ≡ x → places (withKey key list place counted space b) j ≡ cond x place (places b j)
     go true q =
         let is = eqb-true j key q in
-        ap (λ (k : ℕ). getD (set (b .keys) key (record { list = list; place = place })) k emptyKey .place) is
+        ap (λ (k : ℕ). getD (set (b .keys) key (record { list = list; place = place; counted = counted })) k emptyKey .place) is
         ∙ ap (λ (k : Key). k .place) (getD-set-same (b .keys) key _ emptyKey l)
     go false q = ap (λ (k : Key). k .place) (getD-set-other (b .keys) key j _ emptyKey (eqb-false j key q))
 
-pub good-with : (b : Book) (key : ℕ) (list : List ℕ) (place : Place) (space : Space) → key < length (b .keys)
+pub good-with : (b : Book) (key : ℕ) (list : List ℕ) (place : Place) (counted : Bool) (space : Space) → key < length (b .keys)
     → Good space (atKey key place (places b)) none
-    → GoodSpace (withKey key list place space b)
-good-with b key list place space l g =
-    good-fewer space (atKey key place (places b)) (places (withKey key list place space b)) none
-    (λ j x h. ap slabAt (sym (key-place b key list place space l j)) ∙ h)
-    (λ j i x h. ap (pageIn i) (sym (key-place b key list place space l j)) ∙ h)
+    → GoodSpace (withKey key list place counted space b)
+good-with b key list place counted space l g =
+    good-fewer space (atKey key place (places b)) (places (withKey key list place counted space b)) none
+    (λ j x h. ap slabAt (sym (key-place b key list place counted space l j)) ∙ h)
+    (λ j i x h. ap (pageIn i) (sym (key-place b key list place counted space l j)) ∙ h)
     g
 
 -- A call keeps a book's space good.
@@ -162,11 +162,11 @@ unfolding does bookAfter
 call-space b c (refused number) e g = g
 call-space b (load key ns) (accepted o) e g =
     let (p, within, free, rises, got, is) = load-did b key ns e in
-    rw (ap (λ (x : Outcome). x .book) is) (good-with b key ns (p .place) (p .space) within (load-good (b .size) ns (b .space) (places b) key got g))
+    rw (ap (λ (x : Outcome). x .book) is) (good-with b key ns (p .place) _ (p .space) within (load-good (b .size) ns (b .space) (places b) key got g))
 call-space b (append key n) (accepted o) e g =
     let (p, within, rises, low, got, is) = append-did b key n e in
     rw (ap (λ (x : Outcome). x .book) is)
-    (good-with b key (extended (keyOf key b .list) n) (p .place) (p .space) within
+    (good-with b key (extended (keyOf key b .list) n) (p .place) _ (p .space) within
     (append-good (b .size) (length (keyOf key b .list)) (extended (keyOf key b .list) n) n (b .space) (places b) key (keyOf key b .place) refl got g))
 call-space b (read key room) (accepted o) e g =
     let (within, is) = read-did b key room e in
@@ -174,7 +174,7 @@ call-space b (read key room) (accepted o) e g =
 call-space b (drop key) (accepted o) e g =
     let (within, is) = drop-did b key e in
     rw (ap (λ (x : Outcome). x .book) is)
-    (good-with b key [] empty (freedPlace (keyOf key b .place) (b .space)) within (good-freed-place (b .space) (places b) none key (keyOf key b .place) refl g))
+    (good-with b key [] empty _ (freedPlace (keyOf key b .place) (b .space)) within (good-freed-place (b .space) (places b) none key (keyOf key b .place) refl g))
 
 -- So is a fresh one's: nobody has a block.
 pub fresh-space : (size heads : ℕ) → GoodSpace (fresh size heads)
