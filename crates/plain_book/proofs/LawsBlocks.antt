@@ -7,9 +7,7 @@ use mathlib.Core.Option.{Option, none, some}
 use mathlib.Core.Path.{_≡_, refl, sym, ap, subst, _∙_}
 use native.Mathlib.Omega.{arith}
 use lib.Dec.{eqb}
-use lib.ListN.{length, getD, set}
-use lib.Seq.{getD-set-same, getD-set-other}
-use borrow.Author.Tests.{eqb-true, eqb-false}
+use lib.ListN.{length}
 use Rattle.error.specs.Refusal.{Answer, accepted, refused}
 use Rattle.error.proofs.LawsAnswer.{accepted-inj, went-on}
 use Rattle.scripthash_layout.specs.Sizes.{pageClass, pageSize}
@@ -18,7 +16,7 @@ use Rattle.scripthash_cutting.specs.Cutting.{cutting, replaceLast}
 use Rattle.scripthash_free.specs.FreeList.{Block}
 use Rattle.plain_book.specs.Space.{Space, Taken, takeBlock, takeRun, rounded}
 use Rattle.book_rules.specs.Places.{stays, movesTo, loadsTo}
-use Rattle.plain_book.specs.Key.{Key, emptyKey, Page, Place, empty, inline, slab, pages, onePage, freedPlace, Placed, written, longer}
+use Rattle.plain_book.specs.Key.{Key, Page, Place, empty, inline, slab, pages, onePage, freedPlace, Placed, written, longer}
 use Rattle.plain_book.specs.Key.{longerPage, moved, joins, joinedTo, beginPage, appendPages, appendPlace, runPages, loadInto}
 use Rattle.plain_book.specs.Key.{loadPlace}
 use Rattle.book_rules.specs.Calls.{Call, load, append, read, drop, bookAfter}
@@ -28,7 +26,7 @@ use Rattle.plain_book.specs.Good.{Good}
 use Rattle.book_rules.proofs.LawsRules.{moves-to, loads-to}
 use Rattle.book_rules.proofs.LawsCalls.{calls-keep}
 use Rattle.plain_book.proofs.LawsMoves.{which}
-use Rattle.plain_book.proofs.LawsHistory.{all-same, load-did, append-did, read-did, drop-did, fresh-key}
+use Rattle.plain_book.proofs.LawsHistory.{all-same, load-did, append-did, read-did, drop-did, fresh-key, key-with}
 use Rattle.plain_book.proofs.LawsOwners.{none-some, atKey, good-slab, good-page, good-fewer, good-twice, good-kept, good-freed-place}
 use Rattle.plain_book.proofs.LawsTaking.{InHand, good-rounded, took-mark, rounded-mark, good-taken, good-run}
 
@@ -138,14 +136,14 @@ GoodSpace b = Good (b .space) (places b) none
 -- The places of a book with a key changed.
 pub key-place : (b : Book) (key : ℕ) (list : List ℕ) (place : Place) (counted : Bool) (space : Space) → key < length (b .keys) → (j : ℕ)
     → places (withKey key list place counted space b) j ≡ atKey key place (places b) j
-key-place b key list place counted space l j = go (eqb j key) refl
+key-place b key list place counted space l j = ap (λ (k : Key). k .place) (key-with b key new l j) ∙ inside (eqb j key)
   where
-    go : (x : Bool) → eqb j key ≡ x → places (withKey key list place counted space b) j ≡ cond x place (places b j)
-    go true q =
-        let is = eqb-true j key q in
-        ap (λ (k : ℕ). getD (set (b .keys) key (record { list = list; place = place; counted = counted })) k emptyKey .place) is
-        ∙ ap (λ (k : Key). k .place) (getD-set-same (b .keys) key _ emptyKey l)
-    go false q = ap (λ (k : Key). k .place) (getD-set-other (b .keys) key j _ emptyKey (eqb-false j key q))
+    new : Key
+    new = record { list = list; place = place; counted = counted }
+
+    inside : (t : Bool) → cond t new (keyOf j b) .place ≡ cond t place (places b j)
+    inside true = refl
+    inside false = refl
 
 pub good-with : (b : Book) (key : ℕ) (list : List ℕ) (place : Place) (counted : Bool) (space : Space) → key < length (b .keys)
     → Good space (atKey key place (places b)) none

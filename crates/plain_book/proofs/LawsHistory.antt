@@ -6,7 +6,7 @@ use mathlib.Core.List.{List, [], _∷_}
 use mathlib.Core.Logic.{_≢_}
 use mathlib.Core.Path.{_≡_, refl, sym, ap, _∙_}
 use lib.Dec.{eqb, leb}
-use lib.ListN.{length, getD, replicate}
+use lib.ListN.{length, getD, set, replicate}
 use lib.Seq.{getD-set-same, getD-set-other, set-getD}
 use borrow.Author.Tests.{leb-false, eqb-true, eqb-false}
 use Rattle.error.specs.Refusal.{Answer, accepted, refused, answered, shapeBad, keyBeyond}
@@ -86,6 +86,15 @@ all-same a (suc n) (suc i) = all-same a n i
 -- A key of a fresh book holds nothing.
 pub fresh-key : (size heads key : ℕ) → keyOf key (fresh size heads) ≡ emptyKey
 fresh-key size heads key = all-same emptyKey heads key
+
+-- A key of a book with a key changed: the new one where it is that key.
+pub key-with : (b : Book) (own : ℕ) (k : Key) → own < length (b .keys) → (j : ℕ)
+    → getD (set (b .keys) own k) j emptyKey ≡ cond (eqb j own) k (keyOf j b)
+key-with b own k l j = go (eqb j own) refl
+  where
+    go : (t : Bool) → eqb j own ≡ t → getD (set (b .keys) own k) j emptyKey ≡ cond t k (keyOf j b)
+    go true e = ap (λ (i : ℕ). getD (set (b .keys) own k) i emptyKey) (eqb-true j own e) ∙ getD-set-same (b .keys) own k emptyKey l
+    go false e = getD-set-other (b .keys) own j k emptyKey (eqb-false j own e)
 
 -- ---- what calls keep
 

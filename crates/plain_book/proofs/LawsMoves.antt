@@ -110,12 +110,14 @@ module _ (held bytes c : ℕ) (kept : Kept) (shortest : Shortest kept) (t : Tall
       record {
         class = m .slab;
         few = m .few;
-        so-far = inr
-            (record {
-              holds = m .holds;
-              moves = omega (arith, moves-now);
-              rewritten = ⊎-elim (λ g. inr (g, omega (arith, rewritten-now))) (λ g. inl (omega (arith, rewritten-now), omega (arith, rewritten-now, m .few))) (m .spare);
-            }, shortest);
+        so-far = inr (
+          record {
+            holds = m .holds;
+            moves = omega (arith, moves-now);
+            rewritten = ⊎-elim (λ g. inr (g, omega (arith, rewritten-now))) (λ g. inl (omega (arith, rewritten-now), omega (arith, rewritten-now, m .few))) (m .spare);
+          },
+          shortest,
+        );
       }
 
   -- out of a slab that moves had brought it to
@@ -126,12 +128,14 @@ module _ (held bytes c : ℕ) (kept : Kept) (shortest : Shortest kept) (t : Tall
       record {
         class = m .slab;
         few = m .few;
-        so-far = inr
-            (record {
-              holds = m .holds;
-              moves = omega (arith, moves-now, g .moves);
-              rewritten = ⊎-elim (λ (a, b). inl (omega (arith, rewritten-now, g .holds), omega (arith, rewritten-now, m .few))) (λ (a, b). absurd (omega (arith, m .few))) (g .rewritten);
-            }, shortest);
+        so-far = inr (
+          record {
+            holds = m .holds;
+            moves = omega (arith, moves-now, g .moves);
+            rewritten = ⊎-elim (λ (a, b). inl (omega (arith, rewritten-now, g .holds), omega (arith, rewritten-now, m .few))) (λ (a, b). absurd (omega (arith, m .few))) (g .rewritten);
+          },
+          shortest,
+        );
       }
 
 -- Out of a slab into a page.
@@ -224,8 +228,8 @@ append-spent end held list n (slab d off kept) s t l same i e =
           few = few;
           so-far = ⊎-elim (λ u. inl u)
               (λ (g, shortest). inr (
-              record { holds = holds; moves = g .moves; rewritten = ⊎-elim (λ u. inl u) (λ (x, y). absurd (omega arith)) (g .rewritten) },
-              shortest-longer n kept shortest,
+                record { holds = holds; moves = g .moves; rewritten = ⊎-elim (λ u. inl u) (λ (x, y). absurd (omega arith)) (g .rewritten) },
+                shortest-longer n kept shortest,
               ))
               (i .so-far);
         }
