@@ -17,7 +17,7 @@ use Rattle.scripthash_slabs.specs.Slab.{slabPayload}
 use Rattle.scripthash_pages.specs.Entries.{lastOf, Spot, spotBehind}
 use Rattle.scripthash_free.specs.FreeList.{Block}
 use Rattle.book_rules.specs.Calls.{appended}
-use Rattle.book_rules.specs.Limits.{offeredNumber}
+use Rattle.book_rules.specs.Offered.{offeredNumber}
 use Rattle.book_rules.specs.Places.{stays, movesTo}
 use Rattle.book_space.specs.Space.{Space, space, Taken, takeBlock, release}
 use Rattle.book_keys.specs.Keys.{soundly, blockAt, pageAt, slabScan, Tail, tailAt}

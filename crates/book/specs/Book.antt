@@ -9,7 +9,7 @@ use Rattle.scripthash_layout.specs.Sizes.{pageClass}
 use Rattle.scripthash_layout.specs.Head.{payloadStart, packHead}
 use Rattle.scripthash_layout.specs.declared.head.ShHeadValue.{ShHeadValue}
 use Rattle.book_rules.specs.Calls.{Told, OutcomeOf}
-use Rattle.book_rules.specs.Limits.{outOfShape}
+use Rattle.book_limits.specs.Limits.{outOfShape}
 use Rattle.book_space.specs.Space.{Space, space, Taken, shapeBroken}
 
 -- A book: the head words, and the space with the body, the mark and the free heads.

@@ -13,7 +13,7 @@ use Rattle.scripthash_stream.specs.Stream.{maxOffered, streamLen}
 use Rattle.scripthash_slabs.specs.Slab.{slabPayload}
 use Rattle.scripthash_cutting.specs.Cutting.{cutting}
 use Rattle.book_rules.specs.Calls.{loaded}
-use Rattle.book_rules.specs.Limits.{offeredList}
+use Rattle.book_rules.specs.Offered.{offeredList}
 use Rattle.book_rules.specs.Places.{loadsTo}
 use Rattle.book_space.specs.Space.{Space, space, takeBlock, takeRun}
 use Rattle.book_blocks.specs.Blocks.{writeRun}

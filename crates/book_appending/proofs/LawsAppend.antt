@@ -26,7 +26,7 @@ use Rattle.scripthash_fields.specs.Page.{countOf, linkOf, namesExtent, isLastLi
 use Rattle.scripthash_pages.specs.Entries.{pageScan, lastOf, spotBehind}
 use Rattle.scripthash_free.specs.FreeList.{Block, isBlock}
 use Rattle.scripthash_free.proofs.LawsBlock.{both}
-use Rattle.book_rules.specs.Limits.{offeredNumber}
+use Rattle.book_rules.specs.Offered.{offeredNumber}
 use Rattle.book_rules.specs.Places.{stays, movesTo}
 use Rattle.book_rules.proofs.LawsOffered.{rising-on, refused-on}
 use Rattle.book_space.specs.Space.{Space, space, takeBlock, release, shapeBroken}

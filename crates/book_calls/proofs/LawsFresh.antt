@@ -11,7 +11,7 @@ use lib.ListN.{length, replicate, length-replicate}
 use Rattle.error.specs.Refusal.{Answer, accepted, refused, refuseIf, answered, shapeBad, listTooShort}
 use Rattle.buffer.specs.Bytes.{overwrite}
 use Rattle.book_rules.specs.Calls.{Call, Told, listed, answerOf, bookAfter, answersTo}
-use Rattle.book_rules.specs.Limits.{outOfShape}
+use Rattle.book_limits.specs.Limits.{outOfShape}
 use Rattle.book_rules.specs.Recorded.{recorded}
 use Rattle.plain_book.specs.Key.{pagesOf}
 use Rattle.plain_book.specs.Book.{fresh as plainFresh, answers as plainAnswers, after as plainAfter, keyOf}

@@ -9,7 +9,7 @@ use lib.ListN.{length}
 use Rattle.error.specs.Refusal.{accepted, listTooShort}
 use Rattle.buffer.specs.Bytes.{overwrite}
 use Rattle.book_rules.specs.Calls.{Call, listed, answerOf}
-use Rattle.book_rules.specs.Limits.{outOfShape}
+use Rattle.book_limits.specs.Limits.{outOfShape}
 use Rattle.book_rules.specs.Recorded.{recorded}
 use Rattle.plain_book.specs.Book.{fresh as plainFresh, answers as plainAnswers}
 use Rattle.book.specs.Reads.{reads}

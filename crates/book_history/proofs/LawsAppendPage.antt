@@ -23,8 +23,8 @@ use Rattle.scripthash_pages.specs.Entries.{lastOf, Spot, spotBehind}
 use Rattle.scripthash_free.specs.FreeList.{Block, isBlock}
 use Rattle.scripthash_free.proofs.LawsBlock.{block-stands}
 use Rattle.book_rules.specs.Calls.{appended}
-use Rattle.book_rules.specs.Limits.{outOfShape}
-use Rattle.book_rules.proofs.LawsLimits.{in-shape}
+use Rattle.book_limits.specs.Limits.{outOfShape}
+use Rattle.book_limits.proofs.LawsLimits.{in-shape}
 use Rattle.plain_book.specs.Space.{Space as PlainSpace, Taken as PlainTaken, takeBlock as plainTake}
 use Rattle.plain_book.specs.Key.{written, longer, Page, Place, pages, lastPage, noPage, totalOf, headOf, Placed, longerPage, joins}
 use Rattle.plain_book.specs.Key.{joinedTo, begunAt, beginPage, appendPages, appendPlace}

@@ -23,9 +23,9 @@ use Rattle.scripthash_slabs.specs.Slab.{slabPayload}
 use Rattle.scripthash_cutting.specs.Cutting.{lastPageRoom}
 use Rattle.scripthash_free.specs.FreeList.{Block, isBlock}
 use Rattle.book_rules.specs.Calls.{appended}
-use Rattle.book_rules.specs.Limits.{outOfShape}
+use Rattle.book_limits.specs.Limits.{outOfShape}
 use Rattle.book_rules.specs.Places.{stays, movesTo}
-use Rattle.book_rules.proofs.LawsLimits.{in-shape}
+use Rattle.book_limits.proofs.LawsLimits.{in-shape}
 use Rattle.book_rules.proofs.LawsRules.{stays-holds, moves-to}
 use Rattle.plain_book.specs.Space.{Taken as PlainTaken}
 use Rattle.plain_book.specs.Key.{Kept, written, longer, Page, Place, empty, inline, slab, pages, lastPage, headOf, freedPlace, countedAfter}

@@ -11,8 +11,8 @@ use Rattle.error.specs.Refusal.{Answer, accepted, refused, answered}
 use Rattle.scripthash_layout.specs.Head.{packHead}
 use Rattle.scripthash_free.specs.FreeList.{Block}
 use Rattle.book_rules.specs.Calls.{Call, Told, bookAfter, answerOf, afterCalls, answersTo}
-use Rattle.book_rules.specs.Limits.{outOfShape}
-use Rattle.book_rules.proofs.LawsLimits.{in-shape}
+use Rattle.book_limits.specs.Limits.{outOfShape}
+use Rattle.book_limits.proofs.LawsLimits.{in-shape}
 use Rattle.plain_book.specs.Key.{Key, Place, empty, headOf}
 use Rattle.plain_book.specs.Space.{stackOf}
 use Rattle.plain_book.specs.Book.{Book as PlainBook, Outcome as PlainOutcome, fresh as plainFresh, does as plainDoes, after as plainAfter}

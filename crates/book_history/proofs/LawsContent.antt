@@ -21,7 +21,7 @@ use Rattle.scripthash_cutting.specs.Cutting.{lastPageRoom}
 use Rattle.scripthash_free.specs.FreeList.{Block, isBlock}
 use Rattle.scripthash_free.proofs.LawsBlock.{block-stands}
 use Rattle.book_rules.specs.Calls.{read, appended}
-use Rattle.book_rules.specs.Limits.{outOfShape}
+use Rattle.book_limits.specs.Limits.{outOfShape}
 use Rattle.plain_book.specs.Space.{Space as PlainSpace}
 use Rattle.plain_book.specs.Key.{Kept, written, Page, Place, empty, inline, slab, pages, lastPage, noPage, totalOf, headOf, pagesOf, countedAfter}
 use Rattle.plain_book.specs.Key.{Placed, appendPlace}

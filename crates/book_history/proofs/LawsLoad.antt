@@ -31,9 +31,10 @@ use Rattle.scripthash_cutting.proofs.LawsPages.{pages-allowed}
 use Rattle.scripthash_cutting.proofs.LawsRising.{rising-words, rising-left, rising-right}
 use Rattle.scripthash_free.specs.FreeList.{Block}
 use Rattle.book_rules.specs.Calls.{load, loaded}
-use Rattle.book_rules.specs.Limits.{outOfShape, offeredNumber, offeredList}
+use Rattle.book_rules.specs.Offered.{offeredNumber, offeredList}
+use Rattle.book_limits.specs.Limits.{outOfShape}
 use Rattle.book_rules.specs.Places.{loadsTo}
-use Rattle.book_rules.proofs.LawsLimits.{in-shape}
+use Rattle.book_limits.proofs.LawsLimits.{in-shape}
 use Rattle.book_rules.proofs.LawsRules.{loads-to}
 use Rattle.plain_book.specs.Space.{Space as PlainSpace, Taken as PlainTaken, takeBlock as plainTake, rounded as plainRounded}
 use Rattle.plain_book.specs.Space.{takeRun as plainTakeRun}

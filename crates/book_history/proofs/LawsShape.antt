@@ -9,7 +9,7 @@ use Rattle.error.proofs.LawsAnswer.{refuse-yes}
 use Rattle.scripthash_layout.specs.Head.{unpackHead}
 use Rattle.scripthash_free.specs.FreeList.{Names}
 use Rattle.book_rules.specs.Calls.{Call, load, append, read, drop, bookAfter, afterCalls}
-use Rattle.book_rules.specs.Limits.{outOfShape}
+use Rattle.book_limits.specs.Limits.{outOfShape}
 use Rattle.plain_book.specs.Space.{stackOf}
 use Rattle.plain_book.specs.Key.{Key, empty, headOf}
 use Rattle.plain_book.specs.Book.{Book as PlainBook, fresh as plainFresh, does as plainDoes, after as plainAfter, keyOf}

@@ -22,7 +22,7 @@ use Rattle.book_space.specs.Space.{Space}
 use Rattle.error.specs.Refusal.{accepted}
 use Rattle.error.proofs.LawsAnswer.{refuse-no, then-yes}
 use Rattle.book_rules.specs.Calls.{listed}
-use Rattle.book_rules.specs.Limits.{outOfShape}
+use Rattle.book_limits.specs.Limits.{outOfShape}
 use Rattle.plain_book.specs.Key.{pagesOf}
 use Rattle.plain_book.specs.Book.{Book as PlainBook, keyOf}
 use Rattle.plain_book.specs.Good.{GoodPlain}

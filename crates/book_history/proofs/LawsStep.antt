@@ -15,7 +15,8 @@ use Rattle.error.specs.Refusal.{Answer, accepted, refused, refuseIf, andThen, s
 use Rattle.error.proofs.LawsAnswer.{refuse-no}
 use Rattle.scripthash_layout.specs.declared.head.ShHeadValue.{ShHeadValue}
 use Rattle.book_rules.specs.Calls.{Told}
-use Rattle.book_rules.specs.Limits.{outOfShape, offeredNumber}
+use Rattle.book_rules.specs.Offered.{offeredNumber}
+use Rattle.book_limits.specs.Limits.{outOfShape}
 use Rattle.plain_book.specs.Space.{Space as PlainSpace}
 use Rattle.plain_book.specs.Key.{Place, Key, totalOf, headOf}
 use Rattle.plain_book.specs.Book.{Book as PlainBook, Outcome as PlainOutcome, keyOf, withKey, onKey as plainOnKey}

@@ -19,7 +19,7 @@ use Rattle.scripthash_free.specs.FreeList.{Block, isBlock, Adjoin, Each, IsSlab
 use Rattle.scripthash_free.proofs.LawsBlock.{bytes-from-16, block-stands, slab-stands}
 use Rattle.scripthash_free.proofs.LawsGap.{gap-filled, gap-slabs, adjoin-rises}
 use Rattle.scripthash_free.proofs.LawsFree.{pop-none, pop-yes}
-use Rattle.book_rules.specs.Places.{pageAfter}
+use Rattle.book_limits.specs.Limits.{pageAfter}
 use Rattle.plain_book.specs.Space.{Space as PlainSpace, Taken as PlainTaken, stackOf, freed, freedAll}
 use Rattle.plain_book.specs.Space.{takeMark as plainTakeMark, rounded as plainRounded, takeRun as plainTakeRun, takeFresh as plainTakeFresh}
 use Rattle.plain_book.specs.Space.{takeFrom, takeBlock as plainTake}

@@ -17,7 +17,8 @@ use Rattle.scripthash_cutting.specs.Cutting.{cutting}
 use Rattle.scripthash_cutting.proofs.LawsPages.{pages-allowed}
 use Rattle.scripthash_cutting.proofs.LawsRising.{rising-words}
 use Rattle.book_rules.specs.Calls.{load}
-use Rattle.book_rules.specs.Places.{payloadLen, loadsTo, pageAfter}
+use Rattle.book_rules.specs.Places.{payloadLen, loadsTo}
+use Rattle.book_limits.specs.Limits.{pageAfter}
 use Rattle.book_rules.proofs.LawsOffered.{offered-all}
 use Rattle.book_rules.proofs.LawsRules.{loads-to}
 use Rattle.book_space.specs.Space.{Space, space, InShape, Taken, takeBlock, takeRun}

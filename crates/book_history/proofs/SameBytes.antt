@@ -8,7 +8,7 @@ use lib.ListN.{length}
 use Rattle.error.specs.Refusal.{Answer}
 use Rattle.error.proofs.LawsAnswer.{accepted-inj}
 use Rattle.book_rules.specs.Calls.{Call, Told}
-use Rattle.book_rules.specs.Limits.{outOfShape}
+use Rattle.book_limits.specs.Limits.{outOfShape}
 use Rattle.book_rules.specs.Recorded.{recorded}
 use Rattle.plain_book.specs.Key.{Key}
 use Rattle.plain_book.specs.Book.{Book as PlainBook, fresh as plainFresh, after as plainAfter, keyOf}

@@ -16,7 +16,7 @@ use Rattle.scripthash_slabs.specs.Slab.{slabUsed, decodeSlab}
 use Rattle.scripthash_fields.specs.Page.{linkOf, createsFieldOf, namesExtent, streamCap, isLastLink, linkOffset}
 use Rattle.scripthash_pages.specs.Entries.{pageScan}
 use Rattle.scripthash_free.specs.FreeList.{Block}
-use Rattle.book_rules.specs.Limits.{outOfShape}
+use Rattle.book_limits.specs.Limits.{outOfShape}
 use Rattle.plain_book.specs.Space.{Space as PlainSpace, stackOf}
 use Rattle.plain_book.specs.Key.{Kept, Page, Place, empty, inline, slab, pages, totalOf, headOf}
 use Rattle.plain_book.specs.Book.{Book as PlainBook, keyOf}

@@ -9,7 +9,7 @@ use Rattle.scripthash_layout.specs.Sizes.{pageClass}
 use Rattle.scripthash_layout.specs.Head.{unpackHead}
 use Rattle.scripthash_free.specs.FreeList.{Names}
 use Rattle.book_rules.specs.Calls.{listed}
-use Rattle.book_rules.specs.Limits.{outOfShape}
+use Rattle.book_limits.specs.Limits.{outOfShape}
 use Rattle.plain_book.specs.Space.{stackOf}
 use Rattle.plain_book.specs.Key.{headOf, pagesOf}
 use Rattle.plain_book.specs.Book.{Book as PlainBook, keyOf}

@@ -18,7 +18,7 @@ use Rattle.scripthash_cutting.specs.Cutting.{pageRoom, cutting, chunkRanges}
 use Rattle.scripthash_cutting.proofs.LawsPages.{pages-at-most}
 use Rattle.scripthash_cutting.proofs.LawsRising.{rising-words}
 use Rattle.book_rules.specs.Calls.{Told, loaded, bookAfter}
-use Rattle.book_rules.specs.Limits.{offeredNumber, offeredList}
+use Rattle.book_rules.specs.Offered.{offeredNumber, offeredList}
 use Rattle.book_rules.specs.Places.{loadsTo}
 use Rattle.book_rules.proofs.LawsOffered.{rising-all}
 use Rattle.book_blocks.specs.Blocks.{writeRun}

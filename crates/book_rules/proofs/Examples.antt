@@ -9,8 +9,10 @@ use Rattle.scripthash_layout.specs.declared.head.ShHeadValue.the-variants.{Inli
 use Rattle.scripthash_slabs.specs.Class.{firstClass, classFor, classWithSlack}
 use Rattle.book_rules.specs.Calls.{load, append, read, drop, loaded, appended, listed, dropped}
 use Rattle.book_rules.specs.Recorded.{recordedBy, recordedAfter, recorded}
-use Rattle.book_rules.specs.Limits.{outOfShape, offeredNumber, offeredList}
-use Rattle.book_rules.specs.Places.{stays, larger, movesTo, loadsTo, pageAfter}
+use Rattle.book_rules.specs.Offered.{offeredNumber, offeredList}
+use Rattle.book_limits.specs.Limits.{outOfShape}
+use Rattle.book_rules.specs.Places.{stays, larger, movesTo, loadsTo}
+use Rattle.book_limits.specs.Limits.{pageAfter}
 
 -- A list moves to the larger of its slack class and its class by bytes: five numbers of a byte, four of 9 bytes, 256 and 257 numbers, 2,046
 -- and 2,047 bytes.

@@ -12,7 +12,7 @@ use Rattle.error.proofs.LawsAnswer.{refused≢accepted, accepted-inj, passed, r
 use Rattle.compact.specs.Uleb128.{ulebLen}
 use Rattle.scripthash_stream.specs.Stream.{Rising, streamLenFrom, streamLen}
 use Rattle.scripthash_stream.proofs.LawsEncode.{and-no}
-use Rattle.book_rules.specs.Limits.{offeredNumber, offeredList}
+use Rattle.book_rules.specs.Offered.{offeredNumber, offeredList}
 
 module _ {A : Type 0} where
   -- A number that was offered and is accepted is above the one before it, and below 2^62.

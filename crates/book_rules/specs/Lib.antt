@@ -1,5 +1,5 @@
 pub mod Calls
-pub mod Limits
+pub mod Offered
 pub mod Places
 pub mod Moves
 pub mod Recorded

@@ -5,7 +5,6 @@ use mathlib.Core.Option.{Option, none, some}
 use lib.Dec.{leb}
 use Rattle.scripthash_layout.specs.Sizes.{slabBytes, slabSlots, maxSlabCount}
 use Rattle.scripthash_slabs.specs.Class.{classByBytes, classWithSlack}
-unfoldable pub use Rattle.book_limits.specs.Limits.{pageAfter}
 
 -- The bytes of a slab's payload: two for the count, and the stream.
 abbrev pub payloadLen : ℕ → ℕ

@@ -7,7 +7,7 @@ ghost use Rattle.error.specs.Refusal.{accepted, refusalOf};
 ghost use Rattle.compact.specs.Uleb128.{ulebLen};
 ghost use Rattle.scripthash_stream.specs.Stream.{streamLen};
 ghost use Rattle.scripthash_stream.specs.Answers.{bytesAnswer};
-ghost use Rattle.book_rules.specs.Limits.{offeredNumber, offeredList};
+ghost use Rattle.book_rules.specs.Offered.{offeredNumber, offeredList};
 use error::Refusal;
 use scripthash_stream::StreamBytes;
 

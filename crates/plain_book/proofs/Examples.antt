@@ -16,7 +16,8 @@ use Rattle.plain_book.specs.Key.{written, longer, lastPage, headOf, free
 use Rattle.plain_book.specs.Key.{appendPlace, runPages, loadInto, loadPlace}
 use Rattle.book_rules.specs.Moves.{Tally, noMoves, counted, talliedBy, tallied, tallyOf}
 use Rattle.book_rules.specs.Calls.{Call, load, append, read, drop, Told, loaded, appended, listed, dropped, bookAfter, answersTo}
-use Rattle.book_rules.specs.Limits.{outOfShape, offeredNumber, offeredList}
+use Rattle.book_rules.specs.Offered.{offeredNumber, offeredList}
+use Rattle.book_limits.specs.Limits.{outOfShape}
 use Rattle.plain_book.specs.Book.{fresh, onKey, loads, appends, reads, drops, does, answers}
 
 -- An append that is accepted: the key's new place, and the records rewritten.

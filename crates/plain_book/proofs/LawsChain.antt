@@ -15,8 +15,8 @@ use Rattle.scripthash_free.proofs.LawsBlock.{block-stands}
 use Rattle.scripthash_stream.specs.Stream.{Rising, lastFrom}
 use Rattle.scripthash_stream.proofs.LawsStream.{last-append}
 use Rattle.scripthash_cutting.proofs.LawsRising.{rising-left, rising-right}
-use Rattle.book_rules.specs.Limits.{outOfShape}
-use Rattle.book_rules.proofs.LawsLimits.{in-shape}
+use Rattle.book_limits.specs.Limits.{outOfShape}
+use Rattle.book_limits.proofs.LawsLimits.{in-shape}
 use Rattle.plain_book.specs.Key.{Page, Place, empty, inline, slab, pages, lastPage, noPage}
 use Rattle.plain_book.specs.Book.{Book, keyOf}
 use Rattle.plain_book.specs.Sound.{held, FitsPage, FitPages, Fits, RisesFrom}

@@ -17,7 +17,7 @@ use Rattle.plain_book.specs.Key.{Place, empty, Key, emptyKey, headOf, pa
 use Rattle.plain_book.specs.Key.{appendPlace, loadPlace}
 use Rattle.book_rules.specs.Calls.{Call, load, append, read, drop, loaded, appended, listed, dropped, bookAfter, answerOf, keyOfCall}
 use Rattle.book_rules.specs.Calls.{afterCalls, answersTo}
-use Rattle.book_rules.specs.Limits.{outOfShape}
+use Rattle.book_limits.specs.Limits.{outOfShape}
 use Rattle.book_rules.proofs.LawsOffered.{offered-on, offered-all}
 use Rattle.plain_book.specs.Book.{Book, fresh, Outcome, onKey, keyOf, withKey, inUse, extended, loads, appends, reads, drops, does}
 use Rattle.plain_book.specs.Book.{after, answers}

@@ -8,7 +8,7 @@ use lib.ListN.{getD, set}
 use Rattle.error.specs.Refusal.{Answer, accepted, refuseIf, noRoom}
 use Rattle.scripthash_layout.specs.Sizes.{slabBytes, pageClass, pageSize}
 use Rattle.scripthash_free.specs.FreeList.{Block, gapBlocks}
-use Rattle.book_rules.specs.Places.{pageAfter}
+use Rattle.book_limits.specs.Limits.{pageAfter}
 
 -- The mark, and the freed blocks' offsets of classes 0 to 8, the last freed first.
 pub record Space : Type 0 where

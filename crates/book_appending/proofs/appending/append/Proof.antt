@@ -7,7 +7,7 @@ use borrow.Author.Needs.{needs}
 use lib.ListN.{length}
 use Rattle.error.specs.Refusal.{accepted}
 use Rattle.scripthash_layout.specs.AnswersHead.{unpackAnswer}
-use Rattle.book_rules.specs.Limits.{offeredNumber}
+use Rattle.book_rules.specs.Offered.{offeredNumber}
 use Rattle.book_space.specs.Space.{shapeBroken}
 use Rattle.book_space.proofs.LawsShape.{shape-holds}
 use Rattle.book.specs.Book.{Book}

@@ -4,7 +4,7 @@ use mathlib.Core.Path.{_≡_, refl, sym, _∙_}
 use borrow.Author.Needs.{needs}
 use lib.ListN.{length}
 use Rattle.error.specs.Refusal.{refuseIf, answered}
-use Rattle.book_rules.specs.Limits.{outOfShape}
+use Rattle.book_limits.specs.Limits.{outOfShape}
 use Rattle.book.specs.Book.{makesFresh, madeAfter}
 use Rattle.book_lists.proofs.making.fresh.Statement.{statement}
 use Rattle.book_lists.proofs.making.fresh.Tie as tie

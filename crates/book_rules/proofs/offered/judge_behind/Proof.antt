@@ -9,7 +9,7 @@ use lib.Dec.{eqb}
 use Rattle.error.specs.Refusal.{refuseIf, accepted}
 use Rattle.compact.specs.Uleb128.{ulebLen}
 use Rattle.scripthash_stream.proofs.LawsEncode.{and-no}
-use Rattle.book_rules.specs.Limits.{offeredNumber}
+use Rattle.book_rules.specs.Offered.{offeredNumber}
 use Rattle.book_rules.proofs.LawsOffered.{rising-on}
 use Rattle.book_rules.proofs.offered.judge_behind.Statement.{statement}
 use Rattle.book_rules.proofs.offered.judge_behind.Tie as tie

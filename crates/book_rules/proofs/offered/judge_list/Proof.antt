@@ -15,7 +15,7 @@ use Rattle.compact.proofs.LawsLength.{len-at-most}
 use Rattle.scripthash_stream.specs.Stream.{streamLen}
 use Rattle.scripthash_stream.specs.Answers.{bytesAnswer}
 use Rattle.scripthash_stream.proofs.LawsStream.{front}
-use Rattle.book_rules.specs.Limits.{offeredNumber, offeredList}
+use Rattle.book_rules.specs.Offered.{offeredNumber, offeredList}
 use Rattle.book_rules.proofs.LawsOffered.{offered-on, offeredFrom, from-start, from-end, from-more, from-refused}
 use Rattle.book_rules.proofs.offered.judge_list.Statement.{statement}
 use Rattle.book_rules.proofs.offered.judge_list.Tie as tie

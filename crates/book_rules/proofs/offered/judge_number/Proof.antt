@@ -5,7 +5,7 @@ use mathlib.Core.Bool.{true}
 use native.Mathlib.Omega.{arith}
 use borrow.Author.Tests.{eq-eqb, ne-eqb, le-leb, lt-leb}
 use Rattle.error.specs.Refusal.{refusalOf, refuseIf, accepted}
-use Rattle.book_rules.specs.Limits.{offeredNumber}
+use Rattle.book_rules.specs.Offered.{offeredNumber}
 use Rattle.book_rules.proofs.LawsOffered.{rising-on}
 use Rattle.book_rules.proofs.offered.judge_number.Statement.{statement}
 use Rattle.book_rules.proofs.offered.judge_number.Tie as tie

@@ -1,10 +1,9 @@
--- What can be offered to an account book; its limits are passed on.
+-- What can be offered to an account book.
 use Prim.Native.Nat.{ℕ, _^_}
 use mathlib.Core.Bool.{Bool, false, _&&_}
 use mathlib.Core.List.{List, [], _∷_}
 use lib.Dec.{leb, eqb}
 use Rattle.error.specs.Refusal.{Answer, refuseIf, offeredFirstZero, offeredBit63, offeredTooLarge, offeredNotRising}
-unfoldable pub use Rattle.book_limits.specs.Limits.{leastBody, mostBody, mostHeads, outOfShape}
 
 -- A number that is offered behind another, the first of its call or not.
 unfoldable pub offeredNumber : {A : Type 0} → Bool → ℕ → ℕ → Answer A → Answer A
