@@ -1,10 +1,11 @@
--- Rules for where a list goes, over its count and the bytes of its stream.
-use Prim.Native.Nat.{ℕ, _+_, _-_, _*_, _/_, max}
+-- Rules for where a list goes, over its count and the bytes of its stream; where a page may begin is passed on.
+use Prim.Native.Nat.{ℕ, _+_, max}
 use mathlib.Core.Bool.{Bool, cond, _&&_}
 use mathlib.Core.Option.{Option, none, some}
 use lib.Dec.{leb}
-use Rattle.scripthash_layout.specs.Sizes.{slabBytes, slabSlots, maxSlabCount, pageSize}
+use Rattle.scripthash_layout.specs.Sizes.{slabBytes, slabSlots, maxSlabCount}
 use Rattle.scripthash_slabs.specs.Class.{classByBytes, classWithSlack}
+pub use Rattle.book_limits.specs.Limits.{pageAfter}
 
 -- The bytes of a slab's payload: two for the count, and the stream.
 abbrev pub payloadLen : ℕ → ℕ
@@ -27,7 +28,3 @@ movesTo count bytes = larger (classWithSlack count) (classByBytes (payloadLen by
 -- The class of the slab that a load gives a list: by bytes; none where it goes to a run of pages.
 unfoldable pub loadsTo : ℕ → ℕ → Option ℕ
 loadsTo count bytes = cond (leb count maxSlabCount) (classByBytes (payloadLen bytes)) none
-
--- An offset rounded up to the next multiple of a page.
-abbrev pub pageAfter : ℕ → ℕ
-pageAfter off = (off + (pageSize - 1)) / pageSize * pageSize

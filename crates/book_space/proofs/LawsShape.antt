@@ -6,8 +6,8 @@ use borrow.Author.Tests.{ltb-false, eqb-true, not-false}
 use lib.ListN.{length}
 use Rattle.error.proofs.LawsAnswer.{neither}
 use Rattle.scripthash_layout.specs.Head.{payloadStart}
-use Rattle.book_rules.specs.Limits.{mostHeads}
-use Rattle.book_rules.proofs.LawsLimits.{in-shape}
+use Rattle.book_limits.specs.Limits.{mostHeads}
+use Rattle.book_limits.proofs.LawsLimits.{in-shape}
 use Rattle.book_space.specs.Space.{Space, InShape, markBad, shapeBroken}
 
 -- A mark that passed its test is a multiple of 16 between 4,096 and the body's end.

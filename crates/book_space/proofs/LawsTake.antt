@@ -18,7 +18,7 @@ use Rattle.scripthash_free.specs.FreeList.{Lists, Block, Pop, isBlock, isGap, g
 use Rattle.scripthash_free.proofs.LawsBlock.{block-stands, stands-block, slab-stands, lies-gap}
 use Rattle.scripthash_free.proofs.LawsFree.{after-accepted, carve-yes}
 use Rattle.scripthash_free.proofs.LawsGap.{gap-filled, adjoin-within, each-map}
-use Rattle.book_rules.specs.Places.{pageAfter}
+use Rattle.book_limits.specs.Limits.{pageAfter}
 use Rattle.book_space.specs.Space.{Space, space, listsOf, InShape, Taken, takeMark, rounded, takeRun, takeFresh, takePopped}
 use Rattle.book_space.specs.Space.{takeBlock, release}
 use Rattle.book_space.proofs.LawsLists.{heads-stay, size-stays, outside-stays, stands-further, Popped, popped}

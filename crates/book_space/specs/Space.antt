@@ -11,8 +11,8 @@ use Rattle.error.specs.Refusal.{Answer, accepted, refused, refuseIf, andThen, n
 use Rattle.scripthash_layout.specs.Sizes.{slabBytes, pageClass, pageSize}
 use Rattle.scripthash_layout.specs.Head.{payloadStart}
 use Rattle.scripthash_free.specs.FreeList.{Lists, lists, Block, pushAll, gapBlocks, popFree}
-use Rattle.book_rules.specs.Limits.{leastBody, mostBody, outOfShape}
-use Rattle.book_rules.specs.Places.{pageAfter}
+use Rattle.book_limits.specs.Limits.{leastBody, mostBody, outOfShape}
+use Rattle.book_limits.specs.Limits.{pageAfter}
 
 -- The body's bytes, the mark, and the nine free heads.
 pub record Space : Type 0 where

@@ -1,6 +1,6 @@
 // The shape of a space: the lengths of its body and of its heads, and its mark.
 ghost use mathlib.Core.Path.{_≡_};
-ghost use Rattle.book_rules.specs.Limits.{outOfShape};
+ghost use Rattle.book_limits.specs.Limits.{outOfShape};
 ghost use Rattle.book_space.specs.Space.{markBad, shapeBroken};
 ghost use Rattle.book_space.specs.Answers.{spaceOf};
 use crate::State;

@@ -1,6 +1,6 @@
 -- `out_of_shape` meets its contract, test by test. Assumes nothing.
 use borrow.Author.Tests.{lt-ltb, le-ltb, eq-eqb, ne-eqb}
-use Rattle.book_rules.specs.Limits.{outOfShape}
+use Rattle.book_limits.specs.Limits.{outOfShape}
 use Rattle.book_space.proofs.shape.out_of_shape.Statement.{statement}
 use Rattle.book_space.proofs.shape.out_of_shape.Tie as tie
 

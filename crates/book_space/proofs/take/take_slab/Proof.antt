@@ -5,7 +5,7 @@ use native.Mathlib.Omega.{arith}
 use Rattle.error.proofs.LawsAnswer.{answered-yes, answered-no}
 use Rattle.scripthash_layout.specs.Sizes.{slabBytes}
 use Rattle.scripthash_free.proofs.LawsBlock.{bytes-fit}
-use Rattle.book_rules.proofs.LawsRules.{bytes-mono}
+use Rattle.scripthash_layout.proofs.LawsSizes.{size-mono}
 use Rattle.book_space.specs.Space.{Space, space, Taken}
 use Rattle.book_space.specs.Answers.{spaceOf}
 use Rattle.book_space.proofs.LawsSteps.{after-taken, after-refused, mark-yes, mark-no}
@@ -25,7 +25,7 @@ module _ (t : tie.After-slab-bytes) where
   size = t .slab-bytes .ensures ∙ bytes-fit (start .args .class) (omega (arith, start .pre .1))
 
   few : slabBytes (start .args .class) ≤ 2048
-  few = bytes-mono {c = start .args .class} {d = 7} (start .pre .1)
+  few = size-mono 4 {c = start .args .class} {d = 7} (start .pre .1)
 
 slab-bytes-requires : tie.Need-slab-bytes-requires
 slab-bytes-requires c κs = search needs
