@@ -81,13 +81,15 @@ module _ (b : Book) (key : ℕ) where
       -- Its word tells no place.
       pub drop-nowhere : {number : ℕ} → unpackHead (wordOf key b) ≡ refused number → drops b key ≡ refused keyUnsound
       unfolding drops
-      drop-nowhere e = key-there b key _ whole h ∙ then-no (content (b .space) (wordOf key b)) _ (content-nowhere (b .space) (wordOf key b) e)
+      drop-nowhere e = key-there b key _ whole h
+          ∙ then-no (content (b .space) (wordOf key b)) _ (content-nowhere (b .space) (wordOf key b) e)
 
       -- Its place decides.
       pub drop-there : (place : ShHeadValue) → unpackHead (wordOf key b) ≡ accepted place → drops b key ≡ dropsAt b key place
       unfolding drops dropsAt
       drop-there place e =
-          key-there b key _ whole h ∙ ap (λ (a : Answer Content). andThen a (λ c. accepted (dropping key c b))) (content-at (b .space) (wordOf key b) place e)
+          key-there b key _ whole h
+          ∙ ap (λ (a : Answer Content). andThen a (λ c. accepted (dropping key c b))) (content-at (b .space) (wordOf key b) place e)
 
 -- ---- pages given back
 
@@ -162,7 +164,8 @@ walk-turn (suc k) s last prev off left offs c e met within count =
     let w = walk-step k s last prev off c e in ⊎-elim (by-end (w .page) (w .is)) (by-rest (w .page) (w .is)) (w .goes)
   where
     inside : (p : Scan) → linkScan s prev off ≡ accepted p → given off s .mark ≤ length (given off s .body)
-    inside p is = let size = given-size s off (page-stands s within prev off p is) in let mark = release-mark (record { class = pageClass; off = off } ∷ []) s in omega arith
+    inside p is = let size = given-size s off (page-stands s within prev off p is) in let mark =
+        release-mark (record { class = pageClass; off = off } ∷ []) s in omega arith
 
     by-end : (p : Scan) → linkScan s prev off ≡ accepted p → Ends last off p c → Turn s off left offs
     by-end p is d =
@@ -192,7 +195,8 @@ walk-turn (suc k) s last prev off left offs c e met within count =
               last = last;
               prev = next;
               chain = g .rest;
-              walks = walk-same k s (given off s) last next (linkOffset (linkOf (pageAt s off))) (g .rest) (given-same s within prev off p is) (g .walks);
+              walks = walk-same k s (given off s) last next (linkOffset (linkOf (pageAt s off))) (g .rest)
+                  (given-same s within prev off p is) (g .walks);
               met = refl;
             };
           };
@@ -200,7 +204,8 @@ walk-turn (suc k) s last prev off left offs c e met within count =
 
 -- A turn of giving back the pages that are left.
 pub page-turn : (s : Space) (off left : ℕ) (offs : List ℕ) → 0 < left → PagesLeft s off left offs → Turn s off left offs
-page-turn s off left offs h p = let w = p .rest h in walk-turn (w .most) s (w .last) (w .prev) off left offs (w .chain) (w .walks) (w .met) (p .within) (p .count)
+page-turn s off left offs h p = let w =
+    p .rest h in walk-turn (w .most) s (w .last) (w .prev) off left offs (w .chain) (w .walks) (w .met) (p .within) (p .count)
 
 -- No page given back changes nothing.
 no-pages : (s : Space) → release (pageBlocks []) s ≡ s
@@ -232,7 +237,8 @@ part-inner : (b : List ℕ) (o k i n : ℕ) → o + k ≤ length b → i + n ≤
 unfolding part
 part-inner b o k i n within h =
     let long = length-part b o k within in
-    sym (part-left (take k (drop o b)) (drop k (drop o b)) i n (omega arith)) ∙ ap (λ (l : List ℕ). take n (drop i l)) (take-append-drop k (drop o b))
+    sym (part-left (take k (drop o b)) (drop k (drop o b)) i n (omega arith))
+    ∙ ap (λ (l : List ℕ). take n (drop i l)) (take-append-drop k (drop o b))
     ∙ ap (take n) (drop-drop i o b)
 
 -- A page's link, as it is read from the body.

@@ -25,13 +25,15 @@ module _ {A : Type 0} (b : Book) (key : ℕ) (after : Answer A) where
   pub key-beyond : shapeBroken (b .space) (length (b .heads)) ≡ false → length (b .heads) ≤ key → onKey b key after ≡ refused keyBeyond
   unfolding onKey
   key-beyond e h =
-      refuse-no (shapeBroken (b .space) (length (b .heads))) shapeBad _ e ∙ refuse-yes (leb (length (b .heads)) key) keyBeyond after (le-leb (length (b .heads)) key h)
+      refuse-no (shapeBroken (b .space) (length (b .heads))) shapeBad _ e
+      ∙ refuse-yes (leb (length (b .heads)) key) keyBeyond after (le-leb (length (b .heads)) key h)
 
   -- Both tests are passed.
   pub key-there : shapeBroken (b .space) (length (b .heads)) ≡ false → key < length (b .heads) → onKey b key after ≡ after
   unfolding onKey
   key-there e h =
-      refuse-no (shapeBroken (b .space) (length (b .heads))) shapeBad _ e ∙ refuse-no (leb (length (b .heads)) key) keyBeyond after (lt-leb (length (b .heads)) key h)
+      refuse-no (shapeBroken (b .space) (length (b .heads))) shapeBad _ e
+      ∙ refuse-no (leb (length (b .heads)) key) keyBeyond after (lt-leb (length (b .heads)) key h)
 
 -- ---- what a call does
 

@@ -66,7 +66,8 @@ then-then (refused number) f g = refl
 -- A list loaded into a slab, by what placing it tells.
 module _ (b : Book) (key : ℕ) (ns : List ℕ) (class : ℕ) where
   -- The load is a placing, and then the key's place.
-  slab-load : loadInto b key ns (some class) ≡ andThen (placesInto (b .space) ns (some class)) (λ p. accepted (loading key (p .place) 0 (p .space) b))
+  slab-load : loadInto b key ns (some class) ≡ andThen (placesInto (b .space) ns (some class))
+      (λ p. accepted (loading key (p .place) 0 (p .space) b))
   unfolding loadInto placesInto
   slab-load =
       then-then (takeBlock class (b .space)) (λ t. record { place = Slab class (length ns) (t .off); space = filled t (slabPayload ns) })
@@ -87,7 +88,12 @@ module _ (b : Book) (key : ℕ) (ns : List ℕ) (class : ℕ) where
 -- A list of at most 65,535 numbers is cut into at most 163 parts.
 pub parts-few : (ns : List ℕ) → Judged ns → length (cutting ns) ≤ 163
 parts-few ns j =
-    omega (arith, j .few, pages-at-most pageRoom (omega arith) (omega arith) ns (rising-words 0 ns (rising-below (2 ^ 62) (2 ^ 63) 0 ns (omega arith) (j .rises))))
+    omega (
+      arith,
+      j .few,
+      pages-at-most pageRoom (omega arith) (omega arith) ns
+          (rising-words 0 ns (rising-below (2 ^ 62) (2 ^ 63) 0 ns (omega arith) (j .rises))),
+    )
 
 -- So a lent list of that length is long enough for its ranges.
 pub all-cut : (ns : List ℕ) → Judged ns → chunkRanges 163 ns ≡ accepted (length (cutting ns))
@@ -103,7 +109,9 @@ module _ (b : Book) (key : ℕ) (ns : List ℕ) (count : ℕ) (parts : count ≡
 
   -- A run that is taken is written, and its last page is the key's place.
   pub run-loaded : {off : ℕ} (t : Space) → takeRun count (b .space) ≡ accepted (record { off = off; space = t })
-      → loadInto b key ns none ≡ accepted (loading key (Extent (lastOfRun off count)) count (space (writeRun off count (length ns) (t .body) off (cutting ns)) (t .mark) (t .free)) b)
+      → loadInto b key ns none
+      ≡ accepted (loading key (Extent (lastOfRun off count)) count
+      (space (writeRun off count (length ns) (t .body) off (cutting ns)) (t .mark) (t .free)) b)
   unfolding loadInto
   run-loaded t e = rw parts (then-yes (takeRun (length (cutting ns)) (b .space)) _ (rw parts at e))
 
@@ -178,7 +186,8 @@ module _ (b : Book) (key : ℕ) (ns : List ℕ) where
     module _ (known : key < length (b .heads)) where
       -- What comes after the key.
       keyed : loads b key ns
-          ≡ refuseIf (not (eqb (wordOf key b) 0)) keyInUse (refuseIf (ltb maxOffered (length ns)) tooManyOffered (offeredList true 0 ns (loadAt b key ns)))
+          ≡ refuseIf (not (eqb (wordOf key b) 0)) keyInUse
+          (refuseIf (ltb maxOffered (length ns)) tooManyOffered (offeredList true 0 ns (loadAt b key ns)))
       unfolding loads onKey
       keyed = refuse-no _ _ _ good ∙ refuse-no _ _ _ (lt-leb (length (b .heads)) key known)
 

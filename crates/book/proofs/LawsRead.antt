@@ -48,13 +48,15 @@ module _ (b : Book) (key room : ℕ) where
         pub read-short : room < length (c .numbers) → reads b key room ≡ refused listTooShort
         unfolding reads
         read-short k =
-            key-there b key _ whole h ∙ then-yes (content (b .space) (wordOf key b)) _ is ∙ refuse-yes (ltb room (length (c .numbers))) _ _ (lt-ltb room (length (c .numbers)) k)
+            key-there b key _ whole h ∙ then-yes (content (b .space) (wordOf key b)) _ is
+            ∙ refuse-yes (ltb room (length (c .numbers))) _ _ (lt-ltb room (length (c .numbers)) k)
 
         -- It has.
         pub read-there : length (c .numbers) ≤ room → reads b key room ≡ accepted (reading c b)
         unfolding reads
         read-there k =
-            key-there b key _ whole h ∙ then-yes (content (b .space) (wordOf key b)) _ is ∙ refuse-no (ltb room (length (c .numbers))) _ _ (le-ltb room (length (c .numbers)) k)
+            key-there b key _ whole h ∙ then-yes (content (b .space) (wordOf key b)) _ is
+            ∙ refuse-no (ltb room (length (c .numbers))) _ _ (le-ltb room (length (c .numbers)) k)
 
 -- A read tells what an answer of its definition says, and its list is left as that says.
 abbrev pub ReadDoes : Answer Outcome → List ℕ → List ℕ → Answer Counted → Type 0
@@ -68,6 +70,7 @@ read-no a out e = (rw e, rw e)
 -- A read that tells how long the list is, and writes it to the lent one's start.
 pub read-yes : (a : Answer Outcome) (b : Book) (c : Content) (counts : Counts) (before after : List ℕ) → a ≡ accepted (reading c b)
     → countsOf c ≡ counts
-    → after ≡ overwrite before 0 (c .numbers) → ReadDoes a before after (accepted (record { length = counts .length; pages = counts .pages }))
+    → after ≡ overwrite before 0 (c .numbers)
+    → ReadDoes a before after (accepted (record { length = counts .length; pages = counts .pages }))
 unfolding answered listAfter
 read-yes a b c counts before after e n w = (rw (e, ← n), rw e w)

@@ -25,7 +25,8 @@ unfolding loadsTo classFor firstClass
 loads-at = (refl, refl, refl, refl)
 
 -- Four numbers stay in a slab of class 0, five have no slots there, and 15 bytes don't fit.
-pub stays-at : (stays 0 4 14 ≡ true) × (stays 0 5 5 ≡ false) × (stays 0 4 15 ≡ false) × (stays 6 256 1022 ≡ true) × (stays 7 257 257 ≡ false)
+pub stays-at : (stays 0 4 14 ≡ true) × (stays 0 5 5 ≡ false) × (stays 0 4 15 ≡ false) × (stays 6 256 1022 ≡ true)
+    × (stays 7 257 257 ≡ false)
 unfolding stays
 stays-at = (refl, refl, refl, refl, refl)
 
@@ -40,7 +41,8 @@ abbrev pub offering : List ℕ → ℕ
 offering ns = refusalOf (offeredList {A = Unit {0}} true 0 ns (accepted tt))
 
 -- Numbers are judged one by one, each by the first test that it fails.
-pub offered-at : (offering (0 ∷ []) ≡ 12) × (offering (2 ^ 63 ∷ []) ≡ 13) × (offering (2 ^ 62 ∷ []) ≡ 14) × (offering (5 ∷ 3 ∷ 2 ^ 63 ∷ []) ≡ 32)
+pub offered-at : (offering (0 ∷ []) ≡ 12) × (offering (2 ^ 63 ∷ []) ≡ 13) × (offering (2 ^ 62 ∷ []) ≡ 14)
+    × (offering (5 ∷ 3 ∷ 2 ^ 63 ∷ []) ≡ 32)
     × (offering (5 ∷ 0 ∷ []) ≡ 32) × (offering (5 ∷ (2 ^ 62 - 1) ∷ []) ≡ 0)
 unfolding offeredList offeredNumber refuseIf
 offered-at = (refl, refl, refl, refl, refl, refl)
@@ -51,8 +53,10 @@ rounded-at = (refl, refl, refl)
 
 -- What is recorded for key 0: a drop ends it, a load and an append record, and a call that is turned back or on another key doesn't.
 pub recorded-at : recorded 0 (append 0 4 ∷ drop 0 ∷ load 0 (5 ∷ 9 ∷ []) ∷ append 0 3 ∷ append 1 7 ∷ append 0 12 ∷ read 0 3 ∷ [])
-    (accepted (appended (record { place = Inline 4 1; rewritten = 0 })) ∷ accepted (dropped (record { length = 1 })) ∷ accepted (loaded (record { pages = 0 })) ∷ refused 32
-    ∷ accepted (appended (record { place = Inline 7 1; rewritten = 0 })) ∷ accepted (appended (record { place = Slab 0 3 4096; rewritten = 0 }))
+    (accepted (appended (record { place = Inline 4 1; rewritten = 0 })) ∷ accepted (dropped (record { length = 1 })) ∷ accepted
+    (loaded (record { pages = 0 })) ∷ refused 32
+    ∷ accepted (appended (record { place = Inline 7 1; rewritten = 0 })) ∷ accepted
+    (appended (record { place = Slab 0 3 4096; rewritten = 0 }))
     ∷ accepted (listed (record { numbers = 5 ∷ 9 ∷ 12 ∷ []; pages = 0 })) ∷ []) []
     ≡ 5 ∷ 9 ∷ 12 ∷ []
 unfolding recorded recordedAfter recordedBy

@@ -49,7 +49,8 @@ module _ {A : Type 0} where
       → offeredList first prev ns after ≡ after
   unfolding offeredList Rising
   rising-all first prev [] after h = refl
-  rising-all first prev (n ∷ ns) after h = rising-on first prev n (offeredList false n ns after) (h .0) (h .1) ∙ rising-all false n ns after (h .2)
+  rising-all first prev (n ∷ ns) after h =
+      rising-on first prev n (offeredList false n ns after) (h .0) (h .1) ∙ rising-all false n ns after (h .2)
 
 module _ {A B : Type 0} where
   -- A number that is refused by itself is refused whatever comes after it.

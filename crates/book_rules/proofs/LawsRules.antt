@@ -115,7 +115,8 @@ moves-to count bytes {c} e =
 
     grown : (f : From (classWithSlack count) (classByBytes (payloadLen bytes)) c) → f .one ≤ c → f .other ≤ c → (d : ℕ)
         → stays d count bytes ≡ false → d < c
-    grown f left right d s = go (leb count (slabSlots d)) refl (leb (payloadLen bytes) (slabBytes d)) refl (stays-parts d count bytes (few f) s)
+    grown f left right d s =
+        go (leb count (slabSlots d)) refl (leb (payloadLen bytes) (slabBytes d)) refl (stays-parts d count bytes (few f) s)
       where
         go : (x : Bool) → leb count (slabSlots d) ≡ x → (y : Bool) → leb (payloadLen bytes) (slabBytes d) ≡ y → x && y ≡ false → d < c
         go false e y e' q =

@@ -55,14 +55,16 @@ module _ (lo hi : ℕ) where
       let fits : b .off + 8 ≤ length (l .body) = omega (arith, bytes-from-16 (b .class), e .0 .1) in
       let long : length (pushed (b .class) (b .off) l .body) ≡ length (l .body) = length-pushed (b .class) (b .off) l fits in
       let near : (o + n ≤ b .off) ⊎ (b .off + 8 ≤ o)
-      = ⊎-elim (λ (w : o + n ≤ lo). inl (omega (arith, e .0 .0))) (λ (w : hi ≤ o). inr (omega (arith, bytes-from-16 (b .class), e .0 .1))) apart in
+      = ⊎-elim (λ (w : o + n ≤ lo). inl (omega (arith, e .0 .0))) (λ (w : hi ≤ o). inr (omega (arith, bytes-from-16 (b .class), e .0 .1)))
+      apart in
       outside-stays bs (pushed (b .class) (b .off) l) (e .1) (omega arith) o n apart ∙ pushed-apart (b .class) (b .off) l fits o n near
 
 -- A block that can stand below an end can stand below a later one.
 pub stands-further : (class off end later : ℕ) → end ≤ later → isBlock class off end ≡ true → isBlock class off later ≡ true
 stands-further class off end later h e =
     let b = block-stands class off end e in
-    stands-block class off later (record { class-to-8 = b .class-to-8; aligned = b .aligned; begins = b .begins; ends = omega (arith, b .ends) })
+    stands-block class off later
+    (record { class-to-8 = b .class-to-8; aligned = b .aligned; begins = b .begins; ends = omega (arith, b .ends) })
 
 -- What holds of a block holds of each of a list of that one.
 pub each-one : (P : Block → Type 0) (b : Block) → P b → Each P (b ∷ [])

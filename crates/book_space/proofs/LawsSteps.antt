@@ -79,4 +79,5 @@ pub release-pushed : (class off : ℕ) (s : Space) (l : Lists) → isBlock class
     → l ≡ after (pushFree class off (listsOf s)) (listsOf s)
     → withLists l s ≡ release (record { class = class; off = off } ∷ []) s
 unfolding release pushAll
-release-pushed class off s l good e = ap (λ (x : Lists). withLists x s) (e ∙ after-accepted _ (listsOf s) (push-yes class off (listsOf s) good))
+release-pushed class off s l good e =
+    ap (λ (x : Lists). withLists x s) (e ∙ after-accepted _ (listsOf s) (push-yes class off (listsOf s) good))

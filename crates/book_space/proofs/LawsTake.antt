@@ -63,7 +63,8 @@ module _ (s : Space) (i : InShape s) where
 
   -- It can be carved.
   pub gap-carves : isGap (s .mark) (pageAfter (s .mark)) (length (s .body)) ≡ true
-  gap-carves = lies-gap (s .mark) (pageAfter (s .mark)) (length (s .body)) (record { aligned = i .aligned; begins = i .begins; ends = gap-ends })
+  gap-carves = lies-gap (s .mark) (pageAfter (s .mark)) (length (s .body))
+      (record { aligned = i .aligned; begins = i .begins; ends = gap-ends })
 
   -- Its blocks lie in it.
   gap-within : Each (Within (s .mark) (pageAfter (s .mark))) (gapBlocks (s .mark) (pageAfter (s .mark)))
@@ -95,7 +96,8 @@ module _ (pages : ℕ) (s : Space) (i : InShape s) where
   -- One that fits is taken, with the free lists after carving the gap.
   pub run-yes : (l : Lists) → l ≡ after (carveGap (s .mark) (pageAfter (s .mark)) (listsOf s)) (listsOf s)
       → pageAfter (s .mark) + pages * pageSize ≤ length (s .body)
-      → takeRun pages s ≡ accepted (record { off = pageAfter (s .mark); space = space (l .body) (pageAfter (s .mark) + pages * pageSize) (l .heads) })
+      → takeRun pages s ≡ accepted
+      (record { off = pageAfter (s .mark); space = space (l .body) (pageAfter (s .mark) + pages * pageSize) (l .heads) })
   unfolding takeRun rounded
   run-yes l e h =
       let r = rounded-kept s i in
@@ -136,7 +138,8 @@ pub record Ran (pages : ℕ) (s : Space) (t : Taken) : Type 0 where
 
 -- A page at a multiple of 4,096 from 4,096 on, that ends at or below an end, can stand there.
 page-stands : (off end : ℕ) → off % pageSize ≡ 0 → payloadStart ≤ off → off + pageSize ≤ end → isBlock pageClass off end ≡ true
-page-stands off end aligned begins ends = stands-block pageClass off end (record { class-to-8 = omega arith; aligned = aligned; begins = begins; ends = ends })
+page-stands off end aligned begins ends =
+    stands-block pageClass off end (record { class-to-8 = omega arith; aligned = aligned; begins = begins; ends = ends })
 
 -- A run that is taken from a space in shape promises that.
 pub run-ran : (pages : ℕ) (s : Space) {t : Taken} → InShape s → takeRun pages s ≡ accepted t → Ran pages s t

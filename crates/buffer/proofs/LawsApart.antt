@@ -13,7 +13,8 @@ use Rattle.buffer.proofs.LawsBytes.{length-overwrite}
 pub overwrite-left : (xs rest : List ℕ) (o : ℕ) (ys : List ℕ) → o + length ys ≤ length xs
     → overwrite (xs ++ rest) o ys ≡ overwrite xs o ys ++ rest
 unfolding overwrite
-overwrite-left xs rest o ys h = rw (take-append-le o xs rest (omega arith), drop-append-le (o + length ys) xs rest h, append-assoc, append-assoc)
+overwrite-left xs rest o ys h =
+    rw (take-append-le o xs rest (omega arith), drop-append-le (o + length ys) xs rest h, append-assoc, append-assoc)
 
 -- a write into the second
 pub overwrite-right : (xs rest : List ℕ) (i : ℕ) (ys : List ℕ) → overwrite (xs ++ rest) (length xs + i) ys ≡ xs ++ overwrite rest i ys
@@ -29,7 +30,8 @@ at-seam xs rest o ys zs h =
     ap (λ (b : List ℕ). overwrite b (length xs) zs) (overwrite-left xs rest o ys h)
     ∙ ap (λ (p : ℕ). overwrite (overwrite xs o ys ++ rest) p zs) (sym kept) ∙ overwrite-right (overwrite xs o ys) rest 0 zs
     ∙ sym (overwrite-left xs (overwrite rest 0 zs) o ys h)
-    ∙ ap (λ (b : List ℕ). overwrite b o ys) (sym (overwrite-right xs rest 0 zs) ∙ ap (λ (p : ℕ). overwrite (xs ++ rest) p zs) (add-zero (length xs)))
+    ∙ ap (λ (b : List ℕ). overwrite b o ys) (sym (overwrite-right xs rest 0 zs)
+    ∙ ap (λ (p : ℕ). overwrite (xs ++ rest) p zs) (add-zero (length xs)))
 
 -- two writes that lie apart may come in either order
 pub overwrite-apart : (b : List ℕ) (o : ℕ) (ys : List ℕ) (p : ℕ) (zs : List ℕ) → o + length ys ≤ p → p ≤ length b

@@ -49,7 +49,8 @@ formAt-append (b ∷ []) rest h =
     ⊎-elim (λ (p : b < 128). rw (lt-leb 128 b p)) (λ (q : 128 ≤ b). absurd (false≢true (rw (le-leb 128 b q) at h))) (lt-or-ge b 128)
 formAt-append (b ∷ c ∷ f) rest h =
     ⊎-elim (λ (p : b < 128). absurd (false≢true (rw (lt-leb 128 b p) at h)))
-    (λ (q : 128 ≤ b). let k : isForm (c ∷ f) ≡ true = rw (le-leb 128 b q) at h in rw (le-leb 128 b q) (ap (λ (l : List ℕ). b ∷ l) (formAt-append (c ∷ f) rest k)))
+    (λ (q : 128 ≤ b). let k : isForm (c ∷ f) ≡ true = rw (le-leb 128 b q) at h in
+    rw (le-leb 128 b q) (ap (λ (l : List ℕ). b ∷ l) (formAt-append (c ∷ f) rest k)))
     (lt-or-ge b 128)
 
 -- the form at the start of some bytes, where it is whole, is that of the bytes with anything behind them
@@ -89,7 +90,8 @@ len-least-cons b [] = omega (arith, len-small (b % 128 + 128 * 0) (omega arith))
 len-least-cons b (c ∷ f) =
     let quotient : (b % 128 + 128 * value (c ∷ f)) / 128 ≡ value (c ∷ f) = omega arith in
     ⊎-elim (λ (p : b % 128 + 128 * value (c ∷ f) < 128). omega (arith, len-small (b % 128 + 128 * value (c ∷ f)) p))
-    (λ (q : 128 ≤ b % 128 + 128 * value (c ∷ f)). rw (len-large (b % 128 + 128 * value (c ∷ f)) q, quotient) (omega (arith, len-least-cons c f)))
+    (λ (q : 128 ≤ b % 128 + 128 * value (c ∷ f)). rw (len-large (b % 128 + 128 * value (c ∷ f)) q, quotient)
+    (omega (arith, len-least-cons c f)))
     (lt-or-ge (b % 128 + 128 * value (c ∷ f)) 128)
 
 pub len-least : (f : List ℕ) → isForm f ≡ true → ulebLen (value f) ≤ length f

@@ -90,7 +90,13 @@ over-later i b [] h =
 over-later i b (d ∷ f) h =
     let place : i + suc (suc (length f)) ≡ i + 1 + suc (length f) = omega arith in
     ⊎-elim (λ (p : i < 9). let later : 9 - i ≡ suc (9 - (i + 1)) = omega arith in rw (later, place))
-    (λ (w : (i ≡ 9) × (piece b ≤ 1)). rw (w .0, le-ltb 1 (piece b) (w .1), lt-ltb 10 (9 + suc (suc (length f))) (omega arith), lt-ltb 10 (10 + suc (length f)) (omega arith), or-right))
+    (λ (w : (i ≡ 9) × (piece b ≤ 1)). rw (
+      w .0,
+      le-ltb 1 (piece b) (w .1),
+      lt-ltb 10 (9 + suc (suc (length f))) (omega arith),
+      lt-ltb 10 (10 + suc (length f)) (omega arith),
+      or-right,
+    ))
     (passes-no i b h)
 
 -- the next piece has 128 times the weight
@@ -151,7 +157,8 @@ read-two-at buf off h k l =
     let long : 1 < length bs = simp length-drop (omega arith) in
     let first : getD bs 0 0 ≡ getD buf off 0 = getD-drop off buf 0 0 ∙ ap (λ (i : ℕ). getD buf i 0) (add-zero off) in
     let second : getD bs 1 0 ≡ getD buf (off + 1) 0 = getD-drop off buf 1 0 in
-    let sum : 0 + piece (getD bs 0 0) * 2 ^ (7 * 0) + piece (getD bs 1 0) * 2 ^ (7 * 1) ≡ getD buf off 0 % 128 + 128 * getD buf (off + 1) 0 = omega arith in
+    let sum : 0 + piece (getD bs 0 0) * 2 ^ (7 * 0) + piece (getD bs 1 0) * 2 ^ (7 * 1)
+    ≡ getD buf off 0 % 128 + 128 * getD buf (off + 1) 0 = omega arith in
     sym (from-start bs) ∙ at-more bs 0 0 (omega arith) refl (omega arith) ∙ at-last bs 1 _ long refl (omega arith)
     ∙ ap (λ (v : ℕ). accepted (record { value = v; len = 2 })) sum
 
@@ -167,9 +174,20 @@ pub room : (i acc b : ℕ) → passes i b ≡ false → acc < 2 ^ (7 * i) → Ro
 room i acc b h k =
     let up : 2 ^ (7 * (i + 1)) ≡ 2 ^ (7 * i) * 128 = weight i in
     let most : piece b * 2 ^ (7 * i) ≤ 127 * 2 ^ (7 * i) = mul-le-mul-right (2 ^ (7 * i)) (omega arith) in
-    ⊎-elim (λ (p : i < 9). let low : 2 ^ (7 * (i + 1)) ≤ 2 ^ 63 = pow-mono {i = 7 * (i + 1)} {j = 63} (omega arith) in record { placed = mod-eq-of-lt {n = piece b * 2 ^ (7 * i)} {m = 2 ^ 64} (omega arith); added = omega arith; next = omega arith; index = omega arith })
+    ⊎-elim (λ (p : i < 9). let low : 2 ^ (7 * (i + 1)) ≤ 2 ^ 63 = pow-mono {i = 7 * (i + 1)} {j = 63} (omega arith) in
+    record {
+      placed = mod-eq-of-lt {n = piece b * 2 ^ (7 * i)} {m = 2 ^ 64} (omega arith);
+      added = omega arith;
+      next = omega arith;
+      index = omega arith;
+    })
     (λ (w : (i ≡ 9) × (piece b ≤ 1)).
     let one : piece b * 2 ^ (7 * i) ≤ 1 * 2 ^ (7 * i) = mul-le-mul-right (2 ^ (7 * i)) (w .1) in
     let top : 2 ^ (7 * i) ≡ 2 ^ 63 = ap (λ (x : ℕ). 2 ^ (7 * x)) (w .0) in
-    record { placed = mod-eq-of-lt {n = piece b * 2 ^ (7 * i)} {m = 2 ^ 64} (omega arith); added = omega arith; next = omega arith; index = omega arith })
+    record {
+      placed = mod-eq-of-lt {n = piece b * 2 ^ (7 * i)} {m = 2 ^ 64} (omega arith);
+      added = omega arith;
+      next = omega arith;
+      index = omega arith;
+    })
     (passes-no i b h)

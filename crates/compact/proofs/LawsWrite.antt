@@ -47,7 +47,8 @@ module _ {before : List ℕ} {n : ℕ} {dst : List ℕ} {rest i : ℕ} (w : Writ
     fits = w .fits;
     same = simp length-set (w .same);
     place = omega (arith, w .place, len-large rest h);
-    bytes = sym (overwrite-step dst i (rest % 128 + 128) (shortest (rest / 128)) inside) ∙ ap (overwrite dst i) (sym (shortest-large rest h)) ∙ w .bytes;
+    bytes = sym (overwrite-step dst i (rest % 128 + 128) (shortest (rest / 128)) inside)
+        ∙ ap (overwrite dst i) (sym (shortest-large rest h)) ∙ w .bytes;
   }
 
   -- the last byte

@@ -4,6 +4,6 @@ use mathlib.Core.Bool.{Bool, true, false}
 use mathlib.Core.Option.{Option, none, some}
 
 -- There is a class.
-abbrev pub isSome : Option ℕ → Bool
-isSome (some c) = true
-isSome none = false
+abbrev pub hasClass : Option ℕ → Bool
+hasClass (some c) = true
+hasClass none = false

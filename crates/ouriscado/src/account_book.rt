@@ -9,7 +9,7 @@ ghost use Rattle.book.specs.Loads.{loads};
 ghost use Rattle.book.specs.Appends.{appends};
 ghost use Rattle.book.specs.Reads.{reads, drops, listAfter};
 ghost use Rattle.book.specs.Answers.{loadAnswer, appendAnswer, readAnswer, dropAnswer, countedOf};
-ghost use Rattle.ouriscado.specs.OutHead.{kindOf, classOf, usedOf, placeOf};
+ghost use Rattle.ouriscado.specs.OutHead.{kindOut, classOut, usedOut, placeOut};
 ghost use Rattle.ouriscado.specs.OutBook.{bookIn, wordsOf, pagesLoaded, newPlace, recordsRewritten, lengthDropped};
 use crate::head::put_head;
 use book::BookAppend;
@@ -84,10 +84,10 @@ fn put_appended(
     rewritten: &mut u64,
 ) -> u32
     ensures number { λ r. ⌜ r ≡ refusalOf (appendAnswer answer) ⌝ }
-    ensures kind { λ r. ⌜ now (kind .exit) ≡ told (λ t. kindOf (newPlace t)) (appendAnswer answer) 0 ⌝ }
-    ensures class { λ r. ⌜ now (class .exit) ≡ told (λ t. classOf (newPlace t)) (appendAnswer answer) 0 ⌝ }
-    ensures used { λ r. ⌜ now (used .exit) ≡ told (λ t. usedOf (newPlace t)) (appendAnswer answer) 0 ⌝ }
-    ensures place { λ r. ⌜ now (place .exit) ≡ told (λ t. placeOf (newPlace t)) (appendAnswer answer) 0 ⌝ }
+    ensures kind { λ r. ⌜ now (kind .exit) ≡ told (λ t. kindOut (newPlace t)) (appendAnswer answer) 0 ⌝ }
+    ensures class { λ r. ⌜ now (class .exit) ≡ told (λ t. classOut (newPlace t)) (appendAnswer answer) 0 ⌝ }
+    ensures used { λ r. ⌜ now (used .exit) ≡ told (λ t. usedOut (newPlace t)) (appendAnswer answer) 0 ⌝ }
+    ensures place { λ r. ⌜ now (place .exit) ≡ told (λ t. placeOut (newPlace t)) (appendAnswer answer) 0 ⌝ }
     ensures rewritten { λ r. ⌜ now (rewritten .exit) ≡ told recordsRewritten (appendAnswer answer) 0 ⌝ }
 {
     match answer {
@@ -210,16 +210,16 @@ pub extern "C" fn ouriscado_book_append(
         ≡ bookAfter (bookIn (now (body .entry)) (now (heads .entry)) (now (state .entry)))
         (appends (bookIn (now (body .entry)) (now (heads .entry)) (now (state .entry))) key fk) ⌝ }
     ensures kind { λ r. ⌜ now (kind .exit)
-        ≡ told (λ t. kindOf (newPlace t)) (answerOf (appends (bookIn (now (body .entry)) (now (heads .entry)) (now (state .entry))) key fk))
+        ≡ told (λ t. kindOut (newPlace t)) (answerOf (appends (bookIn (now (body .entry)) (now (heads .entry)) (now (state .entry))) key fk))
         0 ⌝ }
     ensures class { λ r. ⌜ now (class .exit)
-        ≡ told (λ t. classOf (newPlace t))
+        ≡ told (λ t. classOut (newPlace t))
         (answerOf (appends (bookIn (now (body .entry)) (now (heads .entry)) (now (state .entry))) key fk)) 0 ⌝ }
     ensures used { λ r. ⌜ now (used .exit)
-        ≡ told (λ t. usedOf (newPlace t)) (answerOf (appends (bookIn (now (body .entry)) (now (heads .entry)) (now (state .entry))) key fk))
+        ≡ told (λ t. usedOut (newPlace t)) (answerOf (appends (bookIn (now (body .entry)) (now (heads .entry)) (now (state .entry))) key fk))
         0 ⌝ }
     ensures place { λ r. ⌜ now (place .exit)
-        ≡ told (λ t. placeOf (newPlace t))
+        ≡ told (λ t. placeOut (newPlace t))
         (answerOf (appends (bookIn (now (body .entry)) (now (heads .entry)) (now (state .entry))) key fk)) 0 ⌝ }
     ensures rewritten { λ r. ⌜ now (rewritten .exit)
         ≡ told recordsRewritten (answerOf (appends (bookIn (now (body .entry)) (now (heads .entry)) (now (state .entry))) key fk)) 0 ⌝ }

@@ -4,13 +4,13 @@ ghost use Rattle.error.specs.Refusal.{refusalOf, told};
 ghost use Rattle.scripthash_free.specs.FreeList.{lists, pushFree, popFree, carveGap, relocClass, after, headsAfter};
 ghost use Rattle.scripthash_free.specs.Answers.{classAnswer, popAnswer};
 ghost use mathlib.Core.Option.{Option·getD};
-ghost use Rattle.ouriscado.specs.OutClass.{isSome};
+ghost use Rattle.ouriscado.specs.OutClass.{hasClass};
 use scripthash_free::PopFree;
 use scripthash_free::RelocClass;
 
 // Hands out a class, and tells whether there is one.
 fn put_reloc_class(choice: RelocClass, class: &mut u8) -> bool
-    ensures some { λ r. ⌜ r ≡ isSome (classAnswer choice) ⌝ }
+    ensures some { λ r. ⌜ r ≡ hasClass (classAnswer choice) ⌝ }
     ensures class { λ r. ⌜ now (class .exit) ≡ Option·getD (classAnswer choice) 0 ⌝ }
 {
     match choice {
@@ -49,7 +49,7 @@ fn put_block(answer: PopFree, off: &mut u64) -> u32
 // The largest class of a slab whose blocks have at most so many bytes; the result says whether there is one.
 #[no_mangle]
 pub extern "C" fn ouriscado_largest_reloc_class_le(bytes: u64, class: &mut u8) -> bool
-    ensures some { λ r. ⌜ r ≡ isSome (relocClass bytes) ⌝ }
+    ensures some { λ r. ⌜ r ≡ hasClass (relocClass bytes) ⌝ }
     ensures class { λ r. ⌜ now (class .exit) ≡ Option·getD (relocClass bytes) 0 ⌝ }
 {
     put_reloc_class(scripthash_free::largest_reloc_class_le(bytes), class)

@@ -5,7 +5,7 @@ ghost use Rattle.error.specs.Refusal.{refusalOf, told};
 ghost use Rattle.buffer.specs.LittleEndian.{littleEndian};
 ghost use Rattle.scripthash_layout.specs.Head.{headBytes, packHead, unpackHead};
 ghost use Rattle.scripthash_layout.specs.AnswersHead.{packAnswer, unpackAnswer};
-ghost use Rattle.ouriscado.specs.OutHead.{kindOf, classOf, usedOf, placeOf};
+ghost use Rattle.ouriscado.specs.OutHead.{kindOut, classOut, usedOut, placeOut};
 use scripthash_layout::Packed;
 use scripthash_layout::ShHeadValue;
 use scripthash_layout::Unpacked;
@@ -129,7 +129,7 @@ pub extern "C" fn ouriscado_pack8_bytes_extent(last: u64, out: &mut [u8; 8]) -> 
 
 // The kind of a head value, as its number.
 fn kind_of(v: ShHeadValue) -> u8
-    ensures { λ r. ⌜ r ≡ kindOf v ⌝ }
+    ensures { λ r. ⌜ r ≡ kindOut v ⌝ }
 {
     match v {
         ShHeadValue::Empty => 0,
@@ -145,7 +145,7 @@ fn kind_of(v: ShHeadValue) -> u8
 
 // The class of a head value.
 fn class_of(v: ShHeadValue) -> u8
-    ensures { λ r. ⌜ r ≡ classOf v ⌝ }
+    ensures { λ r. ⌜ r ≡ classOut v ⌝ }
 {
     match v {
         ShHeadValue::Empty => 0,
@@ -161,7 +161,7 @@ fn class_of(v: ShHeadValue) -> u8
 
 // How many numbers a head value tells of.
 fn used_of(v: ShHeadValue) -> u16
-    ensures { λ r. ⌜ r ≡ usedOf v ⌝ }
+    ensures { λ r. ⌜ r ≡ usedOut v ⌝ }
 {
     match v {
         ShHeadValue::Empty => 0,
@@ -177,7 +177,7 @@ fn used_of(v: ShHeadValue) -> u16
 
 // The place of a head value.
 fn place_of(v: ShHeadValue) -> u64
-    ensures { λ r. ⌜ r ≡ placeOf v ⌝ }
+    ensures { λ r. ⌜ r ≡ placeOut v ⌝ }
 {
     match v {
         ShHeadValue::Empty => 0,
@@ -200,10 +200,10 @@ pub fn put_head(
     place: &mut u64,
 ) -> u32
     ensures number { λ r. ⌜ r ≡ refusalOf (unpackAnswer got) ⌝ }
-    ensures kind { λ r. ⌜ now (kind .exit) ≡ told kindOf (unpackAnswer got) 0 ⌝ }
-    ensures class { λ r. ⌜ now (class .exit) ≡ told classOf (unpackAnswer got) 0 ⌝ }
-    ensures used { λ r. ⌜ now (used .exit) ≡ told usedOf (unpackAnswer got) 0 ⌝ }
-    ensures place { λ r. ⌜ now (place .exit) ≡ told placeOf (unpackAnswer got) 0 ⌝ }
+    ensures kind { λ r. ⌜ now (kind .exit) ≡ told kindOut (unpackAnswer got) 0 ⌝ }
+    ensures class { λ r. ⌜ now (class .exit) ≡ told classOut (unpackAnswer got) 0 ⌝ }
+    ensures used { λ r. ⌜ now (used .exit) ≡ told usedOut (unpackAnswer got) 0 ⌝ }
+    ensures place { λ r. ⌜ now (place .exit) ≡ told placeOut (unpackAnswer got) 0 ⌝ }
 {
     match got {
         Unpacked::Refused(number) => {
@@ -233,10 +233,10 @@ pub extern "C" fn ouriscado_unpack8(
     place: &mut u64,
 ) -> u32
     ensures number { λ r. ⌜ r ≡ refusalOf (unpackHead w) ⌝ }
-    ensures kind { λ r. ⌜ now (kind .exit) ≡ told kindOf (unpackHead w) 0 ⌝ }
-    ensures class { λ r. ⌜ now (class .exit) ≡ told classOf (unpackHead w) 0 ⌝ }
-    ensures used { λ r. ⌜ now (used .exit) ≡ told usedOf (unpackHead w) 0 ⌝ }
-    ensures place { λ r. ⌜ now (place .exit) ≡ told placeOf (unpackHead w) 0 ⌝ }
+    ensures kind { λ r. ⌜ now (kind .exit) ≡ told kindOut (unpackHead w) 0 ⌝ }
+    ensures class { λ r. ⌜ now (class .exit) ≡ told classOut (unpackHead w) 0 ⌝ }
+    ensures used { λ r. ⌜ now (used .exit) ≡ told usedOut (unpackHead w) 0 ⌝ }
+    ensures place { λ r. ⌜ now (place .exit) ≡ told placeOut (unpackHead w) 0 ⌝ }
 {
     put_head(scripthash_layout::unpack8(w), kind, class, used, place)
 }
@@ -251,10 +251,10 @@ pub extern "C" fn ouriscado_unpack8_bytes(
     place: &mut u64,
 ) -> u32
     ensures number { λ r. ⌜ r ≡ refusalOf (unpackHead (littleEndian (now (buf .entry)))) ⌝ }
-    ensures kind { λ r. ⌜ now (kind .exit) ≡ told kindOf (unpackHead (littleEndian (now (buf .entry)))) 0 ⌝ }
-    ensures class { λ r. ⌜ now (class .exit) ≡ told classOf (unpackHead (littleEndian (now (buf .entry)))) 0 ⌝ }
-    ensures used { λ r. ⌜ now (used .exit) ≡ told usedOf (unpackHead (littleEndian (now (buf .entry)))) 0 ⌝ }
-    ensures place { λ r. ⌜ now (place .exit) ≡ told placeOf (unpackHead (littleEndian (now (buf .entry)))) 0 ⌝ }
+    ensures kind { λ r. ⌜ now (kind .exit) ≡ told kindOut (unpackHead (littleEndian (now (buf .entry)))) 0 ⌝ }
+    ensures class { λ r. ⌜ now (class .exit) ≡ told classOut (unpackHead (littleEndian (now (buf .entry)))) 0 ⌝ }
+    ensures used { λ r. ⌜ now (used .exit) ≡ told usedOut (unpackHead (littleEndian (now (buf .entry)))) 0 ⌝ }
+    ensures place { λ r. ⌜ now (place .exit) ≡ told placeOut (unpackHead (littleEndian (now (buf .entry)))) 0 ⌝ }
 {
     put_head(
         scripthash_layout::unpack8_bytes(buf),

@@ -1,5 +1,5 @@
-// A page's fields, each read or set by a call: from the source's scripthash_pages.rs. A buffer that isn't a page is refused, and a call that
-// is refused leaves its page as it was.
+// A page's fields, each read or set by a call: from the source's scripthash_pages.rs. A buffer that isn't a page is refused, and a call
+// that is refused leaves its page as it was.
 ghost use mathlib.Core.Path.{_≡_};
 ghost use mathlib.Core.Bool.{true, false};
 ghost use lib.ListN.{length};

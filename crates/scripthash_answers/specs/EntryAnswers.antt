@@ -12,9 +12,9 @@ use Rattle.scripthash_answers.specs.declared.entries.TryAppend.{TryAppen
 use Rattle.scripthash_answers.specs.declared.entries.TryAppend.the-variants.{Appended, Full, Refused as NotTried}
 
 -- The answer of `sh_page_last_fk`.
-abbrev pub lastAnswer : PageLastFk → Answer ℕ
-lastAnswer (Last fk) = accepted fk
-lastAnswer (NoLast number) = refused number
+abbrev pub lastFkAnswer : PageLastFk → Answer ℕ
+lastFkAnswer (Last fk) = accepted fk
+lastFkAnswer (NoLast number) = refused number
 
 -- The answer of `sh_page_entries_into`.
 abbrev pub entriesAnswer : PageEntries → Answer ℕ

@@ -1,7 +1,7 @@
 // What reading a page's stream and appending to it answer.
 ghost use mathlib.Core.Path.{_≡_};
 ghost use Rattle.error.specs.Refusal.{refusalOf};
-ghost use Rattle.scripthash_answers.specs.EntryAnswers.{lastAnswer, entriesAnswer, sliceAnswer, tryAnswer};
+ghost use Rattle.scripthash_answers.specs.EntryAnswers.{lastFkAnswer, entriesAnswer, sliceAnswer, tryAnswer};
 use error::Refusal;
 
 // The last number of a page, 0 where it has none, or a refusal.
@@ -13,7 +13,7 @@ pub enum PageLastFk {
 impl PageLastFk {
     // The refusal's number, and 0 of another answer.
     pub fn refusal(self) -> Refusal
-        ensures { λ r. ⌜ r ≡ refusalOf (lastAnswer self) ⌝ }
+        ensures { λ r. ⌜ r ≡ refusalOf (lastFkAnswer self) ⌝ }
     {
         match self {
             PageLastFk::Last(_) => 0,

@@ -66,7 +66,8 @@ module _ (room : ℕ) where
   pub greedy-one : (n : ℕ) (ns : List ℕ) → 10 ≤ room → Words (n ∷ ns) → streamLen (n ∷ ns) ≤ room → greedy room (n ∷ ns) ≡ (n ∷ ns) ∷ []
   greedy-one n ns h w e =
       let p = part-known room n ns h w in
-      let all : firstPart room (n ∷ ns) ≡ length (n ∷ ns) = omega (arith, p .longest (length (n ∷ ns)) (le-refl (length (n ∷ ns))) (rw (take-length (n ∷ ns)) e), p .within) in
+      let all : firstPart room (n ∷ ns) ≡ length (n ∷ ns) =
+      omega (arith, p .longest (length (n ∷ ns)) (le-refl (length (n ∷ ns))) (rw (take-length (n ∷ ns)) e), p .within) in
       greedy-step n ns ∙ rw (all, take-length (n ∷ ns), drop-length (n ∷ ns), greedy-nil)
 
 -- ---- the cutting, part by part
@@ -108,14 +109,16 @@ module _ (small large : ℕ) (ten : 10 ≤ small) (less : small ≤ large) (near
       s = part-known small n ns ten w
 
       before : firstPart large (n ∷ ns) < length (n ∷ ns) → Next (n ∷ ns) (nextPart small large (n ∷ ns))
-      before l = rw (ne-eqb (firstPart large (n ∷ ns)) (length (n ∷ ns)) (λ (e : firstPart large (n ∷ ns) ≡ length (n ∷ ns)). omega arith)) (record {
-        some = part-some large n ns;
-        within = p .within;
-        fits = p .fits;
-        cut = ap (recutLast small) (greedy-step large n ns)
-            ∙ replace-behind (greedy small) _ (greedy large (drop (firstPart large (n ∷ ns)) (n ∷ ns))) (greedy-some large (drop (firstPart large (n ∷ ns)) (n ∷ ns)) (simp length-drop (omega arith)));
-        which = inl (refl, l);
-      })
+      before l = rw (ne-eqb (firstPart large (n ∷ ns)) (length (n ∷ ns)) (λ (e : firstPart large (n ∷ ns) ≡ length (n ∷ ns)). omega arith))
+          (record {
+            some = part-some large n ns;
+            within = p .within;
+            fits = p .fits;
+            cut = ap (recutLast small) (greedy-step large n ns)
+                ∙ replace-behind (greedy small) _ (greedy large (drop (firstPart large (n ∷ ns)) (n ∷ ns)))
+                (greedy-some large (drop (firstPart large (n ∷ ns)) (n ∷ ns)) (simp length-drop (omega arith)));
+            which = inl (refl, l);
+          })
 
       whole : length (n ∷ ns) ≤ firstPart large (n ∷ ns) → Next (n ∷ ns) (nextPart small large (n ∷ ns))
       whole g =
@@ -128,7 +131,8 @@ module _ (small large : ℕ) (ten : 10 ≤ small) (less : small ≤ large) (near
             within = s .within;
             fits = le-trans (s .fits) less;
             cut = cut-whole (n ∷ ns) w short ∙ greedy-step small n ns
-                ∙ ap (λ (ps : List (List ℕ)). take k (n ∷ ns) ∷ ps) (sym (cut-whole (drop k (n ∷ ns)) (words-drop k (n ∷ ns) w) (le-trans left less)));
+                ∙ ap (λ (ps : List (List ℕ)). take k (n ∷ ns) ∷ ps)
+                (sym (cut-whole (drop k (n ∷ ns)) (words-drop k (n ∷ ns) w) (le-trans left less)));
             which = inr (short, s .fits);
           })
 
@@ -147,7 +151,8 @@ module _ (small large : ℕ) (ten : 10 ≤ small) (less : small ≤ large) (near
   within-parts P none some (suc d) (n ∷ ns) h w =
       let k = nextPart small large (n ∷ ns) in
       some n ns w
-      (within-parts P none some d (drop k (n ∷ ns)) (omega (arith, length-drop k (n ∷ ns), next-known n ns w .some)) (words-drop k (n ∷ ns) w))
+      (within-parts P none some d (drop k (n ∷ ns)) (omega (arith, length-drop k (n ∷ ns), next-known n ns w .some))
+      (words-drop k (n ∷ ns) w))
 
   by-parts : (P : List ℕ → Type 0) → P []
       → ((n : ℕ) (ns : List ℕ) → Words (n ∷ ns) → P (drop (nextPart small large (n ∷ ns)) (n ∷ ns)) → P (n ∷ ns))
@@ -212,7 +217,8 @@ module _ (small large : ℕ) (ten : 10 ≤ small) (less : small ≤ large) (near
   cut-two [] w e = rw cut-nil zero-le
   cut-two (n ∷ ns) w e =
       rw (cut-whole (n ∷ ns) w e, greedy-step small n ns)
-      (suc-le-suc (greedy-few (drop (firstPart small (n ∷ ns)) (n ∷ ns)) (words-drop (firstPart small (n ∷ ns)) (n ∷ ns) w) (leaves n ns w e)))
+      (suc-le-suc (greedy-few (drop (firstPart small (n ∷ ns)) (n ∷ ns)) (words-drop (firstPart small (n ∷ ns)) (n ∷ ns) w)
+      (leaves n ns w e)))
 
   -- where some numbers fit the large room, it is enough to bound the cutting of what is behind them or further on
   covers : (ns : List ℕ) → Words ns → (i : ℕ) → i ≤ length ns → streamLen (take i ns) ≤ large → (bound : ℕ) → 0 < bound
@@ -228,13 +234,15 @@ module _ (small large : ℕ) (ten : 10 ≤ small) (less : small ≤ large) (near
 
   -- a part in front that fits the large room adds one part at most
   in-front : (p rest : List ℕ) → Rising (2 ^ 63) 0 (p ++ rest) → streamLen p ≤ large → (bound : ℕ) → 0 < bound
-      → ((j : ℕ) → length (cuttingFor small large (drop j rest)) ≤ bound) → (j : ℕ) → length (cuttingFor small large (drop j (p ++ rest))) ≤ suc bound
+      → ((j : ℕ) → length (cuttingFor small large (drop j rest)) ≤ bound) → (j : ℕ)
+      → length (cuttingFor small large (drop j (p ++ rest))) ≤ suc bound
   in-front p rest r e bound pos behind j = ⊎-elim inside after (lt-or-ge j (length p))
     where
       past : (m : ℕ) → length p ≤ m → length (cuttingFor small large (drop m (p ++ rest))) ≤ bound
       past m h =
           let m-is : m ≡ length p + (m - length p) = omega arith in
-          let there : drop m (p ++ rest) ≡ drop (m - length p) rest = ap (λ (k : ℕ). drop k (p ++ rest)) m-is ∙ drop-append-add p rest (m - length p) in
+          let there : drop m (p ++ rest) ≡ drop (m - length p) rest =
+          ap (λ (k : ℕ). drop k (p ++ rest)) m-is ∙ drop-append-add p rest (m - length p) in
           rw there (behind (m - length p))
 
       after : length p ≤ j → length (cuttingFor small large (drop j (p ++ rest))) ≤ suc bound
@@ -243,7 +251,8 @@ module _ (small large : ℕ) (ten : 10 ≤ small) (less : small ≤ large) (near
       inside : j < length p → length (cuttingFor small large (drop j (p ++ rest))) ≤ suc bound
       inside h =
           let i = length p - j in
-          let front : take i (drop j (p ++ rest)) ≡ drop j p = rw (drop-append-le j p rest (omega arith)) (take-at (drop j p) rest i (length-drop j p)) in
+          let front : take i (drop j (p ++ rest)) ≡ drop j p =
+          rw (drop-append-le j p rest (omega arith)) (take-at (drop j p) rest i (length-drop j p)) in
           covers (drop j (p ++ rest)) (words-drop j (p ++ rest) (rising-words 0 (p ++ rest) r)) i
           (omega (arith, length-drop j (p ++ rest), length-append p rest))
           (rw front (le-trans (stream-drop (2 ^ 63) 0 j p (rising-left (2 ^ 63) 0 p rest r)) e)) bound pos
@@ -272,10 +281,12 @@ module _ (small large : ℕ) (ten : 10 ≤ small) (less : small ≤ large) (near
   -- every part but the last two holds at least a tenth of the large room in numbers
   pub parts-at-most : (least : ℕ) → 10 * least ≤ large → (ns : List ℕ) → Words ns
       → length (cuttingFor small large ns) * least ≤ length ns + 2 * least
-  parts-at-most least h = by-parts (λ ns. length (cuttingFor small large ns) * least ≤ length ns + 2 * least) (rw cut-nil (omega arith)) step
+  parts-at-most least h =
+      by-parts (λ ns. length (cuttingFor small large ns) * least ≤ length ns + 2 * least) (rw cut-nil (omega arith)) step
     where
       step : (n : ℕ) (ns : List ℕ) → Words (n ∷ ns)
-          → (let behind = drop (nextPart small large (n ∷ ns)) (n ∷ ns) in length (cuttingFor small large behind) * least ≤ length behind + 2 * least)
+          → (let behind = drop (nextPart small large (n ∷ ns)) (n ∷ ns) in
+          length (cuttingFor small large behind) * least ≤ length behind + 2 * least)
           → length (cuttingFor small large (n ∷ ns)) * least ≤ suc (length ns) + 2 * least
       step n ns w ih =
           let k = nextPart small large (n ∷ ns) in
@@ -283,7 +294,8 @@ module _ (small large : ℕ) (ten : 10 ≤ small) (less : small ≤ large) (near
           let p = part-known large n ns (le-trans ten less) w in
           ⊎-elim
           (λ l. let short : firstPart large (n ∷ ns) < length (n ∷ ns) = omega (arith, l .0, l .1) in
-          rw (x .cut, suc-mul (length (cuttingFor small large (drop k (n ∷ ns)))) least) (omega (arith, l .0, p .many w short, length-drop k (n ∷ ns))))
+          rw (x .cut, suc-mul (length (cuttingFor small large (drop k (n ∷ ns)))) least)
+          (omega (arith, l .0, p .many w short, length-drop k (n ∷ ns))))
           (λ r. le-trans (mul-le-mul-right least (cut-two (n ∷ ns) w (r .0))) (omega arith))
           (x .which)
 

@@ -82,10 +82,17 @@ fit-none room prev n ns q = record {
 pub fit-known : (room prev : ℕ) (ns : List ℕ) → Fitting room prev ns (fitting room prev ns)
 unfolding streamLenFrom fitting
 fit-known room prev [] =
-    record { within = zero-le; fits = zero-le; longest = λ i h k. h; many = λ w h. absurd (omega arith); rest = λ w h. absurd (omega arith) }
+    record {
+      within = zero-le;
+      fits = zero-le;
+      longest = λ i h k. h;
+      many = λ w h. absurd (omega arith);
+      rest = λ w h. absurd (omega arith);
+    }
 fit-known room prev (n ∷ ns) =
     ⊎-elim (λ (q : room < ulebLen (n - prev)). rw (fit-no room prev n ns q) (fit-none room prev n ns q))
-    (λ (p : ulebLen (n - prev) ≤ room). rw (fit-yes room prev n ns p) (fit-more room prev n ns p (fit-known (room - ulebLen (n - prev)) n ns)))
+    (λ (p : ulebLen (n - prev) ≤ room). rw (fit-yes room prev n ns p)
+    (fit-more room prev n ns p (fit-known (room - ulebLen (n - prev)) n ns)))
     (lt-or-ge room (ulebLen (n - prev)))
 
 -- the first part takes a number

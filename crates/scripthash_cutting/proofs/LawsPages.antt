@@ -30,7 +30,8 @@ pub record PartFrom (room : ℕ) (fks : List ℕ) (start e : ℕ) : Type 0 where
   pub within : e ≤ length fks
   pub cut : cuttingFor lastPageRoom room (drop start fks) ≡ take (e - start) (drop start fks) ∷ cuttingFor lastPageRoom room (drop e fks)
   pub count : length (cuttingFor lastPageRoom room (drop start fks)) ≡ length (cuttingFor lastPageRoom room (drop e fks)) + 1
-  pub ranges : rangesFrom start (cuttingFor lastPageRoom room (drop start fks)) ≡ rangeOf start e ∷ rangesFrom e (cuttingFor lastPageRoom room (drop e fks))
+  pub ranges : rangesFrom start (cuttingFor lastPageRoom room (drop start fks))
+      ≡ rangeOf start e ∷ rangesFrom e (cuttingFor lastPageRoom room (drop e fks))
   pub fits : streamLen (take (e - start) (drop start fks)) ≤ room
   pub fits-last : e ≡ length fks → streamLen (take (e - start) (drop start fks)) ≤ lastPageRoom
 
@@ -46,9 +47,11 @@ module _ (room : ℕ) (less : lastPageRoom ≤ room) (most : room ≤ pageRoom) 
   part-from fks start e h w e-is =
       let k = nextPart lastPageRoom room (drop start fks) in
       let x =
-      next-of lastPageRoom room (omega arith) less (omega arith) (drop start fks) (simp length-drop (omega arith)) (words-drop start fks w) in
+      next-of lastPageRoom room (omega arith) less (omega arith) (drop start fks) (simp length-drop (omega arith))
+      (words-drop start fks w) in
       let size : length (take k (drop start fks)) ≡ k = length-take-le k (drop start fks) (x .within) in
-      let cut : cuttingFor lastPageRoom room (drop start fks) ≡ take k (drop start fks) ∷ cuttingFor lastPageRoom room (drop (start + k) fks) =
+      let cut : cuttingFor lastPageRoom room (drop start fks) ≡ take k (drop start fks) ∷ cuttingFor lastPageRoom room
+      (drop (start + k) fks) =
       rw (← drop-drop k start fks) (x .cut) in
       let k-is : start + k - start ≡ k = omega arith in
       rw e-is record {

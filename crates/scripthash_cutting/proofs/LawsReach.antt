@@ -24,7 +24,9 @@ pub at-no : (fks : List ℕ) (i bytes room : ℕ) → i < length fks → room < 
     → fittingAt fks i (room - bytes) ≡ 0
 unfolding fittingAt
 at-no fks i bytes room h e =
-    rw (drop-cons fks i 0 h) (fit-no (room - bytes) (getD fks (i - 1) 0) (getD fks i 0) (drop (suc i) fks) (omega (arith, len-pos (getD fks i 0 - getD fks (i - 1) 0))))
+    rw (drop-cons fks i 0 h)
+    (fit-no (room - bytes) (getD fks (i - 1) 0) (getD fks i 0) (drop (suc i) fks)
+    (omega (arith, len-pos (getD fks i 0 - getD fks (i - 1) 0))))
 
 -- a number that does, and those behind it
 pub at-yes : (fks : List ℕ) (i bytes room : ℕ) → i < length fks → bytes + ulebLen (getD fks i 0 - getD fks (i - 1) 0) ≤ room
@@ -34,7 +36,13 @@ at-yes fks i bytes room h e =
     let d = ulebLen (getD fks i 0 - getD fks (i - 1) 0) in
     let same : room - (bytes + d) ≡ room - bytes - d = omega arith in
     let back : i + 1 - 1 ≡ i = omega arith in
-    rw (drop-cons fks i 0 h, fit-yes (room - bytes) (getD fks (i - 1) 0) (getD fks i 0) (drop (suc i) fks) (omega arith), back, add-one i, same)
+    rw (
+      drop-cons fks i 0 h,
+      fit-yes (room - bytes) (getD fks (i - 1) 0) (getD fks i 0) (drop (suc i) fks) (omega arith),
+      back,
+      add-one i,
+      same,
+    )
     (omega arith)
 
 -- the first part of the numbers from an index on
@@ -64,5 +72,6 @@ module _ (fks : List ℕ) (start small large : ℕ) (h : start < length fks) (le
   pub next-other : (e′ ≡ length fks → ⊥) → e′ ≡ start + nextPart small large (drop start fks)
   unfolding nextPart
   next-other some =
-      let part : firstPart large (drop start fks) ≡ length (drop start fks) → ⊥ = λ q. some (omega (arith, large-end, length-drop start fks)) in
+      let part : firstPart large (drop start fks) ≡ length (drop start fks) → ⊥ =
+      λ q. some (omega (arith, large-end, length-drop start fks)) in
       rw (ne-eqb (firstPart large (drop start fks)) (length (drop start fks)) part) large-end

@@ -74,7 +74,8 @@ module _ (ns : List ℕ) (chunks : List (List ℕ)) (count : ℕ) (some : 0 < co
   split-outside l h = split-left (rw (lt-ltb (getD last 0 0) (getD last 1 0) l, lt-leb (getD last 1 0) (length ns) h))
 
   -- one that has numbers of the list is cut again
-  module _ (low : getD last 0 0 < getD last 1 0) (high : getD last 1 0 ≤ length ns) (words : Words (numbersOf ns (getD last 0 0) (getD last 1 0))) where
+  module _ (low : getD last 0 0 < getD last 1 0) (high : getD last 1 0 ≤ length ns)
+      (words : Words (numbersOf ns (getD last 0 0) (getD last 1 0))) where
     abbrev parts : List (List ℕ)
     parts = cuttingFor lastPageRoom lastPageRoom (numbersOf ns (getD last 0 0) (getD last 1 0))
 
@@ -104,7 +105,8 @@ module _ (ns : List ℕ) (chunks : List (List ℕ)) (count : ℕ) (some : 0 < co
 numbers-at : (front p rest : List ℕ) → numbersOf (front ++ (p ++ rest)) (length front) (length front + length p) ≡ p
 numbers-at front p rest =
     let all : take (length front + length p) (front ++ (p ++ rest)) ≡ front ++ p =
-    ap (take (length front + length p)) (sym (append-assoc front p rest)) ∙ take-at (front ++ p) rest (length front + length p) (length-append front p) in
+    ap (take (length front + length p)) (sym (append-assoc front p rest))
+    ∙ take-at (front ++ p) rest (length front + length p) (length-append front p) in
     ap (drop (length front)) all ∙ drop-at front p (length front) refl
 
 -- the range of the last part is split as the part is

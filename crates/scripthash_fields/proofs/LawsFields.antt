@@ -170,15 +170,18 @@ module _ (page : List ℕ) (long : length page ≡ pageSize) where
   unfolding nFks
   count-above s n off is h =
       let above : streamCap page < countOf page = omega arith in
-      let tested = refuse-yes (ltb (streamCap page) (countOf page)) countAboveCapacity (accepted (countOf page)) (lt-ltb (streamCap page) (countOf page) above) in
+      let tested = refuse-yes (ltb (streamCap page) (countOf page)) countAboveCapacity (accepted (countOf page))
+      (lt-ltb (streamCap page) (countOf page) above) in
       sym (page-yes page (refuseIf (ltb (streamCap page) (countOf page)) countAboveCapacity (accepted (countOf page))) long ∙ tested)
 
   pub count-is : (s n : ℕ) → s ≡ streamOff page → n ≡ countOf page → n ≤ pageSize - s → accepted n ≡ nFks page
   unfolding nFks
   count-is s n off is h =
       let within : countOf page ≤ streamCap page = omega arith in
-      let tested = refuse-no (ltb (streamCap page) (countOf page)) countAboveCapacity (accepted (countOf page)) (le-ltb (streamCap page) (countOf page) within) in
-      ap (λ (m : ℕ). accepted m) is ∙ sym (page-yes page (refuseIf (ltb (streamCap page) (countOf page)) countAboveCapacity (accepted (countOf page))) long ∙ tested)
+      let tested = refuse-no (ltb (streamCap page) (countOf page)) countAboveCapacity (accepted (countOf page))
+      (le-ltb (streamCap page) (countOf page) within) in
+      ap (λ (m : ℕ). accepted m) is
+      ∙ sym (page-yes page (refuseIf (ltb (streamCap page) (countOf page)) countAboveCapacity (accepted (countOf page))) long ∙ tested)
 
 -- the tests of a page that is read, from its stream's start s, its count n and its version v
 module _ {A : Type 0} (page : List ℕ) (after : Answer A) (s n : ℕ) (off : s ≡ streamOff page) (is : n ≡ countOf page) where
@@ -228,7 +231,8 @@ pub link-written : (page : List ℕ) → length page ≡ pageSize → (last : Bo
     → writeLink page last off ≡ accepted (setField page 3 5 (linkTo last off))
 unfolding writeLink
 link-written page long last off named =
-    page-yes page (onLink off (accepted (setField page 3 5 (linkTo last off)))) long ∙ link-yes off (accepted (setField page 3 5 (linkTo last off))) named
+    page-yes page (onLink off (accepted (setField page 3 5 (linkTo last off)))) long
+    ∙ link-yes off (accepted (setField page 3 5 (linkTo last off))) named
 
 -- and an extent
 pub extent-written : (page : List ℕ) → length page ≡ pageSize → (base count : ℕ) → extentNamed base count ≡ accepted tt
@@ -242,7 +246,8 @@ extent-written page long base count named =
 
 -- one more byte is 0
 pub clear-step : (b : List ℕ) (i : ℕ) → i < length b → take i b ≡ replicate i 0 → take (i + 1) (set b i 0) ≡ replicate (i + 1) 0
-clear-step b i h zeros = ap (λ (k : ℕ). take k (set b i 0)) (add-one i) ∙ take-suc-set b i 0 h ∙ ap (λ (l : List ℕ). l ++ (0 ∷ [])) zeros ∙ replicate-append-replicate i 1 0
+clear-step b i h zeros = ap (λ (k : ℕ). take k (set b i 0)) (add-one i) ∙ take-suc-set b i 0 h ∙ ap (λ (l : List ℕ). l ++ (0 ∷ [])) zeros
+    ∙ replicate-append-replicate i 1 0
 
 -- zeros with the version and LAST written
 pub empty-written : (b : List ℕ) → b ≡ replicate pageSize 0 → set (set b 0 1) 3 1 ≡ emptyPage

@@ -81,7 +81,8 @@ module _ (page : List ℕ) (o k n : ℕ) (inside : o + k ≤ length page) where
   -- a field between the version and the stream leaves the stream
   pub stream-setField : 1 ≤ o → o + k ≤ streamOff page → streamOf (setField page o k n) ≡ streamOf page
   stream-setField h l =
-      ap (λ (v : ℕ). drop (cond (eqb v 2) 24 8) (setField page o k n)) (field-apart 0 1 (inl (omega arith))) ∙ drop-setField (streamOff page) l
+      ap (λ (v : ℕ). drop (cond (eqb v 2) 24 8) (setField page o k n)) (field-apart 0 1 (inl (omega arith)))
+      ∙ drop-setField (streamOff page) l
 
 -- ---- links
 
@@ -106,7 +107,12 @@ link-fits false off h = omega arith
 module _ (count link : ℕ) (stream : List ℕ) where
   pub length-delta : 8 + length stream ≤ pageSize → length (pageOf (deltaHeader count link) stream) ≡ pageSize
   unfolding pageOf deltaHeader
-  length-delta h = omega (arith, length-append stream (replicate (pageSize - (8 + length stream)) 0), length-replicate {A = ℕ} (pageSize - (8 + length stream)) 0)
+  length-delta h = omega (
+    arith,
+    length-append stream (replicate (pageSize - (8 + length stream)) 0),
+    length-replicate {A = ℕ}
+        (pageSize - (8 + length stream)) 0,
+  )
 
   pub delta-version : versionOf (pageOf (deltaHeader count link) stream) ≡ 1
   unfolding field part pageOf deltaHeader
@@ -129,7 +135,12 @@ module _ (count link : ℕ) (stream : List ℕ) where
 module _ (count link base extents creates : ℕ) (stream : List ℕ) where
   pub length-extent : 24 + length stream ≤ pageSize → length (pageOf (extentHeader count link base extents creates) stream) ≡ pageSize
   unfolding pageOf extentHeader
-  length-extent h = omega (arith, length-append stream (replicate (pageSize - (24 + length stream)) 0), length-replicate {A = ℕ} (pageSize - (24 + length stream)) 0)
+  length-extent h = omega (
+    arith,
+    length-append stream (replicate (pageSize - (24 + length stream)) 0),
+    length-replicate {A = ℕ}
+        (pageSize - (24 + length stream)) 0,
+  )
 
   pub extent-version : versionOf (pageOf (extentHeader count link base extents creates) stream) ≡ 2
   unfolding field part pageOf extentHeader
@@ -156,6 +167,7 @@ module _ (count link base extents creates : ℕ) (stream : List ℕ) where
   extent-creates h = littleEndian-bytesOf 4 creates h
 
   -- its stream, and 0 behind it
-  pub extent-stream : streamOf (pageOf (extentHeader count link base extents creates) stream) ≡ stream ++ replicate (pageSize - (24 + length stream)) 0
+  pub extent-stream : streamOf (pageOf (extentHeader count link base extents creates) stream) ≡ stream
+      ++ replicate (pageSize - (24 + length stream)) 0
   unfolding field part pageOf extentHeader
   extent-stream = refl

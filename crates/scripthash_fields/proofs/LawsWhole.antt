@@ -22,7 +22,8 @@ use Rattle.scripthash_fields.proofs.LawsFields.{extent-is, extent-good,
 
 -- ---- a page that names an aligned offset, LAST or not
 
-module _ (page : List ℕ) (long : length page ≡ pageSize) (last : Bool) (off : ℕ) (aligned : off % pageSize ≡ 0) (is : linkTo last off ≡ linkOf page) where
+module _ (page : List ℕ) (long : length page ≡ pageSize) (last : Bool) (off : ℕ) (aligned : off % pageSize ≡ 0)
+    (is : linkTo last off ≡ linkOf page) where
   as-last : isLastLink (linkOf page) ≡ last
   as-last = ap isLastLink (sym is) ∙ link-last last off
 
@@ -108,7 +109,8 @@ module _ (count : ℕ) (last : Bool) (off base extents creates : ℕ) (stream : 
       → extentOf whole ≡ accepted (some (record { base = base; count = extents }))
   extent-extent some-extents aligned some-base h k =
       sym (extent-is whole long-whole 2 base extents version refl
-      (sym (extent-base count (linkTo last off) base extents creates stream h)) (sym (extent-pages count (linkTo last off) base extents creates stream k)))
+      (sym (extent-base count (linkTo last off) base extents creates stream h))
+      (sym (extent-pages count (linkTo last off) base extents creates stream k)))
       ∙ extent-good base extents _ some-extents aligned some-base
 
   pub extent-creates-is : creates < 256 ^ 4 → createsOf whole ≡ accepted creates

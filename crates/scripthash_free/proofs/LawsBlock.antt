@@ -159,7 +159,8 @@ module _ (n : ℕ) (low : 16 ≤ n) (high : n < 2048) where
   largest-bits =
       let (j, total, from, below) = bits in
       let same : 63 - leadingZeros 64 (n / 16) ≡ j = omega arith in
-      let slab : j ≤ 7 = ⊎-elim (λ (more : 7 < j). let past : 2 ^ 8 ≤ 2 ^ j = pow-mono more in absurd (omega arith)) (λ (l : j ≤ 7). l) (lt-or-ge 7 j) in
+      let slab : j ≤ 7 = ⊎-elim (λ (more : 7 < j). let past : 2 ^ 8 ≤ 2 ^ j = pow-mono more in
+      absurd (omega arith)) (λ (l : j ≤ 7). l) (lt-or-ge 7 j) in
       rw same (largest-is j n slab (omega arith) (omega arith))
 
 -- There is none where even those of class 0 are too large.
@@ -173,7 +174,8 @@ pub largest-some : (c n d : ℕ) → largestUpTo c n ≡ some d → (d ≤ c) ×
 largest-some zero n d e =
     ⊎-elim
     (λ (small : n < slabBytes 0). let z : _≡_ {A = Option ℕ} none (some d) = sym (largest-none 0 n small) ∙ e in absurd (none≢some z))
-    (λ (fits : slabBytes 0 ≤ n). let z : 0 ≡ d = Option·some-injective _ _ (sym (largest-found 0 n fits) ∙ e) in (omega arith, rw (← z) fits))
+    (λ (fits : slabBytes 0 ≤ n). let z : 0 ≡ d = Option·some-injective _ _ (sym (largest-found 0 n fits) ∙ e) in
+    (omega arith, rw (← z) fits))
     (lt-or-ge n (slabBytes 0))
 largest-some (suc c) n d e =
     ⊎-elim
@@ -181,7 +183,8 @@ largest-some (suc c) n d e =
     let lower : largestUpTo c n ≡ some d = sym (largest-past c n small) ∙ e in
     let h = largest-some c n d lower in
     (omega arith, h .1))
-    (λ (fits : slabBytes (suc c) ≤ n). let z : suc c ≡ d = Option·some-injective _ _ (sym (largest-found (suc c) n fits) ∙ e) in (omega arith, rw (← z) fits))
+    (λ (fits : slabBytes (suc c) ≤ n). let z : suc c ≡ d = Option·some-injective _ _ (sym (largest-found (suc c) n fits) ∙ e) in
+    (omega arith, rw (← z) fits))
     (lt-or-ge n (slabBytes (suc c)))
 
 -- Where none is found, not even class 0 fits.

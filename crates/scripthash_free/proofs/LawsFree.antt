@@ -57,7 +57,8 @@ pop-none class mark l h e = rw (le-ltb 8 class h, eq-eqb (firstFreed class l) 0 
 -- A head that is a block is popped, and one that is none is refused.
 pub pop-yes : (class mark : ℕ) (l : Lists) → class ≤ 8 → (firstFreed class l ≡ 0 → ⊥)
     → isBlock class (firstFreed class l) (min mark (length (l .body))) ≡ true
-    → popFree class mark l ≡ accepted (record { block = some (firstFreed class l); heads = set (l .heads) class (nextOf (l .body) (firstFreed class l)) })
+    → popFree class mark l
+    ≡ accepted (record { block = some (firstFreed class l); heads = set (l .heads) class (nextOf (l .body) (firstFreed class l)) })
 unfolding popFree
 pop-yes class mark l h nz e = rw (le-ltb 8 class h, ne-eqb (firstFreed class l) 0 nz) (refuse-no _ _ _ (ap not e))
 

@@ -43,7 +43,8 @@ push-nothing l = refl
 -- Bounds that are large enough give the same blocks, by the class found first.
 module _ (j k off n : ℕ) where
   same-found : (o : Option ℕ) → relocClass n ≡ o → n / 16 ≤ suc j → n / 16 ≤ suc k
-      → ((class : ℕ) → (n - slabBytes class) / 16 ≤ j → (n - slabBytes class) / 16 ≤ k → carve j (off + slabBytes class) (n - slabBytes class) ≡ carve k (off + slabBytes class) (n - slabBytes class))
+      → ((class : ℕ) → (n - slabBytes class) / 16 ≤ j → (n - slabBytes class) / 16 ≤ k
+      → carve j (off + slabBytes class) (n - slabBytes class) ≡ carve k (off + slabBytes class) (n - slabBytes class))
       → carve (suc j) off n ≡ carve (suc k) off n
   same-found none e hj hk more = carve-nothing (suc j) off n e ∙ sym (carve-nothing (suc k) off n e)
   same-found (some class) e hj hk more =
@@ -76,13 +77,16 @@ gap-first off to class l e =
 
 -- Where less than 16 bytes are left there are no more blocks.
 pub gap-left : (off to : ℕ) (l : Lists) → to - off < 16 → pushAll (gapBlocks off to) l ≡ l
-gap-left off to l h = ap (λ bs. pushAll bs l) (carve-nothing ((to - off) / 16) off (to - off) (largest-none 7 (to - off) h)) ∙ push-nothing l
+gap-left off to l h =
+    ap (λ bs. pushAll bs l) (carve-nothing ((to - off) / 16) off (to - off) (largest-none 7 (to - off) h)) ∙ push-nothing l
 
 -- Blocks found in n bytes from an offset on, by the class found first.
 module _ (k off n : ℕ) where
   -- They are side by side, and leave less than 16 bytes.
   adjoin-found : (o : Option ℕ) → relocClass n ≡ o → n / 16 ≤ suc k
-      → ((class : ℕ) → (n - slabBytes class) / 16 ≤ k → Adjoin (off + slabBytes class) (carve k (off + slabBytes class) (n - slabBytes class)) (off + slabBytes class + (n - slabBytes class) / 16 * 16))
+      → ((class : ℕ) → (n - slabBytes class) / 16 ≤ k
+      → Adjoin (off + slabBytes class) (carve k (off + slabBytes class) (n - slabBytes class))
+      (off + slabBytes class + (n - slabBytes class) / 16 * 16))
       → Adjoin off (carve (suc k) off n) (off + n / 16 * 16)
   unfolding Adjoin
   adjoin-found none e h more =
@@ -139,7 +143,8 @@ pub adjoin-apart : (off : ℕ) (b : Block) (bs : List Block) (end : ℕ) → Adj
     → Each (Within (b .off + slabBytes (b .class)) end) bs
 unfolding Adjoin
 adjoin-apart off b bs end a =
-    subst (λ (x : ℕ). Each (Within (x + slabBytes (b .class)) end) bs) (sym (a .0)) (adjoin-within (off + slabBytes (b .class)) bs end (a .1))
+    subst (λ (x : ℕ). Each (Within (x + slabBytes (b .class)) end) bs) (sym (a .0))
+    (adjoin-within (off + slabBytes (b .class)) bs end (a .1))
 
 -- The blocks carved are slabs that can stand where they do.
 module _ (end k off n : ℕ) (aligned : off % 16 ≡ 0) (begins : 4096 ≤ off) (ends : off + n ≤ end) where
@@ -189,7 +194,8 @@ module _ (d class off : ℕ) (os : List ℕ) (l : Lists) (above : 0 < off) (fits
 -- What each free list names after blocks side by side were pushed: those of its class, the last on top, and then what it named before.
 pub names-carved : (d off end : ℕ) (bs : List Block) (os : List ℕ) (l : Lists) → 0 < off → end ≤ length (l .body)
     → length (l .body) < 256 ^ 8
-    → Adjoin off bs end → Each (λ b. b .class < length (l .heads)) bs → Clear (slabBytes d) off (end - off) os → Names (l .body) (firstFreed d l) os
+    → Adjoin off bs end → Each (λ b. b .class < length (l .heads)) bs → Clear (slabBytes d) off (end - off) os
+    → Names (l .body) (firstFreed d l) os
     → Names (pushAll bs l .body) (firstFreed d (pushAll bs l)) (stackAfter d bs os)
 unfolding Adjoin Each pushAll stackAfter
 names-carved d off end [] os l above fits small a has c n = n

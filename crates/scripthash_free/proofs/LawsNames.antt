@@ -107,7 +107,8 @@ module _ (class off : ℕ) (l : Lists) (above : 0 < off) (fits : off + 8 ≤ len
   -- The list of another class names what it named.
   pub names-other : (d : ℕ) (os : List ℕ) → (d ≡ class → ⊥) → Clear (slabBytes d) off 8 os → Names (l .body) (firstFreed d l) os
       → Names (pushed class off l .body) (firstFreed d (pushed class off l)) os
-  names-other d os other c n = subst (λ (h : ℕ). Names (pushed class off l .body) h os) (sym (head-kept d other)) (names-kept d os (firstFreed d l) c n)
+  names-other d os other c n =
+      subst (λ (h : ℕ). Names (pushed class off l .body) h os) (sym (head-kept d other)) (names-kept d os (firstFreed d l) c n)
 
 -- The list of a class that names no block has none to pop.
 pub names-none : (class mark : ℕ) (l : Lists) → class ≤ 8 → Names (l .body) (firstFreed class l) []

@@ -27,5 +27,5 @@ popAnswer NoBlock = accepted none
 popAnswer (NotPopped number) = refused number
 
 -- That a call was done.
-abbrev pub done : Lists → Unit {0}
-done l = tt
+abbrev pub wasDone : Lists → Unit {0}
+wasDone l = tt

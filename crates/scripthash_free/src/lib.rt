@@ -8,7 +8,7 @@ ghost use Rattle.error.specs.Refusal.{answered, refusalOf};
 ghost use Rattle.scripthash_layout.specs.Sizes.{maxSlabClass, pageClass};
 ghost use Rattle.scripthash_free.specs.FreeList.{Pop, lists, isBlock, pushed, pushFree, popFree, relocClass, gapBlocks, pushAll};
 ghost use Rattle.scripthash_free.specs.FreeList.{isGap, carveGap, after, headsAfter};
-ghost use Rattle.scripthash_free.specs.Answers.{classAnswer, pushAnswer, popAnswer, done};
+ghost use Rattle.scripthash_free.specs.Answers.{classAnswer, pushAnswer, popAnswer, wasDone};
 use error::Refusal;
 use scripthash_layout::SH_MAX_SLAB_CLASS;
 use scripthash_layout::SH_PAGE_BYTES;
@@ -169,7 +169,7 @@ fn put_free_head(body: &mut [u8], heads: &mut [u64; 9], class: u8, off: u64)
 // Pushes a block onto its class's free list, with the free heads lent: its first 8 bytes name the head so far, and it becomes the head.
 // A block that a pop would turn back isn't pushed.
 pub fn push_lent(body: &mut [u8], heads: &mut [u64; 9], class: u8, off: u64) -> PushFree
-    ensures answer { λ r. ⌜ pushAnswer r ≡ answered done (pushFree class off (lists (now (body .entry)) (now (heads .entry)))) ⌝ }
+    ensures answer { λ r. ⌜ pushAnswer r ≡ answered wasDone (pushFree class off (lists (now (body .entry)) (now (heads .entry)))) ⌝ }
     ensures lists { λ r. ⌜ lists (now (body .exit)) (now (heads .exit))
         ≡ after (pushFree class off (lists (now (body .entry)) (now (heads .entry)))) (lists (now (body .entry)) (now (heads .entry))) ⌝ }
 {
@@ -182,7 +182,7 @@ pub fn push_lent(body: &mut [u8], heads: &mut [u64; 9], class: u8, off: u64) -> 
 
 // Pushes a block onto its class's free list, with the free heads by value.
 pub fn push_free_head(body: &mut [u8], free: FreeHeads, class: u8, off: u64) -> AfterPush
-    ensures answer { λ r. ⌜ pushAnswer (r .answer) ≡ answered done (pushFree class off (lists (now (body .entry)) (free .heads))) ⌝ }
+    ensures answer { λ r. ⌜ pushAnswer (r .answer) ≡ answered wasDone (pushFree class off (lists (now (body .entry)) (free .heads))) ⌝ }
     ensures lists { λ r. ⌜ lists (now (body .exit)) (r .free .heads)
         ≡ after (pushFree class off (lists (now (body .entry)) (free .heads))) (lists (now (body .entry)) (free .heads)) ⌝ }
 {
@@ -283,7 +283,7 @@ fn push_smaller(body: &mut [u8], heads: &mut [u64; 9], from: u64, to: u64)
 // Carves the gap between two offsets into blocks, from its low end, the largest class up to 7 first, and pushes each, with the free heads
 // lent. A rest below 16 bytes is left. A gap that has bytes must begin at a multiple of 16 and lie between 4,096 and the body's end.
 pub fn carve_lent(body: &mut [u8], heads: &mut [u64; 9], from: u64, to: u64) -> PushFree
-    ensures answer { λ r. ⌜ pushAnswer r ≡ answered done (carveGap from to (lists (now (body .entry)) (now (heads .entry)))) ⌝ }
+    ensures answer { λ r. ⌜ pushAnswer r ≡ answered wasDone (carveGap from to (lists (now (body .entry)) (now (heads .entry)))) ⌝ }
     ensures lists { λ r. ⌜ lists (now (body .exit)) (now (heads .exit))
         ≡ after (carveGap from to (lists (now (body .entry)) (now (heads .entry)))) (lists (now (body .entry)) (now (heads .entry))) ⌝ }
 {
@@ -300,7 +300,7 @@ pub fn carve_lent(body: &mut [u8], heads: &mut [u64; 9], from: u64, to: u64) -> 
 
 // Carves the gap between two offsets into blocks, and pushes each, with the free heads by value.
 pub fn carve_gap_into_freelist(body: &mut [u8], free: FreeHeads, from: u64, to: u64) -> AfterPush
-    ensures answer { λ r. ⌜ pushAnswer (r .answer) ≡ answered done (carveGap from to (lists (now (body .entry)) (free .heads))) ⌝ }
+    ensures answer { λ r. ⌜ pushAnswer (r .answer) ≡ answered wasDone (carveGap from to (lists (now (body .entry)) (free .heads))) ⌝ }
     ensures lists { λ r. ⌜ lists (now (body .exit)) (r .free .heads)
         ≡ after (carveGap from to (lists (now (body .entry)) (free .heads))) (lists (now (body .entry)) (free .heads)) ⌝ }
 {

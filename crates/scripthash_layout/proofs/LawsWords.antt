@@ -50,7 +50,8 @@ slab-word class used off c two few low =
     let packs = pack-slab class used off c low in
     record {
       packs = packs;
-      unpacks = unpack-packed (Slab class used off) (slabWord class used off) (omega arith, (few, omega arith)) packs ∙ simp (lt-leb used 1 (omega arith));
+      unpacks = unpack-packed (Slab class used off) (slabWord class used off) (omega arith, (few, omega arith)) packs
+          ∙ simp (lt-leb used 1 (omega arith));
     }
 
 -- pages have a word

@@ -83,13 +83,15 @@ module _ (page : List ℕ) (fk : ℕ) where
   pub spot-zero : length page ≡ pageSize → fk ≡ 0 → appendSpot page fk ≡ refused offeredFirstZero
   unfolding appendSpot
   spot-zero long e =
-      refuse-no (not (eqb (length page) pageSize)) _ _ (ap not (eq-eqb (length page) pageSize long)) ∙ refuse-yes (eqb fk 0) _ _ (eq-eqb fk 0 e)
+      refuse-no (not (eqb (length page) pageSize)) _ _ (ap not (eq-eqb (length page) pageSize long))
+      ∙ refuse-yes (eqb fk 0) _ _ (eq-eqb fk 0 e)
 
   -- and so is a number with bit 63
   pub spot-flag : length page ≡ pageSize → (fk ≡ 0 → ⊥) → 2 ^ 63 ≤ fk → appendSpot page fk ≡ refused offeredBit63
   unfolding appendSpot
   spot-flag long some-fk h =
-      refuse-no (not (eqb (length page) pageSize)) _ _ (ap not (eq-eqb (length page) pageSize long)) ∙ refuse-no (eqb fk 0) _ _ (ne-eqb fk 0 some-fk)
+      refuse-no (not (eqb (length page) pageSize)) _ _ (ap not (eq-eqb (length page) pageSize long))
+      ∙ refuse-no (eqb fk 0) _ _ (ne-eqb fk 0 some-fk)
       ∙ refuse-yes (leb (2 ^ 63) fk) _ _ (le-leb (2 ^ 63) fk h)
 
 -- any other number is offered to the page's stream
@@ -98,14 +100,16 @@ module _ (page : List ℕ) (fk : ℕ) (long : length page ≡ pageSize) (some-fk
   pub spot-stop : {number : ℕ} → pageScan page ≡ refused number → appendSpot page fk ≡ refused number
   unfolding appendSpot
   spot-stop e =
-      refuse-no (not (eqb (length page) pageSize)) _ _ (ap not (eq-eqb (length page) pageSize long)) ∙ refuse-no (eqb fk 0) _ _ (ne-eqb fk 0 some-fk)
+      refuse-no (not (eqb (length page) pageSize)) _ _ (ap not (eq-eqb (length page) pageSize long))
+      ∙ refuse-no (eqb fk 0) _ _ (ne-eqb fk 0 some-fk)
       ∙ refuse-no (leb (2 ^ 63) fk) _ _ (lt-leb (2 ^ 63) fk small) ∙ then-no (pageScan page) _ e
 
   -- a number that isn't above the last is refused
   pub spot-low : (s : Scan) → pageScan page ≡ accepted s → fk ≤ lastOf s → appendSpot page fk ≡ refused offeredNotRising
   unfolding appendSpot
   spot-low s e h =
-      refuse-no (not (eqb (length page) pageSize)) _ _ (ap not (eq-eqb (length page) pageSize long)) ∙ refuse-no (eqb fk 0) _ _ (ne-eqb fk 0 some-fk)
+      refuse-no (not (eqb (length page) pageSize)) _ _ (ap not (eq-eqb (length page) pageSize long))
+      ∙ refuse-no (eqb fk 0) _ _ (ne-eqb fk 0 some-fk)
       ∙ refuse-no (leb (2 ^ 63) fk) _ _ (lt-leb (2 ^ 63) fk small) ∙ then-yes (pageScan page) _ e
       ∙ refuse-yes (leb fk (lastOf s)) _ _ (le-leb fk (lastOf s) h)
 
@@ -113,7 +117,8 @@ module _ (page : List ℕ) (fk : ℕ) (long : length page ≡ pageSize) (some-fk
   pub spot-high : (s : Scan) → pageScan page ≡ accepted s → lastOf s < fk → appendSpot page fk ≡ accepted (spotBehind page fk s)
   unfolding appendSpot
   spot-high s e h =
-      refuse-no (not (eqb (length page) pageSize)) _ _ (ap not (eq-eqb (length page) pageSize long)) ∙ refuse-no (eqb fk 0) _ _ (ne-eqb fk 0 some-fk)
+      refuse-no (not (eqb (length page) pageSize)) _ _ (ap not (eq-eqb (length page) pageSize long))
+      ∙ refuse-no (eqb fk 0) _ _ (ne-eqb fk 0 some-fk)
       ∙ refuse-no (leb (2 ^ 63) fk) _ _ (lt-leb (2 ^ 63) fk small) ∙ then-yes (pageScan page) _ e
       ∙ refuse-no (leb fk (lastOf s)) _ _ (lt-leb fk (lastOf s) h)
 
@@ -179,7 +184,8 @@ spot-accepted page fk w e =
     let g = went-on (pageScan page) _ (f .1) in
     let s = g .0 in
     let r = passed (leb fk (lastOf s)) _ _ (g .2) in
-    let o = spot-if (ltb (streamCap page) (s .taken + ulebLen (fk - lastOf s))) (streamOff page + s .taken) (fk - lastOf s) w (accepted-inj (r .1)) in
+    let o = spot-if (ltb (streamCap page) (s .taken + ulebLen (fk - lastOf s))) (streamOff page + s .taken) (fk - lastOf s) w
+    (accepted-inj (r .1)) in
     record {
       scanned = s;
       is = g .1;
@@ -187,7 +193,13 @@ spot-accepted page fk w e =
       below = leb-false (2 ^ 63) fk (f .0);
       at-is = o .1;
       difference-is = o .2;
-      fits = omega (arith, ltb-false (streamCap page) (s .taken + ulebLen (fk - lastOf s)) (o .0), ap ulebLen (o .2), o .1, stream-off-within page);
+      fits = omega (
+        arith,
+        ltb-false (streamCap page) (s .taken + ulebLen (fk - lastOf s)) (o .0),
+        ap ulebLen (o .2),
+        o .1,
+        stream-off-within page,
+      );
     }
 
 -- ---- the page afterwards

@@ -59,11 +59,14 @@ snoc-step prev k bs rest n r t next ih =
     let l = r .len in
     let tail = grown (r .value) (drop l bs) t n rest in
     let known = next-accepted prev bs r next in
-    let split : take (l + t .taken) bs ++ (shortest (n - lastFrom (r .value) (t .numbers)) ++ rest) ≡ take l bs ++ tail = rw (take-add l (t .taken) bs, append-assoc) in
+    let split : take (l + t .taken) bs ++ (shortest (n - lastFrom (r .value) (t .numbers)) ++ rest) ≡ take l bs ++ tail =
+    rw (take-add l (t .taken) bs, append-assoc) in
     let after : drop l (take l bs ++ tail) ≡ tail = drop-at (take l bs) tail l (length-take-le l bs (known .len-within)) in
-    let sum : l + (t .taken + ulebLen (n - lastFrom (r .value) (t .numbers))) ≡ l + t .taken + ulebLen (n - lastFrom (r .value) (t .numbers)) = omega arith in
+    let sum : l + (t .taken + ulebLen (n - lastFrom (r .value) (t .numbers)))
+    ≡ l + t .taken + ulebLen (n - lastFrom (r .value) (t .numbers)) = omega arith in
     ap (scanFrom prev (suc (suc k))) split
-    ∙ scan-cons prev (suc k) (take l bs ++ tail) r (withLast (r .value) t n) (next-same prev bs tail r next) (ap (scanFrom (r .value) (suc k)) after ∙ ih)
+    ∙ scan-cons prev (suc k) (take l bs ++ tail) r (withLast (r .value) t n) (next-same prev bs tail r next)
+    (ap (scanFrom (r .value) (suc k)) after ∙ ih)
     ∙ ap (λ (m : ℕ). accepted (record { numbers = r .value ∷ (t .numbers ++ (n ∷ [])); taken = m })) sum
 
 -- a stream with another number's form behind it scans as its numbers and that one
@@ -78,7 +81,8 @@ scan-snoc prev zero bs rest s n e h b =
 scan-snoc prev (suc k) bs rest s n e h b =
     let w = scan-step prev k bs s e in
     let h0 : lastFrom (w .first .value) (w .rest .numbers) < n = rw (w .whole) at h in
-    rw (w .whole) (snoc-step prev k bs rest n (w .first) (w .rest) (w .next) (scan-snoc (w .first .value) k (drop (w .first .len) bs) rest (w .rest) n (w .more) h0 b))
+    rw (w .whole) (snoc-step prev k bs rest n (w .first) (w .rest) (w .next)
+    (scan-snoc (w .first .value) k (drop (w .first .len) bs) rest (w .rest) n (w .more) h0 b))
 
 -- ---- pages
 
@@ -88,7 +92,8 @@ drop-past : (b : List ℕ) (o : ℕ) (ys : List ℕ) → o + length ys ≤ lengt
 unfolding part
 drop-past b o ys fits k h =
     sym (part-to-end (overwrite b o ys) k)
-    ∙ ap (λ (m : ℕ). take (m - k) (drop k (overwrite b o ys))) (length-overwrite b o ys fits) ∙ part-after b o ys fits k (length b - k) h ∙ part-to-end b k
+    ∙ ap (λ (m : ℕ). take (m - k) (drop k (overwrite b o ys))) (length-overwrite b o ys fits) ∙ part-after b o ys fits k (length b - k) h
+    ∙ part-to-end b k
 
 pub kept-place : (b : Bool) (m : ℕ) → m ≤ pageSize - eitherOf 24 8 b
     → placeBy (eitherOf 2 1 b) m ≡ accepted (record { off = eitherOf 24 8 b; count = m })
@@ -144,7 +149,8 @@ module _ (page : List ℕ) (fk : ℕ) (w : Spot) (r : Roomy page fk w) where
   -- a part of the header stays as it is counted
   header : (o n : ℕ) → o + n ≤ 8 → part (withAppended page w) o n ≡ part (overwrite first 1 more) o n
   unfolding withAppended
-  header o n h = part-before (oneMore page) (w .at) (shortest (w .difference)) form-fits o n (omega (arith, late)) ∙ ap (λ (b : List ℕ). part b o n) counted
+  header o n h = part-before (oneMore page) (w .at) (shortest (w .difference)) form-fits o n (omega (arith, late))
+      ∙ ap (λ (b : List ℕ). part b o n) counted
 
   pub appended-long : length (withAppended page w) ≡ pageSize
   unfolding withAppended
@@ -161,14 +167,16 @@ module _ (page : List ℕ) (fk : ℕ) (w : Spot) (r : Roomy page fk w) where
   pub appended-version : versionOf (withAppended page w) ≡ version
   unfolding field
   appended-version =
-      ap littleEndian (header 0 1 (omega arith) ∙ part-before first 1 more more-fits 0 1 (omega arith) ∙ part-written page 0 (bytesOf 1 version) first-fits)
+      ap littleEndian (header 0 1 (omega arith) ∙ part-before first 1 more more-fits 0 1 (omega arith)
+      ∙ part-written page 0 (bytesOf 1 version) first-fits)
       ∙ littleEndian-bytesOf 1 version (kept-small (namesExtent page))
 
   -- the header from the link on, with the extent where there is one, stays
   pub appended-header : (o n : ℕ) → 3 ≤ o → o + n ≤ streamOff page → part (withAppended page w) o n ≡ part page o n
   unfolding withAppended
   appended-header o n h k =
-      part-before (oneMore page) (w .at) (shortest (w .difference)) form-fits o n (omega (arith, r .at-is)) ∙ ap (λ (b : List ℕ). part b o n) counted
+      part-before (oneMore page) (w .at) (shortest (w .difference)) form-fits o n (omega (arith, r .at-is))
+      ∙ ap (λ (b : List ℕ). part b o n) counted
       ∙ part-after first 1 more more-fits o n (omega arith) ∙ part-after page 0 (bytesOf 1 version) first-fits o n (omega arith)
 
   abbrev place : Place
@@ -179,7 +187,8 @@ module _ (page : List ℕ) (fk : ℕ) (w : Spot) (r : Roomy page fk w) where
       let found = scan-placed page s (r .is) in
       let p = found .0 in
       let placed = place-accepted page p (found .1) in
-      ap (λ (o : ℕ). scan (countOf page) (drop o page)) (placed .off-is) ∙ ap (λ (m : ℕ). scan m (drop (p .off) page)) (placed .count-is) ∙ found .2
+      ap (λ (o : ℕ). scan (countOf page) (drop o page)) (placed .off-is) ∙ ap (λ (m : ℕ). scan m (drop (p .off) page)) (placed .count-is)
+      ∙ found .2
 
   appended-place : streamPlace (withAppended page w) ≡ accepted place
   appended-place =
@@ -201,7 +210,8 @@ module _ (page : List ℕ) (fk : ℕ) (w : Spot) (r : Roomy page fk w) where
   abbrev rest : List ℕ
   rest = drop (w .at + length (shortest (w .difference))) (oneMore page)
 
-  appended-stream : drop (streamOff page) (withAppended page w) ≡ take (s .taken) (drop (streamOff page) page) ++ (shortest (fk - lastOf s) ++ rest)
+  appended-stream : drop (streamOff page) (withAppended page w) ≡ take (s .taken) (drop (streamOff page) page)
+      ++ (shortest (fk - lastOf s) ++ rest)
   unfolding withAppended overwrite
   appended-stream =
       let tail = shortest (w .difference) ++ rest in
@@ -218,5 +228,6 @@ module _ (page : List ℕ) (fk : ℕ) (w : Spot) (r : Roomy page fk w) where
   pub appended-scan : pageScan (withAppended page w) ≡ accepted (withLast 0 s fk)
   appended-scan =
       scan-yes (withAppended page w) place appended-place
-      ∙ ap (λ (m : ℕ). scan m (drop (streamOff page) (withAppended page w))) (add-one (countOf page)) ∙ ap (scan (suc (countOf page))) appended-stream
+      ∙ ap (λ (m : ℕ). scan m (drop (streamOff page) (withAppended page w))) (add-one (countOf page))
+      ∙ ap (scan (suc (countOf page))) appended-stream
       ∙ scan-snoc 0 (countOf page) (drop (streamOff page) page) rest s fk known (r .above) (r .below)

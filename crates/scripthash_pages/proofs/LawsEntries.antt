@@ -123,7 +123,8 @@ scan-placed page s e =
 -- ---- read
 
 same-test : (room n : ℕ) (a : Answer Scan) → ((s : Scan) → a ≡ accepted s → length (s .numbers) ≡ n)
-    → andThen a (λ s. refuseIf (ltb room (length (s .numbers))) listTooShort (accepted s)) ≡ andThen a (λ s. refuseIf (ltb room n) listTooShort (accepted s))
+    → andThen a (λ s. refuseIf (ltb room (length (s .numbers))) listTooShort (accepted s))
+    ≡ andThen a (λ s. refuseIf (ltb room n) listTooShort (accepted s))
 unfolding andThen
 same-test room n (accepted s) h = ap (λ (m : ℕ). refuseIf (ltb room m) listTooShort (accepted s)) (h s refl)
 same-test room n (refused number) h = refl

@@ -16,8 +16,10 @@ use Rattle.scripthash_pages.proofs.LawsEntries.{version-byte, placeBy, 
 use Rattle.scripthash_pages.proofs.LawsAppend.{eitherOf, count-read}
 use Rattle.scripthash_pages.proofs.LawsAppended.{count-least, kept-place}
 
-module _ (b : Bool) (page ns rest : List ℕ) (long : length page ≡ pageSize) (version : versionOf page ≡ eitherOf 2 1 b) (counted : countOf page ≡ length ns)
-    (holds : drop (eitherOf 24 8 b) page ≡ stream ns ++ rest) (rises : Rising (2 ^ 63) 0 ns) (fits : streamLen ns ≤ pageSize - eitherOf 24 8 b) where
+module _ (b : Bool) (page ns rest : List ℕ) (long : length page ≡ pageSize) (version : versionOf page ≡ eitherOf 2 1 b)
+    (counted : countOf page ≡ length ns)
+    (holds : drop (eitherOf 24 8 b) page ≡ stream ns ++ rest) (rises : Rising (2 ^ 63) 0 ns)
+    (fits : streamLen ns ≤ pageSize - eitherOf 24 8 b) where
   held-place : streamPlace page ≡ accepted (record { off = eitherOf 24 8 b; count = length ns })
   held-place =
       place-by page (versionOf page) (countOf page) long (sym (version-byte page (omega (arith, long)))) (count-read page)
@@ -27,7 +29,8 @@ module _ (b : Bool) (page ns rest : List ℕ) (long : length page ≡ pageSize) 
   -- it reads as the list
   pub held-scan : pageScan page ≡ accepted (record { numbers = ns; taken = streamLen ns })
   held-scan =
-      scan-yes page (record { off = eitherOf 24 8 b; count = length ns }) held-place ∙ ap (scan (length ns)) holds ∙ scan-stream 0 ns rest rises
+      scan-yes page (record { off = eitherOf 24 8 b; count = length ns }) held-place ∙ ap (scan (length ns)) holds
+      ∙ scan-stream 0 ns rest rises
 
 -- the stream's start by the version
 pub off-by-version : (page : List ℕ) (b : Bool) → versionOf page ≡ eitherOf 2 1 b → streamOff page ≡ eitherOf 24 8 b

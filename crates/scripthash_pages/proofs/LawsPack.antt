@@ -69,7 +69,8 @@ module _ (header other ns : List ℕ) (same : length header ≡ length other) wh
   packed-no e =
       refused-alike (ltb maxOffered (length ns)) tooManyOffered _ _
       (λ stop. answered-no (whole other ns) (encodeStream (pageSize - length other) ns)
-      (ap (λ (k : ℕ). encodeStream (pageSize - k) ns) (sym same) ∙ was-refused (whole header ns) (encodeStream (pageSize - length header) ns) stop)) e
+      (ap (λ (k : ℕ). encodeStream (pageSize - k) ns) (sym same)
+      ∙ was-refused (whole header ns) (encodeStream (pageSize - length header) ns) stop)) e
 
   pub packed-yes : {page : List ℕ} → packed header ns ≡ accepted page → packed other ns ≡ accepted (pageOf other (stream ns))
   packed-yes {page} e =
@@ -119,7 +120,8 @@ stream-cleared page o s between e out long h end is zeros =
     ∙ ap (λ (b : List ℕ). take (o + length s) b ++ replicate (pageSize - (o + length s)) 0) is ∙ stream-packed page o s long h
 
 -- a page packed behind its first o bytes, and then another header of o bytes written over them
-module _ (page ns other : List ℕ) (o : ℕ) (inside : o ≤ length page) (size : length other ≡ o) (out : List ℕ) (is : out ≡ afterSet page (packed (take o page) ns)) where
+module _ (page ns other : List ℕ) (o : ℕ) (inside : o ≤ length page) (size : length other ≡ o) (out : List ℕ)
+    (is : out ≡ afterSet page (packed (take o page) ns)) where
   same : length (take o page) ≡ length other
   same = length-take-le o page inside ∙ sym size
 
@@ -131,12 +133,17 @@ module _ (page ns other : List ℕ) (o : ℕ) (inside : o ≤ length page) (size
 
   -- an acceptance is that of the packed page, and its header makes the page that page
   pub behind-yes : done (packed (take o page) ns) ≡ accepted tt
-      → (length ns ≤ maxOffered) × (packed other ns ≡ accepted (pageOf other (stream ns))) × (overwrite out 0 other ≡ pageOf other (stream ns))
+      → (length ns ≤ maxOffered) × (packed other ns ≡ accepted (pageOf other (stream ns)))
+      × (overwrite out 0 other ≡ pageOf other (stream ns))
   behind-yes e =
       let got = done-yes (packed (take o page) ns) e in
       let p = packed-accepted (take o page) ns (got .0) (got .1) in
-      let held : out ≡ pageOf (take o page) (stream ns) = is ∙ ap (afterSet page) (got .1) ∙ sym (p .is) in
-      (p .few, packed-yes (take o page) other ns same (got .1), ap (λ (b : List ℕ). overwrite b 0 other) held ∙ header-written (take o page) other (stream ns) same)
+      let held : out ≡ pageOf (take o page) (stream ns) = is ∙ ap (afterSet page) (got .1) ∙ sym (p .is) in (
+        p .few,
+        packed-yes (take o page) other ns same (got .1),
+        ap (λ (b : List ℕ). overwrite b 0 other) held
+            ∙ header-written (take o page) other (stream ns) same,
+      )
 
 -- three writes that adjoin are one
 pub three-written : (b : List ℕ) (o : ℕ) (xs ys zs : List ℕ) → o ≤ length b

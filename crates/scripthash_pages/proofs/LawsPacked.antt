@@ -41,7 +41,8 @@ module _ (ns : List ℕ) (rises : Rising (2 ^ 63) 0 ns) where
 
   -- and with one
   pub extent-scan : streamLen ns ≤ 4072 → (link base extents creates : ℕ)
-      → pageScan (pageOf (extentHeader (length ns) link base extents creates) (stream ns)) ≡ accepted (record { numbers = ns; taken = streamLen ns })
+      → pageScan (pageOf (extentHeader (length ns) link base extents creates) (stream ns))
+      ≡ accepted (record { numbers = ns; taken = streamLen ns })
   extent-scan fits link base extents creates =
       let page = pageOf (extentHeader (length ns) link base extents creates) (stream ns) in
       let size = length-stream 0 ns in
@@ -68,7 +69,8 @@ module _ (ns : List ℕ) (rises : Rising (2 ^ 63) 0 ns) where
   pub extent-packed : (page : List ℕ) (base count next : ℕ) → length page ≡ pageSize → linked base next % pageSize ≡ 0
       → linked base next / pageSize < 2 ^ 39
       → (count ≡ 0 → ⊥) → base % pageSize ≡ 0 → (base ≡ 0 → ⊥) → streamLen ns ≤ 4072
-      → packExtent page ns base count next ≡ accepted (pageOf (extentHeader (length ns) (linkTo (eqb next 0) (linked base next)) base count 0) (stream ns))
+      → packExtent page ns base count next
+      ≡ accepted (pageOf (extentHeader (length ns) (linkTo (eqb next 0) (linked base next)) base count 0) (stream ns))
   unfolding packExtent extentHeader
   extent-packed page base count next long aligned small some-count base-aligned some-base fits =
       page-yes page _ long ∙ link-good (linked base next) _ aligned small ∙ extent-good base count _ some-count base-aligned some-base
@@ -82,7 +84,8 @@ pub record PackedAs (page ns : List ℕ) (last : Bool) (off : ℕ) : Type 0 wher
   pub next : nextOffOf page ≡ accepted (cond last 0 off)
   pub scan : pageScan page ≡ accepted (record { numbers = ns; taken = streamLen ns })
 
-module _ (ns : List ℕ) (rises : Rising (2 ^ 63) 0 ns) (last : Bool) (off : ℕ) (aligned : off % pageSize ≡ 0) (small : off / pageSize < 2 ^ 39) where
+module _ (ns : List ℕ) (rises : Rising (2 ^ 63) 0 ns) (last : Bool) (off : ℕ) (aligned : off % pageSize ≡ 0)
+    (small : off / pageSize < 2 ^ 39) where
   module _ (fits : streamLen ns ≤ 4088) where
     abbrev delta : List ℕ
     delta = pageOf (deltaHeader (length ns) (linkTo last off)) (stream ns)
@@ -129,6 +132,7 @@ module _ (ns : List ℕ) (rises : Rising (2 ^ 63) 0 ns) (last : Bool) (off : ℕ
     pub extent-named : (extents ≡ 0 → ⊥) → base % pageSize ≡ 0 → (base ≡ 0 → ⊥) → base < 256 ^ 8 → extents < 256 ^ 4 → creates < 256 ^ 4
         → (extentOf named ≡ accepted (some (record { base = base; count = extents }))) × (createsOf named ≡ accepted creates)
     extent-named some-extents base-aligned some-base base-fits extents-fit creates-fit = (
-      extent-extent (length ns) last off base extents creates (stream ns) named-fits some-extents base-aligned some-base base-fits extents-fit,
+      extent-extent (length ns) last off base extents creates (stream ns) named-fits some-extents base-aligned some-base base-fits
+          extents-fit,
       extent-creates-is (length ns) last off base extents creates (stream ns) named-fits creates-fit,
     )

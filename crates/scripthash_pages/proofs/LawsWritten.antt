@@ -124,7 +124,12 @@ write-accepted page ns len e =
     let l = passed (not (eqb (length page) pageSize)) _ _ e in
     let m = passed (ltb maxOffered (length ns)) _ _ (l .1) in
     let h = encode-accepted (streamCap page) ns (m .1) in
-    record { long = eqb-true (length page) pageSize (not-false (eqb (length page) pageSize) (l .0)); rises = h .0; fits = h .1; taken = h .2 }
+    record {
+      long = eqb-true (length page) pageSize (not-false (eqb (length page) pageSize) (l .0));
+      rises = h .0;
+      fits = h .1;
+      taken = h .2;
+    }
 
 -- what `sh_page_write_stream` leaves where it accepts, in version 2 or 1
 pub write-scan : (page ns : List ℕ) (len : ℕ) (b : Bool) → versionOf page ≡ eitherOf 2 1 b → writeStream page ns ≡ accepted len

@@ -5,6 +5,6 @@ use Rattle.scripthash_pages.specs.declared.entries.StreamPlace.{StreamPl
 use Rattle.scripthash_pages.specs.declared.entries.StreamPlace.the-variants.{At, Refused as NoPlace}
 
 -- The place of a page's stream.
-abbrev pub placeAnswer : StreamPlace → Answer Place
-placeAnswer (At off count) = accepted (record { off = off; count = count })
-placeAnswer (NoPlace number) = refused number
+abbrev pub streamPlaceAnswer : StreamPlace → Answer Place
+streamPlaceAnswer (At off count) = accepted (record { off = off; count = count })
+streamPlaceAnswer (NoPlace number) = refused number

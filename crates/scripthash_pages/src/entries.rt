@@ -4,9 +4,9 @@ ghost use lib.ListN.{length};
 ghost use Rattle.error.specs.Refusal.{answered, refusalOf};
 ghost use Rattle.scripthash_stream.specs.Stream.{endFrom, afterDecode};
 ghost use Rattle.scripthash_stream.specs.Answers.{scanAnswer};
-ghost use Rattle.scripthash_answers.specs.EntryAnswers.{lastAnswer, entriesAnswer, sliceAnswer};
+ghost use Rattle.scripthash_answers.specs.EntryAnswers.{lastFkAnswer, entriesAnswer, sliceAnswer};
 ghost use Rattle.scripthash_pages.specs.Entries.{streamPlace, pageScan, lastOf, pageEntries, readCount, pageReadOf};
-ghost use Rattle.scripthash_pages.specs.Answers.{placeAnswer};
+ghost use Rattle.scripthash_pages.specs.Answers.{streamPlaceAnswer};
 use error::Refusal;
 use scripthash_answers::PageDone;
 use scripthash_answers::PageEntries;
@@ -27,7 +27,7 @@ pub enum StreamPlace {
 impl StreamPlace {
     // The refusal's number, and 0 of another answer.
     pub fn refusal(self) -> Refusal
-        ensures { λ r. ⌜ r ≡ refusalOf (placeAnswer self) ⌝ }
+        ensures { λ r. ⌜ r ≡ refusalOf (streamPlaceAnswer self) ⌝ }
     {
         match self {
             StreamPlace::At { off: _, count: _ } => 0,
@@ -38,7 +38,7 @@ impl StreamPlace {
 
 // The place of a page's stream, where the page can be read.
 fn stream_place(page: &[u8]) -> StreamPlace
-    ensures { λ r. ⌜ placeAnswer r ≡ streamPlace (now (page .entry)) ⌝ }
+    ensures { λ r. ⌜ streamPlaceAnswer r ≡ streamPlace (now (page .entry)) ⌝ }
 {
     let passed = sh_page_require_delta(page);
     let PageDone::Done = passed else {
@@ -63,7 +63,7 @@ pub fn sh_page_stream_tail(page: &[u8]) -> ScanStream
 
 // The last number of a page, 0 where it has none.
 pub fn sh_page_last_fk(page: &[u8]) -> PageLastFk
-    ensures { λ r. ⌜ lastAnswer r ≡ answered lastOf (pageScan (now (page .entry))) ⌝ }
+    ensures { λ r. ⌜ lastFkAnswer r ≡ answered lastOf (pageScan (now (page .entry))) ⌝ }
 {
     let tail = sh_page_stream_tail(page);
     let ScanStream::Scanned { taken: _, last } = tail else {

@@ -202,7 +202,8 @@ slack-next n f = go (classByCount (n + 1)) refl
     go : (o : Option ℕ) → classByCount (n + 1) ≡ o → orElse o (classByCount n) ≡ o
     go (some d) q = refl
     go none q =
-        ⊎-elim (λ h. class-below byCount n (omega arith)) (λ h. class-above byCount n (lt-of-le-of-ne (le-of-suc-le-suc (rw add-one at h)) (λ e. f (sym e))))
+        ⊎-elim (λ h. class-below byCount n (omega arith))
+        (λ h. class-above byCount n (lt-of-le-of-ne (le-of-suc-le-suc (rw add-one at h)) (λ e. f (sym e))))
         (count-none (n + 1) .0 q)
 
 -- With slack, the class for 256 is 6.

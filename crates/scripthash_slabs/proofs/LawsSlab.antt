@@ -29,13 +29,15 @@ slab-many room ns h = refuse-yes (ltb maxOffered (length ns)) _ _ (lt-ltb maxOff
 -- no room for the two bytes
 pub slab-short : (room : ℕ) (ns : List ℕ) → length ns ≤ maxOffered → room < 2 → encodeSlab room ns ≡ refused slabTooShort
 unfolding encodeSlab
-slab-short room ns h k = refuse-no (ltb maxOffered (length ns)) _ _ (le-ltb maxOffered (length ns) h) ∙ refuse-yes (ltb room 2) _ _ (lt-ltb room 2 k)
+slab-short room ns h k =
+    refuse-no (ltb maxOffered (length ns)) _ _ (le-ltb maxOffered (length ns) h) ∙ refuse-yes (ltb room 2) _ _ (lt-ltb room 2 k)
 
 -- and else the stream decides
 pub slab-as-stream : (room : ℕ) (ns : List ℕ) → length ns ≤ maxOffered → 2 ≤ room
     → encodeSlab room ns ≡ answered (λ len. 2 + len) (encodeStream (room - 2) ns)
 unfolding encodeSlab
-slab-as-stream room ns h k = refuse-no (ltb maxOffered (length ns)) _ _ (le-ltb maxOffered (length ns) h) ∙ refuse-no (ltb room 2) _ _ (le-ltb room 2 k)
+slab-as-stream room ns h k =
+    refuse-no (ltb maxOffered (length ns)) _ _ (le-ltb maxOffered (length ns) h) ∙ refuse-no (ltb room 2) _ _ (le-ltb room 2 k)
 
 -- a refusal leaves the destination as it was
 pub after-slab-no : (out ns : List ℕ) (a : Answer ℕ) {number : ℕ} → a ≡ refused number → afterEncodeSlab out ns a ≡ out
@@ -53,7 +55,8 @@ pub payload-written : (out ns : List ℕ) → 2 ≤ length out
     → overwrite (overwrite out 2 (stream ns)) 0 (bytesOf 2 (length ns)) ≡ overwrite out 0 (slabPayload ns)
 unfolding slabPayload
 payload-written out ns h =
-    sym (overwrite-apart out 0 (bytesOf 2 (length ns)) 2 (stream ns) (omega arith) h) ∙ overwrite-adjoin out 0 (bytesOf 2 (length ns)) (stream ns) (omega arith)
+    sym (overwrite-apart out 0 (bytesOf 2 (length ns)) 2 (stream ns) (omega arith) h)
+    ∙ overwrite-adjoin out 0 (bytesOf 2 (length ns)) (stream ns) (omega arith)
 
 -- ---- reading
 
@@ -74,4 +77,5 @@ unfolding slabPayload part
 unslab-payload room ns rest h k l =
     let count : littleEndian (bytesOf 2 (length ns)) ≡ length ns = littleEndian-bytesOf 2 (length ns) (omega arith) in
     unslab-as-stream room (slabPayload ns ++ rest) (omega arith)
-    ∙ ap (λ (n : ℕ). decodeStream room n (stream ns ++ rest)) count ∙ decode-fits room (length ns) (stream ns ++ rest) (scan-stream 0 ns rest h) l
+    ∙ ap (λ (n : ℕ). decodeStream room n (stream ns ++ rest)) count
+    ∙ decode-fits room (length ns) (stream ns ++ rest) (scan-stream 0 ns rest h) l

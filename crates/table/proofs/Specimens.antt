@@ -10,7 +10,8 @@ use Rattle.scripthash_cutting.specs.Cutting.{fitting, firstPart, greedyParts, r
 use Rattle.table.specs.Table.{Specimens, Is, SlabOf, IsHead, inARow}
 
 pub specimens : Specimens
-unfolding refuseIf andThen part isForm value formAt overflows readForm readUleb divided shortest packHead unpackHead streamFrom storedNumber nextNumber scanFrom decodeStream slabPayload decodeSlab ulebLen fitting firstPart greedyParts replaceLast rangesFrom inARow
+unfolding refuseIf andThen part isForm value formAt overflows readForm readUleb divided shortest packHead unpackHead streamFrom
+    storedNumber nextNumber scanFrom decodeStream slabPayload decodeSlab ulebLen fitting firstPart greedyParts replaceLast rangesFrom inARow
 specimens =
     record {
       S1 = (record { written = refl; read = refl }, record { written = refl; read = refl });

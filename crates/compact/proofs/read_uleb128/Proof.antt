@@ -23,7 +23,8 @@ returns c =
     let e = c .before .read-form .ensures in
     let zero : refusalOf (readUleb bytes) ≡ 0 = omega arith in
     let got = out-accepted (readUleb bytes) (read-refused bytes) zero in
-    ap accepted (reading (got .0) (e .1 .0 ∙ sym (told-accepted (λ x. x .value) _ (got .1))) (e .1 .1 ∙ sym (told-accepted (λ x. x .len) _ (got .1))))
+    ap accepted (reading (got .0) (e .1 .0 ∙ sym (told-accepted (λ x. x .value) _ (got .1))) (e .1 .1
+    ∙ sym (told-accepted (λ x. x .len) _ (got .1))))
     ∙ sym (got .1)
 
 returns-2 : tie.Need-returns-2

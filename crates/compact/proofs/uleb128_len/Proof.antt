@@ -43,7 +43,8 @@ returns c =
     let top = leading-length 64 n (c .fits .n .fits) in
     let m = top .0 in
     let z : leadingZeros 64 n ≡ 64 - m = omega (arith, top .1) in
-    let both = and-yes (eqb (ulebLen (2 ^ m / 2)) (computed m)) (eqb (ulebLen (2 ^ m - 1)) (computed m)) (below-bound right 65 ends m (omega (arith, top .1))) in
+    let both = and-yes (eqb (ulebLen (2 ^ m / 2)) (computed m)) (eqb (ulebLen (2 ^ m - 1)) (computed m))
+    (below-bound right 65 ends m (omega (arith, top .1))) in
     let low = len-mono (2 ^ m / 2) n (omega (arith, top .3)) in
     let high = len-mono n (2 ^ m - 1) (omega (arith, top .2)) in
     rw z

@@ -52,7 +52,8 @@ returns-2 c =
     let n = s .args .n in
     let fits : ulebLen n ≤ length (s .args .dst .now) = omega (arith, three n (s .pre .0) (s .pre .1)) in
     let top : n / 16384 ≡ n / 128 / 128 = omega arith in
-    rw top (written (goes (goes (starts (s .args .dst .now) n fits) (omega (arith, s .pre .0))) (omega (arith, s .pre .0))) (omega (arith, s .pre .1)))
+    rw top (written (goes (goes (starts (s .args .dst .now) n fits) (omega (arith, s .pre .0))) (omega (arith, s .pre .0)))
+    (omega (arith, s .pre .1)))
 
 pub write-three-spec : {M : Type 1} → statement M
 write-three-spec =

@@ -36,7 +36,8 @@ same-length-3 : tie.Need-same-length-3
 same-length-3 c = search needs
 
 returns-4 : tie.Need-returns-4
-returns-4 c = let a = c .before .before .before .before .before .before .before .before .before .args in accepts (a .dst .now) _ (a .n) _ (omega arith) (c .before .before .put-unrolled .ensures)
+returns-4 c = let a = c .before .before .before .before .before .before .before .before .before .args in
+    accepts (a .dst .now) _ (a .n) _ (omega arith) (c .before .before .put-unrolled .ensures)
 
 pub write-uleb128-into-spec : {M : Type 1} → statement M
 write-uleb128-into-spec =

@@ -6,7 +6,7 @@ use lib.ListN.{length}
 use borrow.Author.Tests.{not-true, not-false}
 use Rattle.error.proofs.LawsAnswer.{answered-yes, answered-no}
 use Rattle.scripthash_free.specs.FreeList.{Lists, lists, isGap}
-use Rattle.scripthash_free.specs.Answers.{done}
+use Rattle.scripthash_free.specs.Answers.{wasDone}
 use Rattle.scripthash_free.proofs.LawsBlock.{Gap, gap-lies}
 use Rattle.scripthash_free.proofs.LawsFree.{after-accepted, after-refused, carve-yes, carve-no}
 use Rattle.scripthash_free.proofs.LawsGap.{gap-left}
@@ -33,7 +33,7 @@ returns c =
     let a = c .before .before .before .args in
     let l = lists (a .body .now) (a .heads .now) in
     let answer = carve-no (a .from) (a .to) l (sym (c .before .is-gap .ensures) ∙ not-true _ (c .if1 .taken)) in
-    (sym (answered-no done _ answer), sym (after-refused _ l answer))
+    (sym (answered-no wasDone _ answer), sym (after-refused _ l answer))
 
 push-largest-requires : tie.Need-push-largest-requires
 push-largest-requires c κs =
@@ -44,7 +44,8 @@ push-largest-requires c κs =
 push-smaller-requires : tie.Need-push-smaller-requires
 push-smaller-requires c κs =
     let t = c .before .before .before .before .before .before .before .before in
-    let g : Gap (start t .args .from) (start t .args .to) _ = gap-lies _ _ _ (passed t) (c .before .before .before .before .before .before .before .if2 .taken) in
+    let g : Gap (start t .args .from) (start t .args .to) _ =
+    gap-lies _ _ _ (passed t) (c .before .before .before .before .before .before .before .if2 .taken) in
     let r = c .before .before .before .before .push-largest .ensures .0 in
     (r .0, omega (arith, g .ends), r .1)
 
@@ -55,14 +56,20 @@ returns-2 : tie.Need-returns-2
 returns-2 c =
     let p = c .before .before .before .before .before .before .before in
     let t = p .before .before .before .before in
-    let answer = carve-yes (start t .args .from) (start t .args .to) (whole t) (passed t) in
-    (sym (answered-yes done _ answer), c .before .before .push-smaller .ensures ∙ p .push-largest .ensures .1 ∙ sym (after-accepted _ (whole t) answer))
+    let answer = carve-yes (start t .args .from) (start t .args .to) (whole t) (passed t) in (
+      sym (answered-yes wasDone _ answer),
+      c .before .before .push-smaller .ensures ∙ p .push-largest .ensures .1
+          ∙ sym (after-accepted _ (whole t) answer),
+    )
 
 returns-3 : tie.Need-returns-3
 returns-3 c =
     let t = c .before in
-    let answer = carve-yes (start t .args .from) (start t .args .to) (whole t) (passed t) in
-    (sym (answered-yes done _ answer), sym (gap-left (start t .args .from) (start t .args .to) (whole t) (omega arith)) ∙ sym (after-accepted _ (whole t) answer))
+    let answer = carve-yes (start t .args .from) (start t .args .to) (whole t) (passed t) in (
+      sym (answered-yes wasDone _ answer),
+      sym (gap-left (start t .args .from) (start t .args .to) (whole t) (omega arith))
+          ∙ sym (after-accepted _ (whole t) answer),
+    )
 
 pub carve-lent-spec : {M : Type 1} → statement M
 carve-lent-spec =

@@ -19,7 +19,12 @@ returns-4 c = sym (no-block 8 _ _ (λ s. let h = s .ends in omega arith))
 
 returns-5 : tie.Need-returns-5
 returns-5 c =
-    sym (stands-block 8 _ _ (record { class-to-8 = omega arith; aligned = c .before .before .before .if1 .left; begins = omega arith; ends = omega arith }))
+    sym (stands-block 8 _ _ (record {
+      class-to-8 = omega arith;
+      aligned = c .before .before .before .if1 .left;
+      begins = omega arith;
+      ends = omega arith;
+    }))
 
 pub is-page-spec : {M : Type 1} → statement M
 is-page-spec = tie.close (tie.spec returns returns-2 returns-3 returns-4 returns-5)

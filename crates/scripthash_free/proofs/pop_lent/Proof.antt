@@ -61,7 +61,8 @@ returns-3 : tie.Need-returns-3
 returns-3 c =
     let t = c .before .before in
     let a = t .before .before .before .before .before .before .args in
-    let answer = pop-yes (a .class) (a .mark) (lists (a .body .now) (a .heads .now)) (omega arith) (t .before .before .if2 .left) (block-tested t ∙ c .before .if3 .taken) in (
+    let answer = pop-yes (a .class) (a .mark) (lists (a .body .now) (a .heads .now)) (omega arith) (t .before .before .if2 .left)
+    (block-tested t ∙ c .before .if3 .taken) in (
       sym (answered-yes (λ (p : Pop). p .block) _ answer),
       ap (λ (next : ℕ). set (a .heads .now) (a .class) next) (c .get-u64 .ensures) ∙ sym (heads-accepted _ (a .heads .now) answer),
     )
@@ -70,7 +71,8 @@ returns-4 : tie.Need-returns-4
 returns-4 c =
     let t = c .before in
     let a = t .before .before .before .before .before .before .args in
-    let answer = pop-no (a .class) (a .mark) (lists (a .body .now) (a .heads .now)) (omega arith) (t .before .before .if2 .left) (block-tested t ∙ c .if3 .left) in
+    let answer = pop-no (a .class) (a .mark) (lists (a .body .now) (a .heads .now)) (omega arith) (t .before .before .if2 .left)
+    (block-tested t ∙ c .if3 .left) in
     (sym (answered-no (λ (p : Pop). p .block) _ answer), sym (heads-refused _ (a .heads .now) answer))
 
 pub pop-lent-spec : {M : Type 1} → statement M

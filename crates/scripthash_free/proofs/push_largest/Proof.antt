@@ -12,7 +12,8 @@ use Rattle.scripthash_free.proofs.push_largest.Tie as tie
 
 abbrev Inv-loop : tie.InvT-loop
 Inv-loop body₀ heads₀ from to off₀ body heads off =
-    (off ≤ to) × (length body ≡ length body₀) × (pushAll (gapBlocks off to) (lists body heads) ≡ pushAll (gapBlocks from to) (lists body₀ heads₀))
+    (off ≤ to) × (length body ≡ length body₀)
+    × (pushAll (gapBlocks off to) (lists body heads) ≡ pushAll (gapBlocks from to) (lists body₀ heads₀))
 
 abbrev μ-loop : tie.MeasureT-loop
 μ-loop body₀ heads₀ from to off₀ body heads off = to - off

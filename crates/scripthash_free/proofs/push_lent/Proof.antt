@@ -3,7 +3,7 @@ use mathlib.Core.Path.{sym, _∙_}
 use native.Mathlib.Omega.{arith}
 use Rattle.error.proofs.LawsAnswer.{answered-yes, answered-no}
 use Rattle.scripthash_free.specs.FreeList.{lists}
-use Rattle.scripthash_free.specs.Answers.{done}
+use Rattle.scripthash_free.specs.Answers.{wasDone}
 use Rattle.scripthash_free.proofs.LawsBlock.{bytes-from-16, Standing, block-stands}
 use Rattle.scripthash_free.proofs.LawsFree.{after-accepted, after-refused, push-yes, push-no}
 use borrow.Author.Needs.{needs}
@@ -29,14 +29,14 @@ returns c =
     let a = t .before .before .before .args in
     let l = lists (a .body .now) (a .heads .now) in
     let answer = push-yes (a .class) (a .off) l (sym (t .before .is-block .ensures) ∙ t .if1 .taken) in
-    (sym (answered-yes done _ answer), c .before .before .put-free-head .ensures ∙ sym (after-accepted _ l answer))
+    (sym (answered-yes wasDone _ answer), c .before .before .put-free-head .ensures ∙ sym (after-accepted _ l answer))
 
 returns-2 : tie.Need-returns-2
 returns-2 c =
     let a = c .before .before .before .args in
     let l = lists (a .body .now) (a .heads .now) in
     let answer = push-no (a .class) (a .off) l (sym (c .before .is-block .ensures) ∙ c .if1 .left) in
-    (sym (answered-no done _ answer), sym (after-refused _ l answer))
+    (sym (answered-no wasDone _ answer), sym (after-refused _ l answer))
 
 pub push-lent-spec : {M : Type 1} → statement M
 push-lent-spec =

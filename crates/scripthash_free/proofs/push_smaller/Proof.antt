@@ -14,7 +14,8 @@ use Rattle.scripthash_free.proofs.push_smaller.Tie as tie
 
 abbrev Inv-loop : tie.InvT-loop
 Inv-loop body₀ heads₀ from to off₀ class₀ body heads off class =
-    (class ≤ 7) × (off ≤ to) × (to < off + slabBytes class) × (length body ≡ length body₀) × (pushAll (gapBlocks off to) (lists body heads) ≡ pushAll (gapBlocks from to) (lists body₀ heads₀))
+    (class ≤ 7) × (off ≤ to) × (to < off + slabBytes class) × (length body ≡ length body₀)
+    × (pushAll (gapBlocks off to) (lists body heads) ≡ pushAll (gapBlocks from to) (lists body₀ heads₀))
 
 abbrev μ-loop : tie.MeasureT-loop
 μ-loop body₀ heads₀ from to off₀ class₀ body heads off class = class
@@ -65,7 +66,8 @@ loop-again c =
     let to = loc t .before .before .args .to in
     let l = loc t .loop in
     let fits : t .slab-bytes .result ≤ to - l .off = c .before .before .before .before .before .if1 .taken in
-    let largest = largest-is (below t) (to - l .off) (omega arith) (omega (arith, size t)) (omega (arith, twice t, ap slabBytes (next t))) in
+    let largest = largest-is (below t) (to - l .off) (omega arith) (omega (arith, size t))
+    (omega (arith, twice t, ap slabBytes (next t))) in
     let first = gap-first (l .off) to (below t) (lists (l .body) (l .heads)) largest in
     let after = c .before .before .put-free-head .ensures in (
       omega arith,
@@ -73,7 +75,8 @@ loop-again c =
       omega (arith, size t, twice t),
       search needs,
       ap (pushAll (gapBlocks (l .off + t .slab-bytes .result) to)) after
-          ∙ ap (λ (s : ℕ). pushAll (gapBlocks (l .off + s) to) (pushed (below t) (l .off) (lists (l .body) (l .heads)))) (size t) ∙ sym first ∙ l .inv .4,
+          ∙ ap (λ (s : ℕ). pushAll (gapBlocks (l .off + s) to) (pushed (below t) (l .off) (lists (l .body) (l .heads)))) (size t)
+          ∙ sym first ∙ l .inv .4,
     )
 
 loop-less-2 : tie.Need-loop-less-2 Inv-loop μ-loop

@@ -40,7 +40,8 @@ returns c =
     let s = c .before .before in
     let t = s .before .before .before .before in
     let a = t .args in
-    let d = c .refuse-drop .ensures (a .body .now) (a .heads .now) _ (drop-broken (book t) (a .key) (sym (s .shape-broken .ensures) ∙ c .before .if1 .taken)) in
+    let d = c .refuse-drop .ensures (a .body .now) (a .heads .now) _ (drop-broken (book t) (a .key) (sym (s .shape-broken .ensures)
+    ∙ c .before .if1 .taken)) in
     (d .told, d .left)
 
 refuse-drop-requires-2 : tie.Need-refuse-drop-requires-2
@@ -86,7 +87,8 @@ returns-3 c =
     let t = at e in
     let a = t .args in
     let d = c .refuse-drop3 .ensures (a .body .now) (a .heads .now) _
-    (drop-nowhere (book t) (a .key) (whole e) (k .if2 .left) (sym (u .unpack8 .ensures) ∙ ap unpackAnswer (c .before .enum-told .given .1))) in
+    (drop-nowhere (book t) (a .key) (whole e) (k .if2 .left) (sym (u .unpack8 .ensures)
+    ∙ ap unpackAnswer (c .before .enum-told .given .1))) in
     (d .told, d .left)
 
 drop-at-requires : tie.Need-drop-at-requires
@@ -113,7 +115,8 @@ returns-4 c =
     let a = t .args in
     let d =
     does-same
-    (sym (drop-there (book t) (a .key) (whole e) (k .if2 .left) (g .head .given .0 .0) (sym (u .unpack8 .ensures) ∙ ap unpackAnswer (g .head .given .1))))
+    (sym (drop-there (book t) (a .key) (whole e) (k .if2 .left) (g .head .given .0 .0) (sym (u .unpack8 .ensures)
+    ∙ ap unpackAnswer (g .head .given .1))))
     (r .drop-at .ensures) in
     (d .told, d .left)
 

@@ -35,8 +35,12 @@ module _ (c : tie.After-end) where
 
   walked : (x : Chain) × (chainAt (book at .space) (at .args .last) ≡ accepted x) × (chainEndOf x ≡ end)
   walked =
-      let got = was-accepted chainEndOf _ (sym (c .before .before .chain-end .ensures) ∙ ap chainAnswer (c .end .given .1)) in
-      (got .0, chain-free (at .args .body .now) (at .args .state .mark) (at .args .state .free) (at .args .last) ∙ was-sound _ (got .1), got .2)
+      let got = was-accepted chainEndOf _ (sym (c .before .before .chain-end .ensures) ∙ ap chainAnswer (c .end .given .1)) in (
+        got .0,
+        chain-free (at .args .body .now) (at .args .state .mark) (at .args .state .free) (at .args .last)
+            ∙ was-sound _ (got .1),
+        got .2,
+      )
 
   left : PagesLeft (book at .space) (end .first) (end .pages) (walked .0 .offs)
   left = chain-left (book at .space) (at .args .last) (walked .0) end (at .pre .0) (walked .1) (walked .2)
@@ -60,10 +64,12 @@ returns : tie.Need-returns
 returns c =
     let t = c .before .before .before .before .before .before .before in
     let a = t .args in
-    let stop = was-refused chainEndOf _ (sym (c .before .before .before .chain-end .ensures) ∙ ap chainAnswer (c .before .enum-told .given .1)) in
+    let stop = was-refused chainEndOf _ (sym (c .before .before .before .chain-end .ensures)
+    ∙ ap chainAnswer (c .before .enum-told .given .1)) in
     let bad = was-unsound _ stop in
     c .refuse-drop .ensures (a .body .now) (a .heads .now) _
-    (drop-no (book t) (a .key) (Extent (a .last)) (content-no-pages (book t .space) (a .last) (chain-free (a .body .now) (a .state .mark) (a .state .free) (a .last) ∙ bad .1)))
+    (drop-no (book t) (a .key) (Extent (a .last))
+    (content-no-pages (book t .space) (a .last) (chain-free (a .body .now) (a .state .mark) (a .state .free) (a .last) ∙ bad .1)))
 
 release-chain-requires : tie.Need-release-chain-requires
 release-chain-requires c κs = let d = c .before .before in (walked d .0 .offs, left d)
@@ -86,8 +92,10 @@ returns-2 c =
     let a = t .args in
     let k = walked d in
     does-same
-    (drop-yes (book t) (a .key) (Extent (a .last)) (inPages (k .0)) (end d .length) (spaceOf (r .release-chain .last .0) (r .release-chain .result))
-    (content-pages (book t .space) (a .last) (k .0) (k .1)) (ap (λ (x : ChainEndOf). x .length) (k .2)) (r .release-chain .ensures (k .0 .offs) (left d)))
+    (drop-yes (book t) (a .key) (Extent (a .last)) (inPages (k .0)) (end d .length)
+    (spaceOf (r .release-chain .last .0) (r .release-chain .result))
+    (content-pages (book t .space) (a .last) (k .0) (k .1)) (ap (λ (x : ChainEndOf). x .length) (k .2))
+    (r .release-chain .ensures (k .0 .offs) (left d)))
     (done .ensures (book t) (r .release-chain .last .0) refl)
 
 pub drop-chain-spec : {M : Type 1} → statement M

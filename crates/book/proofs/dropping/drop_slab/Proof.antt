@@ -33,8 +33,11 @@ module _ (c : tie.After-enum-told) where
 
   scanned : (x : Scan) × (slabScan (book at .space) (at .args .class) (at .args .used) (at .args .off) ≡ accepted x)
   scanned =
-      let got = was-accepted (endFrom 0) _ (sym (c .before .before .slab-end .ensures) ∙ ap scanAnswer (c .enum-told .given .1)) in
-      (got .0, slab-free (at .args .body .now) (at .args .state .mark) (at .args .state .free) (at .args .class) (at .args .used) (at .args .off) ∙ was-sound _ (got .1))
+      let got = was-accepted (endFrom 0) _ (sym (c .before .before .slab-end .ensures) ∙ ap scanAnswer (c .enum-told .given .1)) in (
+        got .0,
+        slab-free (at .args .body .now) (at .args .state .mark) (at .args .state .free) (at .args .class) (at .args .used)
+            (at .args .off) ∙ was-sound _ (got .1),
+      )
 
   sound : SoundSlab (book at .space) (at .args .class) (at .args .used) (at .args .off) (scanned .0)
   sound = slab-sound (book at .space) (at .args .class) (at .args .used) (at .args .off) (scanned .0) (scanned .1)
@@ -58,11 +61,13 @@ returns : tie.Need-returns
 returns c =
     let t = c .before .before .before .before .before .before .before in
     let a = t .args in
-    let stop = was-refused (endFrom 0) _ (sym (c .before .before .before .slab-end .ensures) ∙ ap scanAnswer (c .before .enum-told2 .given .1)) in
+    let stop = was-refused (endFrom 0) _ (sym (c .before .before .before .slab-end .ensures)
+    ∙ ap scanAnswer (c .before .enum-told2 .given .1)) in
     let bad = was-unsound _ stop in
     c .refuse-drop .ensures (a .body .now) (a .heads .now) _
     (drop-no (book t) (a .key) (Slab (a .class) (a .used) (a .off))
-    (content-no-slab (book t .space) (a .class) (a .used) (a .off) (slab-free (a .body .now) (a .state .mark) (a .state .free) (a .class) (a .used) (a .off) ∙ bad .1)))
+    (content-no-slab (book t .space) (a .class) (a .used) (a .off)
+    (slab-free (a .body .now) (a .state .mark) (a .state .free) (a .class) (a .used) (a .off) ∙ bad .1)))
 
 release-block-requires : tie.Need-release-block-requires
 release-block-requires c κs =
@@ -87,8 +92,10 @@ returns-2 c =
     let t = at d in
     let a = t .args in
     does-same
-    (drop-yes (book t) (a .key) (Slab (a .class) (a .used) (a .off)) (inSlab (a .class) (a .off) (scanned d .0)) (a .used) (spaceOf (r .release-block .last .0) (r .release-block .result))
-    (content-slab (book t .space) (a .class) (a .used) (a .off) (scanned d .0) (scanned d .1)) (sound d .counted) (r .release-block .ensures))
+    (drop-yes (book t) (a .key) (Slab (a .class) (a .used) (a .off)) (inSlab (a .class) (a .off) (scanned d .0)) (a .used)
+    (spaceOf (r .release-block .last .0) (r .release-block .result))
+    (content-slab (book t .space) (a .class) (a .used) (a .off) (scanned d .0) (scanned d .1)) (sound d .counted)
+    (r .release-block .ensures))
     (done .ensures (book t) (r .release-block .last .0) refl)
 
 pub drop-slab-spec : {M : Type 1} → statement M

@@ -23,7 +23,9 @@ mul-result c =
     let a = c .before .before .args in
     let body = a .body .now in
     let five : length (part body (a .off + 3) 5) ≡ 5 = length-part body (a .off + 3) 5 (omega arith) in
-    let small = rw five at (littleEndian-below (part body (a .off + 3) 5) (part-bytes body (a .off + 3) 5 (λ i h. omega (arith, c .before .shared-slice-known .given i)))) in
+    let small = rw five at
+    (littleEndian-below (part body (a .off + 3) 5)
+    (part-bytes body (a .off + 3) 5 (λ i h. omega (arith, c .before .shared-slice-known .given i)))) in
     omega (arith, c .get-u40 .ensures)
 
 returns : tie.Need-returns

@@ -20,7 +20,8 @@ use Rattle.book.proofs.dropping.release_chain.Tie as tie
 abbrev Inv-loop : tie.InvT-loop
 Inv-loop body₀ first pages off₀ left₀ after₀ body off left after =
     (length body ≡ length body₀)
-    × ((whole : List ℕ) → PagesLeft (spaceOf body₀ after₀) first pages whole → Giving (spaceOf body after) off left (release (pageBlocks whole) (spaceOf body₀ after₀)))
+    × ((whole : List ℕ) → PagesLeft (spaceOf body₀ after₀) first pages whole
+    → Giving (spaceOf body after) off left (release (pageBlocks whole) (spaceOf body₀ after₀)))
 
 abbrev μ-loop : tie.MeasureT-loop
 μ-loop body₀ first pages off₀ left₀ after₀ body off left after = left
@@ -67,7 +68,8 @@ loop-again c =
           let done = release (pageBlocks whole) (spaceOf (at t .args .body .now) (at t .args .state)) in
           let g = giving-turn (s t) off (l .left) done (t .loop-test .taken) (l .inv .1 whole p) in
           subst (λ (x : Space). Giving x (c .before .before .before .before .next-page .result) (l .left - 1) done) (sym (r .ensures))
-          (subst (λ (n : ℕ). Giving (given off (s t)) n (l .left - 1) done) (sym (c .before .before .before .before .next-page .ensures)) g),
+          (subst (λ (n : ℕ). Giving (given off (s t)) n (l .left - 1) done) (sym (c .before .before .before .before .next-page .ensures))
+          g),
     )
 
 same-length : tie.Need-same-length Inv-loop μ-loop

@@ -19,7 +19,8 @@ enum-told c = search needs
 
 returns : tie.Need-returns
 unfolding headWord
-returns c = ap (λ (a : Answer ℕ). told (λ w. w) a 0) (sym (ap packAnswer (c .before .packed .given .1)) ∙ c .before .before .before .pack8 .ensures)
+returns c = ap (λ (a : Answer ℕ). told (λ w. w) a 0) (sym (ap packAnswer (c .before .packed .given .1))
+    ∙ c .before .before .before .pack8 .ensures)
 
 returns-2 : tie.Need-returns-2
 unfolding headWord

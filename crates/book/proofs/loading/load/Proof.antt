@@ -88,7 +88,8 @@ returns : tie.Need-returns
 returns c =
     let t = c .before .before in
     let s = t .before .before .before .before .before in
-    let e = ends-refused (book s) (load s) _ _ (loads-shape (book s) (key s) (list s) (sym (t .shape-broken .ensures) ∙ c .before .if1 .taken))
+    let e = ends-refused (book s) (load s) _ _ (loads-shape (book s) (key s) (list s) (sym (t .shape-broken .ensures)
+    ∙ c .before .if1 .taken))
     (c .refuse-load .ensures .0) (ap (spaceOf (s .args .body .now)) (c .refuse-load .ensures .1)) in
     (e .told, e .left)
 
@@ -167,7 +168,8 @@ returns-5 c =
     let s = begin t in
     let number = refused-as _ _ (ap bytesAnswer (told .enum-told .given .1)) (c .before .refusal .ensures) in
     let e = ends-refused (book s) (load s) _ _
-    (loads-offered (book s) (key s) (list s) (good (shaped (t .before))) (known (t .before .before .before)) (empty (t .before)) (few t) (sym (j .judge-list .ensures) ∙ number))
+    (loads-offered (book s) (key s) (list s) (good (shaped (t .before))) (known (t .before .before .before)) (empty (t .before)) (few t)
+    (sym (j .judge-list .ensures) ∙ number))
     (c .refuse-load5 .ensures .0) (ap (spaceOf (s .args .body .now)) (c .refuse-load5 .ensures .1)) in
     (e .told, e .left)
 
@@ -192,7 +194,8 @@ returns-6 c =
     let t = listed k in
     let s = begin t in
     let e = p .load-judged .ensures in
-    rw (loads-on (book s) (key s) (list s) (good (shaped (t .before))) (known (t .before .before .before)) (empty (t .before)) (few t) (judged k .0)) (e .told, e .left)
+    rw (loads-on (book s) (key s) (list s) (good (shaped (t .before))) (known (t .before .before .before)) (empty (t .before)) (few t)
+    (judged k .0)) (e .told, e .left)
 
 pub load-spec : {M : Type 1} → statement M
 load-spec =

@@ -40,7 +40,8 @@ returns-2 c =
     let s = one .before .before .before .before .before in
     let key = s .args .key in
     let accept = a .accept-load .ensures in
-    ends-loaded (book s) _ _ _ key (Inline (getD (list s) 0 0) 1) 0 (a .accept-load .last .0) (load-one (book s) key (list s) (one .if2 .taken)) (accept .0) (accept .1 .1)
+    ends-loaded (book s) _ _ _ key (Inline (getD (list s) 0 0) 1) 0 (a .accept-load .last .0)
+    (load-one (book s) key (list s) (one .if2 .taken)) (accept .0) (accept .1 .1)
     (ap (spaceOf (s .args .body .now)) (accept .1 .0))
 
 load-list-requires : tie.Need-load-list-requires

@@ -87,7 +87,8 @@ returns c =
     let told = t .take-run .ensures in
     let number = refused-as _ _ (ap takeAnswer (e .enum-told .given .1)) (c .before .refusal .ensures) in
     let (is, same) = took-none (book t .space) (after t) _ (told .1) (sym (told .0) ∙ number) in
-    ends-refused (book t) _ _ _ (run-not-loaded (book t) (start t .args .key) (list t) (count t) (start t .pre .2 .parts) is) (c .refuse-load .ensures .0)
+    ends-refused (book t) _ _ _ (run-not-loaded (book t) (start t .args .key) (list t) (count t) (start t .pre .2 .parts) is)
+    (c .refuse-load .ensures .0)
     (ap (spaceOf (t .take-run .last .0)) (c .refuse-load .ensures .1) ∙ same)
 
 put-run-requires : tie.Need-put-run-requires

@@ -56,8 +56,16 @@ load-parts-requires c κs =
     let t = k .before .before .before in
     let pre = start t .pre in
     let told = sym (t .sh-page-chunk-ranges .ensures .0) ∙ ap chunkAnswer (k .cut .given .1) in
-    let (parts, ranges) = ranges-cut (replicate 163 (replicate 2 0)) (list t) (k .cut .given .0 .0) told in
-    (pre .0, pre .1, record { judged = pre .3; some-fks = pre .2; parts = parts; ranges-are = ap (take (k .cut .given .0 .0)) (t .sh-page-chunk-ranges .ensures .1) ∙ ranges })
+    let (parts, ranges) = ranges-cut (replicate 163 (replicate 2 0)) (list t) (k .cut .given .0 .0) told in (
+      pre .0,
+      pre .1,
+      record {
+        judged = pre .3;
+        some-fks = pre .2;
+        parts = parts;
+        ranges-are = ap (take (k .cut .given .0 .0)) (t .sh-page-chunk-ranges .ensures .1) ∙ ranges;
+      },
+    )
 
 same-length : tie.Need-same-length
 same-length c = search needs

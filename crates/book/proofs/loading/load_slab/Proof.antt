@@ -58,10 +58,12 @@ returns c =
     let k = a .before .before .before in
     let t = k .before .before .before .before .before in
     let told = t .place-in-slab .ensures in
-    let placed = placed-at (book t .space) (after t) (placesInto (book t .space) (list t) (some (class t))) (told .1) (sym (told .0) ∙ ap placeAnswer (k .answer .given .1)) in
+    let placed = placed-at (book t .space) (after t) (placesInto (book t .space) (list t) (some (class t))) (told .1) (sym (told .0)
+    ∙ ap placeAnswer (k .answer .given .1)) in
     let accept = a .accept-load .ensures in
     let key = start t .args .key in
-    ends-loaded (book t) _ _ _ key (k .answer .given .0 .0) 0 (a .accept-load .last .0) (slab-loaded (book t) key (list t) (class t) placed) (accept .0) (accept .1 .1)
+    ends-loaded (book t) _ _ _ key (k .answer .given .0 .0) 0 (a .accept-load .last .0) (slab-loaded (book t) key (list t) (class t) placed)
+    (accept .0) (accept .1 .1)
     (ap (spaceOf (t .place-in-slab .last .0)) (accept .1 .0))
 
 same-length-3 : tie.Need-same-length-3
@@ -72,7 +74,8 @@ returns-2 c =
     let k = c .before .before in
     let t = k .before .before .before .before .before in
     let told = t .place-in-slab .ensures in
-    let (is, same) = placed-none (book t .space) (after t) (placesInto (book t .space) (list t) (some (class t))) (told .1) (sym (told .0) ∙ ap placeAnswer (k .answer2 .given .1)) in
+    let (is, same) = placed-none (book t .space) (after t) (placesInto (book t .space) (list t) (some (class t))) (told .1) (sym (told .0)
+    ∙ ap placeAnswer (k .answer2 .given .1)) in
     ends-refused (book t) _ _ _ (slab-not-loaded (book t) (start t .args .key) (list t) (class t) is) (c .refuse-load .ensures .0)
     (ap (spaceOf (t .place-in-slab .last .0)) (c .refuse-load .ensures .1) ∙ same)
 

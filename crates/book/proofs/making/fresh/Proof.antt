@@ -33,7 +33,8 @@ returns-2 : tie.Need-returns-2
 unfolding makesFresh madeAfter refuseIf answered
 returns-2 c =
     let t = c .before .before in
-    let good : broken (t .before .before .before .before .before .before) ≡ false = sym (t .before .before .before .out-of-shape .ensures) ∙ t .before .before .if1 .left in
+    let good : broken (t .before .before .before .before .before .before) ≡ false =
+    sym (t .before .before .before .out-of-shape .ensures) ∙ t .before .before .if1 .left in
     rw (good, t .clear-words .ensures) (refl, refl)
 
 pub fresh-spec : {M : Type 1} → statement M

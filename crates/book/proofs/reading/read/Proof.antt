@@ -57,7 +57,8 @@ module _ (c : tie.After-counts) where
   abbrev counts : Counts
   counts = record { length = c .counts .given .0 .0; pages = c .counts .given .0 .1 .0 }
 
-  held : (k : Content) × (content (keySpace (call .args .body .now) (call .args .state .mark)) (word call) ≡ accepted k) × (countsOf k ≡ counts)
+  held : (k : Content) × (content (keySpace (call .args .body .now) (call .args .state .mark)) (word call) ≡ accepted k)
+      × (countsOf k ≡ counts)
   held = was-accepted countsOf _ (sym (c .before .before .key-counts .ensures) ∙ ap countsAnswer (c .counts .given .1))
 
   size : length (held .0 .numbers) ≡ counts .length

@@ -41,7 +41,11 @@ returns-4 : tie.Need-returns-4
 unfolding offeredNumber refuseIf
 returns-4 c =
     let a = c .before .before .before .args in
-    rw (and-no (eqb (a .prev) 0) (eqb (a .fk) 0) (ne-eqb (a .fk) 0 (λ (e : a .fk ≡ 0). omega arith)), lt-leb (2 ^ 63) (a .fk) (omega arith), le-leb (2 ^ 62) (a .fk) (omega arith))
+    rw (
+      and-no (eqb (a .prev) 0) (eqb (a .fk) 0) (ne-eqb (a .fk) 0 (λ (e : a .fk ≡ 0). omega arith)),
+      lt-leb (2 ^ 63) (a .fk) (omega arith),
+      le-leb (2 ^ 62) (a .fk) (omega arith),
+    )
 
 sub-uleb128-len : tie.Need-sub-uleb128-len
 sub-uleb128-len c = search needs

@@ -22,7 +22,8 @@ use Rattle.book_rules.proofs.offered.judge_list.Tie as tie
 
 abbrev Inv-loop : tie.InvT-loop
 Inv-loop fks prev₀ len₀ k₀ prev len k =
-    (k ≤ length fks) × (prev < 2 ^ 62) × (len ≤ 10 * k) × (offeredFrom len prev (drop k fks) ≡ offeredList true 0 fks (accepted (streamLen fks)))
+    (k ≤ length fks) × (prev < 2 ^ 62) × (len ≤ 10 * k)
+    × (offeredFrom len prev (drop k fks) ≡ offeredList true 0 fks (accepted (streamLen fks)))
 
 abbrev μ-loop : tie.MeasureT-loop
 μ-loop fks prev₀ len₀ k₀ prev len k = length fks - k

@@ -19,7 +19,8 @@ larger-class-requires c κs = search needs
 returns : tie.Need-returns
 unfolding movesTo
 returns c =
-    rw (c .before .before .slab-class-for-n-fks-with-slack .ensures, c .before .slab-class-for-packed-len .ensures) at (c .larger-class .ensures)
+    rw (c .before .before .slab-class-for-n-fks-with-slack .ensures, c .before .slab-class-for-packed-len .ensures) at
+    (c .larger-class .ensures)
 
 pub moves-to-spec : {M : Type 1} → statement M
 moves-to-spec =

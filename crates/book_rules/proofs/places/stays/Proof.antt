@@ -44,7 +44,11 @@ unfolding stays
 returns-3 c =
     let a = c .before .before .args in
     let s = slots (a .class) (omega arith) in
-    rw (le-leb (a .count) maxSlabCount (omega arith), le-leb (a .count) (slabSlots (a .class)) (omega arith), bytes (a .class) (omega arith))
+    rw (
+      le-leb (a .count) maxSlabCount (omega arith),
+      le-leb (a .count) (slabSlots (a .class)) (omega arith),
+      bytes (a .class) (omega arith),
+    )
 
 pub stays-spec : {M : Type 1} → statement M
 stays-spec = tie.close (tie.spec returns shl-slots returns-2 shl-size add-result returns-3)

@@ -17,7 +17,8 @@ returns c =
     let start = c .before .before .before .before .before .before .before in
     let a = start .args in
     let push = c .before .before .push-lent in
-    release-pushed (a .class) (a .off) (spaceOf (a .body .now) (a .state)) (lists (push .last .0) (push .last .1 .0)) (start .pre) (push .ensures .1)
+    release-pushed (a .class) (a .off) (spaceOf (a .body .now) (a .state)) (lists (push .last .0) (push .last .1 .0)) (start .pre)
+    (push .ensures .1)
 
 pub release-block-spec : {M : Type 1} → statement M
 release-block-spec = tie.close (tie.spec push-lent-requires same-length returns)

@@ -24,8 +24,11 @@ module _ (t : tie.After-pop-lent) where
   class = start .args .class
 
 -- where the pop gave none, the take is that of a fresh block
-fresh : (t : tie.After-enum-told) → takeBlock (class (t .before .before)) (before (t .before .before)) ≡ takeFresh (class (t .before .before)) (before (t .before .before))
-fresh t = let p = t .before .before in told-none (class p) (before p) (sym (p .pop-lent .ensures .0) ∙ ap popAnswer (t .enum-told .given .1))
+fresh : (t : tie.After-enum-told)
+    → takeBlock (class (t .before .before)) (before (t .before .before))
+    ≡ takeFresh (class (t .before .before)) (before (t .before .before))
+fresh t = let p = t .before .before in
+    told-none (class p) (before p) (sym (p .pop-lent .ensures .0) ∙ ap popAnswer (t .enum-told .given .1))
 
 pop-lent-requires : tie.Need-pop-lent-requires
 pop-lent-requires c κs = search needs
@@ -63,7 +66,8 @@ same-length-2 c = search needs
 returns-2 : tie.Need-returns-2
 returns-2 c =
     let t = c .before .before .before in
-    let answer = told-block (class t) (before t) (t .pop-lent .last .1 .0) (sym (t .pop-lent .ensures .0) ∙ ap popAnswer (c .before .popped .given .1)) (t .pop-lent .ensures .1) in
+    let answer = told-block (class t) (before t) (t .pop-lent .last .1 .0) (sym (t .pop-lent .ensures .0)
+    ∙ ap popAnswer (c .before .popped .given .1)) (t .pop-lent .ensures .1) in
     (sym (answered-yes (λ (x : Taken). x .off) _ answer), sym (after-taken (before t) _ answer))
 
 same-length-3 : tie.Need-same-length-3

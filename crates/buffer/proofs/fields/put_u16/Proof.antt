@@ -32,7 +32,8 @@ returns c =
     let a = c .args in
     let l = a .b .now in
     let within : a .at + 1 < length (set l (a .at) (a .n % 256)) = slice-write-b-2 c in
-    sym (overwrite-step l (a .at) (a .n % 256) (a .n / 256 % 256 ∷ []) (omega arith) ∙ overwrite-one (set l (a .at) (a .n % 256)) (a .at + 1) (a .n / 256 % 256) within)
+    sym (overwrite-step l (a .at) (a .n % 256) (a .n / 256 % 256 ∷ []) (omega arith)
+    ∙ overwrite-one (set l (a .at) (a .n % 256)) (a .at + 1) (a .n / 256 % 256) within)
 
 pub put-u16-spec : {M : Type 1} → statement M
 put-u16-spec =

@@ -31,7 +31,8 @@ returns : tie.Need-returns
 returns c =
     let a = c .before .before .before .before .before .before .before .before .before .args in
     c .before .before .put-u162 .ensures
-    ∙ ap (λ (l : List ℕ). overwrite l (a .at + 2) (bytesOf 2 (a .n / 65536))) (c .before .before .before .before .before .before .put-u16 .ensures)
+    ∙ ap (λ (l : List ℕ). overwrite l (a .at + 2) (bytesOf 2 (a .n / 65536)))
+    (c .before .before .before .before .before .before .put-u16 .ensures)
     ∙ overwrite-halves (a .b .now) (a .at) 2 2 (a .n) (search needs)
 
 pub put-u32-spec : {M : Type 1} → statement M

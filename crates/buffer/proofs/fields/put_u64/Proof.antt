@@ -31,7 +31,8 @@ returns : tie.Need-returns
 returns c =
     let a = c .before .before .before .before .before .before .before .before .before .args in
     c .before .before .put-u322 .ensures
-    ∙ ap (λ (l : List ℕ). overwrite l (a .at + 4) (bytesOf 4 (a .n / 4294967296))) (c .before .before .before .before .before .before .put-u32 .ensures)
+    ∙ ap (λ (l : List ℕ). overwrite l (a .at + 4) (bytesOf 4 (a .n / 4294967296)))
+    (c .before .before .before .before .before .before .put-u32 .ensures)
     ∙ overwrite-halves (a .b .now) (a .at) 4 4 (a .n) (search needs)
 
 pub put-u64-spec : {M : Type 1} → statement M

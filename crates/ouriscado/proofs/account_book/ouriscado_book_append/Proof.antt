@@ -5,7 +5,7 @@ use Rattle.error.proofs.LawsOut.{number-answered, told-same}
 use Rattle.book_rules.specs.Calls.{Told}
 use Rattle.book.specs.Book.{Book, Outcome}
 use Rattle.book.specs.Appends.{appends}
-use Rattle.ouriscado.specs.OutHead.{kindOf, classOf, usedOf, placeOf}
+use Rattle.ouriscado.specs.OutHead.{kindOut, classOut, usedOut, placeOut}
 use Rattle.ouriscado.specs.OutBook.{newPlace, recordsRewritten}
 use Rattle.ouriscado.proofs.LawsBook.{does-words}
 use borrow.Author.Needs.{needs}
@@ -42,13 +42,13 @@ returns c =
       (
         d .left,
         (
-          h .1 .0 ∙ told-same (λ (t : Told). kindOf (newPlace t)) _ (d .told),
+          h .1 .0 ∙ told-same (λ (t : Told). kindOut (newPlace t)) _ (d .told),
           (
-            h .1 .1 .0 ∙ told-same (λ (t : Told). classOf (newPlace t)) _ (d .told),
+            h .1 .1 .0 ∙ told-same (λ (t : Told). classOut (newPlace t)) _ (d .told),
             (
-              h .1 .1 .1 .0 ∙ told-same (λ (t : Told). usedOf (newPlace t)) _ (d .told),
+              h .1 .1 .1 .0 ∙ told-same (λ (t : Told). usedOut (newPlace t)) _ (d .told),
               (
-                h .1 .1 .1 .1 .0 ∙ told-same (λ (t : Told). placeOf (newPlace t)) _ (d .told),
+                h .1 .1 .1 .1 .0 ∙ told-same (λ (t : Told). placeOut (newPlace t)) _ (d .told),
                 h .1 .1 .1 .1 .1 ∙ told-same recordsRewritten _ (d .told),
               ),
             ),

@@ -35,7 +35,8 @@ returns c =
     let a = r .before .before .before .before .before .before .before .before .args in
     let e = r .load .ensures in
     let h = c .put-loaded .ensures in
-    let d = does-words (r .before .state-of .ensures) (λ (b : Book). loads b (a .key) (a .fks .now)) (p .put-state .ensures) (e .0) (e .1) in (
+    let d = does-words (r .before .state-of .ensures) (λ (b : Book). loads b (a .key) (a .fks .now)) (p .put-state .ensures) (e .0)
+    (e .1) in (
       h .0 ∙ ap refusalOf (d .told) ∙ number-answered (λ (o : Outcome). o .told) _,
       (
         d .left,

@@ -3,7 +3,7 @@ use mathlib.Core.Path.{_∙_, ap}
 use Rattle.error.proofs.LawsOut.{number-accepted, number-refused, told-accepted, told-refused}
 use Rattle.book_rules.specs.Calls.{Told}
 use Rattle.book.specs.Answers.{appendAnswer}
-use Rattle.ouriscado.specs.OutHead.{kindOf, classOf, usedOf, placeOf}
+use Rattle.ouriscado.specs.OutHead.{kindOut, classOut, usedOut, placeOut}
 use Rattle.ouriscado.specs.OutBook.{newPlace, recordsRewritten}
 use borrow.Author.Needs.{needs}
 use Rattle.ouriscado.proofs.account_book.put_appended.Statement.{statement}
@@ -27,13 +27,13 @@ returns c =
     let yes = ap appendAnswer (c .before .before .before .before .before .before .answer .given .1) in (
       h .0 ∙ number-accepted yes,
       (
-        h .1 .0 ∙ told-accepted (λ (t : Told). kindOf (newPlace t)) _ yes,
+        h .1 .0 ∙ told-accepted (λ (t : Told). kindOut (newPlace t)) _ yes,
         (
-          h .1 .1 .0 ∙ told-accepted (λ (t : Told). classOf (newPlace t)) _ yes,
+          h .1 .1 .0 ∙ told-accepted (λ (t : Told). classOut (newPlace t)) _ yes,
           (
-            h .1 .1 .1 .0 ∙ told-accepted (λ (t : Told). usedOf (newPlace t)) _ yes,
+            h .1 .1 .1 .0 ∙ told-accepted (λ (t : Told). usedOut (newPlace t)) _ yes,
             (
-              h .1 .1 .1 .1 ∙ told-accepted (λ (t : Told). placeOf (newPlace t)) _ yes,
+              h .1 .1 .1 .1 ∙ told-accepted (λ (t : Told). placeOut (newPlace t)) _ yes,
               told-accepted recordsRewritten _ yes,
             ),
           ),
@@ -47,13 +47,13 @@ returns-2 c =
     let no = ap appendAnswer (c .before .before .before .before .before .before .answer2 .given .1) in (
       h .0 ∙ number-refused no,
       (
-        h .1 .0 ∙ told-refused (λ (t : Told). kindOf (newPlace t)) _ no,
+        h .1 .0 ∙ told-refused (λ (t : Told). kindOut (newPlace t)) _ no,
         (
-          h .1 .1 .0 ∙ told-refused (λ (t : Told). classOf (newPlace t)) _ no,
+          h .1 .1 .0 ∙ told-refused (λ (t : Told). classOut (newPlace t)) _ no,
           (
-            h .1 .1 .1 .0 ∙ told-refused (λ (t : Told). usedOf (newPlace t)) _ no,
+            h .1 .1 .1 .0 ∙ told-refused (λ (t : Told). usedOut (newPlace t)) _ no,
             (
-              h .1 .1 .1 .1 ∙ told-refused (λ (t : Told). placeOf (newPlace t)) _ no,
+              h .1 .1 .1 .1 ∙ told-refused (λ (t : Told). placeOut (newPlace t)) _ no,
               told-refused recordsRewritten _ no,
             ),
           ),

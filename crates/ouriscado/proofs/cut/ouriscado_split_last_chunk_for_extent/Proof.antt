@@ -21,4 +21,5 @@ returns c =
     (c .put-parts .ensures .0 ∙ ap refusalOf (e .0), (e .1, c .put-parts .ensures .1 ∙ told-same (λ x. x) _ (e .0)))
 
 pub ouriscado-split-last-chunk-for-extent-spec : {M : Type 1} → statement M
-ouriscado-split-last-chunk-for-extent-spec = tie.close (tie.spec split-last-chunk-for-extent-requires put-parts-requires same-length returns)
+ouriscado-split-last-chunk-for-extent-spec =
+    tie.close (tie.spec split-last-chunk-for-extent-requires put-parts-requires same-length returns)

@@ -2,7 +2,7 @@
 use Prim.Native.Nat.{ℕ}
 use mathlib.Core.Option.{Option, Option·getD}
 use mathlib.Core.Path.{_∙_, ap}
-use Rattle.ouriscado.specs.OutClass.{isSome}
+use Rattle.ouriscado.specs.OutClass.{hasClass}
 use borrow.Author.Needs.{needs}
 use Rattle.ouriscado.proofs.free.ouriscado_largest_reloc_class_le.Statement.{statement}
 use Rattle.ouriscado.proofs.free.ouriscado_largest_reloc_class_le.Tie as tie
@@ -16,7 +16,7 @@ put-reloc-class-requires c κs = search needs
 returns : tie.Need-returns
 returns c =
     let e = c .before .before .largest-reloc-class-le .ensures in
-    (c .put-reloc-class .ensures .0 ∙ ap isSome e, c .put-reloc-class .ensures .1 ∙ ap (λ (o : Option ℕ). Option·getD o 0) e)
+    (c .put-reloc-class .ensures .0 ∙ ap hasClass e, c .put-reloc-class .ensures .1 ∙ ap (λ (o : Option ℕ). Option·getD o 0) e)
 
 pub ouriscado-largest-reloc-class-le-spec : {M : Type 1} → statement M
 ouriscado-largest-reloc-class-le-spec = tie.close (tie.spec largest-reloc-class-le-requires put-reloc-class-requires returns)

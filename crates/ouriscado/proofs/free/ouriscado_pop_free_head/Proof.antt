@@ -17,8 +17,15 @@ put-block-requires c κs = search needs
 returns : tie.Need-returns
 returns c =
     let e = c .before .before .pop-lent .ensures in
-    let h = c .put-block .ensures in
-    (h .0 ∙ ap refusalOf (e .0) ∙ number-answered (λ (p : Pop). p .block) _, (e .1, h .1 ∙ told-same (λ o. Option·getD o 0) _ (e .0) ∙ told-answered (λ o. Option·getD o 0) (λ (p : Pop). p .block) _ _))
+    let h = c .put-block .ensures in (
+      h .0 ∙ ap refusalOf (e .0)
+          ∙ number-answered (λ (p : Pop). p .block) _,
+      (
+        e .1,
+        h .1 ∙ told-same (λ o. Option·getD o 0) _ (e .0)
+            ∙ told-answered (λ o. Option·getD o 0) (λ (p : Pop). p .block) _ _,
+      ),
+    )
 
 pub ouriscado-pop-free-head-spec : {M : Type 1} → statement M
 ouriscado-pop-free-head-spec = tie.close (tie.spec pop-lent-requires put-block-requires returns)

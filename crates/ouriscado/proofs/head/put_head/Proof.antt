@@ -3,7 +3,7 @@ use mathlib.Core.Path.{_∙_, ap}
 use Rattle.error.specs.Refusal.{accepted, refused}
 use Rattle.error.proofs.LawsOut.{number-accepted, number-refused, told-accepted, told-refused}
 use Rattle.scripthash_layout.specs.AnswersHead.{unpackAnswer}
-use Rattle.ouriscado.specs.OutHead.{kindOf, classOf, usedOf, placeOf}
+use Rattle.ouriscado.specs.OutHead.{kindOut, classOut, usedOut, placeOut}
 use borrow.Author.Needs.{needs}
 use Rattle.ouriscado.proofs.head.put_head.Statement.{statement}
 use Rattle.ouriscado.proofs.head.put_head.Tie as tie
@@ -29,12 +29,27 @@ place-of-requires c κs = search needs
 returns : tie.Need-returns
 returns c =
     let no = ap unpackAnswer (c .before .got .given .1) in
-    (number-refused no, (told-refused kindOf _ no, (told-refused classOf _ no, (told-refused usedOf _ no, told-refused placeOf _ no))))
+    (number-refused no, (told-refused kindOut _ no, (told-refused classOut _ no, (told-refused usedOut _ no, told-refused placeOut _ no))))
 
 returns-2 : tie.Need-returns-2
 returns-2 c =
-    let yes = ap unpackAnswer (c .before .before .before .before .before .got2 .given .1) in
-    (number-accepted yes, (c .before .before .before .kind-of .ensures ∙ told-accepted kindOf _ yes, (c .before .before .class-of .ensures ∙ told-accepted classOf _ yes, (c .before .used-of .ensures ∙ told-accepted usedOf _ yes, c .place-of .ensures ∙ told-accepted placeOf _ yes))))
+    let yes = ap unpackAnswer (c .before .before .before .before .before .got2 .given .1) in (
+      number-accepted yes,
+      (
+        c .before .before .before .kind-of .ensures
+            ∙ told-accepted kindOut _ yes,
+        (
+          c .before .before .class-of .ensures
+              ∙ told-accepted classOut _ yes,
+          (
+            c .before .used-of .ensures ∙ told-accepted usedOut _ yes,
+            c .place-of .ensures
+                ∙ told-accepted placeOut _ yes,
+          ),
+        ),
+      ),
+    )
 
 pub put-head-spec : {M : Type 1} → statement M
-put-head-spec = tie.close (tie.spec enum-known-got enum-known-got-2 kind-of-requires class-of-requires used-of-requires place-of-requires returns returns-2)
+put-head-spec = tie.close
+    (tie.spec enum-known-got enum-known-got-2 kind-of-requires class-of-requires used-of-requires place-of-requires returns returns-2)

@@ -27,8 +27,18 @@ returns : tie.Need-returns
 unfolding pageReadOf
 returns c =
     let e = c .before .before .before .before .before .sh-page-decode-slice-into .ensures in
-    let no = sym (e .0) ∙ ap sliceAnswer (c .before .enum-told .given .1) in
-    (c .refusal .ensures ∙ ap refusalOf (e .0) ∙ number-answered (pageReadOf _) _, (e .1, (told-refused (λ r. r .count) _ no ∙ told-answered (λ r. r .count) (pageReadOf _) _ _, told-refused (λ r. r .next) _ no ∙ told-answered (λ r. r .next) (pageReadOf _) _ _)))
+    let no = sym (e .0) ∙ ap sliceAnswer (c .before .enum-told .given .1) in (
+      c .refusal .ensures ∙ ap refusalOf (e .0)
+          ∙ number-answered (pageReadOf _) _,
+      (
+        e .1,
+        (
+          told-refused (λ r. r .count) _ no ∙ told-answered (λ r. r .count) (pageReadOf _) _ _,
+          told-refused (λ r. r .next) _ no
+              ∙ told-answered (λ r. r .next) (pageReadOf _) _ _,
+        ),
+      ),
+    )
 
 same-length-2 : tie.Need-same-length-2
 same-length-2 c = search needs
@@ -37,8 +47,20 @@ returns-2 : tie.Need-returns-2
 unfolding pageReadOf
 returns-2 c =
     let e = c .before .before .before .before .before .sh-page-decode-slice-into .ensures in
-    let yes = sym (e .0) ∙ ap sliceAnswer (c .before .got .given .1) in
-    (number-accepted yes ∙ number-answered (pageReadOf _) _, (e .1, (told-accepted (λ r. r .count) _ yes ∙ told-answered (λ r. r .count) (pageReadOf _) _ _, told-accepted (λ r. r .next) _ yes ∙ told-answered (λ r. r .next) (pageReadOf _) _ _)))
+    let yes = sym (e .0) ∙ ap sliceAnswer (c .before .got .given .1) in (
+      number-accepted yes
+          ∙ number-answered (pageReadOf _) _,
+      (
+        e .1,
+        (
+          told-accepted (λ r. r .count) _ yes ∙ told-answered (λ r. r .count) (pageReadOf _) _ _,
+          told-accepted (λ r. r .next) _ yes
+              ∙ told-answered (λ r. r .next) (pageReadOf _) _ _,
+        ),
+      ),
+    )
 
 pub ouriscado-sh-page-decode-slice-into-spec : {M : Type 1} → statement M
-ouriscado-sh-page-decode-slice-into-spec = tie.close (tie.spec sh-page-decode-slice-into-requires enum-known-got enum-told refusal-requires same-length returns same-length-2 returns-2)
+ouriscado-sh-page-decode-slice-into-spec =
+    tie.close (tie.spec sh-page-decode-slice-into-requires enum-known-got enum-told refusal-requires same-length returns same-length-2
+    returns-2)

@@ -26,8 +26,11 @@ same-length c = search needs
 returns : tie.Need-returns
 returns c =
     let e = c .before .before .before .before .before .sh-page-entries-into .ensures in
-    let no = sym (e .0) ∙ ap entriesAnswer (c .before .enum-told .given .1) in
-    (c .refusal .ensures ∙ ap refusalOf (e .0) ∙ number-answered readCount _, (e .1, told-refused (λ x. x) _ no ∙ told-answered (λ x. x) readCount _ _))
+    let no = sym (e .0) ∙ ap entriesAnswer (c .before .enum-told .given .1) in (
+      c .refusal .ensures ∙ ap refusalOf (e .0)
+          ∙ number-answered readCount _,
+      (e .1, told-refused (λ x. x) _ no ∙ told-answered (λ x. x) readCount _ _),
+    )
 
 same-length-2 : tie.Need-same-length-2
 same-length-2 c = search needs
@@ -39,4 +42,5 @@ returns-2 c =
     (number-accepted yes ∙ number-answered readCount _, (e .1, told-accepted (λ x. x) _ yes ∙ told-answered (λ x. x) readCount _ _))
 
 pub ouriscado-sh-page-entries-into-spec : {M : Type 1} → statement M
-ouriscado-sh-page-entries-into-spec = tie.close (tie.spec sh-page-entries-into-requires enum-known-got enum-told refusal-requires same-length returns same-length-2 returns-2)
+ouriscado-sh-page-entries-into-spec =
+    tie.close (tie.spec sh-page-entries-into-requires enum-known-got enum-told refusal-requires same-length returns same-length-2 returns-2)

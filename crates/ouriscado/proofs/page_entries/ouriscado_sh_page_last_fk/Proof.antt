@@ -3,7 +3,7 @@ use mathlib.Core.Path.{sym, _∙_, ap}
 use Rattle.error.specs.Refusal.{refusalOf}
 use Rattle.error.proofs.LawsOut.{number-accepted, number-answered, told-accepted, told-answered, told-refused}
 use Rattle.scripthash_pages.specs.Entries.{lastOf}
-use Rattle.scripthash_answers.specs.EntryAnswers.{lastAnswer}
+use Rattle.scripthash_answers.specs.EntryAnswers.{lastFkAnswer}
 use borrow.Author.Needs.{needs}
 use Rattle.ouriscado.proofs.page_entries.ouriscado_sh_page_last_fk.Statement.{statement}
 use Rattle.ouriscado.proofs.page_entries.ouriscado_sh_page_last_fk.Tie as tie
@@ -23,13 +23,13 @@ refusal-requires c κs = search needs
 returns : tie.Need-returns
 returns c =
     let e = c .before .before .before .sh-page-last-fk .ensures in
-    let no = sym e ∙ ap lastAnswer (c .before .enum-told .given .1) in
+    let no = sym e ∙ ap lastFkAnswer (c .before .enum-told .given .1) in
     (c .refusal .ensures ∙ ap refusalOf e ∙ number-answered lastOf _, told-refused (λ x. x) _ no ∙ told-answered (λ x. x) lastOf _ _)
 
 returns-2 : tie.Need-returns-2
 returns-2 c =
     let e = c .before .before .before .sh-page-last-fk .ensures in
-    let yes = sym e ∙ ap lastAnswer (c .before .got .given .1) in
+    let yes = sym e ∙ ap lastFkAnswer (c .before .got .given .1) in
     (number-accepted yes ∙ number-answered lastOf _, told-accepted (λ x. x) _ yes ∙ told-answered (λ x. x) lastOf _ _)
 
 pub ouriscado-sh-page-last-fk-spec : {M : Type 1} → statement M

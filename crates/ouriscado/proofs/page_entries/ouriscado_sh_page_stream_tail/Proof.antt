@@ -23,14 +23,29 @@ refusal-requires c κs = search needs
 returns : tie.Need-returns
 returns c =
     let e = c .before .before .before .sh-page-stream-tail .ensures in
-    let no = sym e ∙ ap scanAnswer (c .before .enum-told .given .1) in
-    (c .refusal .ensures ∙ ap refusalOf e ∙ number-answered (endFrom 0) _, (told-refused (λ t. t .taken) _ no ∙ told-answered (λ t. t .taken) (endFrom 0) _ _, told-refused (λ t. t .last) _ no ∙ told-answered (λ t. t .last) (endFrom 0) _ _))
+    let no = sym e ∙ ap scanAnswer (c .before .enum-told .given .1) in (
+      c .refusal .ensures ∙ ap refusalOf e
+          ∙ number-answered (endFrom 0) _,
+      (
+        told-refused (λ t. t .taken) _ no
+            ∙ told-answered (λ t. t .taken) (endFrom 0) _ _,
+        told-refused (λ t. t .last) _ no ∙ told-answered (λ t. t .last) (endFrom 0) _ _,
+      ),
+    )
 
 returns-2 : tie.Need-returns-2
 returns-2 c =
     let e = c .before .before .before .sh-page-stream-tail .ensures in
-    let yes = sym e ∙ ap scanAnswer (c .before .got .given .1) in
-    (number-accepted yes ∙ number-answered (endFrom 0) _, (told-accepted (λ t. t .taken) _ yes ∙ told-answered (λ t. t .taken) (endFrom 0) _ _, told-accepted (λ t. t .last) _ yes ∙ told-answered (λ t. t .last) (endFrom 0) _ _))
+    let yes = sym e ∙ ap scanAnswer (c .before .got .given .1) in (
+      number-accepted yes
+          ∙ number-answered (endFrom 0) _,
+      (
+        told-accepted (λ t. t .taken) _ yes
+            ∙ told-answered (λ t. t .taken) (endFrom 0) _ _,
+        told-accepted (λ t. t .last) _ yes ∙ told-answered (λ t. t .last) (endFrom 0) _ _,
+      ),
+    )
 
 pub ouriscado-sh-page-stream-tail-spec : {M : Type 1} → statement M
-ouriscado-sh-page-stream-tail-spec = tie.close (tie.spec sh-page-stream-tail-requires enum-known-got enum-told refusal-requires returns returns-2)
+ouriscado-sh-page-stream-tail-spec =
+    tie.close (tie.spec sh-page-stream-tail-requires enum-known-got enum-told refusal-requires returns returns-2)

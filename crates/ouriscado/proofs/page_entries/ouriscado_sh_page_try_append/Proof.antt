@@ -19,8 +19,11 @@ same-length c = search needs
 returns : tie.Need-returns
 returns c =
     let e = c .before .before .before .before .sh-page-try-append .ensures in
-    let h = c .put-appended .ensures in
-    (h .0 ∙ ap refusalOf (e .0) ∙ number-answered hasSpot _, (e .1, h .1 ∙ told-same (λ x. x) _ (e .0) ∙ told-answered (λ x. x) hasSpot _ _))
+    let h = c .put-appended .ensures in (
+      h .0 ∙ ap refusalOf (e .0)
+          ∙ number-answered hasSpot _,
+      (e .1, h .1 ∙ told-same (λ x. x) _ (e .0) ∙ told-answered (λ x. x) hasSpot _ _),
+    )
 
 pub ouriscado-sh-page-try-append-spec : {M : Type 1} → statement M
 ouriscado-sh-page-try-append-spec = tie.close (tie.spec sh-page-try-append-requires put-appended-requires same-length returns)

@@ -23,4 +23,5 @@ returns c =
     (c .refusal .ensures ∙ ap refusalOf (e .0) ∙ number-done (packExtent (a .page .now) (a .fks .now) (a .base) (a .n) (a .next)), e .1)
 
 pub ouriscado-sh-page-pack-extent-last-fks-spec : {M : Type 1} → statement M
-ouriscado-sh-page-pack-extent-last-fks-spec = tie.close (tie.spec sh-page-pack-extent-last-fks-requires refusal-requires same-length returns)
+ouriscado-sh-page-pack-extent-last-fks-spec =
+    tie.close (tie.spec sh-page-pack-extent-last-fks-requires refusal-requires same-length returns)

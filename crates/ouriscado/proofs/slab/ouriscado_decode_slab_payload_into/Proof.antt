@@ -27,8 +27,18 @@ same-length c = search needs
 returns : tie.Need-returns
 returns c =
     let e = c .before .before .before .before .before .decode-slab-payload-into .ensures in
-    let no = sym (e .0) ∙ ap slabAnswer (c .before .enum-told .given .1) in
-    (c .refusal .ensures ∙ ap refusalOf (e .0) ∙ number-answered slabListOf _, (e .1, (told-refused (λ l. l .used) _ no ∙ told-answered (λ l. l .used) slabListOf _ _, told-refused (λ l. l .len) _ no ∙ told-answered (λ l. l .len) slabListOf _ _)))
+    let no = sym (e .0) ∙ ap slabAnswer (c .before .enum-told .given .1) in (
+      c .refusal .ensures ∙ ap refusalOf (e .0)
+          ∙ number-answered slabListOf _,
+      (
+        e .1,
+        (
+          told-refused (λ l. l .used) _ no ∙ told-answered (λ l. l .used) slabListOf _ _,
+          told-refused (λ l. l .len) _ no
+              ∙ told-answered (λ l. l .len) slabListOf _ _,
+        ),
+      ),
+    )
 
 same-length-2 : tie.Need-same-length-2
 same-length-2 c = search needs
@@ -36,8 +46,20 @@ same-length-2 c = search needs
 returns-2 : tie.Need-returns-2
 returns-2 c =
     let e = c .before .before .before .before .before .decode-slab-payload-into .ensures in
-    let yes = sym (e .0) ∙ ap slabAnswer (c .before .got .given .1) in
-    (number-accepted yes ∙ number-answered slabListOf _, (e .1, (told-accepted (λ l. l .used) _ yes ∙ told-answered (λ l. l .used) slabListOf _ _, told-accepted (λ l. l .len) _ yes ∙ told-answered (λ l. l .len) slabListOf _ _)))
+    let yes = sym (e .0) ∙ ap slabAnswer (c .before .got .given .1) in (
+      number-accepted yes
+          ∙ number-answered slabListOf _,
+      (
+        e .1,
+        (
+          told-accepted (λ l. l .used) _ yes ∙ told-answered (λ l. l .used) slabListOf _ _,
+          told-accepted (λ l. l .len) _ yes
+              ∙ told-answered (λ l. l .len) slabListOf _ _,
+        ),
+      ),
+    )
 
 pub ouriscado-decode-slab-payload-into-spec : {M : Type 1} → statement M
-ouriscado-decode-slab-payload-into-spec = tie.close (tie.spec decode-slab-payload-into-requires enum-known-got enum-told refusal-requires same-length returns same-length-2 returns-2)
+ouriscado-decode-slab-payload-into-spec =
+    tie.close (tie.spec decode-slab-payload-into-requires enum-known-got enum-told refusal-requires same-length returns same-length-2
+    returns-2)

@@ -18,8 +18,12 @@ same-length c = search needs
 returns : tie.Need-returns
 returns c =
     let e = c .before .before .before .before .decode-fk-delta-stream-into .ensures in
-    let h = c .put-bytes .ensures in
-    (h .0 ∙ ap refusalOf (e .0) ∙ number-answered (λ s. s .taken) _, (e .1, h .1 ∙ told-same (λ x. x) _ (e .0) ∙ told-answered (λ x. x) (λ s. s .taken) _ _))
+    let h = c .put-bytes .ensures in (
+      h .0 ∙ ap refusalOf (e .0)
+          ∙ number-answered (λ s. s .taken) _,
+      (e .1, h .1 ∙ told-same (λ x. x) _ (e .0) ∙ told-answered (λ x. x) (λ s. s .taken) _ _),
+    )
 
 pub ouriscado-decode-fk-delta-stream-into-spec : {M : Type 1} → statement M
-ouriscado-decode-fk-delta-stream-into-spec = tie.close (tie.spec decode-fk-delta-stream-into-requires put-bytes-requires same-length returns)
+ouriscado-decode-fk-delta-stream-into-spec =
+    tie.close (tie.spec decode-fk-delta-stream-into-requires put-bytes-requires same-length returns)

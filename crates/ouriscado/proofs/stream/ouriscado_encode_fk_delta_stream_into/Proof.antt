@@ -22,4 +22,5 @@ returns c =
     (h .0 ∙ ap refusalOf (e .0), (e .1, h .1 ∙ told-same (λ x. x) _ (e .0)))
 
 pub ouriscado-encode-fk-delta-stream-into-spec : {M : Type 1} → statement M
-ouriscado-encode-fk-delta-stream-into-spec = tie.close (tie.spec encode-fk-delta-stream-into-requires put-bytes-requires same-length returns)
+ouriscado-encode-fk-delta-stream-into-spec =
+    tie.close (tie.spec encode-fk-delta-stream-into-requires put-bytes-requires same-length returns)

@@ -38,4 +38,5 @@ returns-2 c =
     (number-accepted yes, (e .1, told-accepted (λ x. x) _ yes))
 
 pub ouriscado-write-uleb128-into-spec : {M : Type 1} → statement M
-ouriscado-write-uleb128-into-spec = tie.close (tie.spec write-uleb128-into-requires enum-known-got enum-told refusal-requires same-length returns same-length-2 returns-2)
+ouriscado-write-uleb128-into-spec =
+    tie.close (tie.spec write-uleb128-into-requires enum-known-got enum-told refusal-requires same-length returns same-length-2 returns-2)

@@ -45,7 +45,8 @@ version-of-requires c κs = search needs
 returns-2 : tie.Need-returns-2
 returns-2 c =
     let d = c .before in
-    extent-none (d .before .before .before .args .page .now) (d .before .if1 .left) (d .version-of .result) (d .version-of .ensures) (c .if2 .taken)
+    extent-none (d .before .before .before .args .page .now) (d .before .if1 .left) (d .version-of .result) (d .version-of .ensures)
+    (c .if2 .taken)
 
 get-u64-requires : tie.Need-get-u64-requires
 get-u64-requires c κs = search needs

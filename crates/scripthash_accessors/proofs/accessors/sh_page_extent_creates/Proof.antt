@@ -18,7 +18,8 @@ version-of-requires c κs = search needs
 returns-2 : tie.Need-returns-2
 returns-2 c =
     let d = c .before in
-    creates-none (d .before .before .before .args .page .now) (d .before .if1 .left) (d .version-of .result) (d .version-of .ensures) (c .if2 .taken)
+    creates-none (d .before .before .before .args .page .now) (d .before .if1 .left) (d .version-of .result) (d .version-of .ensures)
+    (c .if2 .taken)
 
 get-u32-requires : tie.Need-get-u32-requires
 get-u32-requires c κs = search needs
@@ -27,7 +28,8 @@ returns-3 : tie.Need-returns-3
 unfolding field
 returns-3 c =
     let d = c .before .before in
-    creates-is (d .before .before .before .args .page .now) (d .before .if1 .left) (d .version-of .result) (c .get-u32 .result) (d .version-of .ensures)
+    creates-is (d .before .before .before .args .page .now) (d .before .if1 .left) (d .version-of .result) (c .get-u32 .result)
+    (d .version-of .ensures)
     (c .before .if2 .left) (c .get-u32 .ensures)
 
 pub sh-page-extent-creates-spec : {M : Type 1} → statement M

@@ -30,7 +30,8 @@ unfolding field
 returns-2 c =
     let d = c .before in
     let g = d .before in
-    count-above (g .before .before .before .args .page .now) (g .before .if1 .left) (d .stream-off .result) (g .get-u16 .result) (d .stream-off .ensures) (g .get-u16 .ensures)
+    count-above (g .before .before .before .args .page .now) (g .before .if1 .left) (d .stream-off .result) (g .get-u16 .result)
+    (d .stream-off .ensures) (g .get-u16 .ensures)
     (c .if2 .taken)
 
 returns-3 : tie.Need-returns-3
@@ -38,7 +39,8 @@ unfolding field
 returns-3 c =
     let d = c .before in
     let g = d .before in
-    count-is (g .before .before .before .args .page .now) (g .before .if1 .left) (d .stream-off .result) (g .get-u16 .result) (d .stream-off .ensures) (g .get-u16 .ensures)
+    count-is (g .before .before .before .args .page .now) (g .before .if1 .left) (d .stream-off .result) (g .get-u16 .result)
+    (d .stream-off .ensures) (g .get-u16 .ensures)
     (c .if2 .left)
 
 pub sh-page-n-fks-spec : {M : Type 1} → statement M

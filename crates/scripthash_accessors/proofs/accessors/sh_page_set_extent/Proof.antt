@@ -35,7 +35,8 @@ returns-2 c =
     let d = c .before .before in
     let a = d .before .before .before .args in
     let no = set-no (a .page .now) (setExtent (a .page .now) (a .base) (a .n))
-    (page-yes (a .page .now) _ (d .before .if1 .left) ∙ extent-no (a .base) (a .n) _ (sym (d .check-extent .ensures) ∙ ap doneAnswer told)) in
+    (page-yes (a .page .now) _ (d .before .if1 .left)
+    ∙ extent-no (a .base) (a .n) _ (sym (d .check-extent .ensures) ∙ ap doneAnswer told)) in
     (ap doneAnswer told ∙ no .0, no .1)
 
 set-version-requires : tie.Need-set-version-requires
@@ -60,7 +61,8 @@ returns-3 c =
     let d = t .before .before in
     let a = d .before .before .before .args in
     set-yes (a .page .now) _ (setExtent (a .page .now) (a .base) (a .n))
-    (extent-written (a .page .now) (d .before .if1 .left) (a .base) (a .n) (sym (d .check-extent .ensures) ∙ ap doneAnswer (t .enum-told .given .1)))
+    (extent-written (a .page .now) (d .before .if1 .left) (a .base) (a .n) (sym (d .check-extent .ensures)
+    ∙ ap doneAnswer (t .enum-told .given .1)))
     (last .put-u32 .ensures
     ∙ ap (λ (b : List ℕ). overwrite b 16 (bytesOf 4 (a .n)))
     (second .put-u64 .ensures ∙ ap (λ (b : List ℕ). overwrite b 8 (bytesOf 8 (a .base))) (first .set-version .ensures)))

@@ -24,7 +24,8 @@ returns-2 : tie.Need-returns-2
 returns-2 c =
     let a = c .before .before .before .before .before .args in
     set-yes (a .page .now) (a .page .now) (setCreates (a .page .now) (a .n))
-    (creates-idle (a .page .now) (c .before .before .before .if1 .left) (a .n) (c .before .version-of .result) (c .before .version-of .ensures) (c .if2 .taken)) refl
+    (creates-idle (a .page .now) (c .before .before .before .if1 .left) (a .n) (c .before .version-of .result)
+    (c .before .version-of .ensures) (c .if2 .taken)) refl
 
 put-u32-requires : tie.Need-put-u32-requires
 put-u32-requires c κs = search needs
@@ -39,8 +40,10 @@ returns-3 c =
     let v = put .before .before .before in
     let a = v .before .before .before .before .args in
     set-yes (a .page .now) _ (setCreates (a .page .now) (a .n))
-    (creates-set (a .page .now) (v .before .before .if1 .left) (a .n) (v .version-of .result) (v .version-of .ensures) (put .before .before .if2 .left))
+    (creates-set (a .page .now) (v .before .before .if1 .left) (a .n) (v .version-of .result) (v .version-of .ensures)
+    (put .before .before .if2 .left))
     (put .put-u32 .ensures)
 
 pub sh-page-set-extent-creates-spec : {M : Type 1} → statement M
-sh-page-set-extent-creates-spec = tie.close (tie.spec returns version-of-requires same-length returns-2 put-u32-requires same-length-2 returns-3)
+sh-page-set-extent-creates-spec =
+    tie.close (tie.spec returns version-of-requires same-length returns-2 put-u32-requires same-length-2 returns-3)

@@ -24,7 +24,8 @@ unfolding setCount setField
 returns-2 c =
     let put = c .before .before in
     let a = put .before .before .before .before .args in
-    set-yes (a .page .now) _ (setCount (a .page .now) (a .n)) (page-yes (a .page .now) _ (put .before .before .if1 .left)) (put .put-u16 .ensures)
+    set-yes (a .page .now) _ (setCount (a .page .now) (a .n)) (page-yes (a .page .now) _ (put .before .before .if1 .left))
+    (put .put-u16 .ensures)
 
 pub sh-page-set-n-fks-spec : {M : Type 1} → statement M
 sh-page-set-n-fks-spec = tie.close (tie.spec returns put-u16-requires same-length returns-2)

@@ -20,7 +20,8 @@ sub-t4 : tie.Need-sub-t4
 sub-t4 c = omega (arith, c .stream-off .ensures, stream-off-within (c .before .before .before .args .page .now))
 
 returns-2 : tie.Need-returns-2
-returns-2 c = stream-cap-is (c .before .before .before .args .page .now) (c .before .if1 .left) (c .stream-off .result) (c .stream-off .ensures)
+returns-2 c = stream-cap-is (c .before .before .before .args .page .now) (c .before .if1 .left) (c .stream-off .result)
+    (c .stream-off .ensures)
 
 pub sh-page-stream-cap-spec : {M : Type 1} → statement M
 sh-page-stream-cap-spec = tie.close (tie.spec returns stream-off-requires sub-t4 returns-2)

@@ -15,7 +15,8 @@ stream-off-requires : tie.Need-stream-off-requires
 stream-off-requires c κs = search needs
 
 returns-2 : tie.Need-returns-2
-returns-2 c = stream-off-is (c .before .before .before .args .page .now) (c .before .if1 .left) (c .stream-off .result) (c .stream-off .ensures)
+returns-2 c = stream-off-is (c .before .before .before .args .page .now) (c .before .if1 .left) (c .stream-off .result)
+    (c .stream-off .ensures)
 
 pub sh-page-stream-off-spec : {M : Type 1} → statement M
 sh-page-stream-off-spec = tie.close (tie.spec returns stream-off-requires returns-2)

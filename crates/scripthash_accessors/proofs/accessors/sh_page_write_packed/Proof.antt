@@ -54,7 +54,8 @@ returns-3 c =
     let d = t .before .before in
     let a = d .before .before .before .args in
     set-yes (a .page .now) _ (writeLink (a .page .now) (a .last) (a .off))
-    (link-written (a .page .now) (d .before .if1 .left) (a .last) (a .off) (sym (d .check-link .ensures) ∙ ap doneAnswer (t .enum-told .given .1)))
+    (link-written (a .page .now) (d .before .if1 .left) (a .last) (a .off) (sym (d .check-link .ensures)
+    ∙ ap doneAnswer (t .enum-told .given .1)))
     (put .put-u40 .ensures ∙ ap (λ (l : ℕ). overwrite (a .page .now) 3 (bytesOf 5 l)) (put .before .link-to .ensures))
 
 pub sh-page-write-packed-spec : {M : Type 1} → statement M

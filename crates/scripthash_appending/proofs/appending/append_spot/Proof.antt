@@ -109,7 +109,8 @@ returns-4 c =
 returns-5 : tie.Need-returns-5
 returns-5 c =
     let k = c .before in
-    sym (spot-low (page k) (fk k) (omega arith) (λ (e : fk k ≡ 0). omega arith) (omega arith) (found k .0) (found k .1) (omega (arith, last-is k)))
+    sym (spot-low (page k) (fk k) (omega arith) (λ (e : fk k ≡ 0). omega arith) (omega arith) (found k .0) (found k .1)
+    (omega (arith, last-is k)))
 
 stream-off-requires : tie.Need-stream-off-requires
 stream-off-requires c κs = search needs
@@ -130,15 +131,19 @@ returns-6 : tie.Need-returns-6
 returns-6 c =
     let d = c .before in
     let k = at d in
-    let high = spot-high (page k) (fk k) (omega arith) (λ (e : fk k ≡ 0). omega arith) (omega arith) (found k .0) (found k .1) (omega (arith, last-is k)) in
-    sym (high ∙ ap accepted (spot-full (page k) (fk k) (found k .0) (off d + taken k) (difference d) (place d) (difference-is d) (omega (arith, form d))))
+    let high = spot-high (page k) (fk k) (omega arith) (λ (e : fk k ≡ 0). omega arith) (omega arith) (found k .0) (found k .1)
+    (omega (arith, last-is k)) in
+    sym (high ∙ ap accepted
+    (spot-full (page k) (fk k) (found k .0) (off d + taken k) (difference d) (place d) (difference-is d) (omega (arith, form d))))
 
 returns-7 : tie.Need-returns-7
 returns-7 c =
     let d = c .before in
     let k = at d in
-    let high = spot-high (page k) (fk k) (omega arith) (λ (e : fk k ≡ 0). omega arith) (omega arith) (found k .0) (found k .1) (omega (arith, last-is k)) in
-    sym (high ∙ ap accepted (spot-room (page k) (fk k) (found k .0) (off d + taken k) (difference d) (place d) (difference-is d) (omega (arith, form d))))
+    let high = spot-high (page k) (fk k) (omega arith) (λ (e : fk k ≡ 0). omega arith) (omega arith) (found k .0) (found k .1)
+    (omega (arith, last-is k)) in
+    sym (high ∙ ap accepted
+    (spot-room (page k) (fk k) (found k .0) (off d + taken k) (difference d) (place d) (difference-is d) (omega (arith, form d))))
 
 pub append-spot-spec : {M : Type 1} → statement M
 append-spot-spec =

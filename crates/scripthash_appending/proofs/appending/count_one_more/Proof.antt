@@ -38,7 +38,8 @@ returns c =
     let k = c .before .before .before .before in
     let start = k .before .before .before .before .before in
     c .before .before .put-u16 .ensures
-    ∙ one-more-is (start .args .page .now) (k .kept-version .result) (k .before .before .get-u16 .result) (start .pre .0) (k .kept-version .ensures) (k .before .before .get-u16 .ensures)
+    ∙ one-more-is (start .args .page .now) (k .kept-version .result) (k .before .before .get-u16 .result) (start .pre .0)
+    (k .kept-version .ensures) (k .before .before .get-u16 .ensures)
 
 pub count-one-more-spec : {M : Type 1} → statement M
 count-one-more-spec =

@@ -67,8 +67,10 @@ same-length-2 c = search needs
 returns-2 : tie.Need-returns-2
 returns-2 c =
     let a = c .before .before .before .before .before .args in
-    let full = sym (c .before .before .append-spot .ensures) ∙ ap spotAnswer (c .enum-told .given .1) in
-    (sym (answered-yes hasSpot (appendSpot (a .page .now) (a .fk)) full), sym (after-append-full (a .page .now) (appendSpot (a .page .now) (a .fk)) full))
+    let full = sym (c .before .before .append-spot .ensures) ∙ ap spotAnswer (c .enum-told .given .1) in (
+      sym (answered-yes hasSpot (appendSpot (a .page .now) (a .fk)) full),
+      sym (after-append-full (a .page .now) (appendSpot (a .page .now) (a .fk)) full),
+    )
 
 same-length-3 : tie.Need-same-length-3
 same-length-3 c = search needs
@@ -76,8 +78,10 @@ same-length-3 c = search needs
 returns-3 : tie.Need-returns-3
 returns-3 c =
     let a = c .before .before .before .before .before .before .args in
-    let stop = sym (c .before .before .before .append-spot .ensures) ∙ ap spotAnswer (c .before .spot2 .given .1) in
-    (sym (answered-no hasSpot (appendSpot (a .page .now) (a .fk)) stop), sym (after-append-no (a .page .now) (appendSpot (a .page .now) (a .fk)) stop))
+    let stop = sym (c .before .before .before .append-spot .ensures) ∙ ap spotAnswer (c .before .spot2 .given .1) in (
+      sym (answered-no hasSpot (appendSpot (a .page .now) (a .fk)) stop),
+      sym (after-append-no (a .page .now) (appendSpot (a .page .now) (a .fk)) stop),
+    )
 
 pub sh-page-try-append-spec : {M : Type 1} → statement M
 sh-page-try-append-spec =

@@ -58,7 +58,8 @@ module _ (c : tie.After-encode-fk-delta-stream-into) where
 
   answer : encodeStream (length (page at) - off at) (fks at) ≡ bytesAnswer (c .encode-fk-delta-stream-into .result)
   answer =
-      sym (c .encode-fk-delta-stream-into .ensures .0 ∙ ap (λ (r : ℕ). encodeStream r (fks at)) (length-lent (page at) (off at) (within at)))
+      sym (c .encode-fk-delta-stream-into .ensures .0
+      ∙ ap (λ (r : ℕ). encodeStream r (fks at)) (length-lent (page at) (off at) (within at)))
 
   told : writeStream (page at) (fks at) ≡ bytesAnswer (c .encode-fk-delta-stream-into .result)
   told = as-stream at ∙ ap (λ (r : ℕ). encodeStream r (fks at)) (sym cap) ∙ answer

@@ -13,7 +13,8 @@ use Rattle.scripthash_cutting.proofs.cut.count_parts.Tie as tie
 
 abbrev Inv-loop : tie.InvT-loop
 Inv-loop fks from room start₀ count₀ start count =
-    (count ≤ start) × (start ≤ length fks) × (count + length (cuttingFor lastPageRoom room (drop start fks)) ≡ length (cuttingFor lastPageRoom room (drop from fks)))
+    (count ≤ start) × (start ≤ length fks)
+    × (count + length (cuttingFor lastPageRoom room (drop start fks)) ≡ length (cuttingFor lastPageRoom room (drop from fks)))
 
 abbrev μ-loop : tie.MeasureT-loop
 μ-loop fks from room start₀ count₀ start count = length fks - start
@@ -52,7 +53,8 @@ returns c =
     let args = c .before .before .before .args in
     let pre = c .before .before .before .pre in
     let inv : c .before .loop .count + 0 ≡ length (cuttingFor lastPageRoom (args .room) (drop (args .from) (args .fks .now))) =
-    rw (parts-behind (args .room) (pre .1) (pre .2) (args .fks .now) (c .before .loop .start) (c .loop-test .left)) at (c .before .loop .inv .2) in
+    rw (parts-behind (args .room) (pre .1) (pre .2) (args .fks .now) (c .before .loop .start) (c .loop-test .left)) at
+    (c .before .loop .inv .2) in
     omega arith
 
 pub count-parts-spec : {M : Type 1} → statement M

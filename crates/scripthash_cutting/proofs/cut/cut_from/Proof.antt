@@ -62,7 +62,8 @@ returns-2 c =
     let j = c .before .before .before in
     let args = j .before .before .args in
     let count = args .at + length (cuttingFor lastPageRoom (args .room) (drop (args .from) (args .fks .now))) in
-    rw (le-ltb (length (args .out .now)) count (long j)) (ap accepted (c .before .write-ranges .ensures .0), c .before .write-ranges .ensures .1)
+    rw (le-ltb (length (args .out .now)) count (long j))
+    (ap accepted (c .before .write-ranges .ensures .0), c .before .write-ranges .ensures .1)
 
 pub cut-from-spec : {M : Type 1} → statement M
 cut-from-spec =

@@ -16,7 +16,8 @@ use Rattle.scripthash_cutting.proofs.cut.extend_part.Tie as tie
 
 abbrev Inv-loop : tie.InvT-loop
 Inv-loop fks from used room i₀ bytes₀ i bytes =
-    (from ≤ i) × (i ≤ length fks) × (bytes ≤ room) × ((more : ℕ) → room ≤ more → i + fittingAt fks i (more - bytes) ≡ from + fittingAt fks from (more - used))
+    (from ≤ i) × (i ≤ length fks) × (bytes ≤ room) × ((more : ℕ) → room ≤ more
+    → i + fittingAt fks i (more - bytes) ≡ from + fittingAt fks from (more - used))
 
 abbrev μ-loop : tie.MeasureT-loop
 μ-loop fks from used room i₀ bytes₀ i bytes = length fks - i
@@ -73,7 +74,8 @@ returns c =
       later = inv .0;
       within = inv .1;
       held = inv .2;
-      full = at-no (fks e) (at e) (e .before .before .before .before .before .loop .bytes) (e .before .before .before .before .before .before .before .args .room) (search needs) (omega (arith, form-is e));
+      full = at-no (fks e) (at e) (e .before .before .before .before .before .loop .bytes)
+          (e .before .before .before .before .before .before .before .args .room) (search needs) (omega (arith, form-is e));
       same = inv .3;
     }
 
@@ -89,7 +91,13 @@ loop-again c =
     let inv = e .before .before .before .before .before .loop .inv in
     let bytes = e .before .before .before .before .before .loop .bytes in
     let fits : bytes + form e ≤ e .before .before .before .before .before .before .before .args .room = omega (arith, form-is e) in
-    rw (form-is e) (search needs, search needs, fits, λ more h. at-yes (fks e) (at e) bytes more (search needs) (le-trans fits h) ∙ inv .3 more h)
+    rw (form-is e) (
+      search needs,
+      search needs,
+      fits,
+      λ more h. at-yes (fks e) (at e) bytes more (search needs) (le-trans fits h)
+          ∙ inv .3 more h,
+    )
 
 returns-2 : tie.Need-returns-2 Inv-loop μ-loop
 returns-2 c =

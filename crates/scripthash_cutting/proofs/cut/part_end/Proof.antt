@@ -28,7 +28,8 @@ extend-part-requires : tie.Need-extend-part-requires
 extend-part-requires c κs =
     let fks = c .before .before .before .args .fks .now in
     let start = c .before .before .before .args .start in
-    let short : ulebLen (getD fks start 0) ≤ 10 = len-at-most (getD fks start 0) (omega (arith, c .before .shared-slice-known2 .given start)) in
+    let short : ulebLen (getD fks start 0) ≤ 10 =
+    len-at-most (getD fks start 0) (omega (arith, c .before .shared-slice-known2 .given start)) in
     (omega arith, omega arith, omega (arith, c .uleb128-len .ensures), omega arith)
 
 extend-part-requires-2 : tie.Need-extend-part-requires-2
@@ -45,14 +46,19 @@ module _ (c : tie.After-struct-known) where
   abbrev room : ℕ
   room = c .before .before .before .before .before .before .args .room
 
-  near : Reached fks (start + 1) (ulebLen (getD fks start 0)) lastPageRoom (c .before .before .extend-part .result .end) (c .before .before .extend-part .result .used)
+  near : Reached fks (start + 1) (ulebLen (getD fks start 0)) lastPageRoom (c .before .before .extend-part .result .end)
+      (c .before .before .extend-part .result .used)
   near = rw (c .before .before .before .uleb128-len .ensures) at (c .before .before .extend-part .ensures)
 
 returns : tie.Need-returns
-returns c = next-last (fks (c .before)) (start (c .before)) lastPageRoom (room (c .before)) (search needs) (c .before .before .before .before .before .before .before .pre .1) _ _ _ _ (near (c .before)) (c .before .before .extend-part2 .ensures) (c .if1 .taken)
+returns c = next-last (fks (c .before)) (start (c .before)) lastPageRoom (room (c .before)) (search needs)
+    (c .before .before .before .before .before .before .before .pre .1) _ _ _ _ (near (c .before))
+    (c .before .before .extend-part2 .ensures) (c .if1 .taken)
 
 returns-2 : tie.Need-returns-2
-returns-2 c = next-other (fks (c .before)) (start (c .before)) lastPageRoom (room (c .before)) (search needs) (c .before .before .before .before .before .before .before .pre .1) _ _ _ _ (near (c .before)) (c .before .before .extend-part2 .ensures) (c .if1 .left)
+returns-2 c = next-other (fks (c .before)) (start (c .before)) lastPageRoom (room (c .before)) (search needs)
+    (c .before .before .before .before .before .before .before .pre .1) _ _ _ _ (near (c .before))
+    (c .before .before .extend-part2 .ensures) (c .if1 .left)
 
 pub part-end-spec : {M : Type 1} → statement M
 part-end-spec =

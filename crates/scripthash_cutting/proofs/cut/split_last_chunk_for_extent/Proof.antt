@@ -54,13 +54,15 @@ array-read-end c = search needs
 returns-3 : tie.Need-returns-3
 returns-3 c =
     let args = c .before .before .before .before .before .args in
-    kept (args .fks .now) (args .chunks .now) (args .count) (search needs) (split-empty (args .fks .now) (args .chunks .now) (args .count) (some (c .before .before)) (search needs) (c .if3 .taken))
+    kept (args .fks .now) (args .chunks .now) (args .count) (search needs)
+    (split-empty (args .fks .now) (args .chunks .now) (args .count) (some (c .before .before)) (search needs) (c .if3 .taken))
 
 returns-4 : tie.Need-returns-4
 returns-4 c =
     let args = c .before .before .before .before .before .before .args in
     kept (args .fks .now) (args .chunks .now) (args .count) (search needs)
-    (split-outside (args .fks .now) (args .chunks .now) (args .count) (some (c .before .before .before)) (search needs) (c .before .if3 .left) (c .if4 .taken))
+    (split-outside (args .fks .now) (args .chunks .now) (args .count) (some (c .before .before .before)) (search needs)
+    (c .before .if3 .left) (c .if4 .taken))
 
 slice-aggregate-upto : tie.Need-slice-aggregate-upto
 slice-aggregate-upto c =
@@ -73,8 +75,12 @@ sub-cut-from c = search needs
 cut-from-requires : tie.Need-cut-from-requires
 cut-from-requires c κs =
     let args = c .before .before .before .before .before .before .before .before .args in
-    let last = getD (args .chunks .now) (args .count - 1) [] in
-    (omega (arith, length-take-le (getD last 1 0) (args .fks .now) (c .before .before .if4 .left), c .before .before .before .if3 .left), omega arith, omega arith, search needs)
+    let last = getD (args .chunks .now) (args .count - 1) [] in (
+      omega (arith, length-take-le (getD last 1 0) (args .fks .now) (c .before .before .if4 .left), c .before .before .before .if3 .left),
+      omega arith,
+      omega arith,
+      search needs,
+    )
 
 same-length : tie.Need-same-length
 same-length c = search needs
@@ -84,8 +90,11 @@ returns-5 c =
     let args = c .before .before .before .before .before .before .before .before .before .before .args in
     let last = getD (args .chunks .now) (args .count - 1) [] in
     let words = words-drop (getD last 0 0) (take (getD last 1 0) (args .fks .now))
-    (words-take (getD last 1 0) (args .fks .now) (λ i. omega (arith, c .before .before .before .before .before .before .before .before .before .shared-slice-known .given i))) in
-    let cut = split-cut (args .fks .now) (args .chunks .now) (args .count) (some (c .before .before .before .before .before .before .before)) (search needs) (c .before .before .before .before .before .if3 .left) (c .before .before .before .before .if4 .left) words in
+    (words-take (getD last 1 0) (args .fks .now)
+    (λ i. omega (arith, c .before .before .before .before .before .before .before .before .before .shared-slice-known .given i))) in
+    let cut = split-cut (args .fks .now) (args .chunks .now) (args .count)
+    (some (c .before .before .before .before .before .before .before)) (search needs) (c .before .before .before .before .before .if3 .left)
+    (c .before .before .before .before .if4 .left) words in
     (c .before .cut-from .ensures .0 ∙ sym (cut .0), c .before .cut-from .ensures .1 ∙ sym (cut .1))
 
 pub split-last-chunk-for-extent-spec : {M : Type 1} → statement M

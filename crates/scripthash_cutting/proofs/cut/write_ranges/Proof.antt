@@ -67,7 +67,8 @@ loop-again c =
       found c .within,
       omega (arith, found c .count, inv .1),
       simp length-set (inv .2),
-      sym (overwrite-step out (c .before .before .loop .count) (rangeOf (start c) e) (rangesFrom e (cuttingFor lastPageRoom large (drop e (fks c)))) (room c))
+      sym (overwrite-step out (c .before .before .loop .count) (rangeOf (start c) e)
+          (rangesFrom e (cuttingFor lastPageRoom large (drop e (fks c)))) (room c))
           ∙ (rw (found c .ranges) at (inv .3)),
     )
 
@@ -82,9 +83,11 @@ returns c =
     let at = c .before .loop .start in
     let inv = c .before .loop .inv in
     let parts = cuttingFor lastPageRoom (args .room) (drop (args .from) (args .fks .now)) in
-    let over : cuttingFor lastPageRoom (args .room) (drop at (args .fks .now)) ≡ [] = parts-behind (args .room) (pre .1) (pre .2) (args .fks .now) at (c .loop-test .left) in
+    let over : cuttingFor lastPageRoom (args .room) (drop at (args .fks .now)) ≡ [] =
+    parts-behind (args .room) (pre .1) (pre .2) (args .fks .now) at (c .loop-test .left) in
     let count : c .before .loop .count + 0 ≡ args .at + length parts = rw over at (inv .1) in
-    let ranges : overwrite (c .before .loop .out) (c .before .loop .count) [] ≡ overwrite (args .out .now) (args .at) (rangesFrom (args .from) parts) =
+    let ranges : overwrite (c .before .loop .out) (c .before .loop .count) []
+    ≡ overwrite (args .out .now) (args .at) (rangesFrom (args .from) parts) =
     rw over at (inv .3) in
     (omega arith, sym (overwrite-nil (c .before .loop .out) (c .before .loop .count)) ∙ ranges)
 

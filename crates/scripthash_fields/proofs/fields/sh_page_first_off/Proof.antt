@@ -17,7 +17,8 @@ link-of-requires c κs = search needs
 returns-2 : tie.Need-returns-2
 returns-2 c =
     let d = c .before in
-    first-no (d .before .before .before .args .page .now) (d .before .if1 .left) (d .link-of .result) (d .link-of .ensures .0) (c .if2 .taken)
+    first-no (d .before .before .before .args .page .now) (d .before .if1 .left) (d .link-of .result) (d .link-of .ensures .0)
+    (c .if2 .taken)
 
 mul-t6 : tie.Need-mul-t6
 mul-t6 c = search needs
@@ -25,7 +26,8 @@ mul-t6 c = search needs
 returns-3 : tie.Need-returns-3
 returns-3 c =
     let d = c .before in
-    first-yes (d .before .before .before .args .page .now) (d .before .if1 .left) (d .link-of .result) (d .link-of .ensures .0) (c .if2 .left)
+    first-yes (d .before .before .before .args .page .now) (d .before .if1 .left) (d .link-of .result) (d .link-of .ensures .0)
+    (c .if2 .left)
 
 pub sh-page-first-off-spec : {M : Type 1} → statement M
 sh-page-first-off-spec = tie.close (tie.spec returns link-of-requires returns-2 mul-t6 returns-3)

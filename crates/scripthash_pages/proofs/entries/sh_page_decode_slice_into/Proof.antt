@@ -37,7 +37,8 @@ module _ (c : tie.After-known-told) where
   long = entries-long (length (called .before .before .before .before .args .out .now)) page (found .0) (found .1)
 
   told : (next : ℕ) → nextOff page ≡ next → accepted (record { count = count; next = next }) ≡ answered (pageReadOf page) entries
-  told next e = ap accepted (sym (read-of page (found .0) count next (found .2) e)) ∙ sym (answered-yes (pageReadOf page) entries (found .1))
+  told next e = ap accepted (sym (read-of page (found .0) count next (found .2) e))
+      ∙ sym (answered-yes (pageReadOf page) entries (found .1))
 
 sh-page-entries-into-requires : tie.Need-sh-page-entries-into-requires
 sh-page-entries-into-requires c κs = search needs
@@ -59,7 +60,8 @@ returns c =
     let told = c .before .enum-told .given in
     let d = c .before .before .before .before .before in
     let a = d .before .before .before .before .args in
-    let stop = was-refused readCount (pageEntries (length (a .out .now)) (a .page .now)) (sym (d .sh-page-entries-into .ensures .0) ∙ ap entriesAnswer (told .1)) in (
+    let stop = was-refused readCount (pageEntries (length (a .out .now)) (a .page .now)) (sym (d .sh-page-entries-into .ensures .0)
+    ∙ ap entriesAnswer (told .1)) in (
       ap refused (c .refusal .ensures ∙ ap (λ (g : PageEntries). refusalOf (entriesAnswer g)) (told .1))
           ∙ sym (answered-no (pageReadOf (a .page .now)) (pageEntries (length (a .out .now)) (a .page .now)) stop),
       d .sh-page-entries-into .ensures .1,
@@ -77,4 +79,5 @@ returns-2 c = let d = c .before in (told d _ (sym (c .next-off .ensures)), calle
 pub sh-page-decode-slice-into-spec : {M : Type 1} → statement M
 sh-page-decode-slice-into-spec =
     tie.close
-    (tie.spec sh-page-entries-into-requires enum-known-got enum-told refusal-requires same-length returns next-off-requires same-length-2 returns-2)
+    (tie.spec sh-page-entries-into-requires enum-known-got enum-told refusal-requires same-length returns next-off-requires same-length-2
+    returns-2)

@@ -14,7 +14,7 @@ use Rattle.scripthash_stream.specs.declared.stream.StreamBytes.{StreamBytes}
 use Rattle.scripthash_stream.proofs.LawsScan.{scan-accepted}
 use Rattle.scripthash_stream.proofs.LawsDecode.{decode-accepted, after-refused}
 use Rattle.scripthash_pages.specs.Entries.{Place, streamPlace, pageEntries, readCount}
-use Rattle.scripthash_pages.specs.Answers.{placeAnswer}
+use Rattle.scripthash_pages.specs.Answers.{streamPlaceAnswer}
 use Rattle.scripthash_pages.specs.declared.entries.StreamPlace.{StreamPlace}
 use Rattle.scripthash_pages.proofs.LawsEntries.{Placed, place-accepted, entries-no, entries-yes}
 use Rattle.scripthash_pages.proofs.entries.sh_page_entries_into.Statement.{statement}
@@ -29,7 +29,7 @@ module _ (c : tie.After-known-told) where
   place = record { off = c .before .place .given .0 .0; count = c .before .place .given .0 .1 .0 }
 
   is : streamPlace page ≡ accepted place
-  is = sym (c .before .before .before .stream-place .ensures) ∙ ap placeAnswer (c .before .place .given .1)
+  is = sym (c .before .before .before .stream-place .ensures) ∙ ap streamPlaceAnswer (c .before .place .given .1)
 
   within : c .before .place .given .0 .0 ≤ length page
   within = let placed = place-accepted page place is in omega arith
@@ -46,7 +46,8 @@ module _ (c : tie.After-decode-fk-delta-stream-into) where
   decoded = pageEntries (length out) (page at)
 
   same : decodeStream (length out) (place at .count) (take (length (page at) - place at .off) (drop (place at .off) (page at))) ≡ decoded
-  same = ap (decodeStream (length out) (place at .count)) (part-to-end (page at) (place at .off)) ∙ sym (entries-yes (length out) (page at) (place at) (is at))
+  same = ap (decodeStream (length out) (place at .count)) (part-to-end (page at) (place at .off))
+      ∙ sym (entries-yes (length out) (page at) (place at) (is at))
 
   answer : bytesAnswer (c .decode-fk-delta-stream-into .result) ≡ answered (λ s. s .taken) decoded
   answer = c .decode-fk-delta-stream-into .ensures .0 ∙ ap (answered (λ s. s .taken)) same
@@ -70,8 +71,9 @@ returns : tie.Need-returns
 returns c =
     let told = c .before .enum-told .given in
     let a = c .before .before .before .before .before .before .args in
-    let stop = entries-no (length (a .out .now)) (a .page .now) (sym (c .before .before .before .stream-place .ensures) ∙ ap placeAnswer (told .1)) in (
-      ap refused (c .refusal .ensures ∙ ap (λ (g : StreamPlace). refusalOf (placeAnswer g)) (told .1))
+    let stop = entries-no (length (a .out .now)) (a .page .now) (sym (c .before .before .before .stream-place .ensures)
+    ∙ ap streamPlaceAnswer (told .1)) in (
+      ap refused (c .refusal .ensures ∙ ap (λ (g : StreamPlace). refusalOf (streamPlaceAnswer g)) (told .1))
           ∙ sym (answered-no readCount (pageEntries (length (a .out .now)) (a .page .now)) stop),
       sym (after-refused (a .out .now) (pageEntries (length (a .out .now)) (a .page .now)) stop),
     )
@@ -105,7 +107,8 @@ returns-2 c =
     let d = c .before .before .before .before .before in
     let told = c .before .enum-told3 .given in
     let stop = was-refused (λ s. s .taken) (decoded d) (sym (answer d) ∙ ap bytesAnswer (told .1)) in (
-      ap refused (c .refusal2 .ensures ∙ ap (λ (g : StreamBytes). refusalOf (bytesAnswer g)) (told .1)) ∙ sym (answered-no readCount (decoded d) stop),
+      ap refused (c .refusal2 .ensures ∙ ap (λ (g : StreamBytes). refusalOf (bytesAnswer g)) (told .1))
+          ∙ sym (answered-no readCount (decoded d) stop),
       list d,
     )
 

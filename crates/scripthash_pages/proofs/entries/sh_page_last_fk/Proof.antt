@@ -26,14 +26,17 @@ returns : tie.Need-returns
 returns c =
     let told = c .before .enum-told .given in
     let page = c .before .before .before .before .before .args .page .now in
-    let stop = was-refused (endFrom 0) (pageScan page) (sym (c .before .before .before .sh-page-stream-tail .ensures) ∙ ap scanAnswer (told .1)) in
-    ap refused (c .refusal .ensures ∙ ap (λ (g : ScanStream). refusalOf (scanAnswer g)) (told .1)) ∙ sym (answered-no lastOf (pageScan page) stop)
+    let stop = was-refused (endFrom 0) (pageScan page) (sym (c .before .before .before .sh-page-stream-tail .ensures)
+    ∙ ap scanAnswer (told .1)) in
+    ap refused (c .refusal .ensures ∙ ap (λ (g : ScanStream). refusalOf (scanAnswer g)) (told .1))
+    ∙ sym (answered-no lastOf (pageScan page) stop)
 
 returns-2 : tie.Need-returns-2
 returns-2 c =
     let told = c .before .tail .given in
     let page = c .before .before .before .before .before .args .page .now in
-    let found = was-accepted (endFrom 0) (pageScan page) (sym (c .before .before .before .sh-page-stream-tail .ensures) ∙ ap scanAnswer (told .1)) in
+    let found = was-accepted (endFrom 0) (pageScan page) (sym (c .before .before .before .sh-page-stream-tail .ensures)
+    ∙ ap scanAnswer (told .1)) in
     ap accepted (sym (ap (λ (e : End). e .last) (found .2))) ∙ sym (answered-yes lastOf (pageScan page) (found .1))
 
 pub sh-page-last-fk-spec : {M : Type 1} → statement M

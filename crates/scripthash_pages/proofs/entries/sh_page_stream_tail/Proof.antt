@@ -10,7 +10,7 @@ use Rattle.error.proofs.LawsAnswer.{answered-no}
 use Rattle.buffer.proofs.LawsBytes.{part-to-end}
 use Rattle.scripthash_stream.specs.Stream.{endFrom, scan}
 use Rattle.scripthash_pages.specs.Entries.{Place, streamPlace, pageScan}
-use Rattle.scripthash_pages.specs.Answers.{placeAnswer}
+use Rattle.scripthash_pages.specs.Answers.{streamPlaceAnswer}
 use Rattle.scripthash_pages.specs.declared.entries.StreamPlace.{StreamPlace}
 use Rattle.scripthash_pages.proofs.LawsEntries.{Placed, place-accepted, scan-no, scan-yes}
 use Rattle.scripthash_pages.proofs.entries.sh_page_stream_tail.Statement.{statement}
@@ -25,7 +25,7 @@ module _ (c : tie.After-known-told) where
   place = record { off = c .before .place .given .0 .0; count = c .before .place .given .0 .1 .0 }
 
   is : streamPlace page ≡ accepted place
-  is = sym (c .before .before .before .stream-place .ensures) ∙ ap placeAnswer (c .before .place .given .1)
+  is = sym (c .before .before .before .stream-place .ensures) ∙ ap streamPlaceAnswer (c .before .place .given .1)
 
   within : c .before .place .given .0 .0 ≤ length page
   within = let placed = place-accepted page place is in omega arith
@@ -46,8 +46,9 @@ returns : tie.Need-returns
 returns c =
     let told = c .before .enum-told .given in
     let page = c .before .before .before .before .before .args .page .now in
-    let stop = scan-no page (sym (c .before .before .before .stream-place .ensures) ∙ ap placeAnswer (told .1)) in
-    ap refused (c .refusal .ensures ∙ ap (λ (g : StreamPlace). refusalOf (placeAnswer g)) (told .1)) ∙ sym (answered-no (endFrom 0) (pageScan page) stop)
+    let stop = scan-no page (sym (c .before .before .before .stream-place .ensures) ∙ ap streamPlaceAnswer (told .1)) in
+    ap refused (c .refusal .ensures ∙ ap (λ (g : StreamPlace). refusalOf (streamPlaceAnswer g)) (told .1))
+    ∙ sym (answered-no (endFrom 0) (pageScan page) stop)
 
 sub-scan-fk-delta-stream : tie.Need-sub-scan-fk-delta-stream
 sub-scan-fk-delta-stream c = within c

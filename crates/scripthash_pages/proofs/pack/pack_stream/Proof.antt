@@ -89,7 +89,8 @@ module _ (c : tie.After-known-told) where
 returns : tie.Need-returns
 returns c =
     let a = c .before .before .before .args in
-    set-no (a .page .now) (packed (take (a .off) (a .page .now)) (a .fks .now)) (packed-many (take (a .off) (a .page .now)) (a .fks .now) (omega arith))
+    set-no (a .page .now) (packed (take (a .off) (a .page .now)) (a .fks .now))
+    (packed-many (take (a .off) (a .page .now)) (a .fks .now) (omega arith))
 
 sub-encode-fk-delta-stream-into : tie.Need-sub-encode-fk-delta-stream-into
 sub-encode-fk-delta-stream-into c = search needs
@@ -151,8 +152,10 @@ returns-3 c =
     let s = stream (fks e) in
     let end : off e + len k ≡ off e + length s = ap (λ (n : ℕ). off e + n) (sym (ends k)) in
     let fits : off e + length s ≤ pageSize = omega (arith, within k) in
-    set-yes (page e) _ (packed (header e) (fks e)) (packed-fits (header e) (fks e) (omega arith) (ap (λ (r : ℕ). encodeStream r (fks e)) (room e) ∙ is k))
-    (stream-cleared (page e) (off e) s (between k) (off e + len k) (c .before .before .clear .last .0) (start e .pre .0) fits end (between-is k)
+    set-yes (page e) _ (packed (header e) (fks e))
+    (packed-fits (header e) (fks e) (omega arith) (ap (λ (r : ℕ). encodeStream r (fks e)) (room e) ∙ is k))
+    (stream-cleared (page e) (off e) s (between k) (off e + len k) (c .before .before .clear .last .0) (start e .pre .0) fits end
+    (between-is k)
     (c .before .before .clear .ensures))
 
 pub pack-stream-spec : {M : Type 1} → statement M

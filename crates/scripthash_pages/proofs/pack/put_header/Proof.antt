@@ -23,13 +23,16 @@ module _ (c : tie.After-put-u16) where
 
   long : length (c .put-u16 .last .0) ≡ pageSize
   long =
-      ap length (c .put-u16 .ensures) ∙ one-more-length (start .args .page .now) (start .args .version) (start .args .n) (omega arith) ∙ start .pre
+      ap length (c .put-u16 .ensures) ∙ one-more-length (start .args .page .now) (start .args .version) (start .args .n) (omega arith)
+      ∙ start .pre
 
-  written : c .put-u16 .last .0 ≡ overwrite (overwrite (start .args .page .now) 0 (bytesOf 1 (start .args .version))) 1 (bytesOf 2 (start .args .n))
+  written : c .put-u16 .last .0 ≡ overwrite (overwrite (start .args .page .now) 0 (bytesOf 1 (start .args .version))) 1
+      (bytesOf 2 (start .args .n))
   unfolding setField
   written =
       c .put-u16 .ensures
-      ∙ ap (λ (b : List ℕ). overwrite b 1 (bytesOf 2 (start .args .n))) (sym (set-byte (start .args .page .now) 0 (start .args .version) (search needs) (search needs)))
+      ∙ ap (λ (b : List ℕ). overwrite b 1 (bytesOf 2 (start .args .n)))
+      (sym (set-byte (start .args .page .now) 0 (start .args .version) (search needs) (search needs)))
 
 slice-write-page : tie.Need-slice-write-page
 slice-write-page c = search needs
@@ -44,7 +47,8 @@ same-length : tie.Need-same-length
 same-length c =
     let d = c .before .before .before .before .before .before in
     let whole = long d in
-    ap length (c .before .before .put-u40 .ensures) ∙ length-overwrite (d .put-u16 .last .0) 3 (bytesOf 5 (start d .args .link)) (omega arith) ∙ whole ∙ sym (start d .pre)
+    ap length (c .before .before .put-u40 .ensures)
+    ∙ length-overwrite (d .put-u16 .last .0) 3 (bytesOf 5 (start d .args .link)) (omega arith) ∙ whole ∙ sym (start d .pre)
 
 returns : tie.Need-returns
 returns c =

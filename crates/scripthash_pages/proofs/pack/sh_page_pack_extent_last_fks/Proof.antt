@@ -161,7 +161,8 @@ returns-4 c =
     let told = c .enum-told6 .given .1 in
     let d = c .before .before .before .before in
     let k = at d in
-    let stop = behind-no (page k) (fks k) (header k) 24 (inside k) (size k) (out d) (d .pack-stream .ensures .1) (sym (d .pack-stream .ensures .0) ∙ ap doneAnswer told) in
+    let stop = behind-no (page k) (fks k) (header k) 24 (inside k) (size k) (out d) (d .pack-stream .ensures .1)
+    (sym (d .pack-stream .ensures .0) ∙ ap doneAnswer told) in
     let no = set-no (page k) (packExtent (page k) (fks k) (base k) (count k) (next k)) (as-packed d ∙ stop .0) in
     (ap doneAnswer told ∙ no .0, stop .1 ∙ no .1)
 

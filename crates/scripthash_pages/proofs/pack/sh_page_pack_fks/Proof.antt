@@ -59,7 +59,8 @@ module _ (c : tie.After-pack-stream) where
   as-packed : packPage (page at) (fks at) (next at) ≡ packed (header at) (fks at)
   unfolding packPage
   as-packed =
-      page-yes (page at) _ (long at) ∙ link-yes (next at) _ (sym (at .check-link .ensures) ∙ ap doneAnswer (c .before .before .enum-told .given .1))
+      page-yes (page at) _ (long at)
+      ∙ link-yes (next at) _ (sym (at .check-link .ensures) ∙ ap doneAnswer (c .before .before .enum-told .given .1))
 
 -- and accepted
 module _ (c : tie.After-enum-told3) where
@@ -115,7 +116,8 @@ returns-3 c =
     let told = c .enum-told4 .given .1 in
     let d = c .before .before .before .before in
     let k = at d in
-    let stop = behind-no (page k) (fks k) (header k) 8 (inside k) (size k) (out d) (d .pack-stream .ensures .1) (sym (d .pack-stream .ensures .0) ∙ ap doneAnswer told) in
+    let stop = behind-no (page k) (fks k) (header k) 8 (inside k) (size k) (out d) (d .pack-stream .ensures .1)
+    (sym (d .pack-stream .ensures .0) ∙ ap doneAnswer told) in
     let no = set-no (page k) (packPage (page k) (fks k) (next k)) (as-packed d ∙ stop .0) in
     (ap doneAnswer told ∙ no .0, stop .1 ∙ no .1)
 
@@ -141,7 +143,8 @@ returns-4 c =
     let k = at d in
     set-yes (page k) _ (packPage (page k) (fks k) (next k)) (as-packed d ∙ good t .1)
     (put .put-header .ensures
-    ∙ ap (λ (link : ℕ). overwrite (out d) 0 (bytesOf 1 1 ++ (bytesOf 2 (length (fks k)) ++ bytesOf 5 link))) (l .link-to .ensures) ∙ good t .2)
+    ∙ ap (λ (link : ℕ). overwrite (out d) 0 (bytesOf 1 1 ++ (bytesOf 2 (length (fks k)) ++ bytesOf 5 link))) (l .link-to .ensures)
+    ∙ good t .2)
 
 pub sh-page-pack-fks-spec : {M : Type 1} → statement M
 sh-page-pack-fks-spec =

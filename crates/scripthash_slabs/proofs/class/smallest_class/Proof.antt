@@ -41,7 +41,8 @@ returns-3 : tie.Need-returns-3
 returns-3 c =
     let a = c .before .before .args in
     let fits : (a .n - 1) / a .unit < 2 ^ 64 = lt-of-le-of-lt (div-le-self (a .n - 1) (a .unit)) (omega arith) in
-    sym (class-bits (inUnits (a .unit) (a .least) (a .most)) 64 (a .unit) (omega arith) (λ d. refl) (omega arith) (a .n) (omega arith) (omega arith) (omega arith) fits)
+    sym (class-bits (inUnits (a .unit) (a .least) (a .most)) 64 (a .unit) (omega arith) (λ d. refl) (omega arith) (a .n) (omega arith)
+    (omega arith) (omega arith) fits)
 
 pub smallest-class-spec : {M : Type 1} → statement M
 smallest-class-spec = tie.close (tie.spec returns returns-2 sub-zeros div-zeros sub-t9 cast-t10 returns-3)

@@ -37,7 +37,8 @@ module _ (c : tie.After-decode-fk-delta-stream-into) where
   slab : decodeStream (length out) (c .before .before .before .get-u16 .result) (take (length bytes - 2) (drop 2 bytes)) ≡ decoded
   slab =
       ap (decodeStream (length out) (c .before .before .before .get-u16 .result)) (part-to-end bytes 2)
-      ∙ ap (λ (n : ℕ). decodeStream (length out) n (drop 2 bytes)) (c .before .before .before .get-u16 .ensures) ∙ sym (unslab-as-stream (length out) bytes (omega arith))
+      ∙ ap (λ (n : ℕ). decodeStream (length out) n (drop 2 bytes)) (c .before .before .before .get-u16 .ensures)
+      ∙ sym (unslab-as-stream (length out) bytes (omega arith))
 
   answer : bytesAnswer (c .decode-fk-delta-stream-into .result) ≡ answered (λ s. s .taken) decoded
   answer = c .decode-fk-delta-stream-into .ensures .0 ∙ ap (answered (λ s. s .taken)) slab
@@ -63,8 +64,10 @@ module _ (c : tie.After-decode-fk-delta-stream-into) where
 returns : tie.Need-returns
 returns c =
     let a = c .before .before .before .args in
-    let short = unslab-short (length (a .out .now)) (a .buf .now) (omega arith) in
-    (sym (answered-no slabListOf (decodeSlab (length (a .out .now)) (a .buf .now)) short), sym (after-refused (a .out .now) (decodeSlab (length (a .out .now)) (a .buf .now)) short))
+    let short = unslab-short (length (a .out .now)) (a .buf .now) (omega arith) in (
+      sym (answered-no slabListOf (decodeSlab (length (a .out .now)) (a .buf .now)) short),
+      sym (after-refused (a .out .now) (decodeSlab (length (a .out .now)) (a .buf .now)) short),
+    )
 
 get-u16-requires : tie.Need-get-u16-requires
 get-u16-requires c κs = search needs
@@ -101,7 +104,8 @@ returns-2 c =
     let d = c .before .before .before .before .before in
     let told = c .before .enum-told .given in
     let stop = was-refused (λ s. s .taken) (decoded d) (sym (answer d) ∙ ap bytesAnswer (told .1)) in (
-      ap refused (c .refusal .ensures ∙ ap (λ (g : StreamBytes). refusalOf (bytesAnswer g)) (told .1)) ∙ sym (answered-no slabListOf (decoded d) stop),
+      ap refused (c .refusal .ensures ∙ ap (λ (g : StreamBytes). refusalOf (bytesAnswer g)) (told .1))
+          ∙ sym (answered-no slabListOf (decoded d) stop),
       list d,
     )
 
@@ -119,7 +123,8 @@ returns-3 c =
     let len = c .before .got .given .0 .0 in
     let r = read d len (ap bytesAnswer (c .before .got .given .1)) in (
       ap (λ (u : ℕ). accepted (record { used = u; len = 2 + len })) (sym (r .counted))
-          ∙ ap (λ (t : ℕ). accepted (record { used = length (r .scanned .numbers); len = 2 + t })) (sym (r .taken)) ∙ sym (answered-yes slabListOf (decoded d) (r .is)),
+          ∙ ap (λ (t : ℕ). accepted (record { used = length (r .scanned .numbers); len = 2 + t })) (sym (r .taken))
+          ∙ sym (answered-yes slabListOf (decoded d) (r .is)),
       list d,
     )
 

@@ -120,7 +120,8 @@ returns-4 c =
     let answer-here = slab e ∙ answered-yes (λ len. 2 + len) (encodeStream (room e) (fks e)) (is d) in (
       sym answer-here,
       c .before .before .put-u16 .ensures ∙ ap (λ (b : List ℕ). overwrite b 0 (bytesOf 2 (length (fks e)))) written
-          ∙ payload-written (bytes e) (fks e) (omega arith) ∙ sym (after-slab-yes (bytes e) (fks e) (encodeSlab (length (bytes e)) (fks e)) answer-here),
+          ∙ payload-written (bytes e) (fks e) (omega arith)
+          ∙ sym (after-slab-yes (bytes e) (fks e) (encodeSlab (length (bytes e)) (fks e)) answer-here),
     )
 
 pub encode-slab-payload-into-spec : {M : Type 1} → statement M
