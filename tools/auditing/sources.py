@@ -19,6 +19,7 @@ PRELUDE = {"Unit": "Prim", "tt": "Prim", "⊥": "Prim", "¬": "Prim", "now": "bo
 TOOLCHAIN_CONSTRUCTORS = set("zero suc [] ∷ true false none some refl tt".split())
 
 USE = re.compile(r"(?:ghost )?use (\S+)\.\{(.*)\};?")
+PASSES_ON = re.compile(r"^(?:unfoldable )?pub use (\S+)\.\{(.*)\}$", re.M)
 OURS = re.compile(r"Rattle·([a-z0-9_]+)(?:·(?:specs|proofs))?\.(specs|proofs)\.(.+)")
 DECLARES = re.compile(rf"^\s*(?:(?:unfoldable|abbrev|pub) )*(?:(data|record) ({NAME})|({NAME})(?= (?:\{{[^}}]*\}} )?:(?: |$)))", re.M)
 
@@ -56,7 +57,16 @@ def target(module, name):
     if rest.startswith("declared."):
         name = rest.removesuffix(".the-variants").split(".")[-1]
         return Target("code", code_file(crate, name), name)
-    return Target(folder, CRATES / crate / folder / (rest.replace(".", "/") + ".antt"), name)
+    path = CRATES / crate / folder / (rest.replace(".", "/") + ".antt")
+    passed = passed_on(path).get(name)
+    return target(passed, name) if passed else Target(folder, path, name)
+
+
+@lru_cache(None)
+def passed_on(path):
+    """The names that a file passes on, each with the module that it has them from."""
+    found = PASSES_ON.findall(path.read_text()) if path.is_file() else []
+    return {name.strip(): module for module, names in found for name in names.split(",")}
 
 
 @lru_cache(None)

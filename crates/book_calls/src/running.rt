@@ -40,7 +40,7 @@ fn run_load(
     ensures { λ r. ⌜ Done (bookOf (now (body .entry)) (now (heads .entry)) state) (load key (now (numbers .entry))) (now (out .entry))
         (bookOf (now (body .exit)) (now (heads .exit)) (r .state)) (now (out .exit)) (r .len) ⌝ }
 {
-    let after = book::load(body, heads, state, key, numbers);
+    let after = book_lists::load(body, heads, state, key, numbers);
     let next = after.state;
     let answer = after.answer;
     let len = put_load(out, answer);
@@ -60,7 +60,7 @@ fn run_append(
     ensures { λ r. ⌜ Done (bookOf (now (body .entry)) (now (heads .entry)) state) (append key n) (now (out .entry))
         (bookOf (now (body .exit)) (now (heads .exit)) (r .state)) (now (out .exit)) (r .len) ⌝ }
 {
-    let after = book::append(body, heads, state, key, n);
+    let after = book_appending::append(body, heads, state, key, n);
     let next = after.state;
     let answer = after.answer;
     let len = put_append(out, answer);
@@ -79,7 +79,7 @@ fn run_drop(
     ensures { λ r. ⌜ Done (bookOf (now (body .entry)) (now (heads .entry)) state) (drop key) (now (out .entry))
         (bookOf (now (body .exit)) (now (heads .exit)) (r .state)) (now (out .exit)) (r .len) ⌝ }
 {
-    let after = book::drop(body, heads, state, key);
+    let after = book_lists::drop(body, heads, state, key);
     let next = after.state;
     let answer = after.answer;
     let len = put_drop(out, answer);
@@ -100,7 +100,7 @@ fn run_read(
         (now (out .exit)) r ⌝ }
 {
     let end = 4 + room;
-    let answer = book::read(body, heads, state, key, &mut out[4..end]);
+    let answer = book_lists::read(body, heads, state, key, &mut out[4..end]);
     put_read(out, answer)
 }
 

@@ -152,7 +152,7 @@ pub extern "C" fn ouriscado_book_fresh(body: &[u8], heads: &mut [u64], state: &m
         (makesFresh (bookIn (now (body .entry)) (now (heads .entry)) (now (state .entry)))) ⌝ }
 {
     let words = *state;
-    let after = book::fresh(body, heads, state_of(words));
+    let after = book_lists::fresh(body, heads, state_of(words));
     let left = after.state;
     let answer = after.answer;
     put_state(state, left);
@@ -180,7 +180,7 @@ pub extern "C" fn ouriscado_book_load(
         (loads (bookIn (now (body .entry)) (now (heads .entry)) (now (state .entry))) key (now (fks .entry)))) 0 ⌝ }
 {
     let words = *state;
-    let after = book::load(body, heads, state_of(words), key, fks);
+    let after = book_lists::load(body, heads, state_of(words), key, fks);
     let left = after.state;
     let answer = after.answer;
     put_state(state, left);
@@ -225,7 +225,7 @@ pub extern "C" fn ouriscado_book_append(
         ≡ told recordsRewritten (answerOf (appends (bookIn (now (body .entry)) (now (heads .entry)) (now (state .entry))) key fk)) 0 ⌝ }
 {
     let words = *state;
-    let after = book::append(body, heads, state_of(words), key, fk);
+    let after = book_appending::append(body, heads, state_of(words), key, fk);
     let left = after.state;
     let answer = after.answer;
     put_state(state, left);
@@ -260,7 +260,7 @@ pub extern "C" fn ouriscado_book_read(
         0 ⌝ }
 {
     let words = *state;
-    let answer = book::read(body, heads, state_of(words), key, out);
+    let answer = book_lists::read(body, heads, state_of(words), key, out);
     put_listed(answer, length, pages)
 }
 
@@ -282,7 +282,7 @@ pub extern "C" fn ouriscado_book_drop(
         ≡ told lengthDropped (answerOf (drops (bookIn (now (body .entry)) (now (heads .entry)) (now (state .entry))) key)) 0 ⌝ }
 {
     let words = *state;
-    let after = book::drop(body, heads, state_of(words), key);
+    let after = book_lists::drop(body, heads, state_of(words), key);
     let left = after.state;
     let answer = after.answer;
     put_state(state, left);

@@ -1,0 +1,3 @@
+pub mod LawsLoad
+pub mod LawsDrop
+pub mod LawsRead
