@@ -21,7 +21,7 @@ const MANY: usize = 64;
 // From how many numbers on it does so where forms are short, and where they are shorter.
 const MORE: usize = 40;
 
-const SOME: usize = 24;
+const SOME: usize = 30;
 
 // The larger of two bytes.
 pub fn larger(a: u8, b: u8) -> u8
