@@ -15,9 +15,9 @@ use Rattle.buffer.proofs.LawsOrder.{lt-or-ge}
 use Rattle.compact.specs.Uleb128.{goesOn, piece}
 use Rattle.scripthash_stream.specs.Stream.{End, endsFrom}
 use Rattle.scripthash_scan.specs.Weights.{total, endAt, oneBefore, twoBefore, threeBefore, fourBefore, pieceAt, behindOne, behindTwo, behindThree, behindFour, weighed, fiveGoOn, Lacks}
-use Rattle.scripthash_scan.proofs.LawsForms.{Carried, form-start, form-on, form-last}
+use Rattle.scripthash_forms.proofs.LawsForms.{Carried, form-start, form-on, form-last}
 use Rattle.scripthash_stream.proofs.LawsScanEnd.{ends-next, ends-now}
-use Rattle.scripthash_scan.proofs.LawsSums.{next-sum}
+use Rattle.scripthash_forms.proofs.LawsSums.{next-sum}
 use Rattle.scripthash_scan.proofs.LawsTotals.{place-by-place, total-next, total-rises}
 
 -- The byte at place i is that of an index of its form.

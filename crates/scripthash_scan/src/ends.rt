@@ -1,7 +1,7 @@
 // Where forms end: bytes below 128 are counted, many at a time in plain loops, of which the compiler makes loops over many bytes at a time, and
 // at last byte by byte.
 ghost use mathlib.Core.Path.{_≡_};
-ghost use Prim.Native.Nat.{_+_, _≤_, _<_};
+ghost use Prim.Native.Nat.{_+_, _*_, _≤_, _<_};
 ghost use lib.ListN.{length};
 ghost use Rattle.scripthash_scan.specs.Weights.{total, endOne, endAt};
 
@@ -9,6 +9,13 @@ ghost use Rattle.scripthash_scan.specs.Weights.{total, endOne, endAt};
 struct Counted {
     at: usize,
     left: usize,
+}
+
+// The same, and how many forms end in each 16 bytes, 16 where that isn't known, 0 where counting stops.
+struct Counting {
+    at: usize,
+    left: usize,
+    dense: usize,
 }
 
 // 1 where a byte ends its form, else 0.
@@ -73,18 +80,96 @@ fn count_blocks(buf: &[u8], from: usize, want: usize) -> Counted
     Counted { at, left }
 }
 
-// How many bytes to look at together where so many forms are still to end: no more than forms, so that the last of them isn't passed.
-fn step_of(left: usize) -> usize
-    requires { ⌜ 16 ≤ left ⌝ }
-    ensures { λ r. ⌜ (16 ≤ r) × (r ≤ left) × (r ≤ 240) ⌝ }
+// How many bytes to look at together where so many forms are left, and so many ended in each 16 bytes before. Where each byte ended one, no
+// more bytes than forms, so that the last of them isn't passed; else some less than they would take.
+fn step_of(left: usize, dense: usize) -> usize
+    requires { ⌜ (16 ≤ left) × (0 < dense) ⌝ }
+    ensures { λ r. ⌜ (16 ≤ r) × (r ≤ 240) × (16 ≤ dense → r ≤ left) ⌝ }
 {
     if 240 <= left {
         return 240;
     }
-    left / 16 * 16
+    if 16 <= dense {
+        return left / 16 * 16;
+    }
+    let guess = left * 14 / dense;
+    if 240 <= guess {
+        return 240;
+    }
+    if guess < 32 {
+        return 16;
+    }
+    guess / 16 * 16
 }
 
-// The same in shorter steps, until fewer than 64 are left.
+// How many forms end in each 16 bytes, where so many end in a step.
+fn density(count: usize, step: usize) -> usize
+    requires { ⌜ (count ≤ 240) × (0 < step) ⌝ }
+    ensures { λ r. ⌜ r ≤ 16 ⌝ }
+{
+    let dense = 16 * count / step;
+    if 16 < dense {
+        return 16;
+    }
+    dense
+}
+
+// How dense to take forms where a step was too long: as dense as can be, or 0 where they were.
+fn shorter(dense: usize) -> usize
+    requires { ⌜ dense ≤ 16 ⌝ }
+    ensures { λ r. ⌜ (r ≤ 16) × (0 < r → dense < r) ⌝ }
+{
+    if dense < 16 {
+        return 16;
+    }
+    0
+}
+
+// Counts forms that end in one step. Where the last of those left ends in it, or too few bytes follow, the next step is a shorter one, or
+// there is none; nor is there where forms of six bytes and more are met.
+fn stepped(buf: &[u8], at: usize, left: usize, dense: usize) -> Counting
+    requires { ⌜ (at ≤ length (now buf)) × (16 ≤ left) × (0 < dense) × (dense ≤ 16) ⌝ }
+    ensures { λ r. ⌜ (total (endAt (now (buf .entry))) at + left ≡ total (endAt (now (buf .entry))) (r .at) + r .left) × (at ≤ r .at)
+        × (r .at ≤ length (now (buf .entry))) × (r .dense ≤ 16) × (0 < r .dense → 32 * at + dense < 32 * r .at + r .dense) ⌝ }
+{
+    let step = step_of(left, dense);
+    if buf.len() - at < step {
+        return Counting {
+            at,
+            left,
+            dense: shorter(dense),
+        };
+    }
+    let count = forms(ends_in(buf, at, at + step));
+    if left < count {
+        return Counting {
+            at,
+            left,
+            dense: shorter(dense),
+        };
+    }
+    if left == count {
+        if dense < 16 {
+            return Counting {
+                at,
+                left,
+                dense: 16,
+            };
+        }
+    }
+    let next = density(count, step);
+    if next < 3 {
+        return Counting { at, left, dense: 0 };
+    }
+    Counting {
+        at: at + step,
+        left: left - count,
+        dense: next,
+    }
+}
+
+// Counts forms that end from a place on, until fewer than 16 of those wanted are left; stops before where too few bytes follow, or where forms
+// of six bytes and more are met.
 fn count_forms(buf: &[u8], from: usize, want: usize) -> Counted
     requires { ⌜ from ≤ length (now buf) ⌝ }
     ensures { λ r. ⌜ (total (endAt (now (buf .entry))) from + want ≡ total (endAt (now (buf .entry))) (r .at) + r .left) × (from ≤ r .at)
@@ -92,57 +177,17 @@ fn count_forms(buf: &[u8], from: usize, want: usize) -> Counted
 {
     let mut at = from;
     let mut left = want;
-    while 64 <= left {
-        let step = step_of(left);
-        if buf.len() - at < step {
+    let mut dense: usize = 16;
+    while 16 <= left {
+        let next = stepped(buf, at, left, dense);
+        if next.dense == 0 {
             return Counted { at, left };
         }
-        let count = forms(ends_in(buf, at, at + step));
-        if 6 * count < step {
-            return Counted { at, left };
-        }
-        left -= count;
-        at += step;
+        at = next.at;
+        left = next.left;
+        dense = next.dense;
     }
     Counted { at, left }
-}
-
-// The same in one step, which isn't made where the last of the forms left would end in it, or seems to.
-fn skip(buf: &[u8], at: usize, left: usize, step: usize) -> Counted
-    requires { ⌜ (at ≤ length (now buf)) × (step ≤ 240) ⌝ }
-    ensures { λ r. ⌜ (total (endAt (now (buf .entry))) at + left ≡ total (endAt (now (buf .entry))) (r .at) + r .left) × (at ≤ r .at)
-        × (r .at ≤ length (now (buf .entry))) ⌝ }
-{
-    if left < step / 3 {
-        return Counted { at, left };
-    }
-    if buf.len() - at < step {
-        return Counted { at, left };
-    }
-    let count = forms(ends_in(buf, at, at + step));
-    if left <= count {
-        return Counted { at, left };
-    }
-    if 6 * count < step {
-        return Counted { at, left };
-    }
-    Counted {
-        at: at + step,
-        left: left - count,
-    }
-}
-
-// The same in steps that halve, so that the last of fewer than 64 forms ends in the 16 bytes that follow.
-fn near_end(buf: &[u8], at: usize, left: usize) -> Counted
-    requires { ⌜ at ≤ length (now buf) ⌝ }
-    ensures { λ r. ⌜ (total (endAt (now (buf .entry))) at + left ≡ total (endAt (now (buf .entry))) (r .at) + r .left) × (at ≤ r .at)
-        × (r .at ≤ length (now (buf .entry))) ⌝ }
-{
-    let one = skip(buf, at, left, 128);
-    let two = skip(buf, one.at, one.left, 128);
-    let three = skip(buf, two.at, two.left, 64);
-    let four = skip(buf, three.at, three.left, 32);
-    skip(buf, four.at, four.left, 16)
 }
 
 // The place behind so many forms from another place on, or 0 where the bytes end first or the forms are long.
@@ -153,10 +198,9 @@ pub fn end_of(buf: &[u8], from: usize, want: usize) -> usize
 {
     let blocks = count_blocks(buf, from, want);
     let few = count_forms(buf, blocks.at, blocks.left);
-    let near = near_end(buf, few.at, few.left);
-    let mut at = near.at;
-    let mut left = near.left;
-    if 16 < left {
+    let mut at = few.at;
+    let mut left = few.left;
+    if 16 <= left {
         return 0;
     }
     while 0 < left {

@@ -6,13 +6,13 @@ ghost use lib.ListN.{length, drop, getD};
 ghost use Rattle.error.specs.Refusal.{answered};
 ghost use Rattle.compact.specs.Uleb128.{goesOn};
 ghost use Rattle.scripthash_stream.specs.Stream.{scan, endFrom, endsFrom};
-ghost use Rattle.scripthash_scan.specs.Quick.{QuickEnd};
+ghost use Rattle.scripthash_forms.specs.Quick.{QuickEnd};
 ghost use Rattle.scripthash_scan.specs.Weights.{pieceIf, weighedTwo, weighedThree, weighed, fiveGoOn, Lacks, Longest};
 use crate::ends::end_of;
 use crate::look::longest_form;
-use crate::quick::StreamEnd;
 use crate::quick::smaller;
-use crate::quick::sum_forms;
+use scripthash_forms::StreamEnd;
+use scripthash_forms::sum_forms;
 use scripthash_stream::BIT_63;
 
 // The most bytes that are weighed.

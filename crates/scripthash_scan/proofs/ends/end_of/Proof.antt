@@ -23,18 +23,14 @@ count-blocks-requires c κs = search needs
 count-forms-requires : tie.Need-count-forms-requires Inv-loop μ-loop
 count-forms-requires c κs = search needs
 
-near-end-requires : tie.Need-near-end-requires Inv-loop μ-loop
-near-end-requires c κs = search needs
-
 returns : tie.Need-returns Inv-loop μ-loop
 returns c = λ h. absurd (not-suc-le-zero h)
 
 loop-holds : tie.Need-loop-holds Inv-loop μ-loop
 loop-holds c =
-    let near = c .before .near-end .ensures in
-    let few = c .before .before .count-forms .ensures in
-    let blocks = c .before .before .before .count-blocks .ensures in
-    (omega (arith, blocks, few, near), near .2, omega (arith, blocks, few, near))
+    let few = c .before .count-forms .ensures in
+    let blocks = c .before .before .count-blocks .ensures in
+    (omega (arith, blocks, few), few .2, omega (arith, blocks, few))
 
 returns-2 : tie.Need-returns-2 Inv-loop μ-loop
 returns-2 c = λ h. absurd (not-suc-le-zero h)
@@ -60,7 +56,7 @@ loop-less c = search needs
 loop-again : tie.Need-loop-again Inv-loop μ-loop
 loop-again c =
     let l = c .before .before .before .before .before .loop in
-    let next = total-next (endAt (c .before .before .before .before .before .before .before .before .before .before .before .args .buf .now)) (l .at) in
+    let next = total-next (endAt (c .before .before .before .before .before .before .before .before .before .before .args .buf .now)) (l .at) in
     (search needs, search needs, omega (arith, l .inv .2, next, c .forms .ensures, c .before .ended .ensures))
 
 returns-3 : tie.Need-returns-3 Inv-loop μ-loop
@@ -76,7 +72,6 @@ end-of-spec =
     μ-loop
     count-blocks-requires
     count-forms-requires
-    near-end-requires
     returns
     loop-holds
     returns-2

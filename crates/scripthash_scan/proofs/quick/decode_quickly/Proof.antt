@@ -1,7 +1,7 @@
 -- `decode_quickly` meets its contract: what it calls tells, or it does nothing. Assumes nothing.
 use native.Mathlib.Omega.{arith}
 use borrow.Author.Needs.{needs}
-use Rattle.scripthash_scan.proofs.LawsTries.{quick-none, part-whole}
+use Rattle.scripthash_forms.proofs.LawsTries.{quick-none, part-whole}
 use Rattle.scripthash_scan.proofs.quick.decode_quickly.Statement.{statement}
 use Rattle.scripthash_scan.proofs.quick.decode_quickly.Tie as tie
 

@@ -9,7 +9,7 @@ use borrow.Author.Needs.{needs}
 use borrow.Author.Tests.{ltb-true}
 use lib.ListN.{length, getD}
 use Rattle.buffer.proofs.LawsOrder.{lt-or-ge}
-use Rattle.scripthash_scan.specs.Quick.{OneByteForms}
+use Rattle.scripthash_forms.specs.Quick.{OneByteForms}
 use Rattle.scripthash_scan.proofs.quick.one_byte_forms.Statement.{statement}
 use Rattle.scripthash_scan.proofs.quick.one_byte_forms.Tie as tie
 

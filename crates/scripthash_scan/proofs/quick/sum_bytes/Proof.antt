@@ -7,10 +7,10 @@ use lib.ListN.{length, drop, length-set}
 use lib.Seq.{drop-set-lt, drop-drop}
 use Rattle.error.specs.Refusal.{accepted}
 use Rattle.scripthash_stream.specs.Stream.{nextNumber}
-use Rattle.scripthash_scan.specs.Quick.{OneByteForms}
-use Rattle.scripthash_scan.proofs.LawsTries.{quick-all, scan-at-start}
+use Rattle.scripthash_forms.specs.Quick.{OneByteForms}
+use Rattle.scripthash_forms.proofs.LawsTries.{quick-all, scan-at-start}
 use Rattle.scripthash_stream.proofs.LawsDecode.{written}
-use Rattle.scripthash_scan.proofs.LawsSums.{next-byte, Summed, summed-start, summed-next, summed-end}
+use Rattle.scripthash_forms.proofs.LawsSums.{next-byte, Summed, summed-start, summed-next, summed-end}
 use Rattle.scripthash_scan.proofs.quick.sum_bytes.Statement.{statement}
 use Rattle.scripthash_scan.proofs.quick.sum_bytes.Tie as tie
 

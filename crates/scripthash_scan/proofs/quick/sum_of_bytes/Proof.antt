@@ -6,9 +6,9 @@ use borrow.Author.Needs.{needs}
 use lib.ListN.{drop}
 use Rattle.error.specs.Refusal.{answered}
 use Rattle.scripthash_stream.specs.Stream.{scan, endFrom, endsFrom}
-use Rattle.scripthash_scan.specs.Quick.{OneByteForms, QuickEnd}
+use Rattle.scripthash_forms.specs.Quick.{OneByteForms, QuickEnd}
 use Rattle.scripthash_stream.proofs.LawsScanEnd.{ends-start, ends-next, ends-now}
-use Rattle.scripthash_scan.proofs.LawsSums.{next-byte}
+use Rattle.scripthash_forms.proofs.LawsSums.{next-byte}
 use Rattle.scripthash_scan.proofs.quick.sum_of_bytes.Statement.{statement}
 use Rattle.scripthash_scan.proofs.quick.sum_of_bytes.Tie as tie
 

@@ -2,7 +2,7 @@
 use mathlib.Core.Path.{_≡_, ap}
 use native.Mathlib.Omega.{arith}
 use borrow.Author.Needs.{needs}
-use Rattle.scripthash_scan.proofs.LawsTries.{quick-left, quick-right}
+use Rattle.scripthash_forms.proofs.LawsTries.{quick-left, quick-right}
 use Rattle.scripthash_scan.proofs.streams.decode_fk_delta_stream_into.Statement.{statement}
 use Rattle.scripthash_scan.proofs.streams.decode_fk_delta_stream_into.Tie as tie
 

@@ -1,7 +1,7 @@
 -- `scan_fk_delta_stream` meets its contract: the quick scan tells where the whole scan ends, or nothing. Assumes nothing.
 use native.Mathlib.Omega.{arith}
 use borrow.Author.Needs.{needs}
-use Rattle.scripthash_scan.proofs.LawsTries.{quick-end-some}
+use Rattle.scripthash_forms.proofs.LawsTries.{quick-end-some}
 use Rattle.scripthash_scan.proofs.streams.scan_fk_delta_stream.Statement.{statement}
 use Rattle.scripthash_scan.proofs.streams.scan_fk_delta_stream.Tie as tie
 

@@ -1,6 +1,6 @@
 -- `scan_by_weights` meets its contract: the first forms are scanned, and those behind them. Assumes nothing.
 use native.Mathlib.Omega.{arith}
-use Rattle.scripthash_scan.proofs.LawsTries.{quick-end-none, quick-end-parts}
+use Rattle.scripthash_forms.proofs.LawsTries.{quick-end-none, quick-end-parts}
 use borrow.Author.Needs.{needs}
 use Rattle.scripthash_scan.proofs.weigh.scan_by_weights.Statement.{statement}
 use Rattle.scripthash_scan.proofs.weigh.scan_by_weights.Tie as tie

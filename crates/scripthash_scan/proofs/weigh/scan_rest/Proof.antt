@@ -1,7 +1,7 @@
 -- `scan_rest` meets its contract: the weights are the differences where all tests hold, else nothing is told. Assumes nothing.
 use native.Mathlib.Omega.{arith}
-use Rattle.scripthash_scan.specs.Quick.{QuickEnd}
-use Rattle.scripthash_scan.proofs.LawsTries.{quick-end-none}
+use Rattle.scripthash_forms.specs.Quick.{QuickEnd}
+use Rattle.scripthash_forms.proofs.LawsTries.{quick-end-none}
 use Rattle.scripthash_scan.proofs.LawsWeigh.{weighed-ends}
 use borrow.Author.Needs.{needs}
 use Rattle.scripthash_scan.proofs.weigh.scan_rest.Statement.{statement}

@@ -11,11 +11,11 @@ use Rattle.error.specs.Refusal.{accepted}
 use Rattle.compact.specs.Uleb128.{Reading}
 use Rattle.compact.proofs.LawsReadFrom.{read-byte-at}
 use Rattle.scripthash_stream.specs.Stream.{nextNumber, Scan, endsFrom}
-use Rattle.scripthash_scan.specs.Quick.{OneByteForms, QuickForm, QuickEnd, QuickSum, scanAt}
-use Rattle.scripthash_scan.proofs.LawsForms.{quick-form}
+use Rattle.scripthash_forms.specs.Quick.{OneByteForms, QuickForm, QuickEnd, QuickSum, scanAt}
+use Rattle.scripthash_forms.proofs.LawsForms.{quick-form}
 use Rattle.scripthash_stream.proofs.LawsScan.{stored-sum, next-is}
 use Rattle.scripthash_stream.proofs.LawsScanEnd.{ends-next, ends-now}
-use Rattle.scripthash_scan.proofs.LawsTries.{quick-end-none, scan-at-none, scan-at-next}
+use Rattle.scripthash_forms.proofs.LawsTries.{quick-end-none, scan-at-none, scan-at-next}
 
 -- ---- one number
 

@@ -10,9 +10,9 @@ use Rattle.error.specs.Refusal.{accepted}
 use Rattle.compact.specs.Uleb128.{Reading}
 use Rattle.scripthash_stream.specs.Stream.{nextNumber}
 use Rattle.scripthash_stream.proofs.LawsScan.{Next, next-accepted}
-use Rattle.scripthash_scan.proofs.LawsSums.{next-sum, Summed, summed-start, summed-next, summed-end, quick-sum-none}
-use Rattle.scripthash_scan.proofs.quick.sum_forms.Statement.{statement}
-use Rattle.scripthash_scan.proofs.quick.sum_forms.Tie as tie
+use Rattle.scripthash_forms.proofs.LawsSums.{next-sum, Summed, summed-start, summed-next, summed-end, quick-sum-none}
+use Rattle.scripthash_forms.proofs.forms.sum_forms.Statement.{statement}
+use Rattle.scripthash_forms.proofs.forms.sum_forms.Tie as tie
 
 abbrev Inv-loop : tie.InvT-loop
 Inv-loop buf from prev n space₀ sum₀ i₀ k₀ space sum i k =

@@ -4,8 +4,8 @@ use mathlib.Core.Path.{refl}
 use native.Mathlib.Nat.{mul-le-mul-right}
 use native.Mathlib.Omega.{arith}
 use borrow.Author.Needs.{needs}
-use Rattle.scripthash_scan.proofs.quick.with_last.Statement.{statement}
-use Rattle.scripthash_scan.proofs.quick.with_last.Tie as tie
+use Rattle.scripthash_forms.proofs.forms.with_last.Statement.{statement}
+use Rattle.scripthash_forms.proofs.forms.with_last.Tie as tie
 
 module _ (c : tie.After-wide) where
   most : c .wide .result * c .before .args .weight ≤ 127 * c .before .args .weight

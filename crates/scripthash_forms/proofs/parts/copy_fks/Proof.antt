@@ -10,8 +10,8 @@ use lib.ListN.{length, take, drop, getD, set, length-set}
 use Rattle.buffer.specs.Bytes.{overwrite}
 use Rattle.buffer.proofs.LawsBytes.{overwrite-nil, overwrite-step}
 use Rattle.scripthash_stream.proofs.LawsStream.{front}
-use Rattle.scripthash_scan.proofs.quick.copy_fks.Statement.{statement}
-use Rattle.scripthash_scan.proofs.quick.copy_fks.Tie as tie
+use Rattle.scripthash_forms.proofs.parts.copy_fks.Statement.{statement}
+use Rattle.scripthash_forms.proofs.parts.copy_fks.Tie as tie
 
 abbrev Inv-loop : tie.InvT-loop
 Inv-loop from n out₀ at k₀ out k =

@@ -11,7 +11,7 @@ use lib.Seq.{getD-drop}
 use Rattle.error.specs.Refusal.{accepted}
 use Rattle.compact.specs.Uleb128.{piece, passes, readUleb}
 use Rattle.compact.proofs.LawsReadFrom.{readFrom, from-start, at-last, at-more}
-use Rattle.scripthash_scan.specs.Quick.{QuickForm}
+use Rattle.scripthash_forms.specs.Quick.{QuickForm}
 
 -- a form of which nothing is told
 pub quick-form-none : (len : ℕ) (bs : List ℕ) → QuickForm 0 len bs

@@ -1,9 +1,9 @@
 -- `decode_through` meets its contract: what the one pass tells, and the copy of its numbers. Assumes nothing.
 use native.Mathlib.Omega.{arith}
 use borrow.Author.Needs.{needs}
-use Rattle.scripthash_scan.proofs.LawsTries.{part-left, part-summed}
-use Rattle.scripthash_scan.proofs.quick.decode_through.Statement.{statement}
-use Rattle.scripthash_scan.proofs.quick.decode_through.Tie as tie
+use Rattle.scripthash_forms.proofs.LawsTries.{part-left, part-summed}
+use Rattle.scripthash_forms.proofs.parts.decode_through.Statement.{statement}
+use Rattle.scripthash_forms.proofs.parts.decode_through.Tie as tie
 
 sum-forms-requires : tie.Need-sum-forms-requires
 sum-forms-requires c κs = search needs

@@ -3,8 +3,8 @@ use Prim.Native.Nat.{_-_, _*_, _≤_}
 use native.Mathlib.Nat.{mul-le-mul-right}
 use native.Mathlib.Omega.{arith}
 use borrow.Author.Needs.{needs}
-use Rattle.scripthash_scan.proofs.quick.with_more.Statement.{statement}
-use Rattle.scripthash_scan.proofs.quick.with_more.Tie as tie
+use Rattle.scripthash_forms.proofs.forms.with_more.Statement.{statement}
+use Rattle.scripthash_forms.proofs.forms.with_more.Tie as tie
 
 module _ (c : tie.After-wide) where
   most : (c .wide .result - 128) * c .before .args .weight ≤ 127 * c .before .args .weight

@@ -4,9 +4,9 @@ use mathlib.Core.Path.{refl}
 use native.Mathlib.Nat.{add-zero}
 use native.Mathlib.Omega.{arith}
 use borrow.Author.Needs.{needs}
-use Rattle.scripthash_scan.proofs.LawsForms.{Carried, form-start, form-more, form-last}
-use Rattle.scripthash_scan.proofs.quick.short_form.Statement.{statement}
-use Rattle.scripthash_scan.proofs.quick.short_form.Tie as tie
+use Rattle.scripthash_forms.proofs.LawsForms.{Carried, form-start, form-more, form-last}
+use Rattle.scripthash_forms.proofs.forms.short_form.Statement.{statement}
+use Rattle.scripthash_forms.proofs.forms.short_form.Tie as tie
 
 -- one byte goes on
 module _ (c : tie.After-with-more) where

@@ -5,15 +5,15 @@ use borrow.Author.Needs.{needs}
 use borrow.Fn.Kinds.{In}
 use borrow.Fn.PlainCycle.{Measures, is, falls, and}
 use native.Mathlib.Omega.{arith}
-use Rattle.scripthash_scan.proofs.LawsTries.{part-left, part-none, part-more}
-use Rattle.scripthash_scan.proofs.quick.decode_parts.Reads as parts
-use Rattle.scripthash_scan.proofs.quick.decode_parts.Kinds as kinds
-use Rattle.scripthash_scan.proofs.quick.+decode_parts.Lts-decode_parts as lts
-use Rattle.scripthash_scan.proofs.quick.copy_fks.Reads as copy
-use Rattle.scripthash_scan.proofs.quick.decode_through.Reads as through
-use Rattle.scripthash_scan.proofs.quick.sum_forms.Reads as sum
-use Rattle.scripthash_scan.proofs.quick.+decode_parts.{statement}
-use Rattle.scripthash_scan.proofs.quick.+decode_parts.Tie.{close}
+use Rattle.scripthash_forms.proofs.LawsTries.{part-left, part-none, part-more}
+use Rattle.scripthash_forms.proofs.parts.decode_parts.Reads as parts
+use Rattle.scripthash_forms.proofs.parts.decode_parts.Kinds as kinds
+use Rattle.scripthash_forms.proofs.parts.+decode_parts.Lts-decode_parts as lts
+use Rattle.scripthash_forms.proofs.parts.copy_fks.Reads as copy
+use Rattle.scripthash_forms.proofs.parts.decode_through.Reads as through
+use Rattle.scripthash_forms.proofs.forms.sum_forms.Reads as sum
+use Rattle.scripthash_forms.proofs.parts.+decode_parts.{statement}
+use Rattle.scripthash_forms.proofs.parts.+decode_parts.Tie.{close}
 
 abbrev μ-decode-parts : Measures 2 kinds.ps ℕ
 μ-decode-parts κs a = a .1 .1 .1 .0

@@ -4,9 +4,9 @@ use borrow.Author.Needs.{needs}
 use lib.ListN.{drop}
 use Rattle.buffer.proofs.LawsBytes.{part-to-end}
 use Rattle.compact.specs.Answers.{readAnswer}
-use Rattle.scripthash_scan.proofs.LawsForms.{quick-form-none, quick-form}
-use Rattle.scripthash_scan.proofs.quick.any_form.Statement.{statement}
-use Rattle.scripthash_scan.proofs.quick.any_form.Tie as tie
+use Rattle.scripthash_forms.proofs.LawsForms.{quick-form-none, quick-form}
+use Rattle.scripthash_forms.proofs.forms.any_form.Statement.{statement}
+use Rattle.scripthash_forms.proofs.forms.any_form.Tie as tie
 
 sub-read-uleb128 : tie.Need-sub-read-uleb128
 sub-read-uleb128 c = search needs

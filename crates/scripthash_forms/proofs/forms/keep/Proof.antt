@@ -3,8 +3,8 @@ use mathlib.Core.Path.{sym}
 use native.Mathlib.Omega.{arith}
 use borrow.Author.Needs.{needs}
 use lib.Seq.{set-out}
-use Rattle.scripthash_scan.proofs.quick.keep.Statement.{statement}
-use Rattle.scripthash_scan.proofs.quick.keep.Tie as tie
+use Rattle.scripthash_forms.proofs.forms.keep.Statement.{statement}
+use Rattle.scripthash_forms.proofs.forms.keep.Tie as tie
 
 mul-space : tie.Need-mul-space
 mul-space c = search needs

@@ -17,7 +17,7 @@ use Rattle.scripthash_stream.specs.Stream.{lastFrom, nextNumber, Scan, scanFrom
 use Rattle.scripthash_stream.proofs.LawsScan.{Step, scan-step, scan-cons}
 use Rattle.scripthash_stream.proofs.LawsScanEnd.{ends-whole, ends-parts}
 use Rattle.scripthash_stream.proofs.LawsDecode.{decode-fits, after-accepted}
-use Rattle.scripthash_scan.specs.Quick.{Quick, QuickEnd, QuickSum, QuickPart, left, read, later, scanAt}
+use Rattle.scripthash_forms.specs.Quick.{Quick, QuickEnd, QuickSum, QuickPart, left, read, later, scanAt}
 
 -- ---- a scan from a place on
 

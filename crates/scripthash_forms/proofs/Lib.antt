@@ -1,0 +1,3 @@
+pub mod LawsForms
+pub mod LawsTries
+pub mod LawsSums

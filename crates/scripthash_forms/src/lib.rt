@@ -1,0 +1,9 @@
+// Forms of streams read quickly, one by one: summed up, and read into a list.
+mod forms;
+mod parts;
+
+pub use forms::StreamEnd;
+pub use forms::sum_forms;
+pub use parts::decode_few;
+pub use parts::decode_parts;
+pub use parts::decode_some;
