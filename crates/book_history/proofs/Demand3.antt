@@ -19,14 +19,15 @@ use Rattle.book_history.proofs.LawsEach.{each-alike}
 use Rattle.book_history.proofs.LawsStanding.{agrees-stands}
 use Rattle.book_history.proofs.LawsShape.{bytes-still, plain-still, fresh-stands}
 
--- Demand 3 from any pair: a book over bytes that stands for a good plain book, in shape, answers every list of calls like it, and both stand
--- alike afterwards.
+-- Demand 3 from any pair: a book over bytes that stands for a good plain book, in shape, answers every list of calls like it, and both
+-- stand alike afterwards.
 pub demand-3-good : (plain : PlainBook) (b : Book) (cs : List Call) → GoodPlain plain → Agrees plain b
     → outOfShape (plain .size) (length (plain .keys)) ≡ false
     → (answers b cs ≡ plainAnswers plain cs) × Standing (plainAfter plain cs) (after b cs)
 demand-3-good plain b cs g a shape =
     let (size, keys) = shapes-kept plain cs in
-    (answers-alike each-alike plain b cs g a, agrees-stands _ _ (calls-good cs g) (books-agree each-alike plain b cs g a) (rw (size, keys) shape))
+    let then = books-agree each-alike plain b cs g a in
+    (answers-alike each-alike plain b cs g a, agrees-stands _ _ (calls-good cs g) then (rw (size, keys) shape))
 
 module _ (body : List ℕ) (heads : ℕ) (cs : List Call) where
   -- A fresh pair in shape stands alike after any calls, and so does one out of shape.
@@ -35,7 +36,8 @@ module _ (body : List ℕ) (heads : ℕ) (cs : List Call) where
   stands true e =
       let keys = fresh-agrees body heads .count in
       subst₂ Standing (sym (plain-still (plainFresh (length body) heads) cs e)) (sym (bytes-still (fresh body heads) cs (rw keys e))) (fresh-stands body heads e)
-  stands false e = demand-3-good (plainFresh (length body) heads) (fresh body heads) cs (fresh-good (length body) heads) (fresh-agrees body heads) e .1
+  stands false e =
+      demand-3-good (plainFresh (length body) heads) (fresh body heads) cs (fresh-good (length body) heads) (fresh-agrees body heads) e .1
 
   -- Demand 3, one claim: the whole list of answers is the plain book's, and afterwards both stand alike, whatever the body holds and is
   -- called.

@@ -20,7 +20,8 @@ use Rattle.book_history.proofs.LawsEach.{each-alike}
 -- From any pair: what the keys hold at first counts as recorded.
 pub licence-good : (plain : PlainBook) (b : Book) (cs : List Call) → GoodPlain plain → Agrees plain b
     → Licensed (λ key. keyOf key plain .list) cs (answers b cs)
-licence-good plain b cs g a = rw (answers-alike each-alike plain b cs g a) (licensed-from plain (λ key. keyOf key plain .list) cs (g .keys) (λ key. refl))
+licence-good plain b cs g a =
+    rw (answers-alike each-alike plain b cs g a) (licensed-from plain (λ key. keyOf key plain .list) cs (g .keys) (λ key. refl))
 
 -- From a fresh one nothing is recorded at first, whatever the body holds.
 pub licence : (body : List ℕ) (heads : ℕ) (cs : List Call) → Licensed (λ key. []) cs (answers (fresh body heads) cs)
