@@ -70,7 +70,8 @@ module _ (buf : List ℕ) (from prev n : ℕ) (space : List ℕ) (sum i k : ℕ)
             let room : n ≤ length space = simp length-set at l in
             let more : n - k ≡ suc (n - (k + 1)) = omega arith in
             rw (add-one k, take-suc-set space k (r .value) (omega arith), append-assoc)
-            (m .whole room (record { numbers = r .value ∷ s .numbers; taken = s .taken }) (rw more (scan-at-next i sum (n - (k + 1)) buf r s e f)));
+            (m .whole room (record { numbers = r .value ∷ s .numbers; taken = s .taken })
+            (rw more (scan-at-next i sum (n - (k + 1)) buf r s e f)));
       }
 
   -- behind the last

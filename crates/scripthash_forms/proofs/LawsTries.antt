@@ -39,14 +39,16 @@ scan-at-none off prev bs = rw (add-zero off)
 
 -- a number, and a scan behind it
 pub scan-at-next : (off prev k : ℕ) (bs : List ℕ) (r : Reading) (s : Scan) → nextNumber prev (drop off bs) ≡ accepted r
-    → scanAt (off + r .len) (r .value) k bs ≡ accepted s → scanAt off prev (suc k) bs ≡ accepted (record { numbers = r .value ∷ s .numbers; taken = s .taken })
+    → scanAt (off + r .len) (r .value) k bs ≡ accepted s → scanAt off prev (suc k) bs ≡ accepted
+    (record { numbers = r .value ∷ s .numbers; taken = s .taken })
 unfolding scanAt
 scan-at-next off prev k bs r s e f =
     let was = was-accepted (later (off + r .len)) (scanFrom (r .value) k (drop (off + r .len) bs)) f in
     let t = was .0 in
     let behind : scanFrom (r .value) k (drop (r .len) (drop off bs)) ≡ accepted t = rw (drop-drop (r .len) off bs) (was .1) in
     answered-yes (later off) _ (scan-cons prev k (drop off bs) r t e behind)
-    ∙ ap (λ (u : Scan). accepted (record { numbers = r .value ∷ u .numbers; taken = u .taken })) (rw (add-assoc off (r .len) (t .taken)) at (was .2))
+    ∙ ap (λ (u : Scan). accepted (record { numbers = r .value ∷ u .numbers; taken = u .taken }))
+    (rw (add-assoc off (r .len) (t .taken)) at (was .2))
 
 -- where it ends
 pub scan-at-end : (off prev k : ℕ) (bs : List ℕ) (s : Scan) → scanAt off prev k bs ≡ accepted s
@@ -80,7 +82,8 @@ scan-at-part off prev (suc k) m bs s t e f =
         let rest : scanAt (off + r .len + u .taken) (lastFrom (r .value) (u .numbers)) m bs ≡ accepted t =
         rw (add-assoc off (r .len) (u .taken)) (rw (w .whole) at f) in
         rw (w .whole, count)
-        (scan-at-next off prev (k + m) bs r (record { numbers = u .numbers ++ t .numbers; taken = t .taken }) (w .next) (ih (off + r .len) r u more rest))
+        (scan-at-next off prev (k + m) bs r (record { numbers = u .numbers ++ t .numbers; taken = t .taken }) (w .next)
+        (ih (off + r .len) r u more rest))
 
 pub scan-at-parts : (off prev k m : ℕ) (bs : List ℕ) (s : Scan) (t : Scan) → scanAt off prev k bs ≡ accepted s
     → scanAt (s .taken) (lastFrom prev (s .numbers)) m bs ≡ accepted t
@@ -173,7 +176,8 @@ module _ (m mid last told from prev n at : ℕ) (bs space out out' after : List 
       → scanAt from prev n bs ≡ accepted (record { numbers = take m space ++ ns; taken = told })
   joined ns e =
       let all : m + (n - m) ≡ n = omega arith in
-      rw all at (scan-at-parts from prev m (n - m) bs (record { numbers = take m space; taken = mid }) (record { numbers = ns; taken = told }) first (rw is-last e))
+      rw all at (scan-at-parts from prev m (n - m) bs (record { numbers = take m space; taken = mid })
+      (record { numbers = ns; taken = told }) first (rw is-last e))
 
   both : (ns : List ℕ) → out' ≡ overwrite out (at + m) ns → after ≡ overwrite out at (take m space ++ ns)
   both ns e =

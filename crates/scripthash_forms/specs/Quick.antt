@@ -38,16 +38,17 @@ later off s = record { numbers = s .numbers; taken = off + s .taken }
 unfoldable pub scanAt : ℕ → ℕ → ℕ → List ℕ → Answer Scan
 scanAt off prev k bs = answered (later off) (scanFrom prev k (drop off bs))
 
--- What summing up n forms from a place on, behind `prev`, tells: where their scan ends, and a list with room for its numbers has them at its
--- start.
+-- What summing up n forms from a place on, behind `prev`, tells: where their scan ends, and a list with room for its numbers has them at
+-- its start.
 pub record QuickSum (taken last from prev n : ℕ) (bs space : List ℕ) : Type 0 where
   pub within : taken ≤ length bs
   pub below : last < 2 ^ 63
   pub ends : QuickEnd taken last (endsFrom from prev n (drop from bs))
   pub numbers : n ≤ length space → 0 < taken → scanAt from prev n bs ≡ accepted (record { numbers = take n space; taken = taken })
 
--- A try at reading a part of a stream, whose scan would be `a`, to a place of a list: it tells 0 and leaves the list, or the place behind the
--- part, whose numbers the list holds.
+-- A try at reading a part of a stream, whose scan would be `a`, to a place of a list: it tells 0 and leaves the list, or the place behind
+-- the part, whose numbers the list holds.
 pub data QuickPart (told : ℕ) (before after : List ℕ) (at : ℕ) (a : Answer Scan) : Type 0 where
   left : told ≡ 0 → after ≡ before → QuickPart told before after at a
-  read : (ns : List ℕ) → 0 < told → a ≡ accepted (record { numbers = ns; taken = told }) → after ≡ overwrite before at ns → QuickPart told before after at a
+  read : (ns : List ℕ) → 0 < told → a ≡ accepted (record { numbers = ns; taken = told }) → after ≡ overwrite before at ns
+      → QuickPart told before after at a

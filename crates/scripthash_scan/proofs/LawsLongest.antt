@@ -9,7 +9,8 @@ use borrow.Author.Tests.{lt-leb}
 use lib.ListN.{getD}
 use Rattle.buffer.proofs.LawsOrder.{lt-or-ge}
 use Rattle.compact.specs.Uleb128.{goesOn}
-use Rattle.scripthash_scan.specs.Weights.{total, twoBefore, threeBefore, behindTwo, behindThree, behindFour, twoGoOn, threeGoOn, fiveGoOn}
+use Rattle.scripthash_scan.specs.Weights.{total, twoBefore, threeBefore, behindTwo}
+use Rattle.scripthash_scan.specs.Weights.{behindThree, behindFour, twoGoOn, threeGoOn, fiveGoOn}
 use Rattle.scripthash_scan.specs.Weights.{Lacks, Longest}
 use Rattle.scripthash_scan.proofs.LawsTotals.{total-same}
 
@@ -28,7 +29,8 @@ looked-next buf p from i least most least' most' m so a b e x h k =
     (lt-or-ge x i)
 
 -- behind the last byte
-pub looked-all : (buf : List ℕ) (p : ℕ → Bool) (from to least most : ℕ) → Looked buf p least most from to → 0 < least → most < 128 → Lacks buf p from to
+pub looked-all : (buf : List ℕ) (p : ℕ → Bool) (from to least most : ℕ) → Looked buf p least most from to → 0 < least → most < 128
+    → Lacks buf p from to
 looked-all buf p from to least most so a b x h k = let w = so x h k in (omega (arith, w .0), w .1 b)
 
 -- two ranges that adjoin
@@ -36,7 +38,8 @@ pub lacks-join : (buf : List ℕ) (p : ℕ → Bool) (a b c : ℕ) → Lacks buf
 lacks-join buf p a b c l m x h k = ⊎-elim (λ (r : x < b). l x h r) (λ (r : b ≤ x). m x r k) (lt-or-ge x b)
 
 -- what holds at no place holds behind none
-behind : (q : ℕ → Bool) (from to : ℕ) → q from ≡ false → ((i : ℕ) → from ≤ i → i < to → q (i + 1) ≡ false) → (i : ℕ) → from ≤ i → i ≤ to → q i ≡ false
+behind : (q : ℕ → Bool) (from to : ℕ) → q from ≡ false → ((i : ℕ) → from ≤ i → i < to → q (i + 1) ≡ false) → (i : ℕ) → from ≤ i → i ≤ to
+    → q i ≡ false
 behind q from to start next i h k =
     ⊎-elim (λ (r : from < i). let place : i - 1 + 1 ≡ i = omega arith in rw place at (next (i - 1) (omega arith) (omega arith)))
     (λ (r : i ≤ from). let same : i ≡ from = omega arith in rw same start) (lt-or-ge from i)

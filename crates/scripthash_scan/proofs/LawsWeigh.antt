@@ -14,7 +14,8 @@ use Rattle.error.specs.Refusal.{Answer, accepted}
 use Rattle.buffer.proofs.LawsOrder.{lt-or-ge}
 use Rattle.compact.specs.Uleb128.{goesOn, piece}
 use Rattle.scripthash_stream.specs.Stream.{End, endsFrom}
-use Rattle.scripthash_scan.specs.Weights.{total, endAt, oneBefore, twoBefore, threeBefore, fourBefore, pieceAt, behindOne, behindTwo, behindThree, behindFour, weighed, fiveGoOn, Lacks}
+use Rattle.scripthash_scan.specs.Weights.{total, endAt, oneBefore, twoBefore, threeBefore, fourBefore, pieceAt}
+use Rattle.scripthash_scan.specs.Weights.{behindOne, behindTwo, behindThree, behindFour, weighed, fiveGoOn, Lacks}
 use Rattle.scripthash_forms.proofs.LawsForms.{Carried, form-start, form-on, form-last}
 use Rattle.scripthash_stream.proofs.LawsScanEnd.{ends-next, ends-now}
 use Rattle.scripthash_forms.proofs.LawsSums.{next-sum}
@@ -165,7 +166,8 @@ module _ (buf : List ℕ) (from sum count i : ℕ) (a : Answer End) (w : Midway 
       let value = w .acc + added in
       let least : byte * 1 ≤ byte * 2 ^ (7 * w .j) = mul-le-mul-left byte (pow-pos (7 * w .j)) in
       let some : 0 < added = rw same (omega (arith, least)) in
-      let form = form-last (w .carried) (w .here) h (omega arith) value (w .j + 1) b (ap (λ (x : ℕ). w .acc + x * 2 ^ (7 * w .j)) same) refl in
+      let form = form-last (w .carried) (w .here) h (omega arith) value (w .j + 1) b
+      (ap (λ (x : ℕ). w .acc + x * 2 ^ (7 * w .j)) same) refl in
       let number = next-sum (w .prev) value (w .j + 1) (drop (w .off) buf) form (omega (arith, some)) (omega (arith, more, w .sums)) in
       let place : w .off + (w .j + 1) ≡ i + 1 = omega (arith, w .here) in
       record {
@@ -232,4 +234,5 @@ module _ (buf : List ℕ) (from sum count to more : ℕ) (l : 4 ≤ from) (r : f
       → endsFrom from sum count (drop from buf) ≡ accepted (record { taken = to; last = sum + more })
   weighed-ends e f =
       let a = endsFrom from sum count (drop from buf) in
-      midway-end a f (place-by-place (λ i. Midway buf from sum count i a) from to r (λ i p q w. midway-next i a p q w) (midway-start buf from sum count e))
+      midway-end a f (place-by-place (λ i. Midway buf from sum count i a) from to r (λ i p q w. midway-next i a p q w)
+      (midway-start buf from sum count e))

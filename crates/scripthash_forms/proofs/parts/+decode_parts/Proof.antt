@@ -1,5 +1,5 @@
--- The proof of the cycle of calls {decode_parts}, whose measure is the count. A part that was summed up is copied where those behind it were
--- read. Assumes nothing.
+-- The proof of the cycle of calls {decode_parts}, whose measure is the count. A part that was summed up is copied where those behind it
+-- were read. Assumes nothing.
 use Prim.Native.Nat.{ℕ, _<_}
 use borrow.Author.Needs.{needs}
 use borrow.Fn.Kinds.{In}
@@ -52,14 +52,17 @@ pub +decode-parts-spec : {M : Type 1} → statement M
     let s = c .before .before .before .sum-forms .ensures in
     (omega (arith, c .before .before .before .before .before .before .before .before .pre .0), (s .within, s .below, search needs)))
     (λ c. search needs)
-    (λ c. part-none (c .before .before .before .decode-parts .result) _ _ _ _ _ _ (c .before .before .before .decode-parts .ensures) (omega arith))
+    (λ c. part-none (c .before .before .before .decode-parts .result) _ _ _ _ _ _ (c .before .before .before .decode-parts .ensures)
+    (omega arith))
     -- and the copy
     (λ c. search needs)
     (λ c κs. search needs)
     (λ c. search needs)
     (λ c.
-    let a = c .before .before .before .before .before .before .before .before .before .before .before .before .before .before .before .before .before .args in
     let more = c .before .before .before .before .before .before .before .before .decode-parts in
-    let s = c .before .before .before .before .before .before .before .before .before .before .before .before .sum-forms in
-    part-more 256 (s .result .taken) (s .result .last) (more .result) (a .from) (a .prev) (a .n) (a .at) (a .buf .now) _ (a .out .now) _ _ (s .ensures)
-    (omega arith) (search needs) (omega arith) (c .before .before .before .before .before .before .before .before .before .before .before .before .before .before .before .before .before .pre .1 .2) (omega arith) (c .before .before .copy-fks .ensures) (more .ensures))
+    let f = c .before .before .before .before .before .before .before .before .before .before .before .before in
+    let s = f .sum-forms in
+    let start = f .before .before .before .before .before in
+    let a = start .args in
+    part-more 256 (s .result .taken) (s .result .last) (more .result) (a .from) (a .prev) (a .n) (a .at) (a .buf .now) _ (a .out .now) _ _
+    (s .ensures) (omega arith) (search needs) (omega arith) (start .pre .1 .2) (omega arith) (c .before .before .copy-fks .ensures) (more .ensures))

@@ -23,11 +23,13 @@ abbrev μ-loop : tie.MeasureT-loop
 
 -- the next number to copy, and those behind it
 copied : (from : List ℕ) (n : ℕ) (out : List ℕ) (at k : ℕ) → k < n → n ≤ length from → at + k < length out
-    → overwrite (set out (at + k) (getD from k 0)) (at + (k + 1)) (take (n - (k + 1)) (drop (k + 1) from)) ≡ overwrite out (at + k) (take (n - k) (drop k from))
+    → overwrite (set out (at + k) (getD from k 0)) (at + (k + 1)) (take (n - (k + 1)) (drop (k + 1) from)) ≡ overwrite out (at + k)
+    (take (n - k) (drop k from))
 copied from n out at k h l i =
     let more : n - k ≡ suc (n - (k + 1)) = omega arith in
     let place : at + (k + 1) ≡ at + k + 1 = omega arith in
-    rw (more, front from k (omega arith), place) (sym (overwrite-step out (at + k) (getD from k 0) (take (n - (k + 1)) (drop (k + 1) from)) i))
+    rw (more, front from k (omega arith), place)
+    (sym (overwrite-step out (at + k) (getD from k 0) (take (n - (k + 1)) (drop (k + 1) from)) i))
 
 loop-holds : tie.Need-loop-holds Inv-loop μ-loop
 loop-holds c =

@@ -27,7 +27,8 @@ returns-2 : tie.Need-returns-2
 returns-2 c =
     let f = c .before .before .before .before .before .before .before .before .before in
     let a = f .before .before .before .before .before .args in
-    part-summed (f .sum-forms .result .taken) (f .sum-forms .result .last) (a .from) (a .prev) (a .n) (a .buf .now) _ (a .out .now) _ (a .at) (f .sum-forms .ensures) (omega arith) (omega arith)
+    part-summed (f .sum-forms .result .taken) (f .sum-forms .result .last) (a .from) (a .prev) (a .n) (a .buf .now) _ (a .out .now) _
+    (a .at) (f .sum-forms .ensures) (omega arith) (omega arith)
     (c .before .before .copy-fks .ensures)
 
 pub decode-through-spec : {M : Type 1} → statement M

@@ -1,5 +1,5 @@
--- `count_forms` meets its contract. Invariant: the forms that ended and those left are the forms wanted. Each step goes on, or takes forms to
--- be denser. Assumes nothing.
+-- `count_forms` meets its contract. Invariant: the forms that ended and those left are the forms wanted. Each step goes on, or takes forms
+-- to be denser. Assumes nothing.
 use Prim.Native.Nat.{_+_, _-_, _*_, _≤_, _<_}
 use mathlib.Core.Path.{_≡_, refl}
 use native.Mathlib.Omega.{arith}

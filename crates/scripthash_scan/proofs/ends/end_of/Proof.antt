@@ -56,7 +56,8 @@ loop-less c = search needs
 loop-again : tie.Need-loop-again Inv-loop μ-loop
 loop-again c =
     let l = c .before .before .before .before .before .loop in
-    let next = total-next (endAt (c .before .before .before .before .before .before .before .before .before .before .args .buf .now)) (l .at) in
+    let next = total-next (endAt (c .before .before .before .before .before .before .before .before .before .before .args .buf .now))
+    (l .at) in
     (search needs, search needs, omega (arith, l .inv .2, next, c .forms .ensures, c .before .ended .ensures))
 
 returns-3 : tie.Need-returns-3 Inv-loop μ-loop

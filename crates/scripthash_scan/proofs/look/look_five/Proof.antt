@@ -83,7 +83,9 @@ module _ (c : tie.After-larger Inv-loop μ-loop) where
   bytes = loc .before .before .args .buf .now
 
   three : goesOn (c .before .before .before .before .before .before .smaller2 .result) ≡ threeGoOn bytes (loc .loop .i)
-  three = c .before .before .before .before .before .before .smaller2 .ensures .2 ∙ ap (λ (g : Bool). g && goesOn (getD bytes (loc .loop .i - 2) 0)) (c .before .before .before .before .before .before .before .before .smaller .ensures .2)
+  three = c .before .before .before .before .before .before .smaller2 .ensures .2
+      ∙ ap (λ (g : Bool). g && goesOn (getD bytes (loc .loop .i - 2) 0))
+      (c .before .before .before .before .before .before .before .before .smaller .ensures .2)
 
   four : goesOn (c .before .before .before .smaller4 .result) ≡ threeGoOn bytes (loc .loop .i) && goesOn (getD bytes (loc .loop .i - 3) 0)
   four = c .before .before .before .smaller4 .ensures .2 ∙ ap (λ (g : Bool). g && goesOn (getD bytes (loc .loop .i - 3) 0)) three
@@ -99,7 +101,8 @@ loop-again c =
       search needs,
       search needs,
       l .inv .3,
-      looked-next (bytes c) (fiveGoOn (bytes c)) (loc c .before .before .args .from) (l .i) (l .least) (l .most) (least .result) (c .larger .result)
+      looked-next (bytes c) (fiveGoOn (bytes c)) (loc c .before .before .args .from) (l .i) (l .least) (l .most) (least .result)
+          (c .larger .result)
           (c .before .smaller5 .result) (l .inv .4) (least .ensures .0, least .ensures .1) (c .larger .ensures) (five c),
     )
 
@@ -111,7 +114,8 @@ returns-2 c h =
     let l = c .before .before .loop in
     let a = c .before .before .before .before .args in
     let done : l .i ≡ a .to = omega arith in
-    looked-all (a .buf .now) (fiveGoOn (a .buf .now)) (a .from) (a .to) (l .least) (l .most) (rw done at (l .inv .4)) (omega arith) (ltb-true (l .most) 128 h)
+    looked-all (a .buf .now) (fiveGoOn (a .buf .now)) (a .from) (a .to) (l .least) (l .most) (rw done at (l .inv .4)) (omega arith)
+    (ltb-true (l .most) 128 h)
 
 pub look-five-spec : {M : Type 1} → statement M
 look-five-spec =

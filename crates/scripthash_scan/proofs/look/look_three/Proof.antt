@@ -65,7 +65,8 @@ module _ (c : tie.After-larger Inv-loop μ-loop) where
   bytes = loc .before .before .args .buf .now
 
   three : goesOn (c .before .smaller3 .result) ≡ threeGoOn bytes (loc .loop .i)
-  three = c .before .smaller3 .ensures .2 ∙ ap (λ (g : Bool). g && goesOn (getD bytes (loc .loop .i - 2) 0)) (c .before .before .before .smaller2 .ensures .2)
+  three = c .before .smaller3 .ensures .2 ∙ ap (λ (g : Bool). g && goesOn (getD bytes (loc .loop .i - 2) 0))
+      (c .before .before .before .smaller2 .ensures .2)
 
 loop-again : tie.Need-loop-again Inv-loop μ-loop
 loop-again c =
@@ -75,7 +76,8 @@ loop-again c =
       search needs,
       search needs,
       l .inv .3,
-      looked-next (bytes c) (threeGoOn (bytes c)) (loc c .before .before .args .from) (l .i) (l .least) (l .most) (least .result) (c .larger .result)
+      looked-next (bytes c) (threeGoOn (bytes c)) (loc c .before .before .args .from) (l .i) (l .least) (l .most) (least .result)
+          (c .larger .result)
           (c .before .smaller3 .result) (l .inv .4) (least .ensures .0, least .ensures .1) (c .larger .ensures) (three c),
     )
 
@@ -87,7 +89,8 @@ returns-2 c h =
     let l = c .before .before .loop in
     let a = c .before .before .before .before .args in
     let done : l .i ≡ a .to = omega arith in
-    looked-all (a .buf .now) (threeGoOn (a .buf .now)) (a .from) (a .to) (l .least) (l .most) (rw done at (l .inv .4)) (omega arith) (ltb-true (l .most) 128 h)
+    looked-all (a .buf .now) (threeGoOn (a .buf .now)) (a .from) (a .to) (l .least) (l .most) (rw done at (l .inv .4)) (omega arith)
+    (ltb-true (l .most) 128 h)
 
 pub look-three-spec : {M : Type 1} → statement M
 look-three-spec =

@@ -62,8 +62,10 @@ loop-again c =
       search needs,
       search needs,
       l .inv .3,
-      looked-next (bytes c) (twoGoOn (bytes c)) (loc c .before .before .args .from) (l .i) (l .least) (l .most) (least .result) (c .larger .result)
-          (c .before .smaller2 .result) (l .inv .4) (least .ensures .0, least .ensures .1) (c .larger .ensures) (c .before .smaller2 .ensures .2),
+      looked-next (bytes c) (twoGoOn (bytes c)) (loc c .before .before .args .from) (l .i) (l .least) (l .most) (least .result)
+          (c .larger .result)
+          (c .before .smaller2 .result) (l .inv .4) (least .ensures .0, least .ensures .1) (c .larger .ensures)
+          (c .before .smaller2 .ensures .2),
     )
 
 returns : tie.Need-returns Inv-loop μ-loop
@@ -74,7 +76,8 @@ returns-2 c h =
     let l = c .before .before .loop in
     let a = c .before .before .before .before .args in
     let done : l .i ≡ a .to = omega arith in
-    looked-all (a .buf .now) (twoGoOn (a .buf .now)) (a .from) (a .to) (l .least) (l .most) (rw done at (l .inv .4)) (omega arith) (ltb-true (l .most) 128 h)
+    looked-all (a .buf .now) (twoGoOn (a .buf .now)) (a .from) (a .to) (l .least) (l .most) (rw done at (l .inv .4)) (omega arith)
+    (ltb-true (l .most) 128 h)
 
 pub look-two-spec : {M : Type 1} → statement M
 look-two-spec =

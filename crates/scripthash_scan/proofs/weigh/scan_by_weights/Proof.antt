@@ -36,7 +36,8 @@ returns-3 : tie.Need-returns-3
 returns-3 c =
     let f = c .before .before .before .before .before in
     let a = f .before .before .before .before .args in
-    quick-end-parts (a .n) (f .before .before .leading .result) (f .sum-forms .result .taken) (f .sum-forms .result .last) (c .scan-rest .result .taken) (c .scan-rest .result .last) (a .buf .now)
+    quick-end-parts (a .n) (f .before .before .leading .result) (f .sum-forms .result .taken) (f .sum-forms .result .last)
+    (c .scan-rest .result .taken) (c .scan-rest .result .last) (a .buf .now)
     (omega (arith, f .before .before .leading .ensures)) (omega arith) (f .sum-forms .ensures .ends) (c .scan-rest .ensures)
 
 pub scan-by-weights-spec : {M : Type 1} → statement M

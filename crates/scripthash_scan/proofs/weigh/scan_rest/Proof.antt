@@ -58,7 +58,8 @@ returns-6 c h =
     let is = end .ensures (omega arith) in
     let more = c .before .before .before .before .before .weigh-all in
     let told = more .ensures (omega arith) in
-    weighed-ends (a .buf .now) (a .from) (a .prev) (a .count) (end .result) (more .result .sum) (omega arith) (is .1) (is .2) (told .1) (is .0) (told .0) (omega arith)
+    weighed-ends (a .buf .now) (a .from) (a .prev) (a .count) (end .result) (more .result .sum) (omega arith) (is .1) (is .2) (told .1)
+    (is .0) (told .0) (omega arith)
     (start .pre .2) (omega arith)
 
 pub scan-rest-spec : {M : Type 1} → statement M

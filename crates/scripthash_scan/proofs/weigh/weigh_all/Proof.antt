@@ -55,7 +55,9 @@ weigh-block-requires c κs =
     (omega arith, omega arith, omega arith, omega arith, c .before .longest-form .ensures (omega arith))
 
 add-sum : tie.Need-add-sum Inv-loop μ-loop
-add-sum c = omega (arith, c .weigh-block .ensures .1, c .before .before .before .block-end .ensures, c .before .before .before .before .before .loop .inv .5)
+add-sum c =
+    let block = c .before .before .before in
+    omega (arith, c .weigh-block .ensures .1, block .block-end .ensures, block .before .before .loop .inv .5)
 
 loop-less : tie.Need-loop-less Inv-loop μ-loop
 loop-less c = omega (arith, c .before .before .before .block-end .ensures)
