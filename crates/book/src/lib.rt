@@ -1,5 +1,5 @@
-// The account book over one lent body (document 01, "The book"): what its calls do and answer, the head words of its keys, and a list written
-// anew. Its calls are `book_appending` and `book_lists`.
+// The account book over one lent body (document 01, "The book"): what its calls do and answer, the head words of its keys, and a list
+// written anew. Its calls are `book_appending` and `book_lists`.
 mod answers;
 mod head;
 mod place;

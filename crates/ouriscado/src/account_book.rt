@@ -210,13 +210,15 @@ pub extern "C" fn ouriscado_book_append(
         ≡ bookAfter (bookIn (now (body .entry)) (now (heads .entry)) (now (state .entry)))
         (appends (bookIn (now (body .entry)) (now (heads .entry)) (now (state .entry))) key fk) ⌝ }
     ensures kind { λ r. ⌜ now (kind .exit)
-        ≡ told (λ t. kindOut (newPlace t)) (answerOf (appends (bookIn (now (body .entry)) (now (heads .entry)) (now (state .entry))) key fk))
+        ≡ told (λ t. kindOut (newPlace t))
+        (answerOf (appends (bookIn (now (body .entry)) (now (heads .entry)) (now (state .entry))) key fk))
         0 ⌝ }
     ensures class { λ r. ⌜ now (class .exit)
         ≡ told (λ t. classOut (newPlace t))
         (answerOf (appends (bookIn (now (body .entry)) (now (heads .entry)) (now (state .entry))) key fk)) 0 ⌝ }
     ensures used { λ r. ⌜ now (used .exit)
-        ≡ told (λ t. usedOut (newPlace t)) (answerOf (appends (bookIn (now (body .entry)) (now (heads .entry)) (now (state .entry))) key fk))
+        ≡ told (λ t. usedOut (newPlace t))
+        (answerOf (appends (bookIn (now (body .entry)) (now (heads .entry)) (now (state .entry))) key fk))
         0 ⌝ }
     ensures place { λ r. ⌜ now (place .exit)
         ≡ told (λ t. placeOut (newPlace t))

@@ -18,7 +18,8 @@ use Rattle.book.specs.Book.{Book, Outcome, wordOf}
 use Rattle.book.specs.Loads.{loads}
 use Rattle.book.specs.Answers.{bookOf}
 use Rattle.book.proofs.LawsPlace.{refused-as}
-use Rattle.book_lists.proofs.LawsLoad.{ends-refused, loads-shape, loads-beyond, loads-in-use, loads-too-many, loads-offered, loads-on}
+use Rattle.book_lists.proofs.LawsLoad.{ends-refused, loads-shape, loads-beyond, loads-in-use, loads-too-many, loads-offered}
+use Rattle.book_lists.proofs.LawsLoad.{loads-on}
 use Rattle.book_lists.proofs.loading.load.Statement.{statement}
 use Rattle.book_lists.proofs.loading.load.Tie as tie
 

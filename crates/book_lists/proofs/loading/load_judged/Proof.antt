@@ -45,7 +45,10 @@ returns-2 c =
     (ap (spaceOf (s .args .body .now)) (accept .1 .0))
 
 load-list-requires : tie.Need-load-list-requires
-load-list-requires c κs = search needs
+load-list-requires c κs =
+    let more = c .before .before in
+    let pre = more .before .before .before .before .before .pre in
+    (pre .0, pre .1, omega (arith, more .if2 .left, more .before .if1 .left), pre .2, pre .3)
 
 same-length-2 : tie.Need-same-length-2
 same-length-2 c = search needs

@@ -58,7 +58,9 @@ enum-told : tie.Need-enum-told
 enum-told c = search needs
 
 load-run-requires : tie.Need-load-run-requires
-load-run-requires c κs = search needs
+load-run-requires c κs =
+    let pre = start (c .before .before .before .before) .pre in
+    (pre .0, pre .1, omega (arith, pre .2), pre .3)
 
 same-length : tie.Need-same-length
 same-length c = search needs
