@@ -1,1 +1,4 @@
 pub mod Examples
+pub mod LawsClaims
+pub mod LawsFreed
+pub mod LawsJudged
