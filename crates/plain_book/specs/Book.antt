@@ -2,6 +2,7 @@
 use Prim.Native.Nat.{ℕ, _+_}
 use mathlib.Core.Bool.{Bool, true, false}
 use mathlib.Core.List.{List, [], _∷_, _++_}
+use mathlib.Core.Logic.{_≢_}
 use lib.Dec.{leb, ltb}
 use lib.ListN.{length, getD, set, replicate}
 use Rattle.error.specs.Refusal.{Answer, accepted, refuseIf, andThen, listTooShort}
@@ -114,3 +115,8 @@ after b cs = afterCalls does b cs
 -- The answers to a list of calls, each on the book that the one before it left.
 abbrev pub answers : Book → List Call → List (Answer Told)
 answers b cs = answersTo does b cs
+
+-- None of some calls is a drop of a key.
+unfoldable pub NeverDropped : ℕ → List Call → Type 0
+NeverDropped key [] = Unit {0}
+NeverDropped key (c ∷ cs) = (c ≢ drop key) × NeverDropped key cs

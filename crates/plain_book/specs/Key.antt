@@ -53,7 +53,7 @@ abbrev pub emptyKey : Key
 emptyKey = record { list = []; place = empty; counted = true }
 
 -- The total that a key's last page tells: how many numbers it has, or 0, unknown.
-unfoldable pub totalOf : Key → ℕ
+abbrev pub totalOf : Key → ℕ
 totalOf k = cond (k .counted) (length (k .list)) 0
 
 -- The last of some pages, or a given one where there are none.
