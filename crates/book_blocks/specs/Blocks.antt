@@ -22,12 +22,12 @@ abbrev pub lastPageOf : ℕ → ℕ → ℕ → ℕ → List ℕ → List ℕ
 lastPageOf first base extents creates ns = pageOf (extentHeader (length ns) (linkTo true first) base extents creates) (stream ns)
 
 -- A total with one number more: one that was never counted, 0, stays unknown.
-unfoldable pub oneMore : ℕ → ℕ
-oneMore creates = cond (eqb creates 0) 0 (creates + 1)
+unfoldable pub totalWith : ℕ → ℕ
+totalWith creates = cond (eqb creates 0) 0 (creates + 1)
 
 -- A last page with a number appended: creates is one more, or stays unknown.
 unfoldable pub pageWith : List ℕ → Spot → ℕ → List ℕ
-pageWith page w creates = setField (withAppended page w) 20 4 (oneMore creates)
+pageWith page w creates = setField (withAppended page w) 20 4 (totalWith creates)
 
 -- A page that was the last, with a next page and creates 0.
 unfoldable pub pageBefore : List ℕ → ℕ → List ℕ
