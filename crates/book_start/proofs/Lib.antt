@@ -1,1 +1,5 @@
 pub mod Examples
+pub mod LawsClaims
+pub mod LawsFreed
+pub mod LawsJudged
+pub mod LawsPairs

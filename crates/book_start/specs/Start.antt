@@ -130,9 +130,10 @@ unfoldable pub claimContent : List Block → Answer Content → Claim
 claimContent before (accepted c) = claimAll before (c .blocks)
 claimContent before (refused number) = unfit
 
--- The blocks of a free list, claimed from an offset on, over at most so many blocks: each must be one that 35 would pass.
+-- The blocks of a free list, claimed from an offset on: each must be one that 35 would pass. Of more blocks than there is room for, one
+-- shares a byte.
 unfoldable pub claimFreed : ℕ → Space → ℕ → List Block → ℕ → Claim
-claimFreed zero s class before off = shared
+claimFreed zero s class before off = cond (eqb off 0) (claimed before) shared
 claimFreed (suc k) s class before off =
     cond (eqb off 0) (claimed before)
     (cond (isBlock class off (s .mark))
