@@ -16,7 +16,7 @@ use Rattle.plain_book.specs.Key.{Kept, written, Page, Place, empty, inline, sla
 use Rattle.plain_book.specs.Book.{Book as PlainBook}
 use Rattle.book_space.specs.Space.{Space}
 use Rattle.book_keys.specs.Keys.{pageAt, slabScan, chainAt, content}
-use Rattle.book.specs.Book.{Book}
+use Rattle.book.specs.Book.{Book, wordOf}
 use Rattle.book_start.specs.Start.{namedFrom}
 
 -- ---- keys
@@ -80,3 +80,7 @@ plainOf b =
       keys = keysFrom (b .space) (b .heads);
       space = record { mark = b .space .mark; stacks = stacksFrom (b .space) (b .space .free) };
     }
+
+-- What is recorded for a key at the start: the numbers that it is read as.
+abbrev pub startList : Book → ℕ → List ℕ
+startList b key = listFrom (b .space) (wordOf key b)
