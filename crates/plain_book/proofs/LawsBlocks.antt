@@ -191,9 +191,13 @@ fresh-space size heads =
     nobody (slabOf k) x e = none-some (ap (λ (y : Key). slabAt (y .place)) (sym (fresh-key size heads k)) ∙ e)
     nobody (pageOf k i) x e = none-some (ap (λ (y : Key). pageIn i (y .place)) (sym (fresh-key size heads k)) ∙ e)
 
--- After any list of calls on a fresh book no two blocks, held or freed, share a byte, and each lies where a block of its class may, below
--- the mark.
+-- Take any book whose space is good and any list of calls: no two blocks, held or freed, share a byte afterwards, and each lies where a
+-- block of its class may, below the mark.
+pub apart-from : (b : Book) (cs : List Call) → GoodSpace b
+    → Apart (after b cs .space .mark) (has (after b cs .space) (places (after b cs)) none)
+apart-from b cs g = calls-keep does GoodSpace (λ b c g. call-space b c (does b c) refl g) b cs g .apart
+
+-- So it is after any list of calls on a fresh book.
 pub blocks-apart : (size heads : ℕ) (cs : List Call)
     → let b = after (fresh size heads) cs in Apart (b .space .mark) (has (b .space) (places b) none)
-blocks-apart size heads cs =
-    calls-keep does GoodSpace (λ b c g. call-space b c (does b c) refl g) (fresh size heads) cs (fresh-space size heads) .apart
+blocks-apart size heads cs = apart-from (fresh size heads) cs (fresh-space size heads)

@@ -1,4 +1,4 @@
--- After every list of calls on a fresh plain book, each key is sound. Assumes nothing.
+-- Every list of calls keeps each key of a plain book sound, and those of a fresh one are. Assumes nothing.
 use Prim.Native.Nat.{ℕ, suc, _+_, _-_, _*_, _^_, _≤_, _<_}
 use mathlib.Core.Bool.{Bool, true}
 use mathlib.Core.List.{List, [], _∷_, _++_, append-assoc, append-nil}
@@ -28,8 +28,9 @@ use Rattle.book_rules.proofs.LawsRules.{stays-holds, moves-to, loads-to}
 use Rattle.plain_book.proofs.LawsKept.{len-snoc, longer-numbers, written-each, longer-each}
 use Rattle.plain_book.proofs.LawsMoves.{placed, which, moved-slab, moved-page, pages-spent}
 use Rattle.book_rules.specs.Calls.{Call}
-use Rattle.plain_book.specs.Book.{fresh, keyOf, extended, after}
-use Rattle.plain_book.proofs.LawsHistory.{KeptByCalls, kept-fresh}
+use Rattle.book_rules.specs.Moves.{noMoves}
+use Rattle.plain_book.specs.Book.{Book, fresh, keyOf, extended, after}
+use Rattle.plain_book.proofs.LawsHistory.{fresh-key, KeptByCalls, kept-calls}
 use Rattle.plain_book.specs.Sound.{held, FitPages, Fits, Known, SoundKey}
 
 -- ---- a list with one number more
@@ -220,6 +221,10 @@ sound-kept =
       drops = empty-sound;
     }
 
+-- Take any book and any list of calls: a key that is sound stays so.
+pub sound-from : (b : Book) (key : ℕ) (cs : List Call) → SoundKey (keyOf key b) → SoundKey (keyOf key (after b cs))
+sound-from b key cs h = kept-calls _ sound-kept key b cs noMoves h
+
 -- After any list of calls on a fresh book, each key is sound.
 pub sound : (size heads key : ℕ) (cs : List Call) → SoundKey (keyOf key (after (fresh size heads) cs))
-sound size heads key cs = kept-fresh _ sound-kept size heads key cs
+sound size heads key cs = sound-from (fresh size heads) key cs (rw (fresh-key size heads key) empty-sound)

@@ -1,9 +1,11 @@
 -- Totals: a key that is counted stays so through every list of calls, and one that was never counted until it is dropped. Assumes nothing.
-use Prim.Native.Nat.{ℕ, _<_}
+use Prim.Native.Nat.{ℕ, _≤_, _<_}
 use mathlib.Core.Bool.{Bool, true, false, cond, false≢true}
 use mathlib.Core.List.{List, [], _∷_}
 use mathlib.Core.Logic.{_≢_}
 use mathlib.Core.Path.{_≡_, refl, sym, ap, _∙_}
+use native.Mathlib.Nat.{le-refl}
+use native.Mathlib.Omega.{arith}
 use lib.Dec.{eqb}
 use lib.ListN.{length}
 use borrow.Author.Tests.{eqb-true}
@@ -43,6 +45,14 @@ counted-from b key cs h = kept-calls _ counted-kept key b cs noMoves h
 -- A counted key tells its exact total.
 pub total-exact : (k : Key) → k .counted ≡ true → totalOf k ≡ length (k .list)
 total-exact k h = rw h refl
+
+-- A key's total is at most the length of its list.
+pub total-most : (k : Key) → totalOf k ≤ length (k .list)
+total-most k = go (k .counted)
+  where
+    go : (t : Bool) → cond t (length (k .list)) 0 ≤ length (k .list)
+    go true = le-refl (length (k .list))
+    go false = omega arith
 
 -- After any list of calls on a fresh book every key tells its exact total.
 pub total-fresh : (size heads key : ℕ) (cs : List Call)
