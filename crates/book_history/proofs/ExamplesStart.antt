@@ -1,10 +1,10 @@
 -- The plain books of small books over bytes, computed: a padded slab, a page with an unknown total, and a free list. Assumes nothing.
 use Prim.Native.Nat.{ℕ}
 use mathlib.Core.Bool.{true, false}
-use mathlib.Core.List.{List, [], _∷_, _++_}
+use mathlib.Core.List.{List, [], _∷_}
 use mathlib.Core.Path.{_≡_, refl}
 use lib.ListN.{replicate}
-use Rattle.error.specs.Refusal.{Answer, refuseIf, andThen}
+use Rattle.error.specs.Refusal.{refuseIf, andThen}
 use Rattle.buffer.specs.Bytes.{part, overwrite}
 use Rattle.buffer.specs.LittleEndian.{bytesOf}
 use Rattle.compact.specs.Uleb128.{isForm, value, formAt, overflows, readForm, readUleb, divided, ulebLen, shortest}
@@ -14,8 +14,7 @@ use Rattle.scripthash_slabs.specs.Slab.{decodeSlab}
 use Rattle.scripthash_fields.specs.Page.{field, extentHeader, pageOf}
 use Rattle.scripthash_pages.specs.Entries.{streamPlace, pageScan}
 use Rattle.scripthash_free.specs.FreeList.{isBlock}
-use Rattle.plain_book.specs.Key.{Kept, written, Page, Place, inline, slab, pages, Key, emptyKey}
-use Rattle.plain_book.specs.Space.{Space as PlainSpace}
+use Rattle.plain_book.specs.Key.{Kept, written, Place, inline, slab, pages, emptyKey}
 use Rattle.plain_book.specs.Book.{Book as PlainBook}
 use Rattle.book_keys.specs.Keys.{soundly, sure, goOn, slabScan, linkScan, goodExtent, lastAt, linked, walk, totalGood, chainAt, pageBlocks}
 use Rattle.book_keys.specs.Keys.{contentAt, content}

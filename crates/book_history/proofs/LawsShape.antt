@@ -4,16 +4,15 @@ use mathlib.Core.Bool.{Bool, true, false, _||_, true≢false}
 use mathlib.Core.List.{List, [], _∷_}
 use mathlib.Core.Path.{_≡_, refl, sym, ap, subst, _∙_}
 use lib.ListN.{length, getD, replicate, length-replicate}
-use Rattle.error.specs.Refusal.{Answer, accepted, refused, answered, shapeBad}
+use Rattle.error.specs.Refusal.{Answer, accepted, refused, shapeBad}
 use Rattle.error.proofs.LawsAnswer.{refuse-yes}
 use Rattle.scripthash_layout.specs.Head.{unpackHead}
 use Rattle.scripthash_free.specs.FreeList.{Names}
-use Rattle.book_rules.specs.Calls.{Call, load, append, read, drop, Told, bookAfter, afterCalls, answersTo}
+use Rattle.book_rules.specs.Calls.{Call, load, append, read, drop, bookAfter, afterCalls}
 use Rattle.book_rules.specs.Limits.{outOfShape}
 use Rattle.plain_book.specs.Space.{stackOf}
 use Rattle.plain_book.specs.Key.{Key, empty, headOf}
-use Rattle.plain_book.specs.Book.{Book as PlainBook, fresh as plainFresh, does as plainDoes, after as plainAfter, answers as plainAnswers}
-use Rattle.plain_book.specs.Book.{keyOf}
+use Rattle.plain_book.specs.Book.{Book as PlainBook, fresh as plainFresh, does as plainDoes, after as plainAfter, keyOf}
 use Rattle.plain_book.proofs.LawsGood.{unshaped}
 use Rattle.plain_book.proofs.LawsHistory.{all-same, fresh-key}
 use Rattle.book_space.specs.Space.{markBad, shapeBroken}
@@ -21,7 +20,7 @@ use Rattle.book.specs.Book.{Book, fresh, wordOf, onKey}
 use Rattle.book.specs.Appends.{appends}
 use Rattle.book.specs.Loads.{loads}
 use Rattle.book.specs.Reads.{reads, drops}
-use Rattle.book.specs.Calls.{does, after, answers}
+use Rattle.book.specs.Calls.{does, after}
 use Rattle.book_history.specs.Standing.{Standing}
 
 -- A book over bytes whose lengths break the limits.
@@ -53,14 +52,6 @@ pub plain-still : (b : PlainBook) (cs : List Call) → outOfShape (b .size) (len
 unfolding afterCalls bookAfter
 plain-still b [] e = refl
 plain-still b (c ∷ cs) e = ap (λ (a : Answer _). afterCalls plainDoes (bookAfter b a) cs) (unshaped b c e) ∙ plain-still b cs e
-
--- The two answer every list of calls alike.
-pub answers-still : (b : Book) (p : PlainBook) (cs : List Call) → Unshaped b → outOfShape (p .size) (length (p .keys)) ≡ true
-    → answers b cs ≡ plainAnswers p cs
-unfolding answersTo bookAfter answered
-answers-still b p [] e f = refl
-answers-still b p (c ∷ cs) e f =
-    rw (bytes-unshaped b c e, unshaped p c f) (ap (λ (as : List (Answer Told)). refused shapeBad ∷ as) (answers-still b p cs e f))
 
 -- A fresh pair out of shape stands alike.
 pub fresh-stands : (body : List ℕ) (heads : ℕ) → outOfShape (length body) (length (plainFresh (length body) heads .keys)) ≡ true

@@ -1,10 +1,10 @@
 -- The plain book of a good start is good, and stands for it. Assumes nothing.
-use Prim.Native.Nat.{ℕ, zero, suc, _+_, _/_, _^_, _≤_, _<_}
+use Prim.Native.Nat.{ℕ, zero, suc, _+_, _/_, _≤_, _<_}
 use mathlib.Core.Bool.{Bool, true, false}
 use mathlib.Core.List.{List, [], _∷_}
 use mathlib.Core.Logic.{_≢_, ⊎-elim}
-use mathlib.Core.Option.{Option, none, some}
-use mathlib.Core.Path.{_≡_, refl, sym, ap, ap₂, subst, _∙_}
+use mathlib.Core.Option.{none, some}
+use mathlib.Core.Path.{_≡_, refl, sym, ap, ap₂, _∙_}
 use native.Mathlib.Omega.{arith}
 use lib.Dec.{eqb}
 use lib.ListN.{length, getD}
@@ -17,28 +17,29 @@ use Rattle.buffer.proofs.LawsOrder.{lt-or-ge}
 use Rattle.scripthash_layout.specs.Sizes.{slabBytes, pageClass}
 use Rattle.scripthash_layout.specs.Head.{unpackHead}
 use Rattle.scripthash_layout.specs.declared.head.ShHeadValue.{ShHeadValue}
-use Rattle.scripthash_free.specs.FreeList.{Block, Each, isBlock, nextOf, Names}
-use Rattle.scripthash_free.proofs.LawsBlock.{bytes-from-16, block-stands}
+use Rattle.scripthash_free.specs.FreeList.{Block, isBlock, nextOf, Names}
+use Rattle.scripthash_free.proofs.LawsBlock.{bytes-from-16}
 use Rattle.book_rules.specs.Limits.{outOfShape}
 use Rattle.plain_book.specs.Space.{stackOf}
 use Rattle.plain_book.specs.Key.{Place, empty, inline, slab, pages, Key, emptyKey, headOf}
-use Rattle.plain_book.specs.Book.{Book as PlainBook, keyOf}
+use Rattle.plain_book.specs.Book.{keyOf}
 use Rattle.plain_book.specs.Owners.{Owner, hand, stack, slabOf, pageOf, atDepth, slabAt, pageIn, has, places}
-use Rattle.plain_book.specs.Good.{Good, GoodPlain}
+use Rattle.plain_book.specs.Good.{GoodPlain}
 use Rattle.plain_book.proofs.LawsOwners.{none-some, below-top}
-use Rattle.plain_book.proofs.LawsHeads.{Told, head-told}
+use Rattle.plain_book.proofs.LawsHeads.{head-told}
 use Rattle.plain_book.proofs.LawsChain.{mark-most}
 use Rattle.book_space.specs.Space.{Space, shapeBroken}
 use Rattle.book_space.proofs.LawsShape.{shape-holds}
 use Rattle.book_keys.specs.Keys.{soundly, Content, contentAt, content}
 use Rattle.book.specs.Book.{Book, wordOf, headWord}
-use Rattle.book_start.specs.Start.{Disjoint, AllApart, Stands, blocksAt, blocksIn, named, namedFrom, freedOf, GoodStart}
+use Rattle.book_start.specs.Start.{Disjoint, Stands, blocksAt, blocksIn, namedFrom, freedOf, GoodStart}
 use Rattle.book_start.proofs.LawsClaims.{disjoint-sym}
 use Rattle.book_start.proofs.LawsFreed.{named-end}
 use Rattle.book_start.proofs.LawsPairs.{each-in, cross-in, heldOf, listOf, key-apart, keys-apart, list-apart, lists-apart, key-list-apart}
-use Rattle.book_history.specs.Agrees.{top, under, BlockReads, contentsOf, AgreesSpace, AgreesInside, Agrees}
+use Rattle.book_history.specs.Agrees.{top, under, BlockReads, contentsOf, AgreesSpace, Agrees}
 use Rattle.book_history.specs.PlainOf.{placeFrom, countedFrom, listFrom, keyFrom, keysFrom, stacksFrom, plainOf, startList}
 use Rattle.book_history.proofs.LawsTake.{part-start}
+use Rattle.book_history.proofs.LawsWords.{stored-told}
 use Rattle.book_history.proofs.LawsStartApart.{blockNo, no-in, two-apart}
 use Rattle.book_history.proofs.LawsStartKeys.{KeyRead, key-read}
 
@@ -114,11 +115,6 @@ depth-block class d (o ∷ os) x e =
     (λ (other, there). let (i, sum, at) = depth-block class d os x there in (suc i, omega arith, at))
     (below-top class d o os x e)
 
--- The word that stores a place tells it.
-word-told : (v : ShHeadValue) → Told v → unpackHead (headWord v) ≡ accepted v
-unfolding headWord
-word-told v t = rw (t .packs) (t .unpacks)
-
 -- A place has a slab or pages.
 one-kind : (p : Place) (i : ℕ) (x y : Block) → slabAt p ≡ some x → pageIn i p ≡ some y → ⊥
 one-kind empty i x y e f = none-some e
@@ -186,12 +182,16 @@ module _ (b : Book) (g : GoodStart b) where
   stack-has : (class d : ℕ) (x : Block) → atDepth class d (stackOf class (plainOf b .space)) ≡ some x
       → (i : ℕ) × (class ≤ pageClass) × (i + suc d ≡ length (freedOf (b .space) class)) × (blockNo i (listOf b class) ≡ some x)
   stack-has class d x e =
-      let (i, sum, at) = depth-block class d (freedOf (b .space) class) x (rw (stack-is class) at e) in
-      (i, ⊎-elim (λ (l : class < 9). omega arith)
-      (λ (l : 9 ≤ class).
-      let z = freed-none class (omega arith) in
-      let none-there : freedOf (b .space) class ≡ [] = ap (namedFrom (b .space)) z ∙ named-end (b .space .mark / 16) (b .space .body) 0 refl in
-      absurd (omega (arith, ap length none-there))) (lt-or-ge class 9), sum, at)
+      let (i, sum, at) = depth-block class d (freedOf (b .space) class) x (rw (stack-is class) at e) in (
+        i,
+        ⊎-elim (λ (l : class < 9). omega arith)
+            (λ (l : 9 ≤ class).
+            let z = freed-none class (omega arith) in
+            let none-there : freedOf (b .space) class ≡ [] = ap (namedFrom (b .space)) z ∙ named-end (b .space .mark / 16) (b .space .body) 0 refl in
+            absurd (omega (arith, ap length none-there))) (lt-or-ge class 9),
+        sum,
+        at,
+      )
 
   -- ---- no two share a byte
 
@@ -261,10 +261,11 @@ module _ (b : Book) (g : GoodStart b) where
   stack-reads class d x e =
       let (i, low, sum, at) = stack-has class d x e in
       let stands = each-in (Stands (b .space .mark)) x (listOf b class) (g .stand class low) (no-in i x (listOf b class) at) in
-      let big = bytes-from-16 (x .class) in
-      (stands,
-      ap littleEndian (part-start (b .space .body) (x .off) (slabBytes (x .class)) 8 (omega arith))
-      ∙ rw (stack-is class) (names-under (b .space .body) _ class d (freedOf (b .space) class) x (named-all class) (rw (stack-is class) at e)))
+      let big = bytes-from-16 (x .class) in (
+        stands,
+        ap littleEndian (part-start (b .space .body) (x .off) (slabBytes (x .class)) 8 (omega arith))
+            ∙ rw (stack-is class) (names-under (b .space .body) _ class d (freedOf (b .space) class) x (named-all class) (rw (stack-is class) at e)),
+      )
 
   -- Each owner's block.
   owner-reads : (w : Owner) (x : Block) → has (plainOf b .space) (places (plainOf b)) none w ≡ some x
@@ -304,7 +305,7 @@ module _ (b : Book) (g : GoodStart b) where
           → unpackHead (wordOf key b) ≡ unpackHead (headWord (headOf (keyOf key (plainOf b) .list) (keyOf key (plainOf b) .place)))
       heads shape key =
           let t = head-told key start-good (mark-most start-good shape) in
-          known key .1 ∙ ap accepted (sym (known key .2 .head)) ∙ sym (word-told _ t)
+          known key .1 ∙ ap accepted (sym (known key .2 .head)) ∙ sym (stored-told t)
 
       space : AgreesSpace (plainOf b .space) (b .space) (places (plainOf b)) none (contentsOf (plainOf b))
       space =

@@ -1,23 +1,21 @@
 -- A fresh book in shape is a good start, and its plain book is the fresh one. Assumes nothing.
-use Prim.Native.Nat.{ℕ, zero, suc, _+_, _/_, _≤_}
-use mathlib.Core.Bool.{Bool, true, false, _||_}
+use Prim.Native.Nat.{ℕ, zero, suc, _+_, _/_}
+use mathlib.Core.Bool.{false}
 use mathlib.Core.List.{List, [], _∷_}
 use mathlib.Core.Path.{_≡_, refl, sym, ap, ap₂, subst, _∙_}
 use native.Mathlib.Omega.{arith}
-use lib.ListN.{length, getD, replicate, length-replicate}
+use lib.ListN.{length, replicate, length-replicate}
 use borrow.Author.Tests.{le-ltb}
-use Rattle.error.specs.Refusal.{accepted}
-use Rattle.scripthash_layout.specs.Sizes.{pageClass}
-use Rattle.scripthash_free.specs.FreeList.{Block, Each, Names}
+use Rattle.scripthash_free.specs.FreeList.{Each, Names}
 use Rattle.book_rules.specs.Limits.{outOfShape}
 use Rattle.book_rules.proofs.LawsLimits.{in-shape}
 use Rattle.plain_book.specs.Key.{Key, emptyKey}
 use Rattle.plain_book.specs.Book.{Book as PlainBook, fresh as plainFresh}
 use Rattle.plain_book.proofs.LawsHistory.{all-same}
 use Rattle.book_space.specs.Space.{Space, markBad, shapeBroken}
-use Rattle.book_keys.specs.Keys.{Content, content}
-use Rattle.book.specs.Book.{Book, fresh}
-use Rattle.book_start.specs.Start.{AllApart, Stands, blocksAt, blocksIn, heldBy, namedFrom, freedOf, freedBy, blocksOf, GoodStart}
+use Rattle.book_keys.specs.Keys.{content}
+use Rattle.book.specs.Book.{fresh}
+use Rattle.book_start.specs.Start.{AllApart, blocksAt, blocksIn, heldBy, namedFrom, freedBy, GoodStart}
 use Rattle.book_start.proofs.LawsFreed.{named-end}
 use Rattle.book_history.specs.Agrees.{AgreesInside, Agrees}
 use Rattle.book_history.specs.PlainOf.{keysFrom, stacksFrom, plainOf}

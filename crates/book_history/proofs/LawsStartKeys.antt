@@ -1,9 +1,9 @@
 -- A sound key, as the plain book of a start holds it: its list rises and fits its place, its head word tells the place, and its blocks read
 -- as they should. Assumes nothing.
-use Prim.Native.Nat.{ℕ, zero, suc, _+_, _/_, _^_, _≤_, _<_}
+use Prim.Native.Nat.{ℕ, zero, suc, _/_, _^_, _≤_, _<_}
 use mathlib.Core.Bool.{Bool, true, false, cond, not, _||_}
 use mathlib.Core.List.{List, [], _∷_}
-use mathlib.Core.Option.{Option, none, some}
+use mathlib.Core.Option.{some}
 use mathlib.Core.Path.{_≡_, refl, sym, ap, subst, _∙_}
 use native.Mathlib.Nat.{le-refl}
 use native.Mathlib.Omega.{arith}
@@ -13,7 +13,7 @@ use borrow.Author.Tests.{eqb-true, eq-eqb}
 use Rattle.error.specs.Refusal.{accepted}
 use Rattle.error.proofs.LawsAnswer.{accepted-inj}
 use Rattle.buffer.specs.Bytes.{part}
-use Rattle.scripthash_layout.specs.Sizes.{slabBytes, pageClass, pageSize}
+use Rattle.scripthash_layout.specs.Sizes.{slabBytes, pageSize}
 use Rattle.scripthash_layout.specs.Head.{unpackHead}
 use Rattle.scripthash_layout.specs.declared.head.ShHeadValue.{ShHeadValue}
 use Rattle.scripthash_layout.specs.declared.head.ShHeadValue.the-variants.{Empty, Inline, Slab, Extent}
@@ -23,7 +23,7 @@ use Rattle.scripthash_slabs.specs.Slab.{slabUsed}
 use Rattle.scripthash_fields.specs.Page.{createsFieldOf}
 use Rattle.scripthash_pages.proofs.LawsAppended.{count-least}
 use Rattle.scripthash_free.specs.FreeList.{Block, isBlock}
-use Rattle.plain_book.specs.Key.{Kept, Page, Place, empty, inline, slab, pages, Key, totalOf, noPage, headOf}
+use Rattle.plain_book.specs.Key.{pages, Key, totalOf, noPage, headOf}
 use Rattle.plain_book.specs.Sound.{Fits, SoundKey}
 use Rattle.plain_book.specs.Owners.{pageAt, slabAt, pageIn}
 use Rattle.plain_book.proofs.LawsOwners.{some-inj, none-some}
@@ -33,12 +33,12 @@ use Rattle.book_keys.specs.Keys.{pageAt as pageBytes}
 use Rattle.book_keys.proofs.LawsSlab.{slab-sound}
 use Rattle.book_keys.proofs.LawsPages.{last-sound}
 use Rattle.book_keys.proofs.LawsChain.{chain-sound}
-use Rattle.book_keys.proofs.LawsContent.{inSlab, inPages, was-slab, was-pages, was-content, slab-from-two}
-use Rattle.book_history.specs.Agrees.{scanOf, firstOff, SlabReads, LastReads, SlabIn, PageIn}
+use Rattle.book_keys.proofs.LawsContent.{was-slab, was-pages, was-content, slab-from-two}
+use Rattle.book_history.specs.Agrees.{firstOff, SlabReads, LastReads, SlabIn, PageIn}
 use Rattle.book_history.specs.PlainOf.{keptBy, pageFrom, pagesFrom, placeFrom, countedFrom, listFrom, keyFrom}
 use Rattle.book_history.proofs.LawsWords.{inline-told}
 use Rattle.book_history.proofs.LawsStartApart.{blockNo}
-use Rattle.book_history.proofs.LawsStartPages.{PagesRead, walk-offs, pages-read}
+use Rattle.book_history.proofs.LawsStartPages.{walk-offs, pages-read}
 
 -- ---- what is known of a key
 
@@ -173,6 +173,9 @@ module _ (s : Space) where
       → (v : ShHeadValue) × (unpackHead word ≡ accepted v) × KeyRead s (keyFrom s word) v (c .blocks)
   unfolding keyFrom listFrom
   key-read word c e =
-      let (v, told, at) = was-content s word c e in
-      (v, told, rw (e, told)
-      (place-read v c (λ entry used is. inline-told word entry used (told ∙ ap accepted is)) (λ class used off is. slab-from-two word class used off (told ∙ ap accepted is)) at))
+      let (v, told, at) = was-content s word c e in (
+        v,
+        told,
+        rw (e, told)
+            (place-read v c (λ entry used is. inline-told word entry used (told ∙ ap accepted is)) (λ class used off is. slab-from-two word class used off (told ∙ ap accepted is)) at),
+      )

@@ -1,4 +1,4 @@
--- Head words that hold their list themselves: none, or one number. Assumes nothing.
+-- What head words tell: the word that stores a place tells it, and a word without a block is 0 or the number itself. Assumes nothing.
 use Prim.Native.Nat.{ℕ, _^_, _<_}
 use mathlib.Core.Bool.{Bool, true, false, cond, true≢false}
 use mathlib.Core.Path.{_≡_, refl, sym, ap, _∙_}
@@ -10,6 +10,13 @@ use Rattle.error.proofs.LawsAnswer.{accepted-inj, passed}
 use Rattle.scripthash_layout.specs.Head.{modeOf, payloadOf, offsetOf, usedOf, classOf, unpackHead}
 use Rattle.scripthash_layout.specs.declared.head.ShHeadValue.{ShHeadValue}
 use Rattle.scripthash_layout.specs.declared.head.ShHeadValue.the-variants.{Empty, Inline, Slab, Extent}
+use Rattle.plain_book.proofs.LawsHeads.{Told}
+use Rattle.book.specs.Book.{headWord}
+
+-- The word that stores a place tells it.
+pub stored-told : {v : ShHeadValue} → Told v → unpackHead (headWord v) ≡ accepted v
+unfolding headWord
+stored-told t = rw (t .packs) (t .unpacks)
 
 -- What a word tells has no block.
 abbrev blockless : ShHeadValue → Bool
