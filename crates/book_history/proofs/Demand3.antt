@@ -46,11 +46,11 @@ module _ (body : List ℕ) (heads : ℕ) (cs : List Call) where
   -- In shape a fresh book is a good start; out of shape every call is turned back.
   fresh-like : (out : Bool) → outOfShape (length body) heads ≡ out → Like (plainFresh (length body) heads)
   fresh-like true e =
-      let plain : outOfShape (length body) (length (plainFresh (length body) heads .keys)) ≡ true = rw (length-replicate heads emptyKey) e in
+      let p = plainFresh (length body) heads in
+      let out : outOfShape (p .size) (length (p .keys)) ≡ true = rw (length-replicate heads emptyKey) e in
       let keys = fresh-agrees body heads .count in (
         answers-alike each-alike _ _ cs (fresh-good (length body) heads) (fresh-agrees body heads),
-        subst₂ Standing (sym (plain-still (plainFresh (length body) heads) cs plain)) (sym (bytes-still (fresh body heads) cs (rw keys plain)))
-            (fresh-stands body heads plain),
+        subst₂ Standing (sym (plain-still p cs out)) (sym (bytes-still (fresh body heads) cs (rw keys out))) (fresh-stands body heads out),
       )
   fresh-like false e = subst Like (fresh-plain body heads) (demand-3-from (fresh body heads) cs (fresh-start body heads e))
 

@@ -17,7 +17,7 @@ use Rattle.buffer.proofs.LawsOrder.{lt-or-ge}
 use Rattle.scripthash_layout.specs.Sizes.{slabBytes, pageClass}
 use Rattle.scripthash_layout.specs.Head.{unpackHead}
 use Rattle.scripthash_layout.specs.declared.head.ShHeadValue.{ShHeadValue}
-use Rattle.scripthash_free.specs.FreeList.{Block, isBlock, nextOf, Names}
+use Rattle.scripthash_free.specs.FreeList.{Block, nextOf, Names}
 use Rattle.scripthash_free.proofs.LawsBlock.{bytes-from-16}
 use Rattle.book_rules.specs.Limits.{outOfShape}
 use Rattle.plain_book.specs.Space.{stackOf}
@@ -41,6 +41,7 @@ use Rattle.book_history.specs.PlainOf.{placeFrom, countedFrom, listFrom,
 use Rattle.book_history.proofs.LawsTake.{part-start}
 use Rattle.book_history.proofs.LawsWords.{stored-told}
 use Rattle.book_history.proofs.LawsStartApart.{blockNo, no-in, two-apart}
+use Rattle.book_history.proofs.LawsStartPages.{BlockAs}
 use Rattle.book_history.proofs.LawsStartKeys.{KeyRead, key-read}
 
 -- ---- keys and stacks by their numbers
@@ -100,7 +101,8 @@ unfolding Names atDepth under
 names-under body head class d [] x n e = absurd (none-some e)
 names-under body head class d (o ∷ os) x (is, some', within, rest) e =
     ⊎-elim
-    (λ (deep, block). rw (eq-eqb d (length os) deep) (ap (λ (y : Block). nextOf body (y .off)) block ∙ names-top body (nextOf body o) os rest))
+    (λ (deep, block).
+    rw (eq-eqb d (length os) deep) (ap (λ (y : Block). nextOf body (y .off)) block ∙ names-top body (nextOf body o) os rest))
     (λ (other, there). rw (ne-eqb d (length os) other) (names-under body (nextOf body o) class d os x rest there))
     (below-top class d o os x e)
 
@@ -143,10 +145,12 @@ module _ (b : Book) (g : GoodStart b) where
   sound-all : (key : ℕ) → (c : Content) × (content (b .space) (wordOf key b) ≡ accepted c)
   sound-all key =
       ⊎-elim (λ (l : key < length (b .heads)). g .sound key l)
-      (λ (l : length (b .heads) ≤ key). (_, ap (content (b .space)) (beyond (b .heads) key l) ∙ word-none (b .space))) (lt-or-ge key (length (b .heads)))
+      (λ (l : length (b .heads) ≤ key). (_, ap (content (b .space)) (beyond (b .heads) key l) ∙ word-none (b .space)))
+      (lt-or-ge key (length (b .heads)))
 
   -- What is known of it.
-  known : (key : ℕ) → (v : ShHeadValue) × (unpackHead (wordOf key b) ≡ accepted v) × KeyRead (b .space) (keyOf key (plainOf b)) v (heldOf b key)
+  known : (key : ℕ) → (v : ShHeadValue) × (unpackHead (wordOf key b) ≡ accepted v)
+      × KeyRead (b .space) (keyOf key (plainOf b)) v (heldOf b key)
   unfolding blocksIn
   known key =
       let (c, e) = sound-all key in
@@ -158,7 +162,8 @@ module _ (b : Book) (g : GoodStart b) where
   unfolding blocksIn blockNo
   key-lies key i x e =
       ⊎-elim (λ (l : key < length (b .heads)). l)
-      (λ (l : length (b .heads) ≤ key). absurd (none-some (rw (beyond (b .heads) key l, word-none (b .space)) at e))) (lt-or-ge key (length (b .heads)))
+      (λ (l : length (b .heads) ≤ key). absurd (none-some (rw (beyond (b .heads) key l, word-none (b .space)) at e)))
+      (lt-or-ge key (length (b .heads)))
 
   -- A stack of the plain book is what its free list names.
   stack-is : (class : ℕ) → stackOf class (plainOf b .space) ≡ freedOf (b .space) class
@@ -166,37 +171,33 @@ module _ (b : Book) (g : GoodStart b) where
   stack-is class = stacks-at (b .space) (b .space .free) class
 
   -- Behind the nine classes no free list names anything.
-  freed-none : (class : ℕ) → pageClass < class → getD (b .space .free) class 0 ≡ 0
-  freed-none class l = let n = g .nine in beyond (b .space .free) class (omega arith)
+  freed-none : (class : ℕ) → 9 ≤ class → (getD (b .space .free) class 0 ≡ 0) × (freedOf (b .space) class ≡ [])
+  freed-none class l =
+      let n = g .nine in
+      let z = beyond (b .space .free) class (omega arith) in
+      (z, ap (namedFrom (b .space)) z ∙ named-end (b .space .mark / 16) (b .space .body) 0 refl)
 
   -- Each free list names its stack.
   named-all : (class : ℕ) → Names (b .space .body) (getD (b .space .free) class 0) (freedOf (b .space) class)
   unfolding Names
   named-all class =
-      ⊎-elim (λ (l : class < 9). g .ends class (omega arith))
-      (λ (l : 9 ≤ class).
-      let z = freed-none class (omega arith) in
-      rw (z, named-end (b .space .mark / 16) (b .space .body) 0 refl) refl) (lt-or-ge class 9)
+      ⊎-elim (λ (l : class < 9). g .ends class (omega arith)) (λ (l : 9 ≤ class). let (z, none') = freed-none class l in rw (none', z) refl)
+      (lt-or-ge class 9)
 
   -- The block at a depth of a stack is one of its free list's.
   stack-has : (class d : ℕ) (x : Block) → atDepth class d (stackOf class (plainOf b .space)) ≡ some x
       → (i : ℕ) × (class ≤ pageClass) × (i + suc d ≡ length (freedOf (b .space) class)) × (blockNo i (listOf b class) ≡ some x)
   stack-has class d x e =
-      let (i, sum, at) = depth-block class d (freedOf (b .space) class) x (rw (stack-is class) at e) in (
-        i,
-        ⊎-elim (λ (l : class < 9). omega arith)
-            (λ (l : 9 ≤ class).
-            let z = freed-none class (omega arith) in
-            let none-there : freedOf (b .space) class ≡ [] = ap (namedFrom (b .space)) z ∙ named-end (b .space .mark / 16) (b .space .body) 0 refl in
-            absurd (omega (arith, ap length none-there))) (lt-or-ge class 9),
-        sum,
-        at,
-      )
+      let (i, sum, at) = depth-block class d (freedOf (b .space) class) x (rw (stack-is class) at e) in
+      let low : class < 9 =
+      ⊎-elim (λ (l : class < 9). l) (λ (l : 9 ≤ class). absurd (omega (arith, ap length (freed-none class l .1)))) (lt-or-ge class 9) in
+      (i, omega arith, sum, at)
 
   -- ---- no two share a byte
 
   -- Blocks of keys.
-  two-held : (k l i j : ℕ) (x y : Block) → blockNo i (heldOf b k) ≡ some x → blockNo j (heldOf b l) ≡ some y → (k ≡ l → i ≢ j) → Disjoint x y
+  two-held : (k l i j : ℕ) (x y : Block) → blockNo i (heldOf b k) ≡ some x → blockNo j (heldOf b l) ≡ some y → (k ≡ l → i ≢ j)
+      → Disjoint x y
   two-held k l i j x y e f n = go (eqb k l) refl
     where
       go : (t : Bool) → eqb k l ≡ t → Disjoint x y
@@ -204,7 +205,8 @@ module _ (b : Book) (g : GoodStart b) where
           let same = eqb-true k l q in
           two-apart (heldOf b l) (key-apart b g l (key-lies l j y f)) i j x y (n same) (rw same at e) f
       go false q =
-          cross-in x y (heldOf b k) (heldOf b l) (keys-apart b g k l (eqb-false k l q) (key-lies k i x e) (key-lies l j y f)) (no-in i x (heldOf b k) e) (no-in j y (heldOf b l) f)
+          let apart = keys-apart b g k l (eqb-false k l q) (key-lies k i x e) (key-lies l j y f) in
+          cross-in x y (heldOf b k) (heldOf b l) apart (no-in i x (heldOf b k) e) (no-in j y (heldOf b l) f)
 
   -- Blocks of free lists.
   two-freed : (c c' d d' : ℕ) (x y : Block) → atDepth c d (stackOf c (plainOf b .space)) ≡ some x
@@ -221,14 +223,28 @@ module _ (b : Book) (g : GoodStart b) where
       go false q =
           let (i, low, sum, at) = stack-has c d x e in
           let (j, low', sum', at') = stack-has c' d' y f in
-          cross-in x y (listOf b c) (listOf b c') (lists-apart b g c c' (eqb-false c c' q) low low') (no-in i x (listOf b c) at) (no-in j y (listOf b c') at')
+          let apart = lists-apart b g c c' (eqb-false c c' q) low low' in
+          cross-in x y (listOf b c) (listOf b c') apart (no-in i x (listOf b c) at) (no-in j y (listOf b c') at')
 
   -- One of a key and one of a free list.
   held-freed : (k i c d : ℕ) (x y : Block) → blockNo i (heldOf b k) ≡ some x → atDepth c d (stackOf c (plainOf b .space)) ≡ some y
       → Disjoint x y
   held-freed k i c d x y e f =
       let (j, low, sum, at) = stack-has c d y f in
-      cross-in x y (heldOf b k) (listOf b c) (key-list-apart b g k c (key-lies k i x e) low) (no-in i x (heldOf b k) e) (no-in j y (listOf b c) at)
+      let apart = key-list-apart b g k c (key-lies k i x e) low in
+      cross-in x y (heldOf b k) (listOf b c) apart (no-in i x (heldOf b k) e) (no-in j y (listOf b c) at)
+
+  -- A key's slab, and its page at an index, among the blocks that it holds.
+  slab-no : (k : ℕ) (x : Block) → slabAt (places (plainOf b) k) ≡ some x → blockNo 0 (heldOf b k) ≡ some x
+  slab-no k x e = known k .2 .slabs x e .0
+
+  page-no : (k i : ℕ) (x : Block) → pageIn i (places (plainOf b) k) ≡ some x → blockNo i (heldOf b k) ≡ some x
+  page-no k i x e = known k .2 .pages i x e .0
+
+  -- A key's slab and a key's page.
+  slab-page : (k l j : ℕ) (x y : Block) → slabAt (places (plainOf b) k) ≡ some x → pageIn j (places (plainOf b) l) ≡ some y → Disjoint x y
+  slab-page k l j x y e f =
+      two-held k l 0 j x y (slab-no k x e) (page-no l j y f) (λ z w. one-kind (places (plainOf b) l) j x y (rw z at e) f)
 
   -- Those of any two owners.
   owners-apart : (v w : Owner) (x y : Block) → v ≢ w → has (plainOf b .space) (places (plainOf b)) none v ≡ some x
@@ -237,45 +253,39 @@ module _ (b : Book) (g : GoodStart b) where
   owners-apart hand w x y n e f = absurd (none-some e)
   owners-apart (stack c d) hand x y n e f = absurd (none-some f)
   owners-apart (stack c d) (stack c' d') x y n e f = two-freed c c' d d' x y e f (λ z w. n (ap₂ stack z w))
-  owners-apart (stack c d) (slabOf l) x y n e f = disjoint-sym y x (held-freed l 0 c d y x (known l .2 .slabs y f .0) e)
-  owners-apart (stack c d) (pageOf l j) x y n e f = disjoint-sym y x (held-freed l j c d y x (known l .2 .pages j y f .0) e)
+  owners-apart (stack c d) (slabOf l) x y n e f = disjoint-sym y x (held-freed l 0 c d y x (slab-no l y f) e)
+  owners-apart (stack c d) (pageOf l j) x y n e f = disjoint-sym y x (held-freed l j c d y x (page-no l j y f) e)
   owners-apart (slabOf k) hand x y n e f = absurd (none-some f)
-  owners-apart (slabOf k) (stack c d) x y n e f = held-freed k 0 c d x y (known k .2 .slabs x e .0) f
-  owners-apart (slabOf k) (slabOf l) x y n e f =
-      two-held k l 0 0 x y (known k .2 .slabs x e .0) (known l .2 .slabs y f .0) (λ z w. n (ap slabOf z))
-  owners-apart (slabOf k) (pageOf l j) x y n e f =
-      two-held k l 0 j x y (known k .2 .slabs x e .0) (known l .2 .pages j y f .0) (λ z w. one-kind (keyOf l (plainOf b) .place) j x y (rw z at e) f)
+  owners-apart (slabOf k) (stack c d) x y n e f = held-freed k 0 c d x y (slab-no k x e) f
+  owners-apart (slabOf k) (slabOf l) x y n e f = two-held k l 0 0 x y (slab-no k x e) (slab-no l y f) (λ z w. n (ap slabOf z))
+  owners-apart (slabOf k) (pageOf l j) x y n e f = slab-page k l j x y e f
   owners-apart (pageOf k i) hand x y n e f = absurd (none-some f)
-  owners-apart (pageOf k i) (stack c d) x y n e f = held-freed k i c d x y (known k .2 .pages i x e .0) f
-  owners-apart (pageOf k i) (slabOf l) x y n e f =
-      two-held k l i 0 x y (known k .2 .pages i x e .0) (known l .2 .slabs y f .0) (λ z w. one-kind (keyOf l (plainOf b) .place) i y x f (rw z at e))
-  owners-apart (pageOf k i) (pageOf l j) x y n e f =
-      two-held k l i j x y (known k .2 .pages i x e .0) (known l .2 .pages j y f .0) (λ z w. n (ap₂ pageOf z w))
+  owners-apart (pageOf k i) (stack c d) x y n e f = held-freed k i c d x y (page-no k i x e) f
+  owners-apart (pageOf k i) (slabOf l) x y n e f = disjoint-sym y x (slab-page l k i y x f e)
+  owners-apart (pageOf k i) (pageOf l j) x y n e f = two-held k l i j x y (page-no k i x e) (page-no l j y f) (λ z w. n (ap₂ pageOf z w))
 
   -- ---- each stands, and reads as it should
 
   -- The block at a depth of a stack stands below the mark, and names the offset under it.
   stack-reads : (class d : ℕ) (x : Block) → atDepth class d (stackOf class (plainOf b .space)) ≡ some x
-      → (isBlock (x .class) (x .off) (b .space .mark) ≡ true)
-      × (littleEndian (part (part (b .space .body) (x .off) (slabBytes (x .class))) 0 8) ≡ under d (stackOf class (plainOf b .space)))
+      → BlockAs (b .space) (λ bytes. littleEndian (part bytes 0 8) ≡ under d (stackOf class (plainOf b .space))) x
   stack-reads class d x e =
       let (i, low, sum, at) = stack-has class d x e in
-      let stands = each-in (Stands (b .space .mark)) x (listOf b class) (g .stand class low) (no-in i x (listOf b class) at) in
+      let there : atDepth class d (freedOf (b .space) class) ≡ some x = rw (stack-is class) at e in
       let big = bytes-from-16 (x .class) in (
-        stands,
+        each-in (Stands (b .space .mark)) x (listOf b class) (g .stand class low) (no-in i x (listOf b class) at),
         ap littleEndian (part-start (b .space .body) (x .off) (slabBytes (x .class)) 8 (omega arith))
-            ∙ rw (stack-is class) (names-under (b .space .body) _ class d (freedOf (b .space) class) x (named-all class) (rw (stack-is class) at e)),
+            ∙ rw (stack-is class) (names-under (b .space .body) _ class d (freedOf (b .space) class) x (named-all class) there),
       )
 
   -- Each owner's block.
   owner-reads : (w : Owner) (x : Block) → has (plainOf b .space) (places (plainOf b)) none w ≡ some x
-      → (isBlock (x .class) (x .off) (b .space .mark) ≡ true)
-      × BlockReads (plainOf b .space) (contentsOf (plainOf b)) w (part (b .space .body) (x .off) (slabBytes (x .class)))
+      → BlockAs (b .space) (BlockReads (plainOf b .space) (contentsOf (plainOf b)) w) x
   unfolding has
   owner-reads hand x e = absurd (none-some e)
   owner-reads (stack class d) x e = stack-reads class d x e
-  owner-reads (slabOf k) x e = let (no', stands, reads) = known k .2 .slabs x e in (stands, reads)
-  owner-reads (pageOf k i) x e = let (no', stands, reads) = known k .2 .pages i x e in (stands, reads)
+  owner-reads (slabOf k) x e = known k .2 .slabs x e .1
+  owner-reads (pageOf k i) x e = known k .2 .pages i x e .1
 
   -- ---- so it is good, and stands for the start
 

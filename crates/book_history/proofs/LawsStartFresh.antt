@@ -1,5 +1,5 @@
 -- A fresh book in shape is a good start, and its plain book is the fresh one. Assumes nothing.
-use Prim.Native.Nat.{ℕ, zero, suc, _+_, _/_}
+use Prim.Native.Nat.{ℕ, zero, suc, _+_, _/_, _≤_}
 use mathlib.Core.Bool.{false}
 use mathlib.Core.List.{List, [], _∷_}
 use mathlib.Core.Path.{_≡_, refl, sym, ap, ap₂, subst, _∙_}
@@ -57,8 +57,9 @@ module _ (body : List ℕ) (heads : ℕ) where
   pub fresh-start : outOfShape (length body) heads ≡ false → GoodStart (fresh body heads)
   unfolding shapeBroken markBad Names Each blocksAt AllApart
   fresh-start shape =
+      let low : 4096 ≤ length body = omega (arith, in-shape (length body) heads shape .least) in
       record {
-        shape = rw (length-replicate {A = ℕ} heads 0, shape, le-ltb (length body) 4096 (omega (arith, in-shape (length body) heads shape .least)));
+        shape = rw (length-replicate {A = ℕ} heads 0, shape, le-ltb (length body) 4096 low);
         nine = refl;
         sound = λ key l. (_, ap (content (fresh body heads .space)) (all-same 0 heads key) ∙ word-none (fresh body heads .space));
         ends = λ class l. rw (all-same {A = ℕ} 0 9 class, none-named (fresh body heads .space)) refl;

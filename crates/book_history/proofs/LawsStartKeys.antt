@@ -12,8 +12,7 @@ use lib.ListN.{length, drop}
 use borrow.Author.Tests.{eqb-true, eq-eqb}
 use Rattle.error.specs.Refusal.{accepted}
 use Rattle.error.proofs.LawsAnswer.{accepted-inj}
-use Rattle.buffer.specs.Bytes.{part}
-use Rattle.scripthash_layout.specs.Sizes.{slabBytes, pageSize}
+use Rattle.scripthash_layout.specs.Sizes.{pageSize}
 use Rattle.scripthash_layout.specs.Head.{unpackHead}
 use Rattle.scripthash_layout.specs.declared.head.ShHeadValue.{ShHeadValue}
 use Rattle.scripthash_layout.specs.declared.head.ShHeadValue.the-variants.{Empty, Inline, Slab, Extent}
@@ -22,13 +21,14 @@ use Rattle.scripthash_stream.proofs.LawsScan.{scan-accepted}
 use Rattle.scripthash_slabs.specs.Slab.{slabUsed}
 use Rattle.scripthash_fields.specs.Page.{createsFieldOf}
 use Rattle.scripthash_pages.proofs.LawsAppended.{count-least}
-use Rattle.scripthash_free.specs.FreeList.{Block, isBlock}
-use Rattle.plain_book.specs.Key.{pages, Key, totalOf, noPage, headOf}
+use Rattle.scripthash_free.specs.FreeList.{Block}
+use Rattle.plain_book.specs.Key.{Kept, slab, pages, Key, totalOf, noPage, headOf}
 use Rattle.plain_book.specs.Sound.{Fits, SoundKey}
 use Rattle.plain_book.specs.Owners.{pageAt, slabAt, pageIn}
 use Rattle.plain_book.proofs.LawsOwners.{some-inj, none-some}
 use Rattle.book_space.specs.Space.{Space}
-use Rattle.book_keys.specs.Keys.{goodExtent, blockAt, slabScan, Last, lastAt, Chain, totalGood, chainAt, Content, pageBlocks, contentAt, content}
+use Rattle.book_keys.specs.Keys.{goodExtent, blockAt, slabScan, Last, lastAt, Chain, totalGood, chainAt, Content, pageBlocks, contentAt}
+use Rattle.book_keys.specs.Keys.{content}
 use Rattle.book_keys.specs.Keys.{pageAt as pageBytes}
 use Rattle.book_keys.proofs.LawsSlab.{slab-sound}
 use Rattle.book_keys.proofs.LawsPages.{last-sound}
@@ -38,7 +38,7 @@ use Rattle.book_history.specs.Agrees.{firstOff, SlabReads, LastReads, Sl
 use Rattle.book_history.specs.PlainOf.{keptBy, pageFrom, pagesFrom, placeFrom, countedFrom, listFrom, keyFrom}
 use Rattle.book_history.proofs.LawsWords.{inline-told}
 use Rattle.book_history.proofs.LawsStartApart.{blockNo}
-use Rattle.book_history.proofs.LawsStartPages.{walk-offs, pages-read}
+use Rattle.book_history.proofs.LawsStartPages.{BlockAs, walk-offs, pages-read}
 
 -- ---- what is known of a key
 
@@ -47,11 +47,9 @@ use Rattle.book_history.proofs.LawsStartPages.{walk-offs, pages-read}
 pub record KeyRead (s : Space) (k : Key) (v : ShHeadValue) (blocks : List Block) : Type 0 where
   pub sound : SoundKey k
   pub head : headOf (k .list) (k .place) ≡ v
-  pub slabs : (x : Block) → slabAt (k .place) ≡ some x
-      → (blockNo 0 blocks ≡ some x) × (isBlock (x .class) (x .off) (s .mark) ≡ true) × SlabIn (k .place) (part (s .body) (x .off) (slabBytes (x .class)))
+  pub slabs : (x : Block) → slabAt (k .place) ≡ some x → (blockNo 0 blocks ≡ some x) × BlockAs s (SlabIn (k .place)) x
   pub pages : (i : ℕ) (x : Block) → pageIn i (k .place) ≡ some x
-      → (blockNo i blocks ≡ some x) × (isBlock (x .class) (x .off) (s .mark) ≡ true)
-      × PageIn (totalOf k) i (k .place) (part (s .body) (x .off) (slabBytes (x .class)))
+      → (blockNo i blocks ≡ some x) × BlockAs s (PageIn (totalOf k) i (k .place)) x
 
 module _ (s : Space) where
   -- The key of a head value that holds some numbers.
@@ -91,14 +89,15 @@ module _ (s : Space) where
       let fits = k .taken-fits in
       let each = scan-accepted 0 (slabUsed (blockAt s class off)) (drop 2 (blockAt s class off)) c (k .payload .scanned) .at-least in
       let least = count-least 0 (c .numbers) in
+      let kept : Kept = record { numbers = c .numbers; bytes = c .taken } in
+      let reads : SlabReads kept (blockAt s class off) =
+      record { used = k .stored ∙ sym n; reads = k .payload .into (length (c .numbers)) (le-refl (length (c .numbers))) } in
+      let fit : Fits (c .numbers) (slab class off kept) = (refl, omega arith, k .class-to-7, omega arith, omega arith, omega arith) in
       rw is
       (record {
-        sound = record { rises = k .rising; fits = (refl, omega arith, k .class-to-7, omega arith, omega arith, omega arith); known = refl };
+        sound = record { rises = k .rising; fits = fit; known = refl };
         head = rw n;
-        slabs = λ x e.
-            subst (λ (y : Block). (some (record { class = class; off = off }) ≡ some y) × (isBlock (y .class) (y .off) (s .mark) ≡ true)
-            × SlabReads (record { numbers = c .numbers; bytes = c .taken }) (part (s .body) (y .off) (slabBytes (y .class)))) (some-inj e)
-            (refl, k .stands, record { used = k .stored ∙ sym n; reads = k .payload .into (length (c .numbers)) (le-refl (length (c .numbers))) });
+        slabs = λ x e. (e, subst (BlockAs s (SlabReads kept)) (some-inj e) (k .stands, reads));
         pages = λ i x e. absurd (none-some e);
       })
 
@@ -142,29 +141,29 @@ module _ (s : Space) where
       let first = k .header .first in
       let total = cond (not (eqb (createsFieldOf (pageBytes s last)) 0)) (length (c .numbers)) 0 in
       let (os, offs) = walk-offs (s .mark / pageSize) s last 0 first c (k .walks) in
-      let p = pages-read (s .mark / pageSize) s first total last (last-reads last (k .header) (length (c .numbers)) (k .header-is) (k .creates)) 0 first c (k .walks) in
+      let header = last-reads last (k .header) (length (c .numbers)) (k .header-is) (k .creates) in
+      let p = pages-read (s .mark / pageSize) s first total last header 0 first c (k .walks) in
       let begins : firstOff (pagesFrom s (c .offs)) ≡ first = ap (λ (xs : List ℕ). firstOff (pagesFrom s xs)) offs in
       rw is
       (record {
         sound = record { rises = p .rises; fits = (p .holds, p .fit); known = tt };
         head = ap Extent (p .ends noPage);
         slabs = λ x e. absurd (none-some e);
-        pages = λ i x e. let (stands, reads) = p .each i x e in (sym (pages-blocks i (c .offs)) ∙ e, stands, rw begins reads);
+        pages = λ i x e. (sym (pages-blocks i (c .offs)) ∙ e, rw begins (p .each i x e));
       })
 
-  -- What is known of the key of a head value that holds something.
-  place-read : (v : ShHeadValue) (c : Content) → ((entry used : ℕ) → v ≡ Inline entry used → (used ≡ 1) × (0 < entry) × (entry < 2 ^ 62))
-      → ((class used off : ℕ) → v ≡ Slab class used off → 2 ≤ used)
-      → contentAt s v ≡ accepted c → KeyRead s (keyAt v (c .numbers)) v (c .blocks)
+  -- What is known of the key of a word whose place holds something.
+  place-read : (word : ℕ) (v : ShHeadValue) (c : Content) → unpackHead word ≡ accepted v → contentAt s v ≡ accepted c
+      → KeyRead s (keyAt v (c .numbers)) v (c .blocks)
   unfolding contentAt
-  place-read Empty c number two e = rw (← accepted-inj e) empty-read
-  place-read (Inline entry used) c number two e =
-      let (one, some', low) = number entry used refl in
+  place-read word Empty c told e = rw (← accepted-inj e) empty-read
+  place-read word (Inline entry used) c told e =
+      let (one, some', low) = inline-told word entry used told in
       rw (← accepted-inj e) (inline-read entry used one some' low)
-  place-read (Slab class used off) c number two e =
+  place-read word (Slab class used off) c told e =
       let (got, is, same) = was-slab s class used off c e in
-      rw (← same) (slab-read class used off got is (two class used off refl))
-  place-read (Extent last) c number two e =
+      rw (← same) (slab-read class used off got is (slab-from-two word class used off told))
+  place-read word (Extent last) c told e =
       let (got, is, same) = was-pages s last c e in
       rw (← same) (pages-key last got is)
 
@@ -172,10 +171,4 @@ module _ (s : Space) where
   pub key-read : (word : ℕ) (c : Content) → content s word ≡ accepted c
       → (v : ShHeadValue) × (unpackHead word ≡ accepted v) × KeyRead s (keyFrom s word) v (c .blocks)
   unfolding keyFrom listFrom
-  key-read word c e =
-      let (v, told, at) = was-content s word c e in (
-        v,
-        told,
-        rw (e, told)
-            (place-read v c (λ entry used is. inline-told word entry used (told ∙ ap accepted is)) (λ class used off is. slab-from-two word class used off (told ∙ ap accepted is)) at),
-      )
+  key-read word c e = let (v, told, at) = was-content s word c e in (v, told, rw (e, told) (place-read word v c told at))

@@ -5,7 +5,7 @@ use mathlib.Core.Bool.{Bool, true, false, cond}
 use mathlib.Core.List.{List, [], _∷_, _++_, append-nil}
 use mathlib.Core.Logic.{⊎-elim}
 use mathlib.Core.Option.{some}
-use mathlib.Core.Path.{_≡_, refl, sym, ap, subst, _∙_}
+use mathlib.Core.Path.{_≡_, refl, sym, ap, ap₂, subst, _∙_}
 use native.Mathlib.Omega.{arith}
 use Rattle.error.specs.Refusal.{accepted}
 use Rattle.error.proofs.LawsAnswer.{refused≢accepted}
@@ -29,6 +29,10 @@ use Rattle.book_keys.proofs.LawsPages.{link-sound}
 use Rattle.book_keys.proofs.LawsWalk.{Ends, GoesOn, walk-step}
 use Rattle.book_history.specs.Agrees.{scanOf, PageReads, LastReads, NextReads, ChainReads}
 use Rattle.book_history.specs.PlainOf.{keptBy, pageFrom, pagesFrom}
+
+-- A block stands below the mark, and its bytes are so.
+abbrev pub BlockAs : Space → (List ℕ → Type 0) → Block → Type 0
+BlockAs s P x = (isBlock (x .class) (x .off) (s .mark) ≡ true) × P (part (s .body) (x .off) (slabBytes (x .class)))
 
 -- ---- one page
 
@@ -74,9 +78,7 @@ pub record PagesRead (s : Space) (first total last prev : ℕ) (numbers offs : L
   pub rises : Rising (2 ^ 62) prev numbers
   pub fit : FitPages (pagesFrom s offs)
   pub ends : (page : Page) → lastPage page (pagesFrom s offs) .off ≡ last
-  pub each : (i : ℕ) (x : Block) → pageAt i (pagesFrom s offs) ≡ some x
-      → (isBlock (x .class) (x .off) (s .mark) ≡ true)
-      × ChainReads first total i (pagesFrom s offs) (part (s .body) (x .off) (slabBytes (x .class)))
+  pub each : (i : ℕ) (x : Block) → pageAt i (pagesFrom s offs) ≡ some x → BlockAs s (ChainReads first total i (pagesFrom s offs)) x
 
 -- A walk's offsets begin with the one that it begins at.
 pub walk-offs : (k : ℕ) (s : Space) (last prev off : ℕ) (c : Chain) → walk k s last prev off ≡ accepted c
@@ -92,10 +94,8 @@ module _ (s : Space) (first total last : ℕ) (header : LastReads first total (p
     (is : linkScan s prev off ≡ accepted c) where
   -- What is read in the first page of a walk is read in its block.
   first-block : (P : List ℕ → Type 0) → P (pageBytes s off) → (x : Block) → some (record { class = pageClass; off = off }) ≡ some x
-      → (isBlock (x .class) (x .off) (s .mark) ≡ true) × P (part (s .body) (x .off) (slabBytes (x .class)))
-  first-block P p x e =
-      subst (λ (y : Block). (isBlock (y .class) (y .off) (s .mark) ≡ true) × P (part (s .body) (y .off) (slabBytes (y .class)))) (some-inj e)
-      (link-sound s prev off c is .stands, p)
+      → BlockAs s P x
+  first-block P p x e = subst (BlockAs s P) (some-inj e) (link-sound s prev off c is .stands, p)
 
   -- The key's last page.
   one-read : off ≡ last → PagesRead s first total last prev (c .numbers) (off ∷ [])
@@ -109,8 +109,7 @@ module _ (s : Space) (first total last : ℕ) (header : LastReads first total (p
         each = each;
       }
     where
-      each : (i : ℕ) (x : Block) → pageAt i (pageFrom s off ∷ []) ≡ some x
-          → (isBlock (x .class) (x .off) (s .mark) ≡ true) × ChainReads first total i (pageFrom s off ∷ []) (part (s .body) (x .off) (slabBytes (x .class)))
+      each : (i : ℕ) (x : Block) → pageAt i (pageFrom s off ∷ []) ≡ some x → BlockAs s (ChainReads first total i (pageFrom s off ∷ [])) x
       each zero x f =
           first-block (λ bytes. PageReads (pageFrom s off) bytes × LastReads first total bytes)
           (page-reads s prev off c is, subst (λ (o : ℕ). LastReads first total (pageBytes s o)) (sym e) header) x f
@@ -124,16 +123,15 @@ module _ (s : Space) (first total last : ℕ) (header : LastReads first total (p
   unfolding pageFrom pagesFrom held FitPages lastPage pageAt ChainReads
   more-read ns next os more to rest =
       record {
-        holds = ap (λ (k : Kept). k .numbers ++ held (pagesFrom s (next ∷ os))) (part-is s prev off c is) ∙ ap (λ (ms : List ℕ). c .numbers ++ ms) (rest .holds);
+        holds = ap₂ (λ (k : Kept) (ms : List ℕ). k .numbers ++ ms) (part-is s prev off c is) (rest .holds);
         rises = rising-append (2 ^ 62) prev (c .numbers) ns (link-sound s prev off c is .going .rising) (rest .rises);
         fit = (page-fits s prev off c is, rest .fit);
         ends = λ page. rest .ends (pageFrom s off);
         each = each;
       }
     where
-      each : (i : ℕ) (x : Block) → pageAt i (pageFrom s off ∷ pagesFrom s (next ∷ os)) ≡ some x
-          → (isBlock (x .class) (x .off) (s .mark) ≡ true)
-          × ChainReads first total i (pageFrom s off ∷ pagesFrom s (next ∷ os)) (part (s .body) (x .off) (slabBytes (x .class)))
+      each : (i : ℕ) (x : Block) → pageAt i (pagesFrom s (off ∷ next ∷ os)) ≡ some x
+          → BlockAs s (ChainReads first total i (pagesFrom s (off ∷ next ∷ os))) x
       each zero x f =
           first-block (λ bytes. PageReads (pageFrom s off) bytes × NextReads next bytes)
           (page-reads s prev off c is, record { more = more; next = to }) x f

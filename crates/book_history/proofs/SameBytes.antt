@@ -90,13 +90,13 @@ module _ (p q : PlainBook) (b d : Book) (g : GoodPlain p) (h : GoodPlain q) (agr
 
 -- ---- after any calls on good starts
 
--- Histories from good starts that end in the same heads, body and state have the same recorded for each key, with what it was read as at the
--- start.
+-- Histories from good starts that end alike have the same recorded for each key, with what it was read as at the start.
 pub records-fixed-from : (b d : Book) (cs ds : List Call) → GoodStart b → GoodStart d → after b cs ≡ after d ds → (key : ℕ)
     → recorded key cs (answers b cs) (startList b key) ≡ recorded key ds (answers d ds) (startList d key)
 records-fixed-from b d cs ds g h same key =
     ap (recorded key cs (answers b cs)) (sym (start-list b key))
-    ∙ records-good (plainOf b) (plainOf d) b d (start-good b g) (start-good d h) (start-agrees b g) (start-agrees d h) cs ds same (start-shape b g) key
+    ∙ records-good (plainOf b) (plainOf d) b d (start-good b g) (start-good d h) (start-agrees b g) (start-agrees d h) cs ds same
+    (start-shape b g) key
     ∙ ap (recorded key ds (answers d ds)) (start-list d key)
 
 -- ---- after any calls on fresh books

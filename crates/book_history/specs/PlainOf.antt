@@ -56,7 +56,11 @@ listFrom s word = told (λ c. c .numbers) (content s word) []
 -- The key of a head word.
 unfoldable pub keyFrom : Space → ℕ → Key
 keyFrom s word =
-    record { list = listFrom s word; place = told (placeFrom s) (unpackHead word) empty; counted = told (countedFrom s) (unpackHead word) true }
+    record {
+      list = listFrom s word;
+      place = told (placeFrom s) (unpackHead word) empty;
+      counted = told (countedFrom s) (unpackHead word) true;
+    }
 
 -- The keys of head words.
 unfoldable pub keysFrom : Space → List ℕ → List Key
