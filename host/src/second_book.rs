@@ -289,10 +289,14 @@ fn put_run(body: &mut [u8], state: &mut State, fks: &[u64]) -> Result<(u64, u64)
     Ok((off, parts.len() as u64))
 }
 
-/// Appends a number to the last page of a chain, or where that is full to a page that is taken, and tells which is the last one then.
+/// Appends a number to the last page of a chain, or where that is full to a page that is taken, and tells which is the last one then. A
+/// total that was never counted, 0, stays unknown.
 fn append_page(body: &mut [u8], state: &mut State, off: u64, fk: u64) -> Result<u64, Refused> {
     let page = page_mut(body, off);
-    let creates = pages::sh_page_extent_creates(page) + 1;
+    let creates = match pages::sh_page_extent_creates(page) {
+        0 => 0,
+        n => n + 1,
+    };
     if pages::sh_page_try_append(page, Fk(fk)).expect("a sound page") {
         pages::sh_page_set_extent_creates(page, creates);
         return Ok(off);

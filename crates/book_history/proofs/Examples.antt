@@ -1,5 +1,5 @@
 -- Small histories on a book over bytes, with the run case of document 01: each answer is computed. Assumes nothing.
-use Prim.Native.Nat.{ℕ, zero, suc, _+_, _^_}
+use Prim.Native.Nat.{ℕ, zero, suc, _+_, _*_, _^_}
 use mathlib.Core.List.{List, [], _∷_, _++_}
 use mathlib.Core.Path.{_≡_, refl}
 use lib.ListN.{replicate, set}
@@ -13,25 +13,26 @@ use Rattle.scripthash_stream.specs.Stream.{lastFrom, streamFrom, streamLenFrom,
 use Rattle.scripthash_slabs.specs.Class.{firstClass, classFor, classWithSlack}
 use Rattle.scripthash_slabs.specs.Slab.{slabPayload, decodeSlab}
 use Rattle.scripthash_cutting.specs.Cutting.{fitting, firstPart, greedyParts, replaceLast}
-use Rattle.scripthash_fields.specs.Page.{field, setField, nextOff, deltaHeader, extentHeader, pageOf}
+use Rattle.scripthash_fields.specs.Page.{field, setField, createsFieldOf, nextOff, deltaHeader, extentHeader, pageOf}
 use Rattle.scripthash_pages.specs.Entries.{streamPlace, pageScan, spotBehind, oneMore, withAppended}
 use Rattle.scripthash_free.specs.FreeList.{isBlock, pushed, popFree, largestUpTo, blockThen, carve, pushAll}
-use Rattle.book_rules.specs.Calls.{Call, load, append, read, drop, Told, loaded, appended, listed, dropped, bookAfter, answersTo}
+use Rattle.book_rules.specs.Calls.{Call, load, append, read, drop, Told, loaded, appended, listed, dropped, bookAfter, afterCalls}
+use Rattle.book_rules.specs.Calls.{answersTo}
 use Rattle.book_rules.specs.Limits.{outOfShape, offeredNumber, offeredList}
 use Rattle.book_rules.specs.Places.{stays, larger, movesTo, loadsTo}
 use Rattle.book_space.specs.Space.{markBad, shapeBroken, takeMark, rounded, takeRun, takeFresh, takePopped, takeBlock, release}
-use Rattle.book_keys.specs.Keys.{soundly, sure, goOn, slabScan, linkScan, goodExtent, lastAt, linked, walk, chainAt, pageBlocks, contentAt}
-use Rattle.book_keys.specs.Keys.{content, createsGood, tailAt}
+use Rattle.book_keys.specs.Keys.{soundly, sure, goOn, slabScan, linkScan, goodExtent, lastAt, linked, walk, totalGood, chainAt, pageBlocks}
+use Rattle.book_keys.specs.Keys.{contentAt, content, createsGood, tailAt}
 use Rattle.book.specs.Book.{Book, book, fresh, headWord, onKey}
-use Rattle.book_blocks.specs.Blocks.{slabWith, pageWith, pageBefore, writeRun}
+use Rattle.book_blocks.specs.Blocks.{slabWith, lastPageOf, totalWith, pageWith, pageBefore, writeRun}
 use Rattle.book.specs.Appends.{movesInto, moves, appendSlab, growChain, appendPage, appendAt, appends}
 use Rattle.book.specs.Loads.{loadInto, loadAt, loads}
 use Rattle.book.specs.Reads.{reads, drops}
-use Rattle.book.specs.Calls.{answers, does}
+use Rattle.book.specs.Calls.{after, answers, does}
 
 -- The answers to some calls.
 unfoldable pub runs : Book → List Call → List (Answer Told)
-unfolding refuseIf andThen answered part overwrite isForm value formAt overflows readForm readUleb divided ulebLen shortest packHead unpackHead lastFrom streamFrom streamLenFrom storedNumber nextNumber scanFrom decodeStream firstClass classFor classWithSlack slabPayload decodeSlab fitting firstPart greedyParts replaceLast field setField nextOff deltaHeader extentHeader pageOf streamPlace pageScan spotBehind oneMore withAppended isBlock pushed popFree largestUpTo blockThen carve pushAll bookAfter answersTo outOfShape offeredNumber offeredList stays larger movesTo loadsTo markBad shapeBroken takeMark rounded takeRun takeFresh takePopped takeBlock release soundly sure goOn slabScan linkScan goodExtent lastAt linked walk chainAt pageBlocks contentAt content createsGood tailAt headWord onKey movesInto moves slabWith appendSlab pageWith pageBefore growChain appendPage appendAt appends writeRun loadInto loadAt loads reads drops does
+unfolding refuseIf andThen answered part overwrite isForm value formAt overflows readForm readUleb divided ulebLen shortest packHead unpackHead lastFrom streamFrom streamLenFrom storedNumber nextNumber scanFrom decodeStream firstClass classFor classWithSlack slabPayload decodeSlab fitting firstPart greedyParts replaceLast field setField nextOff deltaHeader extentHeader pageOf streamPlace pageScan spotBehind oneMore withAppended isBlock pushed popFree largestUpTo blockThen carve pushAll bookAfter answersTo outOfShape offeredNumber offeredList stays larger movesTo loadsTo markBad shapeBroken takeMark rounded takeRun takeFresh takePopped takeBlock release soundly sure goOn slabScan linkScan goodExtent lastAt linked walk totalGood chainAt pageBlocks contentAt content createsGood tailAt headWord onKey movesInto moves slabWith appendSlab totalWith pageWith pageBefore growChain appendPage appendAt appends writeRun loadInto loadAt loads reads drops does
 runs b cs = answers b cs
 
 -- An append that is accepted: the key's new place, and the records rewritten.
@@ -92,3 +93,31 @@ pub damaged : (runs (book (bodyOf 8192) (slabWord 0 2 4096 ∷ []) 4112 (replica
     × (runs (book (bodyOf 8192) (5 ∷ []) 8200 (replicate 9 0)) (read 0 1 ∷ []) ≡ refused 1 ∷ [])
 unfolding runs
 damaged = (refl, refl, refl, refl)
+
+-- A body whose second page is a key's last, with a total, and that key's head word.
+abbrev pub pageBook : ℕ → List ℕ → Book
+pageBook creates ns = book (overwrite (bodyOf 8192) 4096 (lastPageOf 4096 4096 1 creates ns)) ((3 * 2 ^ 62 + 4096) ∷ []) 8192 (replicate 9 0)
+
+-- The total that it tells after some calls.
+unfoldable pub totalAfter : Book → List Call → ℕ
+unfolding runs afterCalls
+totalAfter b cs = createsFieldOf (part (after b cs .space .body) 4096 4096)
+
+-- A total of 0 says that it was never counted: such a key is read, appended to, which leaves it 0, and dropped. One that is the length
+-- counts on, and another is no sound key's for a read or a drop, while an append looks at the last page only.
+pub never-counted :
+    (runs (pageBook 0 (5 ∷ 9 ∷ [])) (read 0 2 ∷ append 0 300 ∷ read 0 3 ∷ drop 0 ∷ []) ≡ lists-as (5 ∷ 9 ∷ []) 1 ∷ at (Extent 4096) 0 ∷ lists-as (5 ∷ 9 ∷ 300 ∷ []) 1
+    ∷ accepted (dropped (record { length = 3 })) ∷ [])
+    × (totalAfter (pageBook 0 (5 ∷ 9 ∷ [])) (append 0 300 ∷ []) ≡ 0)
+    × (totalAfter (pageBook 2 (5 ∷ 9 ∷ [])) (append 0 300 ∷ []) ≡ 3)
+    × (runs (pageBook 1 (5 ∷ 9 ∷ [])) (read 0 2 ∷ drop 0 ∷ append 0 300 ∷ []) ≡ refused 31 ∷ refused 31 ∷ at (Extent 4096) 0 ∷ [])
+unfolding runs totalAfter
+never-counted = (refl, refl, refl, refl)
+
+-- Two numbers in padded forms, 13 bytes in a slab of 16: a third fits, and a fourth moves the list, which shortest forms would leave there;
+-- its class is by shortest forms.
+pub padded : runs (book (overwrite (bodyOf 8192) 4096 (2 ∷ 0 ∷ 133 ∷ 128 ∷ 128 ∷ 128 ∷ 128 ∷ 128 ∷ 0 ∷ 129 ∷ 128 ∷ 128 ∷ 128 ∷ 128 ∷ 0 ∷ [])) (slabWord 0 2 4096 ∷ []) 4112 (replicate 9 0))
+    (append 0 7 ∷ append 0 8 ∷ read 0 4 ∷ [])
+    ≡ at (Slab 0 3 4096) 0 ∷ at (Slab 1 4 4112) 3 ∷ lists-as (5 ∷ 6 ∷ 7 ∷ 8 ∷ []) 0 ∷ []
+unfolding runs
+padded = refl

@@ -16,10 +16,10 @@ use Rattle.book_rules.specs.Calls.{Call, load, append, drop, bookAfter, afterCa
 use Rattle.book_rules.specs.Limits.{outOfShape, offeredNumber, offeredList}
 use Rattle.book_rules.specs.Places.{stays, larger, movesTo, loadsTo}
 use Rattle.book_space.specs.Space.{markBad, shapeBroken, takeMark, rounded, takeRun, takeFresh, takePopped, takeBlock, release}
-use Rattle.book_keys.specs.Keys.{soundly, sure, goOn, slabScan, linkScan, goodExtent, lastAt, linked, walk, chainAt, pageBlocks, contentAt}
-use Rattle.book_keys.specs.Keys.{content, createsGood, tailAt}
+use Rattle.book_keys.specs.Keys.{soundly, sure, goOn, slabScan, linkScan, goodExtent, lastAt, linked, walk, totalGood, chainAt, pageBlocks}
+use Rattle.book_keys.specs.Keys.{contentAt, content, createsGood, tailAt}
 use Rattle.book.specs.Book.{Book, fresh, headWord, onKey}
-use Rattle.book_blocks.specs.Blocks.{slabWith, pageWith, pageBefore, writeRun}
+use Rattle.book_blocks.specs.Blocks.{slabWith, totalWith, pageWith, pageBefore, writeRun}
 use Rattle.book.specs.Appends.{movesInto, moves, appendSlab, growChain, appendPage, appendAt, appends}
 use Rattle.book.specs.Loads.{loadInto, loadAt, loads}
 use Rattle.book.specs.Reads.{reads, drops}
@@ -31,7 +31,7 @@ use Rattle.book_history.proofs.Examples.{inARow, bodyOf}
 
 -- What a call names after others.
 unfoldable pub namedAfter : Book → List Call → Call → CallNames
-unfolding refuseIf andThen answered part overwrite isForm value formAt overflows readForm readUleb divided ulebLen shortest packHead unpackHead lastFrom streamFrom streamLenFrom storedNumber nextNumber scanFrom decodeStream firstClass classFor classWithSlack slabPayload decodeSlab fitting firstPart greedyParts replaceLast field setField nextOff deltaHeader extentHeader pageOf streamPlace pageScan spotBehind oneMore withAppended isBlock pushed popFree largestUpTo blockThen carve pushAll bookAfter afterCalls outOfShape offeredNumber offeredList stays larger movesTo loadsTo markBad shapeBroken takeMark rounded takeRun takeFresh takePopped takeBlock release soundly sure goOn slabScan linkScan goodExtent lastAt linked walk chainAt pageBlocks contentAt content createsGood tailAt headWord onKey movesInto moves slabWith appendSlab pageWith pageBefore growChain appendPage appendAt appends writeRun loadInto loadAt loads reads drops does both freeingAll takingPages taking filling writing moving growingSlab growingPage appendNames loadNames names
+unfolding refuseIf andThen answered part overwrite isForm value formAt overflows readForm readUleb divided ulebLen shortest packHead unpackHead lastFrom streamFrom streamLenFrom storedNumber nextNumber scanFrom decodeStream firstClass classFor classWithSlack slabPayload decodeSlab fitting firstPart greedyParts replaceLast field setField nextOff deltaHeader extentHeader pageOf streamPlace pageScan spotBehind oneMore withAppended isBlock pushed popFree largestUpTo blockThen carve pushAll bookAfter afterCalls outOfShape offeredNumber offeredList stays larger movesTo loadsTo markBad shapeBroken takeMark rounded takeRun takeFresh takePopped takeBlock release soundly sure goOn slabScan linkScan goodExtent lastAt linked walk totalGood chainAt pageBlocks contentAt content createsGood tailAt headWord onKey movesInto moves slabWith appendSlab totalWith pageWith pageBefore growChain appendPage appendAt appends writeRun loadInto loadAt loads reads drops does both freeingAll takingPages taking filling writing moving growingSlab growingPage appendNames loadNames names
 namedAfter b cs c = names (after b cs) c
 
 -- What is named.

@@ -26,19 +26,21 @@ use Rattle.book_rules.specs.Calls.{appended}
 use Rattle.book_rules.specs.Limits.{outOfShape}
 use Rattle.book_rules.proofs.LawsLimits.{in-shape}
 use Rattle.plain_book.specs.Space.{Space as PlainSpace, Taken as PlainTaken, takeBlock as plainTake}
-use Rattle.plain_book.specs.Key.{written, longer, Page, Place, pages, lastPage, noPage, headOf, Placed, longerPage, joins, joinedTo}
-use Rattle.plain_book.specs.Key.{begunAt, beginPage, appendPages, appendPlace}
-use Rattle.plain_book.specs.Book.{Book as PlainBook, Outcome as PlainOutcome, keyOf, withKey, extended, appends as plainAppends}
+use Rattle.plain_book.specs.Key.{written, longer, Page, Place, pages, lastPage, noPage, totalOf, headOf, Placed, longerPage, joins}
+use Rattle.plain_book.specs.Key.{joinedTo, begunAt, beginPage, appendPages, appendPlace}
+use Rattle.plain_book.specs.Book.{Book as PlainBook, Outcome as PlainOutcome, keyOf, extended, appends as plainAppends}
 use Rattle.plain_book.specs.Owners.{Owner, hand, stack, slabOf, pageOf, pageAt, pageIn, has, places}
 use Rattle.plain_book.specs.Good.{Good, GoodPlain}
 use Rattle.plain_book.proofs.LawsOwners.{some-inj, none-some, kindOf, depthOf, atKey, key-slab, key-page}
 use Rattle.plain_book.proofs.LawsTaking.{good-taken}
 use Rattle.plain_book.proofs.LawsBlocks.{joined-at}
 use Rattle.plain_book.proofs.LawsChain.{chain, mark-most, list-few}
+use Rattle.plain_book.proofs.LawsTotals.{total-most}
 use Rattle.book_space.specs.Space.{Space, space, Taken, takeBlock as takes}
 use Rattle.book_keys.specs.Keys.{goodExtent, Tail}
 use Rattle.book_keys.specs.Keys.{pageAt as pageBytes}
-use Rattle.book_blocks.specs.Blocks.{lastPageOf, pageWith, pageBefore}
+use Rattle.book_blocks.specs.Blocks.{lastPageOf, totalWith, pageWith, pageBefore}
+use Rattle.book_blocks.proofs.LawsTotals.{total-fits}
 use Rattle.book_blocks.proofs.LawsReadsMore.{spot-fits, spot-none, page-more, page-before}
 use Rattle.book.specs.Book.{Book}
 use Rattle.book.specs.Appends.{appending, growChain, appendPage, appendAt, appends}
@@ -50,7 +52,7 @@ use Rattle.book_history.proofs.LawsTake.{inHandOf, taken-then, take-agr
 use Rattle.book_history.proofs.LawsHand.{agrees-same, agrees-written, Filled, filled-whole, fill-agrees, fill-long, Meanwhile}
 use Rattle.book_history.proofs.LawsHand.{meanwhile-placed, withHand, placed-page}
 use Rattle.book_history.proofs.LawsContent.{last-written, some-pages, last-page-at, last-reads, last-fits, tail-agrees}
-use Rattle.book_history.proofs.LawsContent.{append-begins, append-ends}
+use Rattle.book_history.proofs.LawsContent.{total-more, pages-listed, appendLeaves, append-begins, append-ends}
 
 -- ---- a chain of pages with a number joined to the last
 
@@ -137,25 +139,25 @@ begun-before first creates total (suc i) (q ∷ ps) p x block e at r = begun-bef
 -- ---- the last page is written
 
 -- The last page of a key's chain is written, and all its pages read as those of another chain: the spaces agree, nobody has another block.
-chain-written : (plain : PlainBook) (inside : PlainSpace) (s : Space) (held : Option Block) (key : ℕ) (ps qs : List Page) (list ys : List ℕ)
+chain-written : (plain : PlainBook) (inside : PlainSpace) (s : Space) (held : Option Block) (key total : ℕ) (ps qs : List Page) (ys : List ℕ)
     → keyOf key plain .place ≡ pages ps → 0 < length ps → Good inside (places plain) held → length ys ≡ pageSize
-    → ((i : ℕ) → i + 1 ≡ length ps → ChainReads (firstOff qs) (length list) i qs ys)
-    → ((i : ℕ) (x : Block) (block : List ℕ) → i + 1 ≢ length ps → pageAt i ps ≡ some x → ChainReads (firstOff ps) (length (keyOf key plain .list)) i ps block
-    → ChainReads (firstOff qs) (length list) i qs block)
+    → ((i : ℕ) → i + 1 ≡ length ps → ChainReads (firstOff qs) total i qs ys)
+    → ((i : ℕ) (x : Block) (block : List ℕ) → i + 1 ≢ length ps → pageAt i ps ≡ some x → ChainReads (firstOff ps) (totalOf (keyOf key plain)) i ps block
+    → ChainReads (firstOff qs) total i qs block)
     → AgreesSpace inside s (places plain) held (contentsOf plain)
-    → AgreesSpace inside (space (overwrite (s .body) (lastPage noPage ps .off) ys) (s .mark) (s .free)) (places plain) held (placedContents plain key list (pages qs))
+    → AgreesSpace inside (space (overwrite (s .body) (lastPage noPage ps .off) ys) (s .mark) (s .free)) (places plain) held (placedContents plain key total (pages qs))
 unfolding has
-chain-written plain inside s held key ps qs list ys is one g long mine others a =
-    agrees-written inside s (places plain) (places plain) held held (contentsOf plain) (placedContents plain key list (pages qs)) (pageOf key (length ps - 1))
+chain-written plain inside s held key total ps qs ys is one g long mine others a =
+    agrees-written inside s (places plain) (places plain) held held (contentsOf plain) (placedContents plain key total (pages qs)) (pageOf key (length ps - 1))
     (record { class = pageClass; off = lastPage noPage ps .off }) ys g (ap (pageIn (length ps - 1)) is ∙ at-last) long to a
   where
     at-last : pageAt (length ps - 1) ps ≡ some (record { class = pageClass; off = lastPage noPage ps .off })
     at-last = last-page-at (length ps - 1) noPage ps (omega arith)
 
     to : (v : Owner) (x : Block) → has inside (places plain) held v ≡ some x
-        → ((x ≡ record { class = pageClass; off = lastPage noPage ps .off }) × BlockReads inside (placedContents plain key list (pages qs)) v ys)
+        → ((x ≡ record { class = pageClass; off = lastPage noPage ps .off }) × BlockReads inside (placedContents plain key total (pages qs)) v ys)
         ⊎ ((u : Owner) × (u ≢ pageOf key (length ps - 1)) × (has inside (places plain) held u ≡ some x)
-        × ((block : List ℕ) → BlockReads inside (contentsOf plain) u block → BlockReads inside (placedContents plain key list (pages qs)) v block))
+        × ((block : List ℕ) → BlockReads inside (contentsOf plain) u block → BlockReads inside (placedContents plain key total (pages qs)) v block))
     to hand x e = inr (hand, λ q. (let z = ap kindOf q in omega arith), e, λ block r. r)
     to (stack k d) x e = inr (stack k d, λ q. (let z = ap kindOf q in omega arith), e, λ block r. r)
     to (slabOf j) x e = inr (slabOf j, λ q. (let z = ap kindOf q in omega arith), e, λ block r. keep (eqb j key) block r)
@@ -166,9 +168,9 @@ chain-written plain inside s held key ps qs list ys is one g long mine others a 
     to (pageOf j i) x e = go (eqb j key) refl
       where
         go : (t : Bool) → eqb j key ≡ t
-            → ((x ≡ record { class = pageClass; off = lastPage noPage ps .off }) × PageIn (cond t (length list) (length (keyOf j plain .list))) i (cond t (pages qs) (places plain j)) ys)
+            → ((x ≡ record { class = pageClass; off = lastPage noPage ps .off }) × PageIn (cond t total (totalOf (keyOf j plain))) i (cond t (pages qs) (places plain j)) ys)
             ⊎ ((u : Owner) × (u ≢ pageOf key (length ps - 1)) × (has inside (places plain) held u ≡ some x)
-            × ((block : List ℕ) → BlockReads inside (contentsOf plain) u block → PageIn (cond t (length list) (length (keyOf j plain .list))) i (cond t (pages qs) (places plain j)) block))
+            × ((block : List ℕ) → BlockReads inside (contentsOf plain) u block → PageIn (cond t total (totalOf (keyOf j plain))) i (cond t (pages qs) (places plain j)) block))
         go false q = inr (pageOf j i, λ z. (eqb-false j key q (cc)), e, λ block r. r)
         go true q = at-index (eqb (i + 1) (length ps)) refl
           where
@@ -179,9 +181,9 @@ chain-written plain inside s held key ps qs list ys is one g long mine others a 
             at-key = sym (ap (pageIn i) (ap (places plain) same ∙ is)) ∙ e
 
             at-index : (t : Bool) → eqb (i + 1) (length ps) ≡ t
-                → ((x ≡ record { class = pageClass; off = lastPage noPage ps .off }) × ChainReads (firstOff qs) (length list) i qs ys)
+                → ((x ≡ record { class = pageClass; off = lastPage noPage ps .off }) × ChainReads (firstOff qs) total i qs ys)
                 ⊎ ((u : Owner) × (u ≢ pageOf key (length ps - 1)) × (has inside (places plain) held u ≡ some x)
-                × ((block : List ℕ) → BlockReads inside (contentsOf plain) u block → ChainReads (firstOff qs) (length list) i qs block))
+                × ((block : List ℕ) → BlockReads inside (contentsOf plain) u block → ChainReads (firstOff qs) total i qs block))
             at-index true w =
                 let e' = eqb-true (i + 1) (length ps) w in
                 inl (some-inj (sym at-key ∙ last-page-at i noPage ps e'), mine i e')
@@ -193,7 +195,7 @@ chain-written plain inside s held key ps qs list ys is one g long mine others a 
                   e,
                   λ block r.
                       others i x block n at-key
-                      (subst (λ (p : Place). PageIn (length (keyOf key plain .list)) i p block) is (subst (λ (k : ℕ). PageIn (length (keyOf k plain .list)) i (places plain k) block) same r)),
+                      (subst (λ (p : Place). PageIn (totalOf (keyOf key plain)) i p block) is (subst (λ (k : ℕ). PageIn (totalOf (keyOf k plain)) i (places plain k) block) same r)),
                 )
 
 -- ---- what a last page reads as once it is changed
@@ -202,7 +204,7 @@ chain-written plain inside s held key ps qs list ys is one g long mine others a 
 more-reads : (p : Page) (page : List ℕ) (first creates n : ℕ) (w : Spot) → PageReads p page → LastReads first creates page
     → lastFrom 0 (p .part .numbers) < n
     → n < 2 ^ 62 → creates + 1 < 2 ^ 32 → spotBehind page n (scanOf (p .part)) ≡ some w → let after = pageWith page w creates in
-    (length after ≡ pageSize) × (PageReads (longerPage n p) after × LastReads first (creates + 1) after)
+    (length after ≡ pageSize) × (PageReads (longerPage n p) after × LastReads first (totalWith creates) after)
 unfolding longer goodExtent
 more-reads p page first creates n w r l above low few spot =
     let m = page-more page n creates (scanOf (p .part)) w (r .reads) (l .extent) above (omega arith) spot few in (
@@ -255,9 +257,12 @@ module _ (plain : PlainBook) (b : Book) (g : GoodPlain plain) (a : Agrees plain 
   abbrev last : ℕ
   last = lastPage noPage ps .off
 
-  -- what the append is told of it
+  -- the total that it tells, and what the append is told of it
+  abbrev total : ℕ
+  total = totalOf (keyOf key plain)
+
   abbrev tail : Tail
-  tail = record { scan = scanOf (lastPage noPage ps .part); last = record { first = firstOff ps; creates = length list } }
+  tail = record { scan = scanOf (lastPage noPage ps .part); last = record { first = firstOff ps; creates = total } }
 
   -- there is a page, and the list is one number longer, which fits creates
   one : 0 < length ps
@@ -266,8 +271,13 @@ module _ (plain : PlainBook) (b : Book) (g : GoodPlain plain) (a : Agrees plain 
   more-long : length more ≡ length list + 1
   more-long = length-append list (n ∷ [])
 
-  few : length list + 1 < 2 ^ 32
-  few = omega (arith, list-few key g (mark-most g shape))
+  few : total + 1 < 2 ^ 32
+  few = omega (arith, total-most (keyOf key plain), list-few key g (mark-most g shape))
+
+  -- the total with the number
+  total-is : (place : Place) → totalOf (record { list = more; place = place; counted = keyOf key plain .counted }) ≡ totalWith total
+  total-is place =
+      total-more (keyOf key plain .counted) (length more) (length list) more-long (pages-listed plain b g shape (a .inside shape) key ps is)
 
   -- the key has the last page, at the last index
   last-owned : (inside : PlainSpace) (held : Option Block)
@@ -277,11 +287,11 @@ module _ (plain : PlainBook) (b : Book) (g : GoodPlain plain) (a : Agrees plain 
 
   -- What the last page reads as, in any space that agrees.
   last-known : (inside : PlainSpace) (s : Space) (held : Option Block) → AgreesSpace inside s (places plain) held (contentsOf plain)
-      → PageReads (lastPage noPage ps) (pageBytes s last) × LastReads (firstOff ps) (length list) (pageBytes s last)
+      → PageReads (lastPage noPage ps) (pageBytes s last) × LastReads (firstOff ps) total (pageBytes s last)
   last-known inside s held h =
       let l = one in
-      last-reads (firstOff ps) (length list) (length ps - 1) noPage ps (pageBytes s last) (omega arith)
-      (subst (λ (p : Place). PageIn (length list) (length ps - 1) p (pageBytes s last)) is
+      last-reads (firstOff ps) total (length ps - 1) noPage ps (pageBytes s last) (omega arith)
+      (subst (λ (p : Place). PageIn total (length ps - 1) p (pageBytes s last)) is
       (h .stored (pageOf key (length ps - 1)) (record { class = pageClass; off = last }) (last-owned inside held)))
 
   -- A body is as long after the last page is written.
@@ -294,39 +304,39 @@ module _ (plain : PlainBook) (b : Book) (g : GoodPlain plain) (a : Agrees plain 
 
   -- What the last page reads as with the number joined.
   joined-reads : (w : Spot) → spotBehind (pageBytes (b .space) last) n (tail .scan) ≡ some w
-      → let ys = pageWith (pageBytes (b .space) last) w (length list) in
-      (length ys ≡ pageSize) × (PageReads (longerPage n (lastPage noPage ps)) ys × LastReads (firstOff ps) (length list + 1) ys)
+      → let ys = pageWith (pageBytes (b .space) last) w total in
+      (length ys ≡ pageSize) × (PageReads (longerPage n (lastPage noPage ps)) ys × LastReads (firstOff ps) (totalWith total) ys)
   joined-reads w spot =
       let (r, l) = last-known (plain .space) (b .space) none (a .inside shape .space) in
-      more-reads (lastPage noPage ps) (pageBytes (b .space) last) (firstOff ps) (length list) n w r l above small few spot
+      more-reads (lastPage noPage ps) (pageBytes (b .space) last) (firstOff ps) total n w r l above small few spot
 
   -- The number joins the last page: the spaces agree.
   joined-agrees : (w : Spot) → spotBehind (pageBytes (b .space) last) n (tail .scan) ≡ some w
-      → AgreesSpace (plain .space) (space (overwrite (b .space .body) last (pageWith (pageBytes (b .space) last) w (length list))) (b .space .mark) (b .space .free))
-      (atKey key (joinedTo n ps) (places plain)) none (placedContents plain key more (joinedTo n ps))
+      → AgreesSpace (plain .space) (space (overwrite (b .space .body) last (pageWith (pageBytes (b .space) last) w total)) (b .space .mark) (b .space .free))
+      (atKey key (joinedTo n ps) (places plain)) none (placedContents plain key (totalWith total) (joinedTo n ps))
   unfolding has
   joined-agrees w spot =
-      agrees-same (plain .space) _ (places plain) (atKey key (joinedTo n ps) (places plain)) none none (placedContents plain key more (joinedTo n ps))
-      (placedContents plain key more (joinedTo n ps)) to
-      (chain-written plain (plain .space) (b .space) none key ps (joinedPages n ps) more ys is one (g .space) (joined-reads w spot .0) mine others (a .inside shape .space))
+      agrees-same (plain .space) _ (places plain) (atKey key (joinedTo n ps) (places plain)) none none (placedContents plain key (totalWith total) (joinedTo n ps))
+      (placedContents plain key (totalWith total) (joinedTo n ps)) to
+      (chain-written plain (plain .space) (b .space) none key (totalWith total) ps (joinedPages n ps) ys is one (g .space) (joined-reads w spot .0) mine others (a .inside shape .space))
     where
       ys : List ℕ
-      ys = pageWith (pageBytes (b .space) last) w (length list)
+      ys = pageWith (pageBytes (b .space) last) w total
 
-      mine : (i : ℕ) → i + 1 ≡ length ps → ChainReads (firstOff (joinedPages n ps)) (length more) i (joinedPages n ps) ys
+      mine : (i : ℕ) → i + 1 ≡ length ps → ChainReads (firstOff (joinedPages n ps)) (totalWith total) i (joinedPages n ps) ys
       mine i e =
           let (long, (reads, ends)) = joined-reads w spot in
-          rw (joined-first n ps, more-long)
-          (reads-last (firstOff ps) (length list + 1) i noPage (joinedPages n ps) ys (rw (joined-long n ps) e) (rw (joined-last n noPage ps one) reads) ends)
+          rw (joined-first n ps)
+          (reads-last (firstOff ps) (totalWith total) i noPage (joinedPages n ps) ys (rw (joined-long n ps) e) (rw (joined-last n noPage ps one) reads) ends)
 
       others : (i : ℕ) (x : Block) (block : List ℕ) → i + 1 ≢ length ps → pageAt i ps ≡ some x
-          → ChainReads (firstOff ps) (length list) i ps block
-          → ChainReads (firstOff (joinedPages n ps)) (length more) i (joinedPages n ps) block
-      others i x block e at r = rw (joined-first n ps) (joined-before (firstOff ps) (length list) (length more) i n ps block e r)
+          → ChainReads (firstOff ps) total i ps block
+          → ChainReads (firstOff (joinedPages n ps)) (totalWith total) i (joinedPages n ps) block
+      others i x block e at r = rw (joined-first n ps) (joined-before (firstOff ps) total (totalWith total) i n ps block e r)
 
       to : (v : Owner) (x : Block) → has (plain .space) (atKey key (joinedTo n ps) (places plain)) none v ≡ some x
           → (u : Owner) × (has (plain .space) (places plain) none u ≡ some x)
-          × ((block : List ℕ) → BlockReads (plain .space) (placedContents plain key more (joinedTo n ps)) u block → BlockReads (plain .space) (placedContents plain key more (joinedTo n ps)) v block)
+          × ((block : List ℕ) → BlockReads (plain .space) (placedContents plain key (totalWith total) (joinedTo n ps)) u block → BlockReads (plain .space) (placedContents plain key (totalWith total) (joinedTo n ps)) v block)
       to hand x e = absurd (none-some e)
       to (stack k d) x e = (stack k d, e, λ block r. r)
       to (slabOf j) x e = ⊎-elim (λ (same, f). absurd (none-some f)) (λ (other, f). (slabOf j, f, λ block r. r)) (key-slab key (joinedTo n ps) (places plain) j x e)
@@ -336,29 +346,30 @@ module _ (plain : PlainBook) (b : Book) (g : GoodPlain plain) (a : Agrees plain 
 
   -- What the plain book tells and leaves, once the key's new place is known.
   abbrev placing : Placed → Answer PlainOutcome
-  placing p = accepted (record { told = appended (record { place = headOf more (p .place); rewritten = p .rewritten }); book = withKey key more (p .place) (p .space) plain })
+  placing = appendLeaves plain key n (keyOf key plain .counted)
 
   -- Both books answer alike where the number joins the last page.
   joined-alike : (w : Spot) → spotBehind (pageBytes (b .space) last) n (tail .scan) ≡ some w
       → Alike (placing (record { place = joinedTo n ps; space = plain .space; rewritten = 0 })) (appendPage b key n last tail (some w))
   unfolding appendPage headOf
   joined-alike w spot =
-      append-ends plain b key more (joinedTo n ps) (Extent last) 0 (plain .space) _ a shape low (ap (λ (p : Page). Extent (p .off)) (joined-last n noPage ps one))
-      (last-long (plain .space) (b .space) none (pageWith (pageBytes (b .space) last) w (length list)) (g .space) (a .inside shape .space) (joined-reads w spot .0))
+      append-ends plain b key more (joinedTo n ps) (keyOf key plain .counted) (totalWith total) (Extent last) 0 (plain .space) _ a shape low
+      (ap (λ (p : Page). Extent (p .off)) (joined-last n noPage ps one)) (total-is (joinedTo n ps))
+      (last-long (plain .space) (b .space) none (pageWith (pageBytes (b .space) last) w total) (g .space) (a .inside shape .space) (joined-reads w spot .0))
       (joined-agrees w spot)
 
   -- The number begins a page in hand, and the old last page names it: the spaces agree, and the body is as long.
   begun-agrees : (inside : PlainSpace) (s : Space) (off : ℕ) → Good inside (places plain) (some (record { class = pageClass; off = off }))
       → AgreesSpace inside s (places plain) (some (record { class = pageClass; off = off })) (contentsOf plain)
-      → let body = overwrite (overwrite (s .body) last (pageBefore (pageBytes s last) off)) off (lastPageOf (firstOff ps) off 1 (length list + 1) (n ∷ [])) in
-      AgreesSpace inside (space body (s .mark) (s .free)) (atKey key (begunAt off n ps) (places plain)) none (placedContents plain key more (begunAt off n ps))
+      → let body = overwrite (overwrite (s .body) last (pageBefore (pageBytes s last) off)) off (lastPageOf (firstOff ps) off 1 (totalWith total) (n ∷ [])) in
+      AgreesSpace inside (space body (s .mark) (s .free)) (atKey key (begunAt off n ps) (places plain)) none (placedContents plain key (totalWith total) (begunAt off n ps))
       × (length body ≡ length (s .body))
   unfolding has
   begun-agrees inside s off good h = (
-    placed-page plain key more inside _ (places plain) ps new (withHand (Filled pageClass ys) (placedContents plain key more (begunAt off n ps))) meanwhile
+    placed-page plain key (totalWith total) inside _ (places plain) ps new (withHand (Filled pageClass ys) (placedContents plain key (totalWith total) (begunAt off n ps))) meanwhile
         (λ i x e. ap (pageIn i) is ∙ e) (λ i block l r. rw (eq-eqb key key refl) at r) mine
-        (fill-agrees inside named (places plain) pageClass off (placedContents plain key more (begunAt off n ps)) ys whole good linked),
-    fill-long inside named (places plain) pageClass off (placedContents plain key more (begunAt off n ps)) ys whole good linked ∙ as-long,
+        (fill-agrees inside named (places plain) pageClass off (placedContents plain key (totalWith total) (begunAt off n ps)) ys whole good linked),
+    fill-long inside named (places plain) pageClass off (placedContents plain key (totalWith total) (begunAt off n ps)) ys whole good linked ∙ as-long,
   )
     where
       -- the page in hand, and how high it can be
@@ -378,7 +389,7 @@ module _ (plain : PlainBook) (b : Book) (g : GoodPlain plain) (a : Agrees plain 
       next : (length old ≡ pageSize) × (PageReads (lastPage noPage ps) old × NextReads off old)
       next =
           let (r, l) = last-known inside s (some (record { class = pageClass; off = off })) h in
-          next-reads (lastPage noPage ps) (pageBytes s last) (firstOff ps) (length list) (inside .mark) off r l (last-fits noPage ps (chain key ps g is .fit) .1) high stands
+          next-reads (lastPage noPage ps) (pageBytes s last) (firstOff ps) total (inside .mark) off r l (last-fits noPage ps (chain key ps g is .fit) .1) high stands
 
       named : Space
       named = space (overwrite (s .body) last old) (s .mark) (s .free)
@@ -386,35 +397,35 @@ module _ (plain : PlainBook) (b : Book) (g : GoodPlain plain) (a : Agrees plain 
       as-long : length (named .body) ≡ length (s .body)
       as-long = last-long inside s (some (record { class = pageClass; off = off })) old good h (next .0)
 
-      linked : AgreesSpace inside named (places plain) (some (record { class = pageClass; off = off })) (placedContents plain key more (begunAt off n ps))
+      linked : AgreesSpace inside named (places plain) (some (record { class = pageClass; off = off })) (placedContents plain key (totalWith total) (begunAt off n ps))
       linked =
-          chain-written plain inside s (some (record { class = pageClass; off = off })) key ps (ps ++ (new ∷ [])) more old is one good (next .0)
-          (λ i e. begun-next (firstOff (ps ++ (new ∷ []))) (length more) i noPage ps new old e (next .1 .0) (next .1 .1))
-          (λ i x block e at r. rw (begun-first ps new one) (begun-before (firstOff ps) (length list) (length more) i ps new x block e at r))
+          chain-written plain inside s (some (record { class = pageClass; off = off })) key (totalWith total) ps (ps ++ (new ∷ [])) old is one good (next .0)
+          (λ i e. begun-next (firstOff (ps ++ (new ∷ []))) (totalWith total) i noPage ps new old e (next .1 .0) (next .1 .1))
+          (λ i x block e at r. rw (begun-first ps new one) (begun-before (firstOff ps) total (totalWith total) i ps new x block e at r))
           h
 
       -- the page more, and what it reads as
       ys : List ℕ
-      ys = lastPageOf (firstOff ps) off 1 (length list + 1) (n ∷ [])
+      ys = lastPageOf (firstOff ps) off 1 (totalWith total) (n ∷ [])
 
-      reads : (length ys ≡ pageSize) × (PageReads new ys × LastReads (firstOff ps) (length list + 1) ys)
+      reads : (length ys ≡ pageSize) × (PageReads new ys × LastReads (firstOff ps) (totalWith total) ys)
       reads =
-          last-written (inside .mark) off (firstOff ps) off 1 (length list + 1) (n ∷ []) high
-          (good .apart .stands (pageOf key 0) (record { class = pageClass; off = firstOff ps }) (ap (pageIn 0) is ∙ first-page-at ps one)) stands (omega arith) (omega arith) few
+          last-written (inside .mark) off (firstOff ps) off 1 (totalWith total) (n ∷ []) high
+          (good .apart .stands (pageOf key 0) (record { class = pageClass; off = firstOff ps }) (ap (pageIn 0) is ∙ first-page-at ps one)) stands (omega arith) (omega arith) (total-fits total few)
           (one-rises n positive small) (one-fits n small)
 
       whole : length ys ≤ slabBytes pageClass
       whole = omega (arith, reads .0)
 
       mine : (block : List ℕ) → Filled pageClass ys block
-          → ChainReads (firstOff (ps ++ (new ∷ []))) (length more) (length ps) (ps ++ (new ∷ [])) block
+          → ChainReads (firstOff (ps ++ (new ∷ []))) (totalWith total) (length ps) (ps ++ (new ∷ [])) block
       mine block f =
-          rw (filled-whole pageClass ys block (reads .0) f, begun-first ps new one, more-long)
-          (reads-last (firstOff ps) (length list + 1) (length ps) noPage (ps ++ (new ∷ [])) ys (sym (length-append ps (new ∷ []))) (rw (begun-last noPage ps new) (reads .1 .0)) (reads .1 .1))
+          rw (filled-whole pageClass ys block (reads .0) f, begun-first ps new one)
+          (reads-last (firstOff ps) (totalWith total) (length ps) noPage (ps ++ (new ∷ [])) ys (sym (length-append ps (new ∷ []))) (rw (begun-last noPage ps new) (reads .1 .0)) (reads .1 .1))
 
-      meanwhile : Meanwhile plain key (places plain) (withHand (Filled pageClass ys) (placedContents plain key more (begunAt off n ps)))
+      meanwhile : Meanwhile plain key (places plain) (withHand (Filled pageClass ys) (placedContents plain key (totalWith total) (begunAt off n ps)))
       meanwhile =
-          let m = meanwhile-placed plain key more (begunAt off n ps) (Filled pageClass ys) in
+          let m = meanwhile-placed plain key (totalWith total) (begunAt off n ps) (Filled pageClass ys) in
           record { stand = λ j other. refl; slabs = m .slabs; pages = m .pages }
 
   -- Both books answer alike where the number begins a taken page.
@@ -431,14 +442,14 @@ module _ (plain : PlainBook) (b : Book) (g : GoodPlain plain) (a : Agrees plain 
           → length (u .space .body) ≡ length (b .space .body) → AgreesSpace (t .space) (u .space) (places plain) (some (record { class = pageClass; off = t .off })) (contentsOf plain)
           → Alike (placing (record { place = begunAt (t .off) n ps; space = t .space; rewritten = 0 }))
           (accepted (appending key (Extent (u .off)) 0
-          (space (overwrite (overwrite (u .space .body) last (pageBefore (pageBytes (u .space) last) (u .off))) (u .off) (lastPageOf (firstOff ps) (u .off) 1 (length list + 1) (n ∷ [])))
+          (space (overwrite (overwrite (u .space .body) last (pageBefore (pageBytes (u .space) last) (u .off))) (u .off) (lastPageOf (firstOff ps) (u .off) 1 (totalWith total) (n ∷ [])))
           (u .space .mark) (u .space .free)) b))
       go t u took took' same long h =
           let good = good-taken (length (b .space .body)) pageClass (plain .space) (places plain) (omega arith) took (g .space) in
           let (all, kept) = begun-agrees (t .space) (u .space) (t .off) good h in
           rw same
-          (append-ends plain b key more (begunAt (t .off) n ps) (Extent (t .off)) 0 (t .space) _ a shape low
-          (ap (λ (p : Page). Extent (p .off)) (begun-last noPage ps (record { off = t .off; room = lastPageRoom; part = written (n ∷ []) }))) (kept ∙ long) all)
+          (append-ends plain b key more (begunAt (t .off) n ps) (keyOf key plain .counted) (totalWith total) (Extent (t .off)) 0 (t .space) _ a shape low
+          (ap (λ (p : Page). Extent (p .off)) (begun-last noPage ps (record { off = t .off; room = lastPageRoom; part = written (n ∷ []) }))) (total-is (begunAt (t .off) n ps)) (kept ∙ long) all)
 
   -- Both books answer alike: they judge by one test whether the number joins the last page.
   behind-alike : Alike (andThen (appendPages (plain .size) ps n (plain .space)) placing)

@@ -28,16 +28,15 @@ use Rattle.book_rules.specs.Places.{stays, movesTo}
 use Rattle.book_rules.proofs.LawsLimits.{in-shape}
 use Rattle.book_rules.proofs.LawsRules.{stays-holds, moves-to}
 use Rattle.plain_book.specs.Space.{Taken as PlainTaken}
-use Rattle.plain_book.specs.Key.{Kept, written, longer, Page, Place, empty, inline, slab, pages, lastPage, headOf, freedPlace, onePage}
-use Rattle.plain_book.specs.Key.{Placed, moved, appendPlace}
-use Rattle.plain_book.specs.Book.{Book as PlainBook, Outcome as PlainOutcome, keyOf, withKey, extended, appends as plainAppends}
+use Rattle.plain_book.specs.Key.{Kept, written, longer, Page, Place, empty, inline, slab, pages, lastPage, headOf, freedPlace, countedAfter}
+use Rattle.plain_book.specs.Key.{onePage, Placed, moved, appendPlace}
+use Rattle.plain_book.specs.Book.{Book as PlainBook, Outcome as PlainOutcome, keyOf, extended, appends as plainAppends}
 use Rattle.plain_book.specs.Sound.{Fits}
 use Rattle.plain_book.specs.Owners.{Owner, hand, stack, slabOf, pageOf, slabAt, has, places}
 use Rattle.plain_book.specs.Good.{Good, GoodPlain}
 use Rattle.plain_book.proofs.LawsOwners.{some-inj, none-some, kindOf, depthOf, atKey, key-slab, key-page}
 use Rattle.plain_book.proofs.LawsTaking.{good-taken}
-use Rattle.plain_book.proofs.LawsKept.{len-snoc}
-use Rattle.plain_book.proofs.LawsSound.{len-below, rises-snoc, one-bytes, slab-bytes}
+use Rattle.plain_book.proofs.LawsSound.{rises-snoc, moved-small}
 use Rattle.plain_book.proofs.LawsChain.{mark-most, list-few}
 use Rattle.book_space.specs.Space.{space, Taken, release}
 use Rattle.book_keys.specs.Keys.{blockAt}
@@ -51,7 +50,8 @@ use Rattle.book_history.specs.Agrees.{Agrees}
 use Rattle.book_history.proofs.LawsFrame.{block-ends}
 use Rattle.book_history.proofs.LawsStep.{Alike, refused-alike, alike-both, placedContents}
 use Rattle.book_history.proofs.LawsTake.{inHandOf, taken-then, take-agrees}
-use Rattle.book_history.proofs.LawsContent.{blocksOf, none-listed, one-listed, slab-agrees, last-written, append-begins, append-ends}
+use Rattle.book_history.proofs.LawsContent.{blocksOf, none-listed, one-listed, slab-agrees, last-written, appendLeaves, plainAppending}
+use Rattle.book_history.proofs.LawsContent.{append-begins, append-ends}
 use Rattle.book_history.proofs.LawsHand.{agrees-written, withHand, Filled, filled-whole, fill-long, fill-agrees, payload-long}
 use Rattle.book_history.proofs.LawsHand.{filled-slab}
 use Rattle.book_history.proofs.LawsHand.{meanwhile-first, meanwhile-placed, OthersKept, others-kept, placed-bare, placed-slab}
@@ -78,7 +78,7 @@ module _ (plain : PlainBook) (b : Book) (key n : ℕ) (g : GoodPlain plain) (a :
 
   -- what the plain book does with the new place
   abbrev leaves : Placed → Answer PlainOutcome
-  leaves p = accepted (record { told = appended (record { place = headOf grown (p .place); rewritten = p .rewritten }); book = withKey key grown (p .place) (p .space) plain })
+  leaves = appendLeaves plain key n true
 
   -- the list has one number more
   one-more : length grown ≡ length list + 1
@@ -92,11 +92,11 @@ module _ (plain : PlainBook) (b : Book) (key n : ℕ) (g : GoodPlain plain) (a :
       → length (u .space .body) ≡ plain .size → Good (t .space) (places plain) (inHandOf class (t .off))
       → AgreesSpace (t .space) (u .space) (places plain) (inHandOf class (t .off)) (contentsOf plain)
       → Given (freedPlace old (t .space)) (release (blocksOf old) (filled u ys)) (atKey key empty (places plain)) (inHandOf class (t .off))
-      (withHand (Filled class ys) (placedContents plain key [] empty)) (length (b .space .body))
+      (withHand (Filled class ys) (placedContents plain key 0 empty)) (length (b .space .body))
   moved-space old class t u ys fits is same long good agrees =
       let f = fill-agrees (t .space) (u .space) (places plain) class (t .off) (contentsOf plain) ys fits good agrees in
       let k = place-gone key (inHandOf class (t .off)) old (t .space) (space (overwrite (u .space .body) (t .off) ys) (u .space .mark) (u .space .free)) (places plain)
-      (withHand (Filled class ys) (contentsOf plain)) (withHand (Filled class ys) (placedContents plain key [] empty)) is (gone-placed plain key (Filled class ys)) good f in
+      (withHand (Filled class ys) (contentsOf plain)) (withHand (Filled class ys) (placedContents plain key 0 empty)) is (gone-placed plain key (Filled class ys)) good f in
       rw same
       (record {
         agrees = k .agrees;
@@ -142,10 +142,10 @@ module _ (plain : PlainBook) (b : Book) (key n : ℕ) (g : GoodPlain plain) (a :
       (λ t u took took' same long agrees.
       let good = good-taken (plain .size) class (plain .space) (places plain) (omega (arith, m .slab)) took (g .space) in
       let k = moved-space old class t u (slabPayload grown) payload is same long good agrees in
-      append-ends plain b key grown (slab class (t .off) (written grown)) (Slab class (length grown) (u .off)) (length list) (freedPlace old (t .space))
-      (release (blocksOf old) (filled u (slabPayload grown))) a shape low (ap (Slab class (length grown)) (sym same)) (k .size)
-      (placed-slab plain key grown (freedPlace old (t .space)) (release (blocksOf old) (filled u (slabPayload grown))) (atKey key empty (places plain)) class (t .off) (written grown)
-      (withHand (Filled class (slabPayload grown)) (placedContents plain key [] empty)) (meanwhile-placed plain key [] empty (Filled class (slabPayload grown)))
+      append-ends plain b key grown (slab class (t .off) (written grown)) true (length grown) (Slab class (length grown) (u .off)) (length list) (freedPlace old (t .space))
+      (release (blocksOf old) (filled u (slabPayload grown))) a shape low (ap (Slab class (length grown)) (sym same)) refl (k .size)
+      (placed-slab plain key (length grown) (freedPlace old (t .space)) (release (blocksOf old) (filled u (slabPayload grown))) (atKey key empty (places plain)) class (t .off) (written grown)
+      (withHand (Filled class (slabPayload grown)) (placedContents plain key 0 empty)) (meanwhile-placed plain key 0 empty (Filled class (slabPayload grown)))
       (λ block f. filled-slab class grown block rises (omega (arith, m .few)) f) (k .agrees)))
       (rw (a .size) at (take-agrees (plain .space) (b .space) (places plain) (contentsOf plain) class (omega (arith, m .slab)) (g .space) paged (h .space)))
   move-alike old none is rises fits q =
@@ -154,11 +154,11 @@ module _ (plain : PlainBook) (b : Book) (key n : ℕ) (g : GoodPlain plain) (a :
       let good = good-taken (plain .size) pageClass (plain .space) (places plain) (omega arith) took (g .space) in
       let (full, reads) = page-reads t u same good (omega (arith, agrees .within, agrees .small)) rises fits in
       let k = moved-space old pageClass t u (onlyPage u) (omega (arith, full)) is same long good agrees in
-      append-ends plain b key grown (pages (onePage (t .off) grown)) (Extent (u .off)) (length list) (freedPlace old (t .space)) (release (blocksOf old) (filled u (onlyPage u))) a shape low
-      (ap Extent (sym same)) (k .size)
-      (placed-one plain key grown (freedPlace old (t .space)) (release (blocksOf old) (filled u (onlyPage u))) (atKey key empty (places plain))
-      (record { off = t .off; room = lastPageRoom; part = written grown }) (withHand (Filled pageClass (onlyPage u)) (placedContents plain key [] empty))
-      (meanwhile-placed plain key [] empty (Filled pageClass (onlyPage u))) reads (k .agrees)))
+      append-ends plain b key grown (pages (onePage (t .off) grown)) true (length grown) (Extent (u .off)) (length list) (freedPlace old (t .space)) (release (blocksOf old) (filled u (onlyPage u))) a shape low
+      (ap Extent (sym same)) refl (k .size)
+      (placed-one plain key (length grown) (freedPlace old (t .space)) (release (blocksOf old) (filled u (onlyPage u))) (atKey key empty (places plain))
+      (record { off = t .off; room = lastPageRoom; part = written grown }) (withHand (Filled pageClass (onlyPage u)) (placedContents plain key 0 empty))
+      (meanwhile-placed plain key 0 empty (Filled pageClass (onlyPage u))) reads (k .agrees)))
       (rw (a .size) at (take-agrees (plain .space) (b .space) (places plain) (contentsOf plain) pageClass (omega arith) (g .space) paged (h .space)))
 
   -- It moves to the class for it, where the bytes hold the list.
@@ -192,8 +192,8 @@ module _ (plain : PlainBook) (b : Book) (key n : ℕ) (g : GoodPlain plain) (a :
     fits-page : streamLen grown ≤ lastPageRoom
     unfolding Fits
     fits-page =
-        let (same, shortest, c, two, few, bytes) : Fits list (slab class off kept) = subst (Fits list) is (g .keys key .fits) in
-        omega (arith, len-snoc 0 list n, len-below n (lastFrom 0 list) small, shortest ∙ ap streamLen same, slab-bytes class (kept .bytes) c bytes)
+        let (same, each, c, two, few, bytes) : Fits list (slab class off kept) = subst (Fits list) is (g .keys key .fits) in
+        moved-small list n (g .keys key .rises) small few
 
     -- it is the key's
     mine : has (plain .space) (places plain) none (slabOf key) ≡ some (record { class = class; off = off })
@@ -236,19 +236,19 @@ module _ (plain : PlainBook) (b : Book) (key n : ℕ) (g : GoodPlain plain) (a :
 
       -- The spaces agree once it is written.
       stay-space : AgreesSpace (plain .space) (space (overwrite (b .space .body) off after) (b .space .mark) (b .space .free)) (atKey key (slab class off (longer n kept)) (places plain)) none
-          (placedContents plain key grown (slab class off (longer n kept)))
+          (placedContents plain key (length grown) (slab class off (longer n kept)))
       unfolding has
       stay-space =
           agrees-written (plain .space) (b .space) (places plain) (atKey key (slab class off (longer n kept)) (places plain)) none none (contentsOf plain)
-          (placedContents plain key grown (slab class off (longer n kept))) (slabOf key) y after (g .space) mine after-long to (h .space)
+          (placedContents plain key (length grown) (slab class off (longer n kept))) (slabOf key) y after (g .space) mine after-long to (h .space)
         where
-          others : OthersKept key (contentsOf plain) (placedContents plain key grown (slab class off (longer n kept)))
-          others = others-kept plain key (places plain) (contentsOf plain) (meanwhile-first plain key (λ block. Unit {0})) grown (slab class off (longer n kept))
+          others : OthersKept key (contentsOf plain) (placedContents plain key (length grown) (slab class off (longer n kept)))
+          others = others-kept plain key (places plain) (contentsOf plain) (meanwhile-first plain key (λ block. Unit {0})) (length grown) (slab class off (longer n kept))
 
           to : (v : Owner) (x : Block) → has (plain .space) (atKey key (slab class off (longer n kept)) (places plain)) none v ≡ some x
-              → ((x ≡ y) × BlockReads (plain .space) (placedContents plain key grown (slab class off (longer n kept))) v after)
+              → ((x ≡ y) × BlockReads (plain .space) (placedContents plain key (length grown) (slab class off (longer n kept))) v after)
               ⊎ ((u : Owner) × (u ≢ slabOf key) × (has (plain .space) (places plain) none u ≡ some x)
-              × ((block : List ℕ) → BlockReads (plain .space) (contentsOf plain) u block → BlockReads (plain .space) (placedContents plain key grown (slab class off (longer n kept))) v block))
+              × ((block : List ℕ) → BlockReads (plain .space) (contentsOf plain) u block → BlockReads (plain .space) (placedContents plain key (length grown) (slab class off (longer n kept))) v block))
           to hand x e = absurd (none-some e)
           to (stack k d) x e = inr (stack k d, λ q. (let z = ap kindOf q in omega arith), e, λ block r. r)
           to (slabOf j) x e =
@@ -268,8 +268,8 @@ module _ (plain : PlainBook) (b : Book) (key n : ℕ) (g : GoodPlain plain) (a :
     slab-alike =
         alike-cond-then _ _ _ _ leaves _ _ (ap (λ (m : ℕ). stays class m (longer n kept .bytes)) (sym numbers-more))
         (λ e.
-        append-ends plain b key grown (slab class off (longer n kept)) (Slab class (length (kept .numbers) + 1) off) 0 (plain .space)
-        (space (overwrite (b .space .body) off after) (b .space .mark) (b .space .free)) a shape low (ap (λ (m : ℕ). Slab class m off) (sym numbers-more))
+        append-ends plain b key grown (slab class off (longer n kept)) true (length grown) (Slab class (length (kept .numbers) + 1) off) 0 (plain .space)
+        (space (overwrite (b .space .body) off after) (b .space .mark) (b .space .free)) a shape low (ap (λ (m : ℕ). Slab class m off) (sym numbers-more)) refl
         (length-overwrite (b .space .body) off after (rw (after-long e) ends)) (stay-space e))
         (λ e. moves-alike (slab class off kept) (kept .numbers) keeps is above fits-page)
 
@@ -283,19 +283,26 @@ module _ (plain : PlainBook) (b : Book) (key n : ℕ) (g : GoodPlain plain) (a :
   place-alike empty is other some' =
       let none' : [] ≡ list = none-listed list (subst (Fits list) is (g .keys key .fits)) in
       rw (refuse-no _ offeredNotRising _ (ap (λ (l : List ℕ). leb n (lastFrom 0 l)) (sym none') ∙ lt-leb n 0 some'))
-      (append-ends plain b key grown inline (Inline n 1) 0 (plain .space) (b .space) a shape low (ap (λ (l : List ℕ). Inline (lastFrom 0 (l ++ (n ∷ []))) 1) (sym none')) refl
-      (placed-bare plain key grown (plain .space) (b .space) (places plain) inline (contentsOf plain) refl (λ i. refl) (meanwhile-first plain key (λ block. Unit {0})) (h .space)))
+      (append-ends plain b key grown inline true (length grown) (Inline n 1) 0 (plain .space) (b .space) a shape low (ap (λ (l : List ℕ). Inline (lastFrom 0 (l ++ (n ∷ []))) 1) (sym none')) refl refl
+      (placed-bare plain key (length grown) (plain .space) (b .space) (places plain) inline (contentsOf plain) refl (λ i. refl) (meanwhile-first plain key (λ block. Unit {0})) (h .space)))
   place-alike inline is other some' =
       let one : length list ≡ 1 = subst (Fits list) is (g .keys key .fits) in
       alike-both _ _ _ _ _ refl
       (λ e.
       moves-alike inline (lastFrom 0 list ∷ []) (one-listed list one) is (leb-false n (lastFrom 0 list) e)
-      (omega (arith, len-snoc 0 list n, len-below n (lastFrom 0 list) small, one-bytes list (g .keys key .rises) one)))
+      (moved-small list n (g .keys key .rises) small (omega arith)))
   place-alike (slab class off kept) is other some' =
       let same : kept .numbers ≡ list = subst (Fits list) is (g .keys key .fits) .0 in
       rw (then-yes _ _ (slab-agrees plain b g shape h key class off kept is))
       (alike-both _ _ _ _ _ (ap (λ (l : List ℕ). leb n (lastFrom 0 l)) (sym same)) (λ e. slab-alike class off kept is (leb-false n (lastFrom 0 list) e)))
   place-alike (pages ps) is other some' = absurd (other ps refl)
+
+-- A key without pages is counted after an append.
+counted-unpaged : (place : Place) (counted : Bool) → ((ps : List Page) → place ≢ pages ps) → countedAfter place counted ≡ true
+counted-unpaged empty counted other = refl
+counted-unpaged inline counted other = refl
+counted-unpaged (slab class off kept) counted other = refl
+counted-unpaged (pages ps) counted other = absurd (other ps refl)
 
 -- The two books answer an append alike, where they do so for a key in pages.
 pub append-step : (plain : PlainBook) (b : Book) (key n : ℕ) → GoodPlain plain → Agrees plain b
@@ -306,7 +313,12 @@ append-step plain b key n g a in-pages = go (keyOf key plain .place) refl
         → Alike (plainAppends plain key n) (appends b key n)
     begun place is other =
         append-begins plain b key n g a
-        (λ shape h low some' small. place-alike plain b key n g a shape h low small (keyOf key plain .place) refl (λ ps q. other ps (sym is ∙ q)) some')
+        (λ shape h low some' small.
+        subst
+        (λ (t : Bool). Alike (refuseIf (leb n (lastFrom 0 (keyOf key plain .list))) offeredNotRising (plainAppending plain key n t))
+        (appendAt b key n (headOf (keyOf key plain .list) (keyOf key plain .place))))
+        (sym (ap (λ (p : Place). countedAfter p (keyOf key plain .counted)) is ∙ counted-unpaged place (keyOf key plain .counted) other))
+        (place-alike plain b key n g a shape h low small (keyOf key plain .place) refl (λ ps q. other ps (sym is ∙ q)) some'))
 
     go : (place : Place) → keyOf key plain .place ≡ place → Alike (plainAppends plain key n) (appends b key n)
     go empty is = begun empty is (λ ps q. (let z : _≡_ {A = ℕ} 0 1 = cc in omega arith))

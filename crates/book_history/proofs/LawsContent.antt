@@ -1,11 +1,11 @@
 -- What a key over bytes reads as, where the book stands for a good plain book: its head word, its slab, its last page, and its whole
 -- content. Assumes nothing.
 use Prim.Native.Nat.{ℕ, zero, suc, _+_, _-_, _/_, _^_, _≤_, _<_}
-use mathlib.Core.Bool.{Bool, true, false, not}
+use mathlib.Core.Bool.{Bool, true, false, cond, not, _||_}
 use mathlib.Core.List.{List, [], _∷_, append-nil}
 use mathlib.Core.Logic.{⊎-elim, _≢_}
 use mathlib.Core.Option.{none, some}
-use mathlib.Core.Path.{_≡_, refl, ap, subst, _∙_}
+use mathlib.Core.Path.{_≡_, refl, sym, ap, subst, _∙_}
 use native.Mathlib.Omega.{arith}
 use lib.Dec.{leb, eqb}
 use lib.ListN.{length, length-append}
@@ -23,7 +23,8 @@ use Rattle.scripthash_free.proofs.LawsBlock.{block-stands}
 use Rattle.book_rules.specs.Calls.{read, appended}
 use Rattle.book_rules.specs.Limits.{outOfShape}
 use Rattle.plain_book.specs.Space.{Space as PlainSpace}
-use Rattle.plain_book.specs.Key.{Kept, written, Page, Place, empty, inline, slab, pages, lastPage, noPage, headOf, pagesOf, appendPlace}
+use Rattle.plain_book.specs.Key.{Kept, written, Page, Place, empty, inline, slab, pages, lastPage, noPage, totalOf, headOf, pagesOf, countedAfter}
+use Rattle.plain_book.specs.Key.{Placed, appendPlace}
 use Rattle.plain_book.specs.Book.{Book as PlainBook, Outcome as PlainOutcome, keyOf, withKey, extended, appends as plainAppends}
 use Rattle.plain_book.specs.Book.{reads as plainReads, does as plainDoes}
 use Rattle.plain_book.specs.Sound.{held, FitsPage, FitPages, RisesFrom, Fits}
@@ -33,18 +34,21 @@ use Rattle.plain_book.proofs.LawsHeads.{head-told}
 use Rattle.plain_book.proofs.LawsOwners.{depthOf, atKey}
 use Rattle.plain_book.proofs.LawsChain.{pages-few, mark-most, list-few, last-any, part-rises, chain}
 use Rattle.plain_book.proofs.LawsSound.{rising-below}
+use Rattle.plain_book.proofs.LawsTotals.{total-most}
 use Rattle.book_space.specs.Space.{Space}
-use Rattle.book_keys.specs.Keys.{soundly, sure, goOn, goodExtent, blockAt, slabScan, linkScan, lastAt, linked, walk, chainAt, pageBlocks}
-use Rattle.book_keys.specs.Keys.{contentAt, content, createsGood, tailAt}
+use Rattle.book_keys.specs.Keys.{soundly, sure, goOn, goodExtent, blockAt, slabScan, linkScan, lastAt, linked, walk, totalGood, chainAt}
+use Rattle.book_keys.specs.Keys.{pageBlocks, contentAt, content, createsGood, tailAt}
 use Rattle.book_keys.specs.Keys.{pageAt as pageBytes}
-use Rattle.book_blocks.specs.Blocks.{lastPageOf}
+use Rattle.book_blocks.specs.Blocks.{lastPageOf, totalWith}
+use Rattle.book_blocks.proofs.LawsTotals.{total-unknown, total-known}
 use Rattle.book_blocks.proofs.LawsReadsPage.{last-page-reads}
-use Rattle.book.specs.Book.{Book, wordOf, headWord}
+use Rattle.book.specs.Book.{Book, wordOf}
 use Rattle.book.specs.Appends.{appending, appendAt, appends}
 use Rattle.book.specs.Reads.{reads}
 use Rattle.book.specs.Calls.{does}
 use Rattle.book_history.specs.Agrees.{scanOf, SlabIn, PageIn, SlabReads, PageReads, LastReads, ChainReads, firstOff, AgreesSpace}
 use Rattle.book_history.specs.Agrees.{AgreesInside, Agrees}
+use Rattle.book_history.proofs.LawsWords.{stored-told}
 use Rattle.book_history.proofs.LawsStep.{Alike, told-alike, alike-both, alike-on-key, alike-offered, placedContents, agrees-placed}
 
 -- ---- what is asked of a sound key
@@ -171,6 +175,23 @@ last-rises prev page [] f r = absurd f
 last-rises prev page (p ∷ []) f (some', rises, rest) = part-rises prev (p .part .numbers) rises
 last-rises prev page (p ∷ q ∷ ps) (f, fs) (some', rises, rest) = last-rises (lastFrom 0 (p .part .numbers)) p (q ∷ ps) fs rest
 
+-- ---- totals
+
+-- A last page that tells the length of the list, or that it was never counted, is as it may be.
+total-good : (counted : Bool) (n : ℕ) → totalGood (cond counted n 0) n ≡ true
+unfolding totalGood
+total-good true n = rw (eq-eqb n n refl) (go (eqb n 0))
+  where
+    go : (t : Bool) → t || true ≡ true
+    go true = refl
+    go false = refl
+total-good false n = refl
+
+-- A total that is told is that of the longer list once a number is appended, and one that isn't stays unknown.
+pub total-more : (counted : Bool) (more held : ℕ) → more ≡ held + 1 → 0 < held → cond counted more 0 ≡ totalWith (cond counted held 0)
+total-more true more held is some' = is ∙ sym (total-known held (λ (z : held ≡ 0). omega arith))
+total-more false more held is some' = sym (total-unknown 0 refl)
+
 -- ---- a key
 
 -- The blocks of a place, in the order in which a drop pushes them.
@@ -194,8 +215,7 @@ one-listed (n ∷ m ∷ ns) e = absurd (omega arith)
 module _ (plain : PlainBook) (b : Book) (g : GoodPlain plain) (shape : outOfShape (plain .size) (length (plain .keys)) ≡ false) (h : AgreesInside plain b) (key : ℕ) where
   -- A key's head word tells its place.
   pub head-agrees : unpackHead (wordOf key b) ≡ accepted (headOf (keyOf key plain .list) (keyOf key plain .place))
-  unfolding headWord
-  head-agrees = let t = head-told key g (mark-most g shape) in rw (h .heads key, t .packs) (t .unpacks)
+  head-agrees = h .heads key ∙ stored-told (head-told key g (mark-most g shape))
 
   -- A key's slab reads as what it keeps.
   slab-read : (class off : ℕ) (kept : Kept) → keyOf key plain .place ≡ slab class off kept
@@ -211,12 +231,12 @@ module _ (plain : PlainBook) (b : Book) (g : GoodPlain plain) (shape : outOfShap
   -- What is known of the pages of a key.
   pub chain-page : (ps : List Page) → keyOf key plain .place ≡ pages ps → (i off : ℕ)
       → pageAt i ps ≡ some (record { class = pageClass; off = off })
-      → Stands (b .space) (firstOff ps) (length (keyOf key plain .list)) (lastPage noPage ps .off) i ps off
+      → Stands (b .space) (firstOff ps) (totalOf (keyOf key plain)) (lastPage noPage ps .off) i ps off
   unfolding has
   chain-page ps is i off e =
       record {
         block = rw (h .space .mark) (g .space .apart .stands (pageOf key i) (record { class = pageClass; off = off }) (mine i off e));
-        reads = subst (λ (p : Place). PageIn (length (keyOf key plain .list)) i p (pageBytes (b .space) off)) is
+        reads = subst (λ (p : Place). PageIn (totalOf (keyOf key plain)) i p (pageBytes (b .space) off)) is
             (h .space .stored (pageOf key i) (record { class = pageClass; off = off }) (mine i off e));
         only = only (eqb (i + 1) (length ps)) refl;
       }
@@ -242,9 +262,9 @@ module _ (plain : PlainBook) (b : Book) (g : GoodPlain plain) (shape : outOfShap
   slab-agrees class off kept is = soundly-yes _ (slab-read class off kept is)
 
   -- A key in pages has a number.
-  listed : (ps : List Page) → keyOf key plain .place ≡ pages ps → 0 < length (keyOf key plain .list)
+  pub pages-listed : (ps : List Page) → keyOf key plain .place ≡ pages ps → 0 < length (keyOf key plain .list)
   unfolding FitPages held
-  listed ps is = let c = chain key ps g is in rw (← c .holds) (go ps (c .fit))
+  pages-listed ps is = let c = chain key ps g is in rw (← c .holds) (go ps (c .fit))
     where
       go : (qs : List Page) → FitPages qs → 0 < length (held qs)
       go [] f = absurd f
@@ -253,28 +273,27 @@ module _ (plain : PlainBook) (b : Book) (g : GoodPlain plain) (shape : outOfShap
 
   -- The header of a key's last page.
   last-told : (ps : List Page) → keyOf key plain .place ≡ pages ps
-      → lastAt (b .space) (lastPage noPage ps .off) ≡ accepted (record { first = firstOff ps; creates = length (keyOf key plain .list) })
+      → lastAt (b .space) (lastPage noPage ps .off) ≡ accepted (record { first = firstOff ps; creates = totalOf (keyOf key plain) })
   last-told ps is =
       let one = some-pages ps (chain key ps g is .fit) in
       let k = chain-page ps is (length ps - 1) (lastPage noPage ps .off) (last-page-at (length ps - 1) noPage ps (omega arith)) in
-      last-header (b .space) (lastPage noPage ps .off) (firstOff ps) (length (keyOf key plain .list)) (k .block)
-      (last-reads (firstOff ps) (length (keyOf key plain .list)) (length ps - 1) noPage ps _ (omega arith) (k .reads) .1)
+      last-header (b .space) (lastPage noPage ps .off) (firstOff ps) (totalOf (keyOf key plain)) (k .block)
+      (last-reads (firstOff ps) (totalOf (keyOf key plain)) (length ps - 1) noPage ps _ (omega arith) (k .reads) .1)
 
-  -- As an append looks at it, a key's last page reads as its part of the list, with the first page's offset and how many numbers the key
-  -- has.
+  -- As an append looks at it, a key's last page reads as its part of the list, with the first page's offset and the key's total.
   pub tail-agrees : (ps : List Page) → keyOf key plain .place ≡ pages ps
       → soundly (tailAt (b .space) (lastPage noPage ps .off))
-      ≡ accepted (record { scan = scanOf (lastPage noPage ps .part); last = record { first = firstOff ps; creates = length (keyOf key plain .list) } })
+      ≡ accepted (record { scan = scanOf (lastPage noPage ps .part); last = record { first = firstOff ps; creates = totalOf (keyOf key plain) } })
   unfolding tailAt createsGood
   tail-agrees ps is =
       let c = chain key ps g is in
       let one = some-pages ps (c .fit) in
       let fit = last-fits noPage ps (c .fit) .0 in
       let k = chain-page ps is (length ps - 1) (lastPage noPage ps .off) (last-page-at (length ps - 1) noPage ps (omega arith)) in
-      let r = last-reads (firstOff ps) (length (keyOf key plain .list)) (length ps - 1) noPage ps _ (omega arith) (k .reads) .0 in
+      let r = last-reads (firstOff ps) (totalOf (keyOf key plain)) (length ps - 1) noPage ps _ (omega arith) (k .reads) .0 in
       soundly-yes _
       (then-yes _ _ (last-told ps is)
-      ∙ sure-yes _ _ (rw (lt-ltb 0 (length (keyOf key plain .list)) (listed ps is), lt-ltb (length (keyOf key plain .list)) (2 ^ 32 - 1) (list-few key g (mark-most g shape))))
+      ∙ sure-yes _ _ (lt-ltb (totalOf (keyOf key plain)) (2 ^ 32 - 1) (omega (arith, total-most (keyOf key plain), list-few key g (mark-most g shape))))
       ∙ then-yes _ _ (link-scans (b .space) 0 (lastPage noPage ps .off) (lastPage noPage ps) (k .block) r (last-rises 0 noPage ps (c .fit) (c .rises)) (fit .0)))
 
   -- A key's chain gives its list, and its pages' offsets.
@@ -284,9 +303,9 @@ module _ (plain : PlainBook) (b : Book) (g : GoodPlain plain) (shape : outOfShap
   chain-agrees ps is =
       let c = chain key ps g is in
       then-yes _ _ (last-told ps is)
-      ∙ then-yes _ _ (walks (b .space .mark / pageSize) (b .space) (firstOff ps) (length (keyOf key plain .list)) (lastPage noPage ps .off) 0 noPage ps
+      ∙ then-yes _ _ (walks (b .space .mark / pageSize) (b .space) (firstOff ps) (totalOf (keyOf key plain)) (lastPage noPage ps .off) 0 noPage ps
       (rw (h .space .mark) (pages-few key ps g is)) refl (c .fit) (c .rises) (chain-page ps is))
-      ∙ rw (c .holds) (sure-yes _ _ (eq-eqb (length (keyOf key plain .list)) (length (keyOf key plain .list)) refl))
+      ∙ rw (c .holds) (sure-yes _ _ (total-good (keyOf key plain .counted) (length (keyOf key plain .list))))
 
   -- What the place that a key's head word tells holds.
   place-agrees : (place : Place) → keyOf key plain .place ≡ place
@@ -343,17 +362,25 @@ last-written mark off first base extents creates ns high f b some' few low rises
 
 -- ---- an append, up to where the key's place decides
 
--- What a plain book's append does once the number is known to be above the key's last.
-abbrev pub plainAppending : PlainBook → ℕ → ℕ → Answer PlainOutcome
-plainAppending plain key n =
+-- What a plain book's append leaves, once the key's new place is known, and whether its last page tells a total.
+abbrev pub appendLeaves : PlainBook → ℕ → ℕ → Bool → Placed → Answer PlainOutcome
+appendLeaves plain key n counted p =
     let list = extended (keyOf key plain .list) n in
-    andThen (appendPlace (plain .size) (length (keyOf key plain .list)) list n (keyOf key plain .place) (plain .space))
-    (λ p. accepted (record { told = appended (record { place = headOf list (p .place); rewritten = p .rewritten }); book = withKey key list (p .place) (p .space) plain }))
+    accepted (record {
+      told = appended (record { place = headOf list (p .place); rewritten = p .rewritten });
+      book = withKey key list (p .place) counted (p .space) plain;
+    })
+
+-- What a plain book's append does once the number is known to be above the key's last.
+abbrev pub plainAppending : PlainBook → ℕ → ℕ → Bool → Answer PlainOutcome
+plainAppending plain key n counted =
+    andThen (appendPlace (plain .size) (length (keyOf key plain .list)) (extended (keyOf key plain .list) n) n (keyOf key plain .place) (plain .space))
+    (appendLeaves plain key n counted)
 
 -- The two books answer an append alike, where they do so once the key's place is known.
 pub append-begins : (plain : PlainBook) (b : Book) (key n : ℕ) → GoodPlain plain → Agrees plain b
     → (outOfShape (plain .size) (length (plain .keys)) ≡ false → AgreesInside plain b → key < length (plain .keys) → 0 < n → n < 2 ^ 62
-    → Alike (refuseIf (leb n (lastFrom 0 (keyOf key plain .list))) offeredNotRising (plainAppending plain key n))
+    → Alike (refuseIf (leb n (lastFrom 0 (keyOf key plain .list))) offeredNotRising (plainAppending plain key n (countedAfter (keyOf key plain .place) (keyOf key plain .counted))))
     (appendAt b key n (headOf (keyOf key plain .list) (keyOf key plain .place))))
     → Alike (plainAppends plain key n) (appends b key n)
 unfolding plainAppends appends
@@ -364,12 +391,15 @@ append-begins plain b key n g a go =
     (λ some' small. rw (then-yes _ (appendAt b key n) (soundly-yes _ (head-agrees plain b g shape h key))) (go shape h low some' small)))
 
 -- The two books end an append alike: the key gets its longer list and its place in both, and the spaces agree.
-pub append-ends : (plain : PlainBook) (b : Book) (key : ℕ) (list : List ℕ) (place : Place) (value : ShHeadValue) (rewritten : ℕ) (inside : PlainSpace) (s : Space) → Agrees plain b
-    → outOfShape (plain .size) (length (plain .keys)) ≡ false → key < length (plain .keys) → headOf list place ≡ value → length (s .body) ≡ length (b .space .body)
-    → AgreesSpace inside s (atKey key place (places plain)) none (placedContents plain key list place)
-    → Alike (accepted (record { told = appended (record { place = headOf list place; rewritten = rewritten }); book = withKey key list place inside plain }))
+pub append-ends : (plain : PlainBook) (b : Book) (key : ℕ) (list : List ℕ) (place : Place) (counted : Bool) (total : ℕ) (value : ShHeadValue) (rewritten : ℕ) (inside : PlainSpace)
+    (s : Space) → Agrees plain b
+    → outOfShape (plain .size) (length (plain .keys)) ≡ false → key < length (plain .keys) → headOf list place ≡ value
+    → totalOf (record { list = list; place = place; counted = counted }) ≡ total → length (s .body) ≡ length (b .space .body)
+    → AgreesSpace inside s (atKey key place (places plain)) none (placedContents plain key total place)
+    → Alike (accepted (record { told = appended (record { place = headOf list place; rewritten = rewritten }); book = withKey key list place counted inside plain }))
     (accepted (appending key value rewritten s b))
-append-ends plain b key list place value rewritten inside s a shape low is long h =
-    subst (λ (v : ShHeadValue). Alike (accepted (record { told = appended (record { place = headOf list place; rewritten = rewritten }); book = withKey key list place inside plain }))
+append-ends plain b key list place counted total value rewritten inside s a shape low is told long h =
+    subst
+    (λ (v : ShHeadValue). Alike (accepted (record { told = appended (record { place = headOf list place; rewritten = rewritten }); book = withKey key list place counted inside plain }))
     (accepted (appending key v rewritten s b))) is
-    (told-alike refl (agrees-placed plain b key list place inside s a shape low long h))
+    (told-alike refl (agrees-placed plain key list place counted inside low b s a shape long (subst (λ (t : ℕ). AgreesSpace inside s (atKey key place (places plain)) none (placedContents plain key t place)) (sym told) h)))

@@ -151,9 +151,9 @@ module _ (key : ℕ) (held : Option Block) where
 
 -- What a drop of a key leaves unsaid: its blocks.
 pub gone-placed : (plain : PlainBook) (key : ℕ) (R : List ℕ → Type 0)
-    → Gone key (withHand R (contentsOf plain)) (withHand R (placedContents plain key [] empty))
+    → Gone key (withHand R (contentsOf plain)) (withHand R (placedContents plain key 0 empty))
 gone-placed plain key R =
-    let kept = others-kept plain key (places plain) (withHand R (contentsOf plain)) (meanwhile-first plain key R) [] empty in
+    let kept = others-kept plain key (places plain) (withHand R (contentsOf plain)) (meanwhile-first plain key R) 0 empty in
     record {
       others = record { slabs = kept .slabs; pages = kept .pages };
       inHand = λ block r. r;
@@ -167,8 +167,8 @@ unfolding plainDoes does plainDrops drops headOf
 drop-step plain b key g a =
     alike-on-key plain b key _ _ g a
     (λ shape h low.
-    let k = place-gone key none (places plain key) (plain .space) (b .space) (places plain) (contentsOf plain) (placedContents plain key [] empty) refl
+    let k = place-gone key none (places plain key) (plain .space) (b .space) (places plain) (contentsOf plain) (placedContents plain key 0 empty) refl
     (gone-placed plain key (λ block. Unit {0})) (g .space) (h .space) in
     rw (then-yes _ _ (content-agrees plain b g shape h key))
     (told-alike refl
-    (agrees-placed plain b key [] empty (freedPlace (places plain key) (plain .space)) (release (blocksOf (places plain key)) (b .space)) a shape low (k .size) (k .agrees))))
+    (agrees-placed plain key [] empty true (freedPlace (places plain key) (plain .space)) low b (release (blocksOf (places plain key)) (b .space)) a shape (k .size) (k .agrees))))

@@ -20,7 +20,7 @@ use Rattle.scripthash_stream.proofs.LawsStream.{length-stream}
 use Rattle.scripthash_slabs.specs.Slab.{slabPayload}
 use Rattle.scripthash_free.specs.FreeList.{Block}
 use Rattle.plain_book.specs.Space.{Space as PlainSpace}
-use Rattle.plain_book.specs.Key.{Kept, written, Page, Place, slab, pages}
+use Rattle.plain_book.specs.Key.{Kept, written, Page, Place, slab, pages, totalOf}
 use Rattle.plain_book.specs.Book.{Book as PlainBook, keyOf}
 use Rattle.plain_book.specs.Owners.{Owner, hand, stack, slabOf, pageOf, pageAt, slabAt, pageIn, has, places}
 use Rattle.plain_book.specs.Good.{Good}
@@ -225,26 +225,26 @@ hand-page plain s at key ps p c c' others old before mine a =
 pub record Meanwhile (plain : PlainBook) (key : ℕ) (at : ℕ → Place) (c : Contents) : Type 0 where
   pub stand : (j : ℕ) → j ≢ key → at j ≡ places plain j
   pub slabs : (j : ℕ) (block : List ℕ) → j ≢ key → c .slabs j block → SlabIn (places plain j) block
-  pub pages : (j i : ℕ) (block : List ℕ) → j ≢ key → c .pages j i block → PageIn (length (keyOf j plain .list)) i (places plain j) block
+  pub pages : (j i : ℕ) (block : List ℕ) → j ≢ key → c .pages j i block → PageIn (totalOf (keyOf j plain)) i (places plain j) block
 
 -- So it is at first, whatever is in hand.
 pub meanwhile-first : (plain : PlainBook) (key : ℕ) (R : List ℕ → Type 0)
     → Meanwhile plain key (places plain) (withHand R (contentsOf plain))
 meanwhile-first plain key R = record { stand = λ j n. refl; slabs = λ j block n r. r; pages = λ j i block n r. r }
 
--- So it is once the key has another list and place, whatever is in hand.
-pub meanwhile-placed : (plain : PlainBook) (key : ℕ) (list : List ℕ) (place : Place) (R : List ℕ → Type 0)
-    → Meanwhile plain key (atKey key place (places plain)) (withHand R (placedContents plain key list place))
-meanwhile-placed plain key list place R =
+-- So it is once the key has another total and place, whatever is in hand.
+pub meanwhile-placed : (plain : PlainBook) (key : ℕ) (total : ℕ) (place : Place) (R : List ℕ → Type 0)
+    → Meanwhile plain key (atKey key place (places plain)) (withHand R (placedContents plain key total place))
+meanwhile-placed plain key total place R =
     record {
       stand = λ j n. rw (ne-eqb j key n);
       slabs = λ j block n r. rw (ne-eqb j key n) at r;
       pages = λ j i block n r. rw (ne-eqb j key n) at r;
     }
 
-module _ (plain : PlainBook) (key : ℕ) (at : ℕ → Place) (c : Contents) (m : Meanwhile plain key at c) (list : List ℕ) (place : Place) where
+module _ (plain : PlainBook) (key : ℕ) (at : ℕ → Place) (c : Contents) (m : Meanwhile plain key at c) (total : ℕ) (place : Place) where
   -- The other keys' blocks read as before once the key is placed.
-  pub others-kept : OthersKept key c (placedContents plain key list place)
+  pub others-kept : OthersKept key c (placedContents plain key total place)
   others-kept =
       record {
         slabs = λ j block n r. rw (ne-eqb j key n) (m .slabs j block n r);
@@ -260,42 +260,42 @@ module _ (plain : PlainBook) (key : ℕ) (at : ℕ → Place) (c : Contents) (m 
       go j false e = m .stand j (eqb-false j key e)
 
 -- A key's place becomes one without blocks, in a book.
-pub placed-bare : (plain : PlainBook) (key : ℕ) (list : List ℕ) (inside : PlainSpace) (s : Space) (at : ℕ → Place) (place : Place) (c : Contents) → slabAt place ≡ none
+pub placed-bare : (plain : PlainBook) (key : ℕ) (total : ℕ) (inside : PlainSpace) (s : Space) (at : ℕ → Place) (place : Place) (c : Contents) → slabAt place ≡ none
     → ((i : ℕ) → pageIn i place ≡ none) → Meanwhile plain key at c → AgreesSpace inside s at none c
-    → AgreesSpace inside s (atKey key place (places plain)) none (placedContents plain key list place)
-placed-bare plain key list inside s at place c no-slab no-page m a =
-    subst (λ (f : ℕ → Place). AgreesSpace inside s f none (placedContents plain key list place)) (at-placed plain key at c m list place)
-    (bare-placed inside s at none key place c (placedContents plain key list place) no-slab no-page (others-kept plain key at c m list place) (λ block r. tt) a)
+    → AgreesSpace inside s (atKey key place (places plain)) none (placedContents plain key total place)
+placed-bare plain key total inside s at place c no-slab no-page m a =
+    subst (λ (f : ℕ → Place). AgreesSpace inside s f none (placedContents plain key total place)) (at-placed plain key at c m total place)
+    (bare-placed inside s at none key place c (placedContents plain key total place) no-slab no-page (others-kept plain key at c m total place) (λ block r. tt) a)
 
 -- What is in hand becomes a key's slab, in a book.
-pub placed-slab : (plain : PlainBook) (key : ℕ) (list : List ℕ) (inside : PlainSpace) (s : Space) (at : ℕ → Place) (class off : ℕ) (kept : Kept) (c : Contents)
+pub placed-slab : (plain : PlainBook) (key : ℕ) (total : ℕ) (inside : PlainSpace) (s : Space) (at : ℕ → Place) (class off : ℕ) (kept : Kept) (c : Contents)
     → Meanwhile plain key at c → ((block : List ℕ) → c .inHand block → SlabReads kept block) → AgreesSpace inside s at (some (record { class = class; off = off })) c
-    → AgreesSpace inside s (atKey key (slab class off kept) (places plain)) none (placedContents plain key list (slab class off kept))
-placed-slab plain key list inside s at class off kept c m mine a =
-    subst (λ (f : ℕ → Place). AgreesSpace inside s f none (placedContents plain key list (slab class off kept))) (at-placed plain key at c m list (slab class off kept))
-    (hand-slab inside s at key class off kept c (placedContents plain key list (slab class off kept)) (others-kept plain key at c m list (slab class off kept))
+    → AgreesSpace inside s (atKey key (slab class off kept) (places plain)) none (placedContents plain key total (slab class off kept))
+placed-slab plain key total inside s at class off kept c m mine a =
+    subst (λ (f : ℕ → Place). AgreesSpace inside s f none (placedContents plain key total (slab class off kept))) (at-placed plain key at c m total (slab class off kept))
+    (hand-slab inside s at key class off kept c (placedContents plain key total (slab class off kept)) (others-kept plain key at c m total (slab class off kept))
     (λ block r. rw (eq-eqb key key refl) (mine block r)) a)
 
 -- What is in hand becomes a key's page behind others, in a book.
-pub placed-page : (plain : PlainBook) (key : ℕ) (list : List ℕ) (inside : PlainSpace) (s : Space) (at : ℕ → Place) (ps : List Page) (p : Page) (c : Contents)
+pub placed-page : (plain : PlainBook) (key : ℕ) (total : ℕ) (inside : PlainSpace) (s : Space) (at : ℕ → Place) (ps : List Page) (p : Page) (c : Contents)
     → Meanwhile plain key at c → ((i : ℕ) (x : Block) → pageAt i ps ≡ some x → pageIn i (at key) ≡ some x)
-    → ((i : ℕ) (block : List ℕ) → i < length ps → c .pages key i block → PageIn (length list) i (pages (ps ++ (p ∷ []))) block)
-    → ((block : List ℕ) → c .inHand block → PageIn (length list) (length ps) (pages (ps ++ (p ∷ []))) block)
+    → ((i : ℕ) (block : List ℕ) → i < length ps → c .pages key i block → PageIn total i (pages (ps ++ (p ∷ []))) block)
+    → ((block : List ℕ) → c .inHand block → PageIn total (length ps) (pages (ps ++ (p ∷ []))) block)
     → AgreesSpace inside s at (some (record { class = pageClass; off = p .off })) c
-    → AgreesSpace inside s (atKey key (pages (ps ++ (p ∷ []))) (places plain)) none (placedContents plain key list (pages (ps ++ (p ∷ []))))
-placed-page plain key list inside s at ps p c m old before mine a =
-    subst (λ (f : ℕ → Place). AgreesSpace inside s f none (placedContents plain key list (pages (ps ++ (p ∷ []))))) (at-placed plain key at c m list (pages (ps ++ (p ∷ []))))
-    (hand-page inside s at key ps p c (placedContents plain key list (pages (ps ++ (p ∷ [])))) (others-kept plain key at c m list (pages (ps ++ (p ∷ [])))) old
+    → AgreesSpace inside s (atKey key (pages (ps ++ (p ∷ []))) (places plain)) none (placedContents plain key total (pages (ps ++ (p ∷ []))))
+placed-page plain key total inside s at ps p c m old before mine a =
+    subst (λ (f : ℕ → Place). AgreesSpace inside s f none (placedContents plain key total (pages (ps ++ (p ∷ []))))) (at-placed plain key at c m total (pages (ps ++ (p ∷ []))))
+    (hand-page inside s at key ps p c (placedContents plain key total (pages (ps ++ (p ∷ [])))) (others-kept plain key at c m total (pages (ps ++ (p ∷ [])))) old
     (λ i block l r. rw (eq-eqb key key refl) (before i block l r))
     (λ block r. rw (eq-eqb key key refl) (mine block r))
     a)
 
 -- What is in hand becomes a key's only page, in a book.
-pub placed-one : (plain : PlainBook) (key : ℕ) (list : List ℕ) (inside : PlainSpace) (s : Space) (at : ℕ → Place) (p : Page) (c : Contents)
+pub placed-one : (plain : PlainBook) (key : ℕ) (total : ℕ) (inside : PlainSpace) (s : Space) (at : ℕ → Place) (p : Page) (c : Contents)
     → Meanwhile plain key at c
-    → ((block : List ℕ) → c .inHand block → PageReads p block × LastReads (p .off) (length list) block)
+    → ((block : List ℕ) → c .inHand block → PageReads p block × LastReads (p .off) total block)
     → AgreesSpace inside s at (some (record { class = pageClass; off = p .off })) c
-    → AgreesSpace inside s (atKey key (pages (p ∷ [])) (places plain)) none (placedContents plain key list (pages (p ∷ [])))
+    → AgreesSpace inside s (atKey key (pages (p ∷ [])) (places plain)) none (placedContents plain key total (pages (p ∷ [])))
 unfolding ChainReads pageAt
-placed-one plain key list inside s at p c m mine a =
-    placed-page plain key list inside s at [] p c m (λ i x e. absurd (none-some e)) (λ i block l r. absurd (omega arith)) (λ block r. mine block r) a
+placed-one plain key total inside s at p c m mine a =
+    placed-page plain key total inside s at [] p c m (λ i x e. absurd (none-some e)) (λ i block l r. absurd (omega arith)) (λ block r. mine block r) a

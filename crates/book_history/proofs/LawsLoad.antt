@@ -40,7 +40,7 @@ use Rattle.plain_book.specs.Space.{takeRun as plainTakeRun}
 use Rattle.plain_book.specs.Key.{Page, Place, empty, inline, slab, pages, written, lastPage, noPage, headOf, Key, emptyKey, pagesOf, Placed}
 use Rattle.plain_book.specs.Key.{runPages, loadInto as plainLoadInto, loadPlace}
 use Rattle.plain_book.specs.Book.{Book as PlainBook, Outcome as PlainOutcome, keyOf, withKey, inUse, loads as plainLoads, does as plainDoes}
-use Rattle.plain_book.specs.Sound.{Fits}
+use Rattle.plain_book.specs.Sound.{Fits, SoundKey}
 use Rattle.plain_book.specs.Owners.{Owner, hand, stack, slabOf, pageOf, Apart, slabAt, pageAt, pageIn, has, places}
 use Rattle.plain_book.specs.Good.{Good, GoodPlain}
 use Rattle.plain_book.proofs.LawsApart.{apart-fewer}
@@ -53,12 +53,13 @@ use Rattle.book_keys.specs.Keys.{goodExtent}
 use Rattle.book_blocks.specs.Blocks.{lastPageOf, pageTo, writeRun}
 use Rattle.book_blocks.proofs.LawsReadsSlab.{slab-written}
 use Rattle.book_blocks.proofs.LawsReadsPage.{last-page-reads, page-to-reads}
-use Rattle.book.specs.Book.{Book, Outcome, wordOf, headWord, filled}
+use Rattle.book.specs.Book.{Book, Outcome, wordOf, filled}
 use Rattle.book.specs.Loads.{loading, lastOfRun, loadInto, loadAt, loads}
 use Rattle.book.specs.Calls.{does}
 use Rattle.book_history.specs.Agrees.{SlabReads, PageReads, LastReads, NextReads, ChainReads, firstOff, SlabIn, PageIn, Contents}
 use Rattle.book_history.specs.Agrees.{BlockReads, contentsOf, AgreesSpace, AgreesInside, Agrees}
 use Rattle.book_history.proofs.LawsFrame.{blockOf, block-ends, block-written}
+use Rattle.book_history.proofs.LawsWords.{empty-told}
 use Rattle.book_history.proofs.LawsStep.{Alike, told-alike, refused-alike, alike-both, alike-on-key, placedContents, agrees-placed}
 use Rattle.book_history.proofs.LawsContent.{head-agrees}
 use Rattle.book_history.proofs.LawsHand.{Filled, fill-long, fill-agrees, Meanwhile, meanwhile-first, OthersKept, others-kept}
@@ -183,20 +184,20 @@ written-beyond plain s at held c mark after apart long before a =
     }
 
 -- A key gets a place whose blocks, which nobody has, read as they should.
-pub placed-stored : (plain : PlainBook) (key : ℕ) (list : List ℕ) (place : Place) (inside : PlainSpace) (s : Space) (c : Contents)
+pub placed-stored : (plain : PlainBook) (key total : ℕ) (place : Place) (inside : PlainSpace) (s : Space) (c : Contents)
     → Meanwhile plain key (places plain) c
     → ((x : Block) → slabAt place ≡ some x → SlabIn place (blockOf (s .body) x))
-    → ((i : ℕ) (x : Block) → pageIn i place ≡ some x → PageIn (length list) i place (blockOf (s .body) x))
-    → AgreesSpace inside s (places plain) none c → AgreesSpace inside s (atKey key place (places plain)) none (placedContents plain key list place)
+    → ((i : ℕ) (x : Block) → pageIn i place ≡ some x → PageIn total i place (blockOf (s .body) x))
+    → AgreesSpace inside s (places plain) none c → AgreesSpace inside s (atKey key place (places plain)) none (placedContents plain key total place)
 unfolding has
-placed-stored plain key list place inside s c m slabs pgs a =
+placed-stored plain key total place inside s c m slabs pgs a =
     record { mark = a .mark; nine = a .nine; tops = a .tops; within = a .within; small = a .small; stored = stored }
   where
-    others : OthersKept key c (placedContents plain key list place)
-    others = others-kept plain key (places plain) c m list place
+    others : OthersKept key c (placedContents plain key total place)
+    others = others-kept plain key (places plain) c m total place
 
     stored : (w : Owner) (x : Block) → has inside (atKey key place (places plain)) none w ≡ some x
-        → BlockReads inside (placedContents plain key list place) w (blockOf (s .body) x)
+        → BlockReads inside (placedContents plain key total place) w (blockOf (s .body) x)
     stored hand x e = absurd (none-some e)
     stored (stack k d) x e = a .stored (stack k d) x e
     stored (slabOf j) x e =
@@ -231,7 +232,7 @@ word-some word v e n z = n (accepted-inj (sym e ∙ ap unpackHead z ∙ empty-wo
 in-use-alike : (plain : PlainBook) (b : Book) (key : ℕ) → GoodPlain plain → outOfShape (plain .size) (length (plain .keys)) ≡ false
     → AgreesInside plain b
     → inUse (keyOf key plain .place) ≡ not (eqb (wordOf key b) 0)
-unfolding headOf headWord
+unfolding headOf
 in-use-alike plain b key g shape h = go (keyOf key plain .place) refl
   where
     tells : (place : Place) → keyOf key plain .place ≡ place → unpackHead (wordOf key b) ≡ accepted (headOf (keyOf key plain .list) place)
@@ -242,9 +243,7 @@ in-use-alike plain b key g shape h = go (keyOf key plain .place) refl
     used place is n = sym (ap not (ne-eqb (wordOf key b) 0 (word-some (wordOf key b) _ (tells place is) n)))
 
     go : (place : Place) → keyOf key plain .place ≡ place → inUse place ≡ not (eqb (wordOf key b) 0)
-    go empty is =
-        let zero' : wordOf key b ≡ 0 = h .heads key ∙ ap (λ (p : Place). headWord (headOf (keyOf key plain .list) p)) is ∙ rw (empty-word .packs) in
-        sym (ap not (eq-eqb (wordOf key b) 0 zero'))
+    go empty is = sym (ap not (eq-eqb (wordOf key b) 0 (empty-told (wordOf key b) (tells empty is))))
     go inline is = used inline is (λ e. (let z : _≡_ {A = ℕ} 0 1 = cc in omega arith))
     go (slab class off kept) is = used (slab class off kept) is (λ e. (let z : _≡_ {A = ℕ} 0 1 = cc in omega arith))
     go (pages ps) is = used (pages ps) is (λ e. (let z : _≡_ {A = ℕ} 0 1 = cc in omega arith))
@@ -255,11 +254,14 @@ in-use-alike plain b key g shape h = go (keyOf key plain .place) refl
 cut-allowed : (ns : List ℕ) → Rising (2 ^ 62) 0 ns → AllowedCutting ns (cutting ns)
 cut-allowed ns rises = pages-allowed ns (rising-words 0 ns (rising-below (2 ^ 62) (2 ^ 63) 0 ns (omega arith) rises))
 
--- A key with no place holds nothing.
-empty-key : (k : Key) → Fits (k .list) (k .place) → k .place ≡ empty → k ≡ emptyKey
+-- A sound key with no place holds nothing.
+empty-key : (k : Key) → SoundKey k → k .place ≡ empty → k ≡ emptyKey
 unfolding Fits
-empty-key k fits is = λ i. record { list = nothing (k .list) (rw is at fits) i; place = is i }
+empty-key k sound is = λ i. record { list = nothing (k .list) (rw is at (sound .fits)) i; place = is i; counted = known i }
   where
+    known : k .counted ≡ true
+    known = rw is at (sound .known)
+
     nothing : (list : List ℕ) → length list ≡ 0 → list ≡ []
     nothing [] e = refl
     nothing (n ∷ ns) e = absurd (omega arith)
@@ -281,7 +283,7 @@ module _ (plain : PlainBook) (b : Book) (key : ℕ) (ns : List ℕ) (g : GoodPla
     (h : AgreesInside plain b) (l : key < length (plain .keys)) (rises : Rising (2 ^ 62) 0 ns) (few : length ns ≤ maxOffered) where
   -- what the plain book answers, once the list has a place
   abbrev loadedTo : Placed → Answer PlainOutcome
-  loadedTo p = accepted (record { told = loaded (record { pages = pagesOf (p .place) }); book = withKey key ns (p .place) (p .space) plain })
+  loadedTo p = accepted (record { told = loaded (record { pages = pagesOf (p .place) }); book = withKey key ns (p .place) true (p .space) plain })
 
   whole : length (b .space .body) % 4096 ≡ 0
   whole = ap (λ (n : ℕ). n % 4096) (a .size) ∙ in-shape (plain .size) (length (plain .keys)) shape .paged
@@ -310,13 +312,13 @@ module _ (plain : PlainBook) (b : Book) (key : ℕ) (ns : List ℕ) (g : GoodPla
           let c = anyHand (contentsOf plain) in
           let bytes = fill-long (t .space) (u .space) (places plain) class (t .off) c (slabPayload ns) short good agrees in
           let placed =
-          placed-slab plain key ns (t .space) _ (places plain) class (t .off) (written ns) _ (meanwhile-first plain key (Filled class (slabPayload ns)))
+          placed-slab plain key (length ns) (t .space) _ (places plain) class (t .off) (written ns) _ (meanwhile-first plain key (Filled class (slabPayload ns)))
           (λ block f. payload-reads class ns block rises few f) (fill-agrees (t .space) (u .space) (places plain) class (t .off) c (slabPayload ns) short good agrees) in
           subst
           (λ (o : ℕ). Alike (loadedTo (record { place = slab class (t .off) (written ns); space = t .space; rewritten = 0 }))
           (accepted (loading key (Slab class (length ns) o) 0 (space (overwrite (u .space .body) o (slabPayload ns)) (u .space .mark) (u .space .free)) b)))
           (sym off)
-          (told-alike refl (agrees-placed plain b key ns (slab class (t .off) (written ns)) (t .space) _ a shape l (bytes ∙ long ∙ sym (a .size)) placed))
+          (told-alike refl (agrees-placed plain key ns (slab class (t .off) (written ns)) true (t .space) l b _ a shape (bytes ∙ long ∙ sym (a .size)) placed))
 
   -- a run is written beyond all blocks, and becomes the key's pages
   run-placed : (inside : PlainSpace) (s : Space) (start : ℕ) (parts : List (List ℕ)) → 0 < length parts → joined parts ≡ ns
@@ -325,7 +327,7 @@ module _ (plain : PlainBook) (b : Book) (key : ℕ) (ns : List ℕ) (g : GoodPla
       → AgreesSpace inside s (places plain) none (contentsOf plain)
       → (length (writeRun start (length parts) (length ns) (s .body) start parts) ≡ length (s .body))
       × AgreesSpace inside (space (writeRun start (length parts) (length ns) (s .body) start parts) (s .mark) (s .free)) (atKey key (pages (runPages start parts)) (places plain)) none
-      (placedContents plain key ns (pages (runPages start parts)))
+      (placedContents plain key (length ns) (pages (runPages start parts)))
   run-placed inside s start parts some' same fit aligned from below apart agrees =
       let in-body = agrees .within in
       let small = agrees .small in
@@ -333,7 +335,7 @@ module _ (plain : PlainBook) (b : Book) (key : ℕ) (ns : List ℕ) (g : GoodPla
       run-written start (length parts) (length ns) aligned from (omega arith) some' (omega arith) (omega arith) parts (s .body) start aligned (omega arith) small
       (rising-below (2 ^ 62) (2 ^ 63) 0 (joined parts) (omega arith) (rw same rises)) fit in (
         w .long,
-        placed-stored plain key ns (pages (runPages start parts)) inside _ (contentsOf plain) (meanwhile-first plain key (λ block. Unit {0})) (λ x e. absurd (none-some e))
+        placed-stored plain key (length ns) (pages (runPages start parts)) inside _ (contentsOf plain) (meanwhile-first plain key (λ block. Unit {0})) (λ x e. absurd (none-some e))
             (λ i x e. subst (λ (first : ℕ). ChainReads first (length ns) i (runPages start parts) (blockOf (writeRun start (length parts) (length ns) (s .body) start parts) x))
             (sym (run-first start parts some')) (w .reads i x e))
             (written-beyond inside s (places plain) none (contentsOf plain) start _ apart (w .long) (w .before) agrees),
@@ -395,7 +397,7 @@ module _ (plain : PlainBook) (b : Book) (key : ℕ) (ns : List ℕ) (g : GoodPla
           (accepted (loading key (Extent last) (length parts) (space (writeRun start (length parts) (length ns) (u .space .body) start parts) (u .space .mark) (u .space .free)) b)))
           (run-last start noPage parts some')
           (told-alike (ap (λ (n : ℕ). loaded (record { pages = n })) (run-length start parts))
-          (agrees-placed plain b key ns (pages (runPages start parts)) beyond _ a shape l (bytes ∙ long ∙ sym (a .size)) run)))
+          (agrees-placed plain key ns (pages (runPages start parts)) true beyond l b _ a shape (bytes ∙ long ∙ sym (a .size)) run)))
 
 -- ---- a load
 
@@ -405,19 +407,19 @@ load-alike : (plain : PlainBook) (b : Book) (key : ℕ) (ns : List ℕ) → Good
     → AgreesInside plain b → key < length (plain .keys) → keyOf key plain .place ≡ empty → Rising (2 ^ 62) 0 ns → length ns ≤ maxOffered
     → Alike
     (andThen (loadPlace (plain .size) ns (plain .space))
-    (λ p. accepted (record { told = loaded (record { pages = pagesOf (p .place) }); book = withKey key ns (p .place) (p .space) plain })))
+    (λ p. accepted (record { told = loaded (record { pages = pagesOf (p .place) }); book = withKey key ns (p .place) true (p .space) plain })))
     (loadAt b key ns)
 unfolding loadPlace loadAt andThen headOf lastFrom
 load-alike plain b key [] g a shape h l is rises few = told-alike refl (subst (λ (p : PlainBook). Agrees p b) (sym same) a)
   where
-    same : withKey key [] empty (plain .space) plain ≡ plain
+    same : withKey key [] empty true (plain .space) plain ≡ plain
     same =
-        ap (λ (k : Key). record { size = plain .size; keys = set (plain .keys) key k; space = plain .space }) (sym (empty-key (keyOf key plain) (g .keys key .fits) is))
+        ap (λ (k : Key). record { size = plain .size; keys = set (plain .keys) key k; space = plain .space }) (sym (empty-key (keyOf key plain) (g .keys key) is))
         ∙ ap (λ (ks : List Key). record { size = plain .size; keys = ks; space = plain .space }) (set-getD (plain .keys) key emptyKey)
 load-alike plain b key (n ∷ []) g a shape h l is rises few =
     told-alike refl
-    (agrees-placed plain b key (n ∷ []) inline (plain .space) (b .space) a shape l refl
-    (placed-stored plain key (n ∷ []) inline (plain .space) (b .space) (contentsOf plain) (meanwhile-first plain key (λ block. Unit {0})) (λ x e. absurd (none-some e))
+    (agrees-placed plain key (n ∷ []) inline true (plain .space) l b (b .space) a shape refl
+    (placed-stored plain key 1 inline (plain .space) (b .space) (contentsOf plain) (meanwhile-first plain key (λ block. Unit {0})) (λ x e. absurd (none-some e))
     (λ i x e. absurd (none-some e)) (h .space)))
 load-alike plain b key (n ∷ m ∷ ns) g a shape h l is rises few = go (loadsTo (length (n ∷ m ∷ ns)) (streamLen (n ∷ m ∷ ns))) refl
   where

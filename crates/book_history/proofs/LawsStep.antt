@@ -13,15 +13,17 @@ use lib.Seq.{getD-set-same, getD-set-other}
 use borrow.Author.Tests.{eqb-true, eqb-false, eq-eqb, ne-eqb, leb-false, ltb-false, le-ltb, lt-leb}
 use Rattle.error.specs.Refusal.{Answer, accepted, refused, refuseIf, andThen, shapeBad, keyBeyond, offeredNotRising}
 use Rattle.error.proofs.LawsAnswer.{refuse-no}
+use Rattle.scripthash_layout.specs.Head.{unpackHead}
 use Rattle.scripthash_layout.specs.declared.head.ShHeadValue.{ShHeadValue}
 use Rattle.book_rules.specs.Calls.{Told}
 use Rattle.book_rules.specs.Limits.{outOfShape, offeredNumber}
 use Rattle.plain_book.specs.Space.{Space as PlainSpace}
-use Rattle.plain_book.specs.Key.{Place, Key, emptyKey, headOf}
+use Rattle.plain_book.specs.Key.{Place, Key, totalOf, headOf}
 use Rattle.plain_book.specs.Book.{Book as PlainBook, Outcome as PlainOutcome, keyOf, withKey, onKey as plainOnKey}
 use Rattle.plain_book.specs.Owners.{places, has}
 use Rattle.plain_book.specs.Good.{GoodPlain}
 use Rattle.plain_book.proofs.LawsOwners.{atKey}
+use Rattle.plain_book.proofs.LawsHistory.{key-with}
 use Rattle.plain_book.proofs.LawsBlocks.{key-place}
 use Rattle.book_space.specs.Space.{Space, markBad, shapeBroken}
 use Rattle.book.specs.Book.{Book, Outcome, headWord, onKey, placing}
@@ -126,70 +128,64 @@ alike-offered last n x y go =
 
 -- ---- a key gets another place
 
--- What blocks read as once a key has another list and place.
-abbrev pub placedContents : PlainBook → ℕ → List ℕ → Place → Contents
-placedContents plain key list place =
+-- What blocks read as once a key has another total and place.
+abbrev pub placedContents : PlainBook → ℕ → ℕ → Place → Contents
+placedContents plain key total place =
     record {
       inHand = λ block. Unit {0};
       slabs = λ j block. SlabIn (atKey key place (places plain) j) block;
-      pages = λ j i block. PageIn (cond (eqb j key) (length list) (length (keyOf j plain .list))) i (atKey key place (places plain) j) block;
+      pages = λ j i block. PageIn (cond (eqb j key) total (totalOf (keyOf j plain))) i (atKey key place (places plain) j) block;
     }
 
--- What a key of a book with a key changed is.
-key-is : (plain : PlainBook) (key : ℕ) (list : List ℕ) (place : Place) (space : PlainSpace) → key < length (plain .keys) → (j : ℕ)
-    → keyOf j (withKey key list place space plain) ≡ cond (eqb j key) (record { list = list; place = place }) (keyOf j plain)
-key-is plain key list place space l j = go (eqb j key) refl
-  where
-    go : (t : Bool) → eqb j key ≡ t
-        → keyOf j (withKey key list place space plain) ≡ cond t (record { list = list; place = place }) (keyOf j plain)
-    go true e =
-        ap (λ (k : ℕ). getD (set (plain .keys) key (record { list = list; place = place })) k emptyKey) (eqb-true j key e)
-        ∙ getD-set-same (plain .keys) key _ emptyKey l
-    go false e = getD-set-other (plain .keys) key j _ emptyKey (eqb-false j key e)
+module _ (plain : PlainBook) (key : ℕ) (list : List ℕ) (place : Place) (counted : Bool) (space : PlainSpace) (l : key < length (plain .keys)) where
+  -- the key as it becomes, and the book with it
+  abbrev new : Key
+  new = record { list = list; place = place; counted = counted }
 
--- The contents of a book with a key changed, as those with the key placed.
-contents-placed : (plain : PlainBook) (key : ℕ) (list : List ℕ) (place : Place) (space : PlainSpace) → key < length (plain .keys)
-    → contentsOf (withKey key list place space plain) ≡ placedContents plain key list place
-contents-placed plain key list place space l =
-    λ i. record {
-      inHand = λ block. Unit {0};
-      slabs = λ j block. SlabIn (key-place plain key list place space l j i) block;
-      pages = λ j n block. PageIn (lengths j i) n (key-place plain key list place space l j i) block;
-    }
-  where
-    lengths : (j : ℕ)
-        → length (keyOf j (withKey key list place space plain) .list) ≡ cond (eqb j key) (length list) (length (keyOf j plain .list))
-    lengths j = ap (λ (k : Key). length (k .list)) (key-is plain key list place space l j) ∙ inside (eqb j key)
-      where
-        inside : (t : Bool) → length (cond t (record { list = list; place = place }) (keyOf j plain) .list) ≡ cond t (length list) (length (keyOf j plain .list))
-        inside true = refl
-        inside false = refl
+  abbrev changed : PlainBook
+  changed = withKey key list place counted space plain
 
--- A key gets another list and place in both books: they agree where the spaces do.
-pub agrees-placed : (plain : PlainBook) (b : Book) (key : ℕ) (list : List ℕ) (place : Place) (space : PlainSpace) (s : Space)
-    → Agrees plain b
-    → outOfShape (plain .size) (length (plain .keys)) ≡ false → key < length (plain .keys) → length (s .body) ≡ length (b .space .body)
-    → AgreesSpace space s (atKey key place (places plain)) none (placedContents plain key list place)
-    → Agrees (withKey key list place space plain) (record { heads = set (b .heads) key (headWord (headOf list place)); space = s })
-agrees-placed plain b key list place space s a shape l long h =
-    record {
-      size = long ∙ a .size;
-      count = length-set (b .heads) key _ ∙ a .count ∙ sym (length-set (plain .keys) key _);
-      inside = λ z. record { heads = heads; space = spaces };
-    }
-  where
-    heads : (j : ℕ) → getD (set (b .heads) key (headWord (headOf list place))) j 0
-        ≡ headWord (headOf (keyOf j (withKey key list place space plain) .list) (keyOf j (withKey key list place space plain) .place))
-    heads j = rw (key-is plain key list place space l j) (go (eqb j key) refl)
-      where
-        go : (t : Bool) → eqb j key ≡ t → getD (set (b .heads) key (headWord (headOf list place))) j 0
-            ≡ headWord (headOf (cond t (record { list = list; place = place }) (keyOf j plain) .list) (cond t (record { list = list; place = place }) (keyOf j plain) .place))
-        go true e =
-            ap (λ (k : ℕ). getD (set (b .heads) key (headWord (headOf list place))) k 0) (eqb-true j key e)
-            ∙ getD-set-same (b .heads) key _ 0 (subst (λ (n : ℕ). key < n) (sym (a .count)) l)
-        go false e = getD-set-other (b .heads) key j _ 0 (eqb-false j key e) ∙ a .inside shape .heads j
+  -- The contents of a book with a key changed, as those with the key placed.
+  contents-placed : contentsOf changed ≡ placedContents plain key (totalOf new) place
+  contents-placed =
+      λ i. record {
+        inHand = λ block. Unit {0};
+        slabs = λ j block. SlabIn (key-place plain key list place counted space l j i) block;
+        pages = λ j n block. PageIn (totals j i) n (key-place plain key list place counted space l j i) block;
+      }
+    where
+      totals : (j : ℕ) → totalOf (keyOf j changed) ≡ cond (eqb j key) (totalOf new) (totalOf (keyOf j plain))
+      totals j = ap (λ (k : Key). totalOf k) (key-with plain key new l j) ∙ inside (eqb j key)
+        where
+          inside : (t : Bool) → totalOf (cond t new (keyOf j plain)) ≡ cond t (totalOf new) (totalOf (keyOf j plain))
+          inside true = refl
+          inside false = refl
 
-    spaces : AgreesSpace space s (places (withKey key list place space plain)) none (contentsOf (withKey key list place space plain))
-    spaces =
-        rw (contents-placed plain key list place space l)
-        (subst (λ (at : ℕ → Place). AgreesSpace space s at none (placedContents plain key list place)) (sym (λ i j. key-place plain key list place space l j i)) h)
+  -- A key gets another list and place in both books: they agree where the spaces do.
+  pub agrees-placed : (b : Book) (s : Space) → Agrees plain b → outOfShape (plain .size) (length (plain .keys)) ≡ false
+      → length (s .body) ≡ length (b .space .body)
+      → AgreesSpace space s (atKey key place (places plain)) none (placedContents plain key (totalOf new) place)
+      → Agrees changed (record { heads = set (b .heads) key (headWord (headOf list place)); space = s })
+  agrees-placed b s a shape long h =
+      record {
+        size = long ∙ a .size;
+        count = length-set (b .heads) key _ ∙ a .count ∙ sym (length-set (plain .keys) key _);
+        inside = λ z. record { heads = heads; space = spaces };
+      }
+    where
+      heads : (j : ℕ) → unpackHead (getD (set (b .heads) key (headWord (headOf list place))) j 0)
+          ≡ unpackHead (headWord (headOf (keyOf j changed .list) (keyOf j changed .place)))
+      heads j = rw (key-with plain key new l j) (go (eqb j key) refl)
+        where
+          go : (t : Bool) → eqb j key ≡ t → unpackHead (getD (set (b .heads) key (headWord (headOf list place))) j 0)
+              ≡ unpackHead (headWord (headOf (cond t new (keyOf j plain) .list) (cond t new (keyOf j plain) .place)))
+          go true e =
+              ap (λ (k : ℕ). unpackHead (getD (set (b .heads) key (headWord (headOf list place))) k 0)) (eqb-true j key e)
+              ∙ ap unpackHead (getD-set-same (b .heads) key _ 0 (subst (λ (n : ℕ). key < n) (sym (a .count)) l))
+          go false e = ap unpackHead (getD-set-other (b .heads) key j _ 0 (eqb-false j key e)) ∙ a .inside shape .heads j
+
+      spaces : AgreesSpace space s (places changed) none (contentsOf changed)
+      spaces =
+          rw contents-placed
+          (subst (λ (at : ℕ → Place). AgreesSpace space s at none (placedContents plain key (totalOf new) place))
+          (sym (λ i j. key-place plain key list place counted space l j i)) h)

@@ -36,7 +36,7 @@ use Rattle.book_keys.specs.Keys.{blockAt, pageAt, slabScan, Tail, tailAt}
 use Rattle.book_keys.proofs.LawsSound.{was-sound}
 use Rattle.book_keys.proofs.LawsSlab.{SoundSlab, slab-sound}
 use Rattle.book_keys.proofs.LawsPages.{SoundTail, tail-sound}
-use Rattle.book_blocks.specs.Blocks.{slabWith, lastPageOf, pageWith, pageBefore}
+use Rattle.book_blocks.specs.Blocks.{slabWith, lastPageOf, totalWith, pageWith, pageBefore}
 use Rattle.book_blocks.proofs.LawsWrites.{length-payload, length-lastPage}
 use Rattle.book.specs.Book.{Book, Outcome, filled}
 use Rattle.book.specs.Appends.{movesInto, moves, appendSlab, growChain, appendPage, appendAt, appends}
@@ -180,7 +180,7 @@ module _ (b : Book) (key n last : ℕ) (t : Tail) (i : InShape (b .space)) (know
   chain-wrote : (p : Taken) → takeBlock pageClass room ≡ accepted p
       → let body = overwrite (p .space .body) last (pageBefore (pageAt (p .space) last) (p .off)) in
       Wrote (growingPage last none room) room
-      (space (overwrite body (p .off) (lastPageOf (t .last .first) (p .off) 1 (t .last .creates + 1) (n ∷ []))) (p .space .mark) (p .space .free))
+      (space (overwrite body (p .off) (lastPageOf (t .last .first) (p .off) 1 (totalWith (t .last .creates)) (n ∷ []))) (p .space .mark) (p .space .free))
   unfolding growingPage filling
   chain-wrote p e =
       let took = take-took pageClass room (omega arith) i e in
@@ -188,10 +188,10 @@ module _ (b : Book) (key n last : ℕ) (t : Tail) (i : InShape (b .space)) (know
       let rises = took .kept .rises in
       let ends = block-stands pageClass (p .off) (p .space .mark) (took .stands) .ends in
       let old = old-wrote p (omega (arith, page-ends)) in
-      let page = lastPageOf (t .last .first) (p .off) 1 (t .last .creates + 1) (n ∷ []) in
+      let page = lastPageOf (t .last .first) (p .off) 1 (totalWith (t .last .creates)) (n ∷ []) in
       rw e
       (wrote-between (wrote-took pageClass room (omega arith) i e) old
-      (wrote-bytes _ (p .off) pageSize page (length-lastPage (t .last .first) (p .off) 1 (t .last .creates + 1) (n ∷ []) one-fits) (omega (arith, old .body .long))))
+      (wrote-bytes _ (p .off) pageSize page (length-lastPage (t .last .first) (p .off) 1 (totalWith (t .last .creates)) (n ∷ []) one-fits) (omega (arith, old .body .long))))
 
   -- A number in the page, or in a page more.
   page-only : (spot : Option Spot) {o : Outcome} → spotBehind (pageAt room last) n (t .scan) ≡ spot

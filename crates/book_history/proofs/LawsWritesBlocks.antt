@@ -17,7 +17,7 @@ use Rattle.scripthash_fields.specs.Page.{setField, versionOf, countOf, streamOf
 use Rattle.scripthash_fields.proofs.LawsFields.{stream-off-extent}
 use Rattle.scripthash_pages.specs.Entries.{lastOf, Spot, pageScan, spotBehind}
 use Rattle.scripthash_pages.proofs.LawsAppend.{count-read, scan-ends}
-use Rattle.book_blocks.specs.Blocks.{slabWith, pageWith, pageBefore}
+use Rattle.book_blocks.specs.Blocks.{slabWith, totalWith, pageWith, pageBefore}
 use Rattle.book_blocks.proofs.LawsWrites.{grown-written}
 use Rattle.book_blocks.proofs.LawsReadsMore.{spot-is}
 use Rattle.book_history.specs.Writes.{region, Only}
@@ -53,7 +53,7 @@ only-joined page n creates c w scans version spot =
     let two = overwrite one (24 + c .taken) (shortest d) in
     let o = only-bytes page 1 2 (bytesOf 2 (countOf page + 1)) refl (omega arith) in
     let p = only-bytes one (24 + c .taken) (ulebLen d) (shortest d) (length-shortest d) (omega (arith, o .long, found .0)) in
-    let q = only-bytes two 20 4 (bytesOf 4 (creates + 1)) refl (omega (arith, o .long, p .long)) in
+    let q = only-bytes two 20 4 (bytesOf 4 (totalWith creates)) refl (omega (arith, o .long, p .long)) in
     let whole : Only (region 1 2 ∷ region (24 + c .taken) (ulebLen d) ∷ region 20 4 ∷ []) page (pageWith page spot-of creates) =
     subst (λ (x : List ℕ). Only (region 1 2 ∷ region (24 + c .taken) (ulebLen d) ∷ region 20 4 ∷ []) page x)
     (grown-written page (countOf page) (c .taken) d creates (omega arith) version (count-read page)) (only-then o (only-then p q)) in

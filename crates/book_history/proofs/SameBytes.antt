@@ -15,16 +15,19 @@ use Rattle.plain_book.specs.Book.{Book as PlainBook, fresh as plainFresh, after
 use Rattle.plain_book.specs.Good.{GoodPlain}
 use Rattle.plain_book.proofs.LawsGood.{fresh-good, calls-good, shapes-kept}
 use Rattle.plain_book.proofs.LawsHistory.{fresh-key}
-use Rattle.plain_book.proofs.LawsRecorded.{recorded-fresh}
+use Rattle.plain_book.proofs.LawsRecorded.{recorded-from}
 use Rattle.book_keys.specs.Keys.{Content}
 use Rattle.book.specs.Book.{Book, fresh}
 use Rattle.book.specs.Calls.{after, answers}
+use Rattle.book_start.specs.Start.{GoodStart}
 use Rattle.book_history.specs.Agrees.{Agrees}
-use Rattle.book_history.proofs.LawsCalls.{books-agree, fresh-agrees}
+use Rattle.book_history.specs.PlainOf.{plainOf, startList}
+use Rattle.book_history.proofs.LawsCalls.{answers-alike, books-agree}
 use Rattle.book_history.proofs.LawsContent.{content-agrees}
 use Rattle.book_history.proofs.LawsEach.{each-alike}
 use Rattle.book_history.proofs.LawsShape.{plain-still}
-use Rattle.book_history.proofs.Demand3.{demand-3}
+use Rattle.book_history.proofs.LawsStart.{start-list, start-shape, start-good, start-agrees}
+use Rattle.book_history.proofs.LawsStartFresh.{fresh-agrees}
 
 -- ---- any plain books
 
@@ -44,43 +47,85 @@ lists-fixed p q b g h a d shape key =
     ap (λ (c : Content). c .numbers)
     (accepted-inj (sym (content-agrees p b g shape (a .inside shape) key) ∙ content-agrees q b h other (d .inside other) key))
 
+-- ---- after any calls
+
+-- Two books over bytes that stand for good plain books, and some calls on each, after which they are one.
+module _ (p q : PlainBook) (b d : Book) (g : GoodPlain p) (h : GoodPlain q) (agrees : Agrees p b) (other : Agrees q d) (cs ds : List Call)
+    (same : after b cs ≡ after d ds) where
+  -- Both plain books stand for it then.
+  stands : Agrees (plainAfter p cs) (after b cs)
+  stands = books-agree each-alike p b cs g agrees
+
+  other-stands : Agrees (plainAfter q ds) (after b cs)
+  other-stands = subst (Agrees (plainAfter q ds)) (sym same) (books-agree each-alike q d ds h other)
+
+  -- A key's list is what was there at first and what was recorded.
+  told : (r : PlainBook) (c : Book) (es : List Call) (key : ℕ) → GoodPlain r → Agrees r c
+      → recorded key es (answers c es) (keyOf key r .list) ≡ keyOf key (plainAfter r es) .list
+  told r c es key good a =
+      ap (λ (told : List (Answer Told)). recorded key es told (keyOf key r .list)) (answers-alike each-alike r c es good a)
+      ∙ sym (recorded-from r key es (good .keys key))
+
+  -- In shape, the same is recorded for each key, with what was there at first.
+  pub records-good : outOfShape (p .size) (length (p .keys)) ≡ false → (key : ℕ)
+      → recorded key cs (answers b cs) (keyOf key p .list) ≡ recorded key ds (answers d ds) (keyOf key q .list)
+  records-good shape key =
+      let (size, keys) = shapes-kept p cs in
+      told p b cs key g agrees
+      ∙ lists-fixed (plainAfter p cs) (plainAfter q ds) (after b cs) (calls-good cs g) (calls-good ds h) stands other-stands (rw (size, keys) shape) key
+      ∙ sym (told q d ds key h other)
+
+  -- Out of shape, calls are turned back on both, so that each key has what it had.
+  pub records-still : outOfShape (p .size) (length (p .keys)) ≡ true → (key : ℕ)
+      → (recorded key cs (answers b cs) (keyOf key p .list) ≡ keyOf key p .list)
+      × (recorded key ds (answers d ds) (keyOf key q .list) ≡ keyOf key q .list)
+  records-still shape key =
+      let (size, keys) = shapes-kept p cs in
+      let (size', keys') = shapes-kept q ds in
+      let out-then = shape-fixed (plainAfter p cs) (plainAfter q ds) (after b cs) stands other-stands in
+      let out-q : out q ≡ true = ap₂ outOfShape (sym size') (sym keys') ∙ out-then ∙ ap₂ outOfShape size keys ∙ shape in (
+        told p b cs key g agrees ∙ ap (λ (x : PlainBook). keyOf key x .list) (plain-still p cs shape),
+        told q d ds key h other ∙ ap (λ (x : PlainBook). keyOf key x .list) (plain-still q ds out-q),
+      )
+
+-- ---- after any calls on good starts
+
+-- Histories from good starts that end alike have the same recorded for each key, with what it was read as at the start.
+pub records-fixed-from : (b d : Book) (cs ds : List Call) → GoodStart b → GoodStart d → after b cs ≡ after d ds → (key : ℕ)
+    → recorded key cs (answers b cs) (startList b key) ≡ recorded key ds (answers d ds) (startList d key)
+records-fixed-from b d cs ds g h same key =
+    ap (recorded key cs (answers b cs)) (sym (start-list b key))
+    ∙ records-good (plainOf b) (plainOf d) b d (start-good b g) (start-good d h) (start-agrees b g) (start-agrees d h) cs ds same
+    (start-shape b g) key
+    ∙ ap (recorded key ds (answers d ds)) (start-list d key)
+
 -- ---- after any calls on fresh books
-
--- A fresh book agrees with its plain book after any calls.
-agree : (body : List ℕ) (heads : ℕ) (cs : List Call)
-    → Agrees (plainAfter (plainFresh (length body) heads) cs) (after (fresh body heads) cs)
-agree body heads cs = books-agree each-alike _ _ cs (fresh-good (length body) heads) (fresh-agrees body heads)
-
--- A fresh plain book that is out of shape holds nothing after any calls.
-nothing-held : (size heads key : ℕ) (cs : List Call) → out (plainAfter (plainFresh size heads) cs) ≡ true
-    → keyOf key (plainAfter (plainFresh size heads) cs) .list ≡ []
-nothing-held size heads key cs e =
-    let (same, keys) = shapes-kept (plainFresh size heads) cs in
-    let still = plain-still (plainFresh size heads) cs (ap₂ outOfShape (sym same) (sym keys) ∙ e) in
-    ap (λ (b : PlainBook). keyOf key b .list) still ∙ ap (λ (k : Key). k .list) (fresh-key size heads key)
 
 module _ (body other : List ℕ) (heads count : ℕ) (cs ds : List Call)
     (same : after (fresh body heads) cs ≡ after (fresh other count) ds) where
   abbrev p : PlainBook
-  p = plainAfter (plainFresh (length body) heads) cs
+  p = plainFresh (length body) heads
 
   abbrev q : PlainBook
-  q = plainAfter (plainFresh (length other) count) ds
+  q = plainFresh (length other) count
 
-  other-agrees : Agrees q (after (fresh body heads) cs)
-  other-agrees = subst (Agrees q) (sym same) (agree other count ds)
+  -- Nothing is there at first.
+  nothing : (size keys key : ℕ) → keyOf key (plainFresh size keys) .list ≡ []
+  nothing size keys key = ap (λ (k : Key). k .list) (fresh-key size keys key)
 
-  held : (key : ℕ) (shape : Bool) → out p ≡ shape → keyOf key p .list ≡ keyOf key q .list
-  held key true e =
-      nothing-held (length body) heads key cs e
-      ∙ sym (nothing-held (length other) count key ds (shape-fixed p q _ (agree body heads cs) other-agrees ∙ e))
-  held key false e =
-      lists-fixed p q (after (fresh body heads) cs) (calls-good cs (fresh-good (length body) heads))
-      (calls-good ds (fresh-good (length other) count)) (agree body heads cs) other-agrees e key
+  by-shape : (shape : Bool) → out p ≡ shape → (key : ℕ)
+      → recorded key cs (answers (fresh body heads) cs) (keyOf key p .list) ≡ recorded key ds (answers (fresh other count) ds) (keyOf key q .list)
+  by-shape true e key =
+      let (left, right) = records-still p q (fresh body heads) (fresh other count) (fresh-good (length body) heads) (fresh-good (length other) count)
+      (fresh-agrees body heads) (fresh-agrees other count) cs ds same e key in
+      left ∙ nothing (length body) heads key ∙ sym (nothing (length other) count key) ∙ sym right
+  by-shape false e key =
+      records-good p q (fresh body heads) (fresh other count) (fresh-good (length body) heads) (fresh-good (length other) count) (fresh-agrees body heads)
+      (fresh-agrees other count) cs ds same e key
 
   -- The same is recorded for each key, by the calls and answers that led there.
   pub records-fixed : (key : ℕ) → recorded key cs (answers (fresh body heads) cs) [] ≡ recorded key ds (answers (fresh other count) ds) []
   records-fixed key =
-      ap (λ (told : List (Answer Told)). recorded key cs told []) (demand-3 body heads cs .0)
-      ∙ sym (recorded-fresh (length body) heads key cs) ∙ held key (out p) refl ∙ recorded-fresh (length other) count key ds
-      ∙ ap (λ (told : List (Answer Told)). recorded key ds told []) (sym (demand-3 other count ds .0))
+      ap (recorded key cs (answers (fresh body heads) cs)) (sym (nothing (length body) heads key))
+      ∙ by-shape (out p) refl key
+      ∙ ap (recorded key ds (answers (fresh other count) ds)) (nothing (length other) count key)

@@ -11,6 +11,7 @@ use Rattle.error.specs.Refusal.{Answer, accepted}
 use Rattle.buffer.specs.Bytes.{part}
 use Rattle.buffer.specs.LittleEndian.{littleEndian}
 use Rattle.scripthash_layout.specs.Sizes.{slabBytes}
+use Rattle.scripthash_layout.specs.Head.{unpackHead}
 use Rattle.scripthash_stream.specs.Stream.{Scan}
 use Rattle.scripthash_slabs.specs.Slab.{slabUsed, decodeSlab}
 use Rattle.scripthash_fields.specs.Page.{linkOf, createsFieldOf, namesExtent, streamCap, isLastLink, linkOffset}
@@ -18,12 +19,12 @@ use Rattle.scripthash_pages.specs.Entries.{pageScan}
 use Rattle.scripthash_free.specs.FreeList.{Block}
 use Rattle.book_rules.specs.Limits.{outOfShape}
 use Rattle.plain_book.specs.Space.{Space as PlainSpace, stackOf}
-use Rattle.plain_book.specs.Key.{Kept, Page, Place, empty, inline, slab, pages, headOf}
+use Rattle.plain_book.specs.Key.{Kept, Page, Place, empty, inline, slab, pages, totalOf, headOf}
 use Rattle.plain_book.specs.Book.{Book as PlainBook, keyOf}
 use Rattle.plain_book.specs.Owners.{Owner, hand, stack, slabOf, pageOf, has, places}
 use Rattle.book_space.specs.Space.{Space}
 use Rattle.book_keys.specs.Keys.{goodExtent}
-use Rattle.book.specs.Book.{Book, headWord}
+use Rattle.book.specs.Book.{Book, wordOf, headWord}
 
 -- ---- what blocks read as
 
@@ -51,7 +52,7 @@ pub record PageReads (p : Page) (block : List ℕ) : Type 0 where
   pub reads : pageScan block ≡ accepted (scanOf (p .part))
   pub room : streamCap block ≡ p .room
 
--- A last page names an extent, is LAST with the first page's offset, and tells how many numbers the key has.
+-- A last page names an extent, is LAST with the first page's offset, and tells how many numbers the key has, or 0, unknown.
 pub record LastReads (start total : ℕ) (block : List ℕ) : Type 0 where
   pub extent : namesExtent block ≡ true
   pub last : isLastLink (linkOf block) ≡ true
@@ -64,7 +65,7 @@ pub record NextReads (off : ℕ) (block : List ℕ) : Type 0 where
   pub more : isLastLink (linkOf block) ≡ false
   pub next : linkOffset (linkOf block) ≡ off
 
--- The page at an index of some pages, of a key with a first page and so many numbers.
+-- The page at an index of some pages, of a key with a first page and a total.
 unfoldable pub ChainReads : ℕ → ℕ → ℕ → List Page → List ℕ → Type 0
 ChainReads first creates i [] block = Unit {0}
 ChainReads first creates zero (p ∷ []) block = PageReads p block × LastReads first creates block
@@ -83,7 +84,7 @@ SlabIn inline block = Unit {0}
 SlabIn (slab class off kept) block = SlabReads kept block
 SlabIn (pages ps) block = Unit {0}
 
--- The page of a place at an index reads as its part of a list of so many numbers.
+-- The page of a place at an index reads as its part of a list with a total.
 abbrev pub PageIn : ℕ → ℕ → Place → List ℕ → Type 0
 PageIn creates i empty block = Unit {0}
 PageIn creates i inline block = Unit {0}
@@ -130,13 +131,13 @@ contentsOf b =
     record {
       inHand = λ block. Unit {0};
       slabs = λ key block. SlabIn (places b key) block;
-      pages = λ key i block. PageIn (length (keyOf key b .list)) i (places b key) block;
+      pages = λ key i block. PageIn (totalOf (keyOf key b)) i (places b key) block;
     }
 
 -- A book over bytes, in shape, stands for a plain book.
 pub record AgreesInside (plain : PlainBook) (b : Book) : Type 0 where
-  -- Each head word stores its key's place.
-  pub heads : (key : ℕ) → getD (b .heads) key 0 ≡ headWord (headOf (keyOf key plain .list) (keyOf key plain .place))
+  -- Each head word tells its key's place, as the word that stores the place does.
+  pub heads : (key : ℕ) → unpackHead (wordOf key b) ≡ unpackHead (headWord (headOf (keyOf key plain .list) (keyOf key plain .place)))
   -- The space stands for the plain one.
   pub space : AgreesSpace (plain .space) (b .space) (places plain) none (contentsOf plain)
 

@@ -16,7 +16,7 @@ use Rattle.scripthash_pages.specs.Entries.{streamPlace, pageScan}
 use Rattle.scripthash_free.specs.FreeList.{isBlock}
 use Rattle.book_rules.specs.Limits.{outOfShape}
 use Rattle.book_space.specs.Space.{markBad, shapeBroken}
-use Rattle.book_keys.specs.Keys.{soundly, sure, goOn, slabScan, linkScan, goodExtent, lastAt, linked, walk, chainAt, pageBlocks, contentAt}
+use Rattle.book_keys.specs.Keys.{soundly, sure, goOn, slabScan, linkScan, goodExtent, lastAt, linked, walk, totalGood, chainAt, pageBlocks, contentAt}
 use Rattle.book_keys.specs.Keys.{content}
 use Rattle.book_blocks.specs.Blocks.{lastPageOf}
 use Rattle.book.specs.Book.{Book, book, fresh, headWord}
@@ -25,7 +25,7 @@ use Rattle.book_start.specs.Start.{claimContent, claimFreed, onward, jud
 
 -- The answer to a book with a work list of 512 bytes, which is enough for a body of 8,192.
 unfoldable pub told : Book → Answer Verdict
-unfolding refuseIf andThen part overwrite isForm value formAt overflows readForm readUleb divided ulebLen shortest packHead unpackHead lastFrom streamFrom streamLenFrom storedNumber nextNumber scanFrom decodeStream slabPayload decodeSlab field nextOff extentHeader pageOf streamPlace pageScan isBlock outOfShape markBad shapeBroken soundly sure goOn slabScan linkScan goodExtent lastAt linked walk chainAt pageBlocks contentAt content headWord shares sharesOne claimAll claimContent claimFreed onward judgeLists judgeKeys judged judges
+unfolding refuseIf andThen part overwrite isForm value formAt overflows readForm readUleb divided ulebLen shortest packHead unpackHead lastFrom streamFrom streamLenFrom storedNumber nextNumber scanFrom decodeStream slabPayload decodeSlab field nextOff extentHeader pageOf streamPlace pageScan isBlock outOfShape markBad shapeBroken soundly sure goOn slabScan linkScan goodExtent lastAt linked walk totalGood chainAt pageBlocks contentAt content headWord shares sharesOne claimAll claimContent claimFreed onward judgeLists judgeKeys judged judges
 told b = judges b 512
 
 -- A body of 8,192 bytes, none of them 0.

@@ -118,6 +118,10 @@ call-inside size b (drop key) (accepted o) e (s, m) =
     let (within, is) = drop-did b key e in
     rw (ap (λ (x : Outcome). x .book) is) (s, rw (place-mark (keyOf key b .place) (b .space)) m)
 
--- After any list of calls on a fresh book the mark is within the body.
+-- Take any book whose mark is within the body and any list of calls: it is so afterwards.
+pub mark-from : (b : Book) (cs : List Call) → b .space .mark ≤ b .size → after b cs .space .mark ≤ b .size
+mark-from b cs h = calls-keep does (Inside (b .size)) (λ b' c i. call-inside (b .size) b' c (does b' c) refl i) b cs (refl, h) .1
+
+-- So it is after any list of calls on a fresh book.
 pub mark-within : (size heads : ℕ) (cs : List Call) → 4096 ≤ size → after (fresh size heads) cs .space .mark ≤ size
-mark-within size heads cs h = calls-keep does (Inside size) (λ b c i. call-inside size b c (does b c) refl i) (fresh size heads) cs (refl, h) .1
+mark-within size heads cs h = mark-from (fresh size heads) cs h

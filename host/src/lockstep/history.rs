@@ -4,7 +4,7 @@ use crate::lockstep::damage::{damage, Damaged};
 use crate::lockstep::lists;
 use crate::lockstep::pair::{Answer, Call, Pair, MOST_BODY, MOST_HEADS};
 use crate::lockstep::record::Record;
-use crate::lockstep::tally::{Before, Tally};
+use crate::lockstep::tally::{unknown_total, Before, Tally};
 use crate::rng::Rng;
 use crate::second_book::space::State;
 use crate::second_book::LIMIT;
@@ -150,7 +150,7 @@ impl<'a> History<'a> {
     /// Calls both books, and learns from the answer.
     fn call(&mut self, call: &Call, body: usize, heads: usize) -> Result<(), String> {
         let word = call.key().and_then(|key| self.pair.heads.get(key as usize)).copied().unwrap_or(0);
-        let before = Before { state: self.pair.state, word };
+        let before = Before { state: self.pair.state, word, unknown: unknown_total(&self.pair.body, word) };
         let answer: Answer = self.pair.call(call, body, heads, &self.name)?;
         self.tally.count(call, &before, &answer, self.pair);
         if let Some(record) = &mut self.record {

@@ -1,9 +1,10 @@
 //! What the histories met, and how often: calls, refusals and their grounds, moves between classes, blocks taken and given back, chains.
 use crate::lockstep::pair::{Answer, Call, Pair, KINDS};
 use crate::second_book::keys::{Ground, GROUNDS};
-use crate::second_book::space::State;
+use crate::second_book::space::{State, PAGE};
 use crate::second_book::{goes_to_pages, Refused};
 use oracle::scripthash_layout::{unpack8, ShHeadValue};
+use oracle::scripthash_pages as pages;
 use std::collections::BTreeMap;
 
 /// The refusals that each kind of call can give, and 0 for accepted.
@@ -18,6 +19,9 @@ const MOVES: [&[usize]; 9] =
 
 /// Bounds of the numbers of pages by which chains are told apart.
 const CHAINS: [u64; 7] = [1, 2, 3, 5, 9, 17, 33];
+
+/// What is done to a key whose total was never counted.
+const UNKNOWN: [&str; 4] = ["an append that stays in its last page", "an append that begins a page", "a read", "a drop"];
 
 /// The name of a class.
 fn class_name(class: usize) -> String {
@@ -62,13 +66,24 @@ pub struct Tally {
     read: BTreeMap<String, u64>,
     loaded: BTreeMap<String, u64>,
     full: BTreeMap<&'static str, u64>,
+    unknown: BTreeMap<&'static str, u64>,
     pub damages: BTreeMap<&'static str, u64>,
 }
 
-/// What a book was before a call: its state, and the word of the key.
+/// What a book was before a call: its state, the word of the key, and whether the key's last page tells no total.
 pub struct Before {
     pub state: State,
     pub word: u64,
+    pub unknown: bool,
+}
+
+/// Whether a word names a page of a body whose creates is 0, which says that the total was never counted.
+pub fn unknown_total(body: &[u8], word: u64) -> bool {
+    let Ok(ShHeadValue::Extent { last_page }) = unpack8(word) else {
+        return false;
+    };
+    let page = usize::try_from(last_page).ok().and_then(|off| body.get(off..off.checked_add(PAGE)?));
+    page.is_some_and(|page| pages::sh_page_extent_creates(pages::sh_page_as_array(page).expect("a page")) == 0)
 }
 
 impl Tally {
@@ -85,12 +100,25 @@ impl Tally {
         if answer.refusal != 0 {
             return;
         }
+        if before.unknown {
+            *self.unknown.entry(Tally::uncounted(call, before, answer)).or_default() += 1;
+        }
         match call {
             Call::Load { key, .. } => self.loaded(answer.told[0], before, pair.heads[*key as usize]),
             Call::Append { .. } => self.appended(before, answer),
             Call::Read { .. } if answer.told[1] > 0 => *self.read.entry(chain_name(answer.told[1])).or_default() += 1,
             Call::Drop { .. } => self.dropped(before, pair),
             _ => {}
+        }
+    }
+
+    /// What was done to a key whose total was never counted.
+    fn uncounted(call: &Call, before: &Before, answer: &Answer) -> &'static str {
+        match (call, unpack8(before.word)) {
+            (Call::Append { .. }, Ok(ShHeadValue::Extent { last_page })) if last_page != answer.told[3] => UNKNOWN[1],
+            (Call::Append { .. }, _) => UNKNOWN[0],
+            (Call::Read { .. }, _) => UNKNOWN[2],
+            _ => UNKNOWN[3],
         }
     }
 
@@ -209,6 +237,9 @@ impl Tally {
             let name = chain_name(bound);
             out.push((format!("pages walked by a read: {name}"), self.read.get(&name).copied().unwrap_or(0)));
             out.push((format!("pages of a load: {name}"), self.loaded.get(&name).copied().unwrap_or(0)));
+        }
+        for what in UNKNOWN {
+            out.push((format!("a total that was never counted: {what}"), self.unknown.get(what).copied().unwrap_or(0)));
         }
         for what in
             ["a slab for a load", "a run for a load", "a slab for a list that moves", "a page for a list that moves", "a page for a chain"]

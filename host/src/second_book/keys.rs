@@ -201,11 +201,10 @@ impl Key {
     fn last_page(&mut self, body: &[u8], _mark: u64, last: u64) -> Result<(), Ground> {
         let page = page_at(body, last);
         self.page(page, last)?;
-        match pages::sh_page_extent_creates(page) {
-            0 => Err("an append meets creates 0"),
-            n if n > MOST_CREATES => Err("an append meets creates 2^32 - 1"),
-            _ => Ok(()),
+        if pages::sh_page_extent_creates(page) > MOST_CREATES {
+            return Err("an append meets creates 2^32 - 1");
         }
+        Ok(())
     }
 
     /// Reads a chain from the first page that the last one names.
@@ -226,10 +225,11 @@ impl Key {
             }
             off = pages::sh_page_next(page).expect("a link is always read");
         }
-        if pages::sh_page_extent_creates(page_at(body, last)) as usize != self.fks.len() {
-            return Err("creates isn't the length");
+        match pages::sh_page_extent_creates(page_at(body, last)) {
+            0 => Ok(()),
+            n if n as usize == self.fks.len() => Ok(()),
+            _ => Err("creates is neither 0 nor the length"),
         }
-        Ok(())
     }
 }
 
@@ -273,7 +273,6 @@ pub const GROUNDS: &[Ground] = &[
     "numbers don't rise across a link",
     "a chain comes back to a page",
     "a page before the last is LAST",
-    "creates isn't the length",
-    "an append meets creates 0",
+    "creates is neither 0 nor the length",
     "an append meets creates 2^32 - 1",
 ];
