@@ -186,9 +186,17 @@ class Statements(Source):
         """The signature from a row on, with its comment and the section that it stands in."""
         indent = len(self.lines[row]) - len(self.lines[row].lstrip())
         end = next((i for i in range(row + 1, len(self.lines)) if not self.lines[i].startswith(" " * (indent + 1))), len(self.lines))
-        section = [line for line in self.lines[:row] if indent and line.startswith("module _")][-1:]
+        section = self.section_above(row) if indent else []
         first = self.comment_above(row, " " * indent + "--")
         self.declares.setdefault(name, Declaration(self, name, row + 1, [], section + self.lines[first:end]))
+
+    def section_above(self, row):
+        """The heading of the section that a row stands in, which may have several lines, as one line."""
+        start = next((i for i in range(row, -1, -1) if self.lines[i].startswith("module _")), None)
+        if start is None:
+            return []
+        end = next(i for i in range(start, row) if self.lines[i].endswith("where"))
+        return [" ".join(line.strip() for line in self.lines[start : end + 1])]
 
 
 class Code(Source):

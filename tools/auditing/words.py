@@ -40,9 +40,10 @@ def chunks(code):
     """The words by the lines that begin them: a signature and clauses, or a heading and what stands under it."""
     words = words_of(code)
     columns = [next((w.column for w in words if w.row == row), None) for row in range(len(code))]
+    first = next(row for row, column in enumerate(columns) if column is not None)
     headed = code[0].startswith("module _") or TYPE.match(code[0])
-    base = next((c for c in columns[1:] if c is not None), 0) if headed else columns[0]
-    starts = [0] + [row for row in range(1, len(code)) if columns[row] == base]
+    base = next((c for c in columns[1:] if c is not None), 0) if headed else columns[first]
+    starts = [first] + [row for row in range(first + 1, len(code)) if columns[row] == base]
     return [[w for w in words if start <= w.row < end] for start, end in zip(starts, starts[1:] + [len(code)])]
 
 

@@ -13,9 +13,13 @@ use Rattle.plain_book.proofs.LawsGood.{fresh-good}
 use Rattle.plain_book.proofs.LawsCeilings.{ceilings-from, loads-least}
 use Rattle.book.specs.Book.{Book, fresh}
 use Rattle.book.specs.Calls.{answers}
+use Rattle.book_start.specs.Start.{GoodStart}
 use Rattle.book_history.specs.Agrees.{Agrees}
-use Rattle.book_history.proofs.LawsCalls.{answers-alike, fresh-agrees}
+use Rattle.book_history.specs.PlainOf.{plainOf}
+use Rattle.book_history.proofs.LawsCalls.{answers-alike}
 use Rattle.book_history.proofs.LawsEach.{each-alike}
+use Rattle.book_history.proofs.LawsStart.{start-good, start-agrees}
+use Rattle.book_history.proofs.LawsStartFresh.{fresh-agrees}
 
 -- ---- from any book that stands for a good plain book
 
@@ -28,6 +32,17 @@ module _ (plain : PlainBook) (b : Book) (g : GoodPlain plain) (a : Agrees plain 
   -- The pages of loads.
   pub fewest-good : (cs : List Call) → EachFewest cs (answers b cs)
   fewest-good cs = rw (answers-alike each-alike plain b cs g a) (loads-least plain cs)
+
+-- ---- from any good start
+
+-- Moves, and the records that they rewrite: from the start or the last drop.
+pub book-ceilings-from : (b : Book) (key : ℕ) (cs : List Call) → GoodStart b
+    → (tallyOf key cs (answers b cs) noMoves .moves ≤ mostMoves) × (tallyOf key cs (answers b cs) noMoves .rewritten ≤ mostRewritten)
+book-ceilings-from b key cs g = ceilings-good (plainOf b) b (start-good b g) (start-agrees b g) key cs
+
+-- The pages of loads.
+pub book-fewest-from : (b : Book) (cs : List Call) → GoodStart b → EachFewest cs (answers b cs)
+book-fewest-from b cs g = fewest-good (plainOf b) b (start-good b g) (start-agrees b g) cs
 
 -- ---- from any fresh book
 

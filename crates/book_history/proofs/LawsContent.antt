@@ -42,12 +42,13 @@ use Rattle.book_keys.specs.Keys.{pageAt as pageBytes}
 use Rattle.book_blocks.specs.Blocks.{lastPageOf, totalWith}
 use Rattle.book_blocks.proofs.LawsTotals.{total-unknown, total-known}
 use Rattle.book_blocks.proofs.LawsReadsPage.{last-page-reads}
-use Rattle.book.specs.Book.{Book, wordOf, headWord}
+use Rattle.book.specs.Book.{Book, wordOf}
 use Rattle.book.specs.Appends.{appending, appendAt, appends}
 use Rattle.book.specs.Reads.{reads}
 use Rattle.book.specs.Calls.{does}
 use Rattle.book_history.specs.Agrees.{scanOf, SlabIn, PageIn, SlabReads, PageReads, LastReads, ChainReads, firstOff, AgreesSpace}
 use Rattle.book_history.specs.Agrees.{AgreesInside, Agrees}
+use Rattle.book_history.proofs.LawsWords.{stored-told}
 use Rattle.book_history.proofs.LawsStep.{Alike, told-alike, alike-both, alike-on-key, alike-offered, placedContents, agrees-placed}
 
 -- ---- what is asked of a sound key
@@ -214,8 +215,7 @@ one-listed (n ∷ m ∷ ns) e = absurd (omega arith)
 module _ (plain : PlainBook) (b : Book) (g : GoodPlain plain) (shape : outOfShape (plain .size) (length (plain .keys)) ≡ false) (h : AgreesInside plain b) (key : ℕ) where
   -- A key's head word tells its place.
   pub head-agrees : unpackHead (wordOf key b) ≡ accepted (headOf (keyOf key plain .list) (keyOf key plain .place))
-  unfolding headWord
-  head-agrees = let t = head-told key g (mark-most g shape) in rw (h .heads key, t .packs) (t .unpacks)
+  head-agrees = h .heads key ∙ stored-told (head-told key g (mark-most g shape))
 
   -- A key's slab reads as what it keeps.
   slab-read : (class off : ℕ) (kept : Kept) → keyOf key plain .place ≡ slab class off kept

@@ -54,12 +54,13 @@ use Rattle.book_keys.specs.Keys.{goodExtent}
 use Rattle.book_blocks.specs.Blocks.{lastPageOf, pageTo, writeRun}
 use Rattle.book_blocks.proofs.LawsReadsSlab.{slab-written}
 use Rattle.book_blocks.proofs.LawsReadsPage.{last-page-reads, page-to-reads}
-use Rattle.book.specs.Book.{Book, Outcome, wordOf, headWord, filled}
+use Rattle.book.specs.Book.{Book, Outcome, wordOf, filled}
 use Rattle.book.specs.Loads.{loading, lastOfRun, loadInto, loadAt, loads}
 use Rattle.book.specs.Calls.{does}
 use Rattle.book_history.specs.Agrees.{SlabReads, PageReads, LastReads, NextReads, ChainReads, firstOff, SlabIn, PageIn, Contents}
 use Rattle.book_history.specs.Agrees.{BlockReads, contentsOf, AgreesSpace, AgreesInside, Agrees}
 use Rattle.book_history.proofs.LawsFrame.{blockOf, block-ends, block-written}
+use Rattle.book_history.proofs.LawsWords.{empty-told}
 use Rattle.book_history.proofs.LawsStep.{Alike, told-alike, refused-alike, alike-both, alike-on-key, placedContents, agrees-placed}
 use Rattle.book_history.proofs.LawsContent.{head-agrees}
 use Rattle.book_history.proofs.LawsHand.{Filled, fill-long, fill-agrees, Meanwhile, meanwhile-first, OthersKept, others-kept}
@@ -232,7 +233,7 @@ word-some word v e n z = n (accepted-inj (sym e ∙ ap unpackHead z ∙ empty-wo
 in-use-alike : (plain : PlainBook) (b : Book) (key : ℕ) → GoodPlain plain → outOfShape (plain .size) (length (plain .keys)) ≡ false
     → AgreesInside plain b
     → inUse (keyOf key plain .place) ≡ not (eqb (wordOf key b) 0)
-unfolding headOf headWord
+unfolding headOf
 in-use-alike plain b key g shape h = go (keyOf key plain .place) refl
   where
     tells : (place : Place) → keyOf key plain .place ≡ place → unpackHead (wordOf key b) ≡ accepted (headOf (keyOf key plain .list) place)
@@ -243,9 +244,7 @@ in-use-alike plain b key g shape h = go (keyOf key plain .place) refl
     used place is n = sym (ap not (ne-eqb (wordOf key b) 0 (word-some (wordOf key b) _ (tells place is) n)))
 
     go : (place : Place) → keyOf key plain .place ≡ place → inUse place ≡ not (eqb (wordOf key b) 0)
-    go empty is =
-        let zero' : wordOf key b ≡ 0 = h .heads key ∙ ap (λ (p : Place). headWord (headOf (keyOf key plain .list) p)) is ∙ rw (empty-word .packs) in
-        sym (ap not (eq-eqb (wordOf key b) 0 zero'))
+    go empty is = sym (ap not (eq-eqb (wordOf key b) 0 (empty-told (wordOf key b) (tells empty is))))
     go inline is = used inline is (λ e. (let z : _≡_ {A = ℕ} 0 1 = cc in omega arith))
     go (slab class off kept) is = used (slab class off kept) is (λ e. (let z : _≡_ {A = ℕ} 0 1 = cc in omega arith))
     go (pages ps) is = used (pages ps) is (λ e. (let z : _≡_ {A = ℕ} 0 1 = cc in omega arith))

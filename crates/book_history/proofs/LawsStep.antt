@@ -13,6 +13,7 @@ use lib.Seq.{getD-set-same, getD-set-other}
 use borrow.Author.Tests.{eqb-true, eqb-false, eq-eqb, ne-eqb, leb-false, ltb-false, le-ltb, lt-leb}
 use Rattle.error.specs.Refusal.{Answer, accepted, refused, refuseIf, andThen, shapeBad, keyBeyond, offeredNotRising}
 use Rattle.error.proofs.LawsAnswer.{refuse-no}
+use Rattle.scripthash_layout.specs.Head.{unpackHead}
 use Rattle.scripthash_layout.specs.declared.head.ShHeadValue.{ShHeadValue}
 use Rattle.book_rules.specs.Calls.{Told}
 use Rattle.book_rules.specs.Offered.{offeredNumber}
@@ -174,16 +175,16 @@ module _ (plain : PlainBook) (key : ℕ) (list : List ℕ) (place : Place) (coun
         inside = λ z. record { heads = heads; space = spaces };
       }
     where
-      heads : (j : ℕ) → getD (set (b .heads) key (headWord (headOf list place))) j 0
-          ≡ headWord (headOf (keyOf j changed .list) (keyOf j changed .place))
+      heads : (j : ℕ) → unpackHead (getD (set (b .heads) key (headWord (headOf list place))) j 0)
+          ≡ unpackHead (headWord (headOf (keyOf j changed .list) (keyOf j changed .place)))
       heads j = rw (key-with plain key new l j) (go (eqb j key) refl)
         where
-          go : (t : Bool) → eqb j key ≡ t → getD (set (b .heads) key (headWord (headOf list place))) j 0
-              ≡ headWord (headOf (cond t new (keyOf j plain) .list) (cond t new (keyOf j plain) .place))
+          go : (t : Bool) → eqb j key ≡ t → unpackHead (getD (set (b .heads) key (headWord (headOf list place))) j 0)
+              ≡ unpackHead (headWord (headOf (cond t new (keyOf j plain) .list) (cond t new (keyOf j plain) .place)))
           go true e =
-              ap (λ (k : ℕ). getD (set (b .heads) key (headWord (headOf list place))) k 0) (eqb-true j key e)
-              ∙ getD-set-same (b .heads) key _ 0 (subst (λ (n : ℕ). key < n) (sym (a .count)) l)
-          go false e = getD-set-other (b .heads) key j _ 0 (eqb-false j key e) ∙ a .inside shape .heads j
+              ap (λ (k : ℕ). unpackHead (getD (set (b .heads) key (headWord (headOf list place))) k 0)) (eqb-true j key e)
+              ∙ ap unpackHead (getD-set-same (b .heads) key _ 0 (subst (λ (n : ℕ). key < n) (sym (a .count)) l))
+          go false e = ap unpackHead (getD-set-other (b .heads) key j _ 0 (eqb-false j key e)) ∙ a .inside shape .heads j
 
       spaces : AgreesSpace space s (places changed) none (contentsOf changed)
       spaces =

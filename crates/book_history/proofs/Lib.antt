@@ -1,4 +1,5 @@
 pub mod Examples
+pub mod LawsWords
 pub mod LawsFrame
 pub mod LawsStep
 pub mod LawsPush
@@ -13,6 +14,12 @@ pub mod LawsCalls
 pub mod LawsStanding
 pub mod LawsShape
 pub mod LawsEach
+pub mod LawsStartPages
+pub mod LawsStartApart
+pub mod LawsStartKeys
+pub mod LawsStart
+pub mod LawsStartFresh
+pub mod ExamplesStart
 pub mod Demand3
 pub mod Licence
 pub mod Ceilings

@@ -1,8 +1,8 @@
--- The licence's sentence, on every history of every book that stands for a good plain book, and so of every fresh one: each read tells
--- exactly what is recorded for its key, so that an empty answer means that nothing is, or is refused by 1, 2 or 34. Assumes nothing.
+-- The licence's sentence, on every history from every good start, and so of every fresh book: each read tells exactly what is recorded for
+-- its key, so that an empty answer means that nothing is, or is refused by 1, 2 or 34. Assumes nothing.
 use Prim.Native.Nat.{ℕ}
 use mathlib.Core.List.{List, []}
-use mathlib.Core.Path.{refl, subst}
+use mathlib.Core.Path.{refl, subst, fun-ext}
 use lib.ListN.{length}
 use Rattle.book_rules.specs.Calls.{Call}
 use Rattle.book_rules.specs.Licence.{Licensed}
@@ -13,15 +13,25 @@ use Rattle.plain_book.proofs.LawsGood.{fresh-good}
 use Rattle.plain_book.proofs.LawsRecorded.{licensed-from}
 use Rattle.book.specs.Book.{Book, fresh}
 use Rattle.book.specs.Calls.{answers}
+use Rattle.book_start.specs.Start.{GoodStart}
 use Rattle.book_history.specs.Agrees.{Agrees}
-use Rattle.book_history.proofs.LawsCalls.{answers-alike, fresh-agrees}
+use Rattle.book_history.specs.PlainOf.{plainOf, startList}
+use Rattle.book_history.proofs.LawsCalls.{answers-alike}
 use Rattle.book_history.proofs.LawsEach.{each-alike}
+use Rattle.book_history.proofs.LawsStart.{start-list, start-good, start-agrees}
+use Rattle.book_history.proofs.LawsStartFresh.{fresh-agrees}
 
 -- From any pair: what the keys hold at first counts as recorded.
 pub licence-good : (plain : PlainBook) (b : Book) (cs : List Call) → GoodPlain plain → Agrees plain b
     → Licensed (λ key. keyOf key plain .list) cs (answers b cs)
 licence-good plain b cs g a =
     rw (answers-alike each-alike plain b cs g a) (licensed-from plain (λ key. keyOf key plain .list) cs (g .keys) (λ key. refl))
+
+-- From a good start: what its keys are read as then counts as recorded.
+pub licence-from : (b : Book) (cs : List Call) → GoodStart b → Licensed (startList b) cs (answers b cs)
+licence-from b cs g =
+    subst (λ (before : ℕ → List ℕ). Licensed before cs (answers b cs)) (fun-ext (start-list b))
+    (licence-good (plainOf b) b cs (start-good b g) (start-agrees b g))
 
 -- From a fresh one nothing is recorded at first, whatever the body holds.
 pub licence : (body : List ℕ) (heads : ℕ) (cs : List Call) → Licensed (λ key. []) cs (answers (fresh body heads) cs)

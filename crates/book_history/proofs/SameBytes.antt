@@ -19,11 +19,15 @@ use Rattle.plain_book.proofs.LawsRecorded.{recorded-from}
 use Rattle.book_keys.specs.Keys.{Content}
 use Rattle.book.specs.Book.{Book, fresh}
 use Rattle.book.specs.Calls.{after, answers}
+use Rattle.book_start.specs.Start.{GoodStart}
 use Rattle.book_history.specs.Agrees.{Agrees}
-use Rattle.book_history.proofs.LawsCalls.{answers-alike, books-agree, fresh-agrees}
+use Rattle.book_history.specs.PlainOf.{plainOf, startList}
+use Rattle.book_history.proofs.LawsCalls.{answers-alike, books-agree}
 use Rattle.book_history.proofs.LawsContent.{content-agrees}
 use Rattle.book_history.proofs.LawsEach.{each-alike}
 use Rattle.book_history.proofs.LawsShape.{plain-still}
+use Rattle.book_history.proofs.LawsStart.{start-list, start-shape, start-good, start-agrees}
+use Rattle.book_history.proofs.LawsStartFresh.{fresh-agrees}
 
 -- ---- any plain books
 
@@ -84,6 +88,17 @@ module _ (p q : PlainBook) (b d : Book) (g : GoodPlain p) (h : GoodPlain q) (agr
         told p b cs key g agrees ∙ ap (λ (x : PlainBook). keyOf key x .list) (plain-still p cs shape),
         told q d ds key h other ∙ ap (λ (x : PlainBook). keyOf key x .list) (plain-still q ds out-q),
       )
+
+-- ---- after any calls on good starts
+
+-- Histories from good starts that end alike have the same recorded for each key, with what it was read as at the start.
+pub records-fixed-from : (b d : Book) (cs ds : List Call) → GoodStart b → GoodStart d → after b cs ≡ after d ds → (key : ℕ)
+    → recorded key cs (answers b cs) (startList b key) ≡ recorded key ds (answers d ds) (startList d key)
+records-fixed-from b d cs ds g h same key =
+    ap (recorded key cs (answers b cs)) (sym (start-list b key))
+    ∙ records-good (plainOf b) (plainOf d) b d (start-good b g) (start-good d h) (start-agrees b g) (start-agrees d h) cs ds same
+    (start-shape b g) key
+    ∙ ap (recorded key ds (answers d ds)) (start-list d key)
 
 -- ---- after any calls on fresh books
 

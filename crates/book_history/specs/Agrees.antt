@@ -11,6 +11,7 @@ use Rattle.error.specs.Refusal.{Answer, accepted}
 use Rattle.buffer.specs.Bytes.{part}
 use Rattle.buffer.specs.LittleEndian.{littleEndian}
 use Rattle.scripthash_layout.specs.Sizes.{slabBytes}
+use Rattle.scripthash_layout.specs.Head.{unpackHead}
 use Rattle.scripthash_stream.specs.Stream.{Scan}
 use Rattle.scripthash_slabs.specs.Slab.{slabUsed, decodeSlab}
 use Rattle.scripthash_fields.specs.Page.{linkOf, createsFieldOf, namesExtent, streamCap, isLastLink, linkOffset}
@@ -23,7 +24,7 @@ use Rattle.plain_book.specs.Book.{Book as PlainBook, keyOf}
 use Rattle.plain_book.specs.Owners.{Owner, hand, stack, slabOf, pageOf, has, places}
 use Rattle.book_space.specs.Space.{Space}
 use Rattle.book_keys.specs.Keys.{goodExtent}
-use Rattle.book.specs.Book.{Book, headWord}
+use Rattle.book.specs.Book.{Book, wordOf, headWord}
 
 -- ---- what blocks read as
 
@@ -135,8 +136,8 @@ contentsOf b =
 
 -- A book over bytes, in shape, stands for a plain book.
 pub record AgreesInside (plain : PlainBook) (b : Book) : Type 0 where
-  -- Each head word stores its key's place.
-  pub heads : (key : ℕ) → getD (b .heads) key 0 ≡ headWord (headOf (keyOf key plain .list) (keyOf key plain .place))
+  -- Each head word tells its key's place, as the word that stores the place does.
+  pub heads : (key : ℕ) → unpackHead (wordOf key b) ≡ unpackHead (headWord (headOf (keyOf key plain .list) (keyOf key plain .place)))
   -- The space stands for the plain one.
   pub space : AgreesSpace (plain .space) (b .space) (places plain) none (contentsOf plain)
 

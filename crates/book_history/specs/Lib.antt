@@ -1,3 +1,4 @@
 pub mod Agrees
 pub mod Standing
 pub mod Writes
+pub mod PlainOf

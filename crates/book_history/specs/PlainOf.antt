@@ -1,0 +1,90 @@
+-- The plain book of a book over bytes: the lists that its keys read as and where they stand, its mark, and what its free lists name. It is
+-- what a good start stands for.
+use Prim.Native.Nat.{ℕ}
+use mathlib.Core.Bool.{Bool, true, not}
+use mathlib.Core.List.{List, [], _∷_}
+use lib.Dec.{eqb}
+use lib.ListN.{length}
+use Rattle.error.specs.Refusal.{Answer, accepted, refused, told}
+use Rattle.scripthash_layout.specs.Head.{unpackHead}
+use Rattle.scripthash_layout.specs.declared.head.ShHeadValue.{ShHeadValue}
+use Rattle.scripthash_layout.specs.declared.head.ShHeadValue.the-variants.{Empty, Inline, Slab, Extent}
+use Rattle.scripthash_stream.specs.Stream.{Scan}
+use Rattle.scripthash_fields.specs.Page.{createsFieldOf, streamCap}
+use Rattle.scripthash_pages.specs.Entries.{pageScan}
+use Rattle.plain_book.specs.Key.{Kept, written, Page, Place, empty, inline, slab, pages, Key}
+use Rattle.plain_book.specs.Book.{Book as PlainBook}
+use Rattle.book_space.specs.Space.{Space}
+use Rattle.book_keys.specs.Keys.{pageAt, slabScan, chainAt, content}
+use Rattle.book.specs.Book.{Book, wordOf}
+use Rattle.book_start.specs.Start.{namedFrom}
+
+-- ---- keys
+
+-- What a stream that was scanned keeps: its numbers, and the bytes that it takes as it is stored.
+unfoldable pub keptBy : Answer Scan → Kept
+keptBy (accepted c) = record { numbers = c .numbers; bytes = c .taken }
+keptBy (refused number) = written []
+
+-- The page at an offset, with the room that its version leaves for a stream.
+unfoldable pub pageFrom : Space → ℕ → Page
+pageFrom s off = record { off = off; room = streamCap (pageAt s off); part = keptBy (pageScan (pageAt s off)) }
+
+-- The pages at some offsets.
+unfoldable pub pagesFrom : Space → List ℕ → List Page
+pagesFrom s [] = []
+pagesFrom s (o ∷ os) = pageFrom s o ∷ pagesFrom s os
+
+-- The place that a head word tells.
+unfoldable pub placeFrom : Space → ShHeadValue → Place
+placeFrom s Empty = empty
+placeFrom s (Inline entry used) = inline
+placeFrom s (Slab class used off) = slab class off (keptBy (slabScan s class used off))
+placeFrom s (Extent last) = pages (pagesFrom s (told (λ c. c .offs) (chainAt s last) []))
+
+-- Whether the place that a head word tells says how many numbers it has: a last page with creates 0 doesn't.
+unfoldable pub countedFrom : Space → ShHeadValue → Bool
+countedFrom s Empty = true
+countedFrom s (Inline entry used) = true
+countedFrom s (Slab class used off) = true
+countedFrom s (Extent last) = not (eqb (createsFieldOf (pageAt s last)) 0)
+
+-- The numbers that the key of a head word holds.
+unfoldable pub listFrom : Space → ℕ → List ℕ
+listFrom s word = told (λ c. c .numbers) (content s word) []
+
+-- The key of a head word.
+unfoldable pub keyFrom : Space → ℕ → Key
+keyFrom s word =
+    record {
+      list = listFrom s word;
+      place = told (placeFrom s) (unpackHead word) empty;
+      counted = told (countedFrom s) (unpackHead word) true;
+    }
+
+-- The keys of head words.
+unfoldable pub keysFrom : Space → List ℕ → List Key
+keysFrom s [] = []
+keysFrom s (w ∷ ws) = keyFrom s w ∷ keysFrom s ws
+
+-- ---- free lists
+
+-- The offsets that the free lists of some free heads name.
+unfoldable pub stacksFrom : Space → List ℕ → List (List ℕ)
+stacksFrom s [] = []
+stacksFrom s (h ∷ hs) = namedFrom s h ∷ stacksFrom s hs
+
+-- ---- the book
+
+-- The plain book of a book over bytes.
+unfoldable pub plainOf : Book → PlainBook
+plainOf b =
+    record {
+      size = length (b .space .body);
+      keys = keysFrom (b .space) (b .heads);
+      space = record { mark = b .space .mark; stacks = stacksFrom (b .space) (b .space .free) };
+    }
+
+-- What is recorded for a key at the start: the numbers that it is read as.
+abbrev pub startList : Book → ℕ → List ℕ
+startList b key = listFrom (b .space) (wordOf key b)

@@ -1,0 +1,204 @@
+-- The judgement of a book: it is good exactly where the book is a good start. Assumes nothing.
+use Prim.Native.Nat.{ℕ, zero, suc, _+_, _/_, _≤_, _<_}
+use mathlib.Core.Bool.{Bool, true, false}
+use mathlib.Core.List.{List, [], _∷_, _++_}
+use mathlib.Core.Path.{_≡_, refl, sym, ap, _∙_}
+use native.Mathlib.Nat.{zero-add}
+use native.Mathlib.Omega.{arith}
+use lib.Dec.{ltb}
+use lib.ListN.{length, getD}
+use borrow.Author.Tests.{le-ltb}
+use Rattle.error.specs.Refusal.{Answer, accepted, refused, shapeBad, listTooShort}
+use Rattle.error.proofs.LawsAnswer.{accepted-inj, refused≢accepted, refuse-no, passed}
+use Rattle.scripthash_free.specs.FreeList.{Block, Each, Names}
+use Rattle.book_space.specs.Space.{Space, shapeBroken}
+use Rattle.book_space.proofs.LawsShape.{shape-holds}
+use Rattle.book_keys.specs.Keys.{Content, content}
+use Rattle.book.specs.Book.{Book, wordOf}
+use Rattle.book_start.specs.Start.{AllApart, Stands, blocksAt, blocksIn, heldBy, named, namedFrom, freedOf, freedBy, blocksOf, GoodStart}
+use Rattle.book_start.specs.Start.{Verdict, good, keyUnsound, keyShares, freeStrays, freeShares, Claim, claimed, unfit, shared}
+use Rattle.book_start.specs.Start.{claimAll, claimContent, claimFreed, onward, judgeLists, judgeKeys, judged, judges}
+use Rattle.book_start.proofs.LawsClaims.{Claims, Cross, claim-none, claim-both, claims-left, claims-apart, apart-claims}
+use Rattle.book_start.proofs.LawsFreed.{Ending, FreedClaims, freed-claimed, claimed-freed, named-few}
+
+-- ---- going on
+
+-- A verdict behind a claim is good only where the claim stands, and what comes behind it is good.
+pub went-onward : (c : Claim) (ifUnfit ifShared : Verdict) (after : List Block → Verdict) → onward c ifUnfit ifShared after ≡ good
+    → (ifUnfit ≡ good → ⊥) → (ifShared ≡ good → ⊥) → (bs : List Block) × (c ≡ claimed bs) × (after bs ≡ good)
+unfolding onward
+went-onward (claimed bs) ifUnfit ifShared after e notUnfit notShared = (bs, refl, e)
+went-onward unfit ifUnfit ifShared after e notUnfit notShared = absurd (notUnfit e)
+went-onward shared ifUnfit ifShared after e notUnfit notShared = absurd (notShared e)
+
+-- The verdict behind a claim that stands.
+pub onward-yes : (c : Claim) (ifUnfit ifShared : Verdict) (after : List Block → Verdict) {bs : List Block} → c ≡ claimed bs
+    → onward c ifUnfit ifShared after ≡ after bs
+unfolding onward
+onward-yes c ifUnfit ifShared after e = rw e
+
+-- A fault isn't good.
+no-fault : (n : ℕ) → ((keyUnsound n ≡ good → ⊥) × (keyShares n ≡ good → ⊥) × (freeStrays n ≡ good → ⊥) × (freeShares n ≡ good → ⊥))
+no-fault n = (
+  λ e. let z : _≡_ {A = ℕ} 0 1 = cc in omega arith,
+  λ e. let z : _≡_ {A = ℕ} 0 1 = cc in omega arith,
+  λ e. let z : _≡_ {A = ℕ} 0 1 = cc in omega arith,
+  λ e. let z : _≡_ {A = ℕ} 0 1 = cc in omega arith,
+)
+
+-- ---- free lists
+
+-- The free lists of classes from one on, with these heads, end, and hold only blocks that stand.
+abbrev pub ListsEnd : Space → ℕ → List ℕ → Type 0
+ListsEnd s class hs = (i : ℕ) → i < length hs → Ending s (class + i) (getD hs i 0) (namedFrom s (getD hs i 0))
+
+-- The first of some free lists, and the others.
+lists-more : (s : Space) (class h : ℕ) (hs : List ℕ) → Ending s class h (namedFrom s h) → ListsEnd s (class + 1) hs → ListsEnd s class (h ∷ hs)
+lists-more s class h hs one more zero l = let same : class + 0 ≡ class = omega arith in rw same one
+lists-more s class h hs one more (suc i) l = let same : class + suc i ≡ class + 1 + i = omega arith in rw same (more i (omega arith))
+
+lists-rest : (s : Space) (class h : ℕ) (hs : List ℕ) → ListsEnd s class (h ∷ hs) → ListsEnd s (class + 1) hs
+lists-rest s class h hs all i l = let same : class + 1 + i ≡ class + suc i = omega arith in rw same (all (suc i) (omega arith))
+
+lists-first : (s : Space) (class h : ℕ) (hs : List ℕ) → ListsEnd s class (h ∷ hs) → Ending s class h (namedFrom s h)
+lists-first s class h hs all = let same : class + 0 ≡ class = omega arith in rw same at (all 0 (omega arith))
+
+-- Free lists that are judged good end, and their blocks are claimed.
+pub lists-good : (s : Space) (class : ℕ) (hs : List ℕ) (before : List Block) → s .mark ≤ length (s .body)
+    → judgeLists s class hs before ≡ good → ListsEnd s class hs × Claims before (freedBy s class hs)
+unfolding judgeLists freedBy
+lists-good s class [] before within e = (λ i l. absurd (omega arith), record { after = before; is = claim-none before })
+lists-good s class (h ∷ hs) before within e =
+    let f = no-fault class in
+    let w = went-onward (claimFreed (s .mark / 16) s class before h) _ _ _ e (f .2) (f .3) in
+    let one = freed-claimed (s .mark / 16) s class before h within (w .1) in
+    let rest = lists-good s (class + 1) hs (w .0) within (w .2) in (
+      lists-more s class h hs (one .ends) (rest .0),
+      record { after = rest .1 .after; is = claim-both before (blocksAt class (namedFrom s h)) (freedBy s (class + 1) hs) (one .is) ∙ rest .1 .is },
+    )
+
+-- Free lists that end, with blocks that are claimed, are judged good.
+pub good-lists : (s : Space) (class : ℕ) (hs : List ℕ) (before : List Block) → ListsEnd s class hs → Claims before (freedBy s class hs)
+    → judgeLists s class hs before ≡ good
+unfolding judgeLists freedBy
+good-lists s class [] before ends c = refl
+good-lists s class (h ∷ hs) before ends c =
+    let one = claims-left before (blocksAt class (namedFrom s h)) (freedBy s (class + 1) hs) c in
+    let is = claimed-freed (s .mark / 16) s class before h (namedFrom s h) (named-few (s .mark / 16) (s .body) h) (lists-first s class h hs ends) (one .is) in
+    onward-yes (claimFreed (s .mark / 16) s class before h) _ _ _ is
+    ∙ good-lists s (class + 1) hs (one .after) (lists-rest s class h hs ends)
+    (record { after = c .after; is = sym (claim-both before (blocksAt class (namedFrom s h)) (freedBy s (class + 1) hs) (one .is)) ∙ c .is })
+
+-- ---- keys
+
+-- A sound key.
+abbrev pub Sound : Space → ℕ → Type 0
+Sound s word = (c : Content) × (content s word ≡ accepted c)
+
+-- The keys with these head words are sound.
+abbrev pub KeysSound : Space → List ℕ → Type 0
+KeysSound s ws = (i : ℕ) → i < length ws → Sound s (getD ws i 0)
+
+keys-more : (s : Space) (w : ℕ) (ws : List ℕ) → Sound s w → KeysSound s ws → KeysSound s (w ∷ ws)
+keys-more s w ws one more zero l = one
+keys-more s w ws one more (suc i) l = more i (omega arith)
+
+-- A key whose blocks are claimed is sound.
+content-claimed : (before : List Block) (a : Answer Content) {after : List Block} → claimContent before a ≡ claimed after
+    → ((c : Content) × (a ≡ accepted c)) × (claimAll before (blocksIn a) ≡ claimed after)
+unfolding claimContent blocksIn
+content-claimed before (accepted c) e = ((c, refl), e)
+content-claimed before (refused number) e = let z : _≡_ {A = ℕ} 0 1 = cc in absurd (omega arith)
+
+-- The blocks of a sound key are claimed as they are.
+pub claimed-content : (before : List Block) (a : Answer Content) {c : Content} → a ≡ accepted c
+    → claimContent before a ≡ claimAll before (blocksIn a)
+unfolding claimContent blocksIn
+claimed-content before a e = rw e
+
+-- Keys that are judged good are sound, and their blocks are claimed, and then the free lists are judged good.
+pub record KeysGood (s : Space) (ws : List ℕ) (before : List Block) : Type 0 where
+  pub sound : KeysSound s ws
+  pub held : Claims before (heldBy s ws)
+  pub lists : judgeLists s 0 (s .free) (held .after) ≡ good
+
+pub keys-good : (s : Space) (key : ℕ) (ws : List ℕ) (before : List Block) → judgeKeys s key ws before ≡ good → KeysGood s ws before
+unfolding judgeKeys heldBy
+keys-good s key [] before e =
+    record { sound = λ i l. absurd (omega arith); held = record { after = before; is = claim-none before }; lists = e }
+keys-good s key (w ∷ ws) before e =
+    let f = no-fault key in
+    let g = went-onward (claimContent before (content s w)) _ _ _ e (f .0) (f .1) in
+    let one = content-claimed before (content s w) (g .1) in
+    let rest = keys-good s (key + 1) ws (g .0) (g .2) in
+    record {
+      sound = keys-more s w ws (one .0) (rest .sound);
+      held = record { after = rest .held .after; is = claim-both before (blocksIn (content s w)) (heldBy s ws) (one .1) ∙ rest .held .is };
+      lists = rest .lists;
+    }
+
+-- Sound keys with blocks that are claimed are judged by the free lists behind them.
+pub good-keys : (s : Space) (key : ℕ) (ws : List ℕ) (before : List Block) → KeysSound s ws → (c : Claims before (heldBy s ws))
+    → judgeKeys s key ws before ≡ judgeLists s 0 (s .free) (c .after)
+unfolding judgeKeys heldBy
+good-keys s key [] before sound c = let same : before ≡ c .after = let e = c .is in let n = claim-none before in cc in rw same
+good-keys s key (w ∷ ws) before sound c =
+    let one = claims-left before (blocksIn (content s w)) (heldBy s ws) c in
+    onward-yes (claimContent before (content s w)) _ _ _ (claimed-content before (content s w) (sound 0 (omega arith) .1) ∙ one .is)
+    ∙ good-keys s (key + 1) ws (one .after) (λ i l. sound (suc i) (omega arith))
+    (record { after = c .after; is = sym (claim-both before (blocksIn (content s w)) (heldBy s ws) (one .is)) ∙ c .is })
+
+-- ---- a book
+
+-- Nothing is crossed before the first claim.
+cross-none : (xs : List Block) → Cross xs []
+unfolding Each
+cross-none [] = tt
+cross-none (x ∷ xs) = (tt, cross-none xs)
+
+module _ (b : Book) (nine : length (b .space .free) ≡ 9) where
+  -- A book in shape that is judged good is a good start.
+  pub judged-start : shapeBroken (b .space) (length (b .heads)) ≡ false → judged b ≡ good → GoodStart b
+  unfolding judged
+  judged-start shape e =
+      let within = shape-holds (b .space) (length (b .heads)) shape .0 .within in
+      let k = keys-good (b .space) 0 (b .heads) [] e in
+      let l = lists-good (b .space) 0 (b .space .free) (k .held .after) within (k .lists) in
+      record {
+        shape = shape;
+        nine = nine;
+        sound = k .sound;
+        ends = λ class h. l .0 class (omega arith) .names;
+        stand = λ class h. rw (zero-add class) at (l .0 class (omega arith) .stand);
+        apart = claims-apart [] (blocksOf b)
+            (record { after = l .1 .after; is = claim-both [] (heldBy (b .space) (b .heads)) (freedBy (b .space) 0 (b .space .free)) (k .held .is) ∙ l .1 .is }) .1;
+      }
+
+-- A good start is judged good.
+pub start-judged : (b : Book) → GoodStart b → judged b ≡ good
+unfolding judged
+start-judged b g =
+    let held = heldBy (b .space) (b .heads) in
+    let freed = freedBy (b .space) 0 (b .space .free) in
+    let all = apart-claims [] (blocksOf b) (cross-none (blocksOf b)) (g .apart) in
+    let keys = claims-left [] held freed all in
+    good-keys (b .space) 0 (b .heads) [] (g .sound) keys
+    ∙ good-lists (b .space) 0 (b .space .free) (keys .after)
+    (λ class h. record { names = g .ends class (omega (arith, g .nine)); stand = rw (zero-add class) (g .stand class (omega (arith, g .nine))) })
+    (record { after = all .after; is = sym (claim-both [] held freed (keys .is)) ∙ all .is })
+
+-- With a work list that is long enough, the call accepts a book as good exactly where it is a good start.
+module _ (b : Book) (nine : length (b .space .free) ≡ 9) (room : ℕ) where
+  pub judges-start : judges b room ≡ accepted good → GoodStart b
+  unfolding judges
+  judges-start e =
+      let p = passed (shapeBroken (b .space) (length (b .heads))) shapeBad _ e in
+      let q = passed (ltb room (length (b .space .body) / 16)) listTooShort _ (p .1) in
+      judged-start b nine (p .0) (accepted-inj (q .1))
+
+  pub start-judges : length (b .space .body) / 16 ≤ room → GoodStart b → judges b room ≡ accepted good
+  unfolding judges
+  start-judges long g =
+      refuse-no (shapeBroken (b .space) (length (b .heads))) shapeBad _ (g .shape)
+      ∙ refuse-no (ltb room (length (b .space .body) / 16)) listTooShort _ (le-ltb room (length (b .space .body) / 16) long)
+      ∙ ap accepted (start-judged b g)

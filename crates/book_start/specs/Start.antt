@@ -1,0 +1,169 @@
+-- A book that starts from bytes written elsewhere: what a good start is, said of its bytes, head words, mark and free heads alone, and a
+-- judgement that finds the first fault of one that isn't good.
+use Prim.Native.Nat.{ℕ, zero, suc, _+_, _/_, _<_, _≤_}
+use mathlib.Core.Bool.{Bool, true, false, cond, not, _&&_, _||_}
+use mathlib.Core.List.{List, [], _∷_, _++_}
+use mathlib.Core.Logic.{_⊎_}
+use mathlib.Core.Path.{_≡_}
+use lib.Dec.{ltb, eqb}
+use lib.ListN.{length, getD}
+use Rattle.error.specs.Refusal.{Answer, accepted, refused, refuseIf, shapeBad, listTooShort}
+use Rattle.scripthash_layout.specs.Sizes.{slabBytes, pageClass}
+use Rattle.scripthash_free.specs.FreeList.{Block, isBlock, nextOf, Names, Each}
+use Rattle.book_space.specs.Space.{Space, shapeBroken}
+use Rattle.book_keys.specs.Keys.{Content, content}
+use Rattle.book.specs.Book.{Book, wordOf}
+
+-- ---- blocks
+
+-- Two blocks share no byte: one ends at or below the other's beginning.
+abbrev pub Disjoint : Block → Block → Type 0
+Disjoint x y = (x .off + slabBytes (x .class) ≤ y .off) ⊎ (y .off + slabBytes (y .class) ≤ x .off)
+
+-- No two of some blocks share a byte; a block that stands there twice shares its bytes.
+unfoldable pub AllApart : List Block → Type 0
+AllApart [] = Unit {0}
+AllApart (x ∷ xs) = Each (Disjoint x) xs × AllApart xs
+
+-- A block that 35 would pass: it is aligned, and lies between 4,096 and the mark.
+abbrev pub Stands : ℕ → Block → Type 0
+Stands mark x = isBlock (x .class) (x .off) mark ≡ true
+
+-- The block of a class at an offset.
+abbrev pub block : ℕ → ℕ → Block
+block class off = record { class = class; off = off }
+
+-- The blocks of a class at offsets.
+unfoldable pub blocksAt : ℕ → List ℕ → List Block
+blocksAt class [] = []
+blocksAt class (o ∷ os) = block class o ∷ blocksAt class os
+
+-- ---- what is held and what is free
+
+-- The blocks of what a key holds; none where it isn't sound.
+unfoldable pub blocksIn : Answer Content → List Block
+blocksIn (accepted c) = c .blocks
+blocksIn (refused number) = []
+
+-- The blocks of all keys with these head words, in order.
+unfoldable pub heldBy : Space → List ℕ → List Block
+heldBy s [] = []
+heldBy s (w ∷ ws) = blocksIn (content s w) ++ heldBy s ws
+
+-- The offsets that a free list names from a head on, followed over at most so many blocks.
+unfoldable pub named : ℕ → List ℕ → ℕ → List ℕ
+named zero body off = []
+named (suc k) body off = cond (eqb off 0) [] (off ∷ named k body (nextOf body off))
+
+-- The offsets that the free list of a head names: each block takes 16 bytes at least, so a list that ends has no more than mark / 16.
+abbrev pub namedFrom : Space → ℕ → List ℕ
+namedFrom s head = named (s .mark / 16) (s .body) head
+
+-- The offsets that the free list of a class names, from the top.
+abbrev pub freedOf : Space → ℕ → List ℕ
+freedOf s class = namedFrom s (getD (s .free) class 0)
+
+-- The freed blocks of the classes from one on that have these free heads.
+unfoldable pub freedBy : Space → ℕ → List ℕ → List Block
+freedBy s class [] = []
+freedBy s class (h ∷ hs) = blocksAt class (namedFrom s h) ++ freedBy s (class + 1) hs
+
+-- All blocks of a book: those that keys hold, keys rising, then those that free lists name, classes rising.
+abbrev pub blocksOf : Book → List Block
+blocksOf b = heldBy (b .space) (b .heads) ++ freedBy (b .space) 0 (b .space .free)
+
+-- A good start: a book that is covered from the lists that it then reads.
+pub record GoodStart (b : Book) : Type 0 where
+  -- Lengths and mark keep the limits.
+  pub shape : shapeBroken (b .space) (length (b .heads)) ≡ false
+  -- There is a free head for each of the classes 0 to 8.
+  pub nine : length (b .space .free) ≡ 9
+  -- Every key is sound.
+  pub sound : (key : ℕ) → key < length (b .heads) → (c : Content) × (content (b .space) (wordOf key b) ≡ accepted c)
+  -- Every free list ends.
+  pub ends : (class : ℕ) → class ≤ pageClass → Names (b .space .body) (getD (b .space .free) class 0) (freedOf (b .space) class)
+  -- Every free list holds only blocks that 35 would pass.
+  pub stand : (class : ℕ) → class ≤ pageClass → Each (Stands (b .space .mark)) (blocksAt class (freedOf (b .space) class))
+  -- No two blocks, held or free, share a byte.
+  pub apart : AllApart (blocksOf b)
+
+-- ---- the judgement
+
+-- A verdict on a start: it is good, or the first fault that is met, with its key or the class of its free list.
+pub data Verdict : Type 0 where
+  -- The book is a good start.
+  good : Verdict
+  -- The key isn't sound: the ground of 31.
+  keyUnsound : ℕ → Verdict
+  -- A block of the key shares a byte with one claimed before.
+  keyShares : ℕ → Verdict
+  -- A block of the class's free list is one that 35 would turn back.
+  freeStrays : ℕ → Verdict
+  -- A block of the class's free list shares a byte with one claimed before; a list that doesn't end comes to such a block.
+  freeShares : ℕ → Verdict
+
+-- Two blocks share a byte: neither ends at or below the other's beginning.
+unfoldable pub shares : Block → Block → Bool
+shares x y = ltb (x .off) (y .off + slabBytes (y .class)) && ltb (y .off) (x .off + slabBytes (x .class))
+
+-- A block shares a byte with one of some blocks.
+unfoldable pub sharesOne : Block → List Block → Bool
+sharesOne x [] = false
+sharesOne x (y ∷ ys) = shares x y || sharesOne x ys
+
+-- What claiming the blocks of a key or of a free list gives: all blocks claimed so far, or why one can't be claimed.
+pub data Claim : Type 0 where
+  -- These blocks are claimed, the last one first.
+  claimed : List Block → Claim
+  -- The key isn't sound, or the block can't stand where it is named.
+  unfit : Claim
+  -- A block shares a byte with one claimed before.
+  shared : Claim
+
+-- Blocks claimed one after the other, where some were claimed before.
+unfoldable pub claimAll : List Block → List Block → Claim
+claimAll before [] = claimed before
+claimAll before (x ∷ xs) = cond (sharesOne x before) shared (claimAll (x ∷ before) xs)
+
+-- The blocks of what a key holds, claimed.
+unfoldable pub claimContent : List Block → Answer Content → Claim
+claimContent before (accepted c) = claimAll before (c .blocks)
+claimContent before (refused number) = unfit
+
+-- The blocks of a free list, claimed from an offset on: each must be one that 35 would pass. Of more blocks than there is room for, one
+-- shares a byte.
+unfoldable pub claimFreed : ℕ → Space → ℕ → List Block → ℕ → Claim
+claimFreed zero s class before off = cond (eqb off 0) (claimed before) shared
+claimFreed (suc k) s class before off =
+    cond (eqb off 0) (claimed before)
+    (cond (isBlock class off (s .mark))
+    (cond (sharesOne (block class off) before) shared (claimFreed k s class (block class off ∷ before) (nextOf (s .body) off)))
+    unfit)
+
+-- Goes on with the blocks that are claimed; else one verdict where something is unfit, another where a byte is shared.
+unfoldable pub onward : Claim → Verdict → Verdict → (List Block → Verdict) → Verdict
+onward (claimed bs) ifUnfit ifShared after = after bs
+onward unfit ifUnfit ifShared after = ifUnfit
+onward shared ifUnfit ifShared after = ifShared
+
+-- The verdict on the free lists of the classes from one on that have these free heads, behind blocks claimed before.
+unfoldable pub judgeLists : Space → ℕ → List ℕ → List Block → Verdict
+judgeLists s class [] before = good
+judgeLists s class (h ∷ hs) before =
+    onward (claimFreed (s .mark / 16) s class before h) (freeStrays class) (freeShares class) (λ bs. judgeLists s (class + 1) hs bs)
+
+-- The verdict on the keys from one on that have these head words, behind blocks claimed before, and then on all free lists.
+unfoldable pub judgeKeys : Space → ℕ → List ℕ → List Block → Verdict
+judgeKeys s key [] before = judgeLists s 0 (s .free) before
+judgeKeys s key (w ∷ ws) before =
+    onward (claimContent before (content s w)) (keyUnsound key) (keyShares key) (λ bs. judgeKeys s (key + 1) ws bs)
+
+-- The verdict on a book in shape: blocks are claimed one after the other, keys rising and then classes rising, and the first fault decides.
+unfoldable pub judged : Book → Verdict
+judged b = judgeKeys (b .space) 0 (b .heads) []
+
+-- The call that judges a start, with a work list of so many bytes, one for each 16 bytes of the body.
+unfoldable pub judges : Book → ℕ → Answer Verdict
+judges b room =
+    refuseIf (shapeBroken (b .space) (length (b .heads))) shapeBad
+    (refuseIf (ltb room (length (b .space .body) / 16)) listTooShort (accepted (judged b)))
