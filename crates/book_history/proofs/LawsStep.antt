@@ -137,7 +137,8 @@ placedContents plain key total place =
       pages = λ j i block. PageIn (cond (eqb j key) total (totalOf (keyOf j plain))) i (atKey key place (places plain) j) block;
     }
 
-module _ (plain : PlainBook) (key : ℕ) (list : List ℕ) (place : Place) (counted : Bool) (space : PlainSpace) (l : key < length (plain .keys)) where
+module _ (plain : PlainBook) (key : ℕ) (list : List ℕ) (place : Place) (counted : Bool) (space : PlainSpace)
+    (l : key < length (plain .keys)) where
   -- the key as it becomes, and the book with it
   abbrev new : Key
   new = record { list = list; place = place; counted = counted }
