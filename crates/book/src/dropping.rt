@@ -54,7 +54,7 @@ fn accept_drop(heads: &mut [u64], state: State, key: usize, count: u64) -> After
 }
 
 // The offset of the page that a page's link names.
-fn next_page(body: &[u8], off: u64) -> u64
+pub fn next_page(body: &[u8], off: u64) -> u64
     requires { ⌜ off + pageSize ≤ length (now body) ⌝ }
     ensures { λ r. ⌜ r ≡ linkOffset (linkOf (part (now (body .entry)) off pageSize)) ⌝ }
 {

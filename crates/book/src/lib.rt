@@ -21,6 +21,7 @@ pub use answers::BookLoad;
 pub use answers::BookRead;
 pub use appending::append;
 pub use dropping::drop;
+pub use dropping::next_page;
 pub use loading::load;
 pub use making::fresh;
 pub use reading::read;

@@ -3,3 +3,6 @@ pub mod LawsClaims
 pub mod LawsFreed
 pub mod LawsJudged
 pub mod LawsPairs
+pub mod LawsUnits
+pub mod LawsShown
+pub mod LawsVerdict

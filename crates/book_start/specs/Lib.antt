@@ -1,1 +1,3 @@
 pub mod Start
+pub mod Units
+pub mod Answers

@@ -136,7 +136,7 @@ pub fn is_slab(class: u8, off: u64, end: u64) -> bool
 }
 
 // Tells whether a block of a class can stand at an offset and end at or below an end.
-fn is_block(class: u8, off: u64, end: u64) -> bool
+pub fn is_block(class: u8, off: u64, end: u64) -> bool
     ensures { λ r. ⌜ r ≡ isBlock class off end ⌝ }
 {
     if class >= SH_PAGE_SLAB_CLASS {

@@ -1,0 +1,223 @@
+-- Judging by a work list: a turn of the loop over free lists and of that over keys, and their ends. Assumes nothing.
+use Prim.Native.Nat.{ℕ, _+_, _*_, _/_, _≤_, _<_}
+use mathlib.Core.Bool.{true, false}
+use mathlib.Core.List.{List, [], _∷_}
+use mathlib.Core.Path.{_≡_, refl, sym, ap, _∙_}
+use native.Mathlib.Numerals.{add-one}
+use native.Mathlib.Omega.{arith}
+use borrow.Author.Tests.{lt-ltb, le-ltb}
+use lib.Dec.{ltb}
+use lib.ListN.{length, getD, drop, replicate, drop-of-length-le}
+use lib.Seq.{drop-cons}
+use Rattle.error.specs.Refusal.{Answer, accepted, refused, shapeBad, listTooShort}
+use Rattle.error.proofs.LawsAnswer.{refuse-yes, refuse-no}
+use Rattle.buffer.specs.Bytes.{overwrite}
+use Rattle.scripthash_free.specs.FreeList.{Block, Each}
+use Rattle.book_space.specs.Space.{Space, space, shapeBroken}
+use Rattle.book_keys.specs.Keys.{content}
+use Rattle.book_keys.specs.Steps.{keySpace}
+use Rattle.book_keys.proofs.LawsFree.{content-free}
+use Rattle.book.specs.Book.{Book}
+use Rattle.book_start.specs.Start.{Verdict, good, keyUnsound, keyShares, freeStrays, freeShares, Claim, claimed, unfit, shared}
+use Rattle.book_start.specs.Start.{claimContent, claimFreed, onward, judgeLists, judgeKeys, judged, judges}
+use Rattle.book_start.specs.Units.{cleared, markAll, workAfter, Marked, claimOf, ClaimsAs, JudgesAs}
+use Rattle.book_start.specs.declared.claiming.Claiming.{Claiming}
+use Rattle.book_start.specs.declared.claiming.Claiming.the-variants.{Done, Unfit, Shared}
+use Rattle.book_start.specs.declared.judging.JudgeStart.{JudgeStart}
+use Rattle.book_start.specs.declared.judging.JudgeStart.the-variants.{Good, KeyUnsound, KeyShares, FreeStrays, FreeShares}
+use Rattle.book_start.proofs.LawsUnits.{placed-all, cleared-again}
+
+-- What comes behind a claim.
+pub onward-is : (c d : Claim) (ifUnfit ifShared : Verdict) (after : List Block → Verdict) → c ≡ d
+    → onward c ifUnfit ifShared after ≡ onward d ifUnfit ifShared after
+onward-is c d ifUnfit ifShared after e = rw e
+
+pub onward-claimed : (bs : List Block) (ifUnfit ifShared : Verdict) (after : List Block → Verdict) → onward (claimed bs) ifUnfit ifShared after ≡ after bs
+unfolding onward
+onward-claimed bs ifUnfit ifShared after = refl
+
+pub onward-unfit : (ifUnfit ifShared : Verdict) (after : List Block → Verdict) → onward unfit ifUnfit ifShared after ≡ ifUnfit
+unfolding onward
+onward-unfit ifUnfit ifShared after = refl
+
+pub onward-shared : (ifUnfit ifShared : Verdict) (after : List Block → Verdict) → onward shared ifUnfit ifShared after ≡ ifShared
+unfolding onward
+onward-shared ifUnfit ifShared after = refl
+
+-- ---- free lists
+
+-- The free lists of the classes from one on, judged behind what the work list shows, give what is wanted.
+pub record ListsGo (units : ℕ) (lent : List ℕ) (want : Verdict) (s : Space) (class : ℕ) (work : List ℕ) : Type 0 where
+  pub claims : List Block
+  pub shows : Marked units (s .mark) lent claims work
+  pub gives : judgeLists s class (drop class (s .free)) claims ≡ want
+
+module _ (units : ℕ) (lent : List ℕ) (want : Verdict) (s : Space) (class : ℕ) (work : List ℕ) (g : ListsGo units lent want s class work) where
+  module _ (more : class < length (s .free)) where
+    first : want ≡ onward (claimFreed (s .mark / 16) s class (g .claims) (getD (s .free) class 0)) (freeStrays class) (freeShares class)
+        (λ bs. judgeLists s (class + 1) (drop (class + 1) (s .free)) bs)
+    unfolding judgeLists
+    first = sym (g .gives) ∙ ap (λ (hs : List ℕ). judgeLists s class hs (g .claims)) (drop-cons (s .free) class 0 more) ∙ rw (add-one class)
+
+    module _ (after : List ℕ) (tells : Claiming)
+        (c : ClaimsAs units (s .mark) lent (claimFreed (s .mark / 16) s class (g .claims) (getD (s .free) class 0)) tells after) where
+      told : want ≡ onward (claimOf tells (c .claims)) (freeStrays class) (freeShares class) (λ bs. judgeLists s (class + 1) (drop (class + 1) (s .free)) bs)
+      told = first ∙ onward-is _ _ (freeStrays class) (freeShares class) _ (c .told)
+
+      -- The list is claimed.
+      pub lists-turn : tells ≡ Done → ListsGo units lent want s (class + 1) after
+      lists-turn e =
+          record {
+            claims = c .claims;
+            shows = c .shows;
+            gives = sym (told ∙ onward-is _ _ (freeStrays class) (freeShares class) _ (ap (λ (t : Claiming). claimOf t (c .claims)) e)
+                ∙ onward-claimed (c .claims) (freeStrays class) (freeShares class) _);
+          }
+
+      -- It has a block that 35 would turn back.
+      pub lists-strays : tells ≡ Unfit → JudgesAs units (s .mark) lent want (FreeStrays class) after
+      lists-strays e =
+          record {
+            claims = c .claims;
+            shows = c .shows;
+            told = ap accepted
+                (sym (told ∙ onward-is _ _ (freeStrays class) (freeShares class) _ (ap (λ (t : Claiming). claimOf t (c .claims)) e)
+                ∙ onward-unfit (freeStrays class) (freeShares class) _));
+          }
+
+      -- It has a block that shares a byte.
+      pub lists-shared : tells ≡ Shared → JudgesAs units (s .mark) lent want (FreeShares class) after
+      lists-shared e =
+          record {
+            claims = c .claims;
+            shows = c .shows;
+            told = ap accepted
+                (sym (told ∙ onward-is _ _ (freeStrays class) (freeShares class) _ (ap (λ (t : Claiming). claimOf t (c .claims)) e)
+                ∙ onward-shared (freeStrays class) (freeShares class) _));
+          }
+
+  -- No list is left.
+  pub lists-end : length (s .free) ≤ class → JudgesAs units (s .mark) lent want Good work
+  unfolding judgeLists
+  lists-end h =
+      record {
+        claims = g .claims;
+        shows = g .shows;
+        told = ap accepted (ap (λ (hs : List ℕ). judgeLists s class hs (g .claims)) (sym (drop-of-length-le (s .free) {i = class} h)) ∙ g .gives);
+      }
+
+-- ---- keys
+
+-- The keys from one on, judged behind what the work list shows, give what is wanted.
+pub record KeysGo (units : ℕ) (lent : List ℕ) (want : Verdict) (s : Space) (heads : List ℕ) (key : ℕ) (work : List ℕ) : Type 0 where
+  pub claims : List Block
+  pub shows : Marked units (s .mark) lent claims work
+  pub gives : judgeKeys s key (drop key heads) claims ≡ want
+
+module _ (units : ℕ) (lent : List ℕ) (want : Verdict) (s : Space) (heads : List ℕ) (key : ℕ) (work : List ℕ) (g : KeysGo units lent want s heads key work) where
+  module _ (more : key < length heads) where
+    first-key : want ≡ onward (claimContent (g .claims) (content (keySpace (s .body) (s .mark)) (getD heads key 0))) (keyUnsound key) (keyShares key)
+        (λ bs. judgeKeys s (key + 1) (drop (key + 1) heads) bs)
+    unfolding judgeKeys
+    first-key =
+        sym (g .gives) ∙ ap (λ (ws : List ℕ). judgeKeys s key ws (g .claims)) (drop-cons heads key 0 more)
+        ∙ rw (add-one key, content-free (s .body) (s .mark) (s .free) (getD heads key 0))
+
+    module _ (after : List ℕ) (tells : Claiming)
+        (c : ClaimsAs units (s .mark) lent (claimContent (g .claims) (content (keySpace (s .body) (s .mark)) (getD heads key 0))) tells after) where
+      told-key : want ≡ onward (claimOf tells (c .claims)) (keyUnsound key) (keyShares key) (λ bs. judgeKeys s (key + 1) (drop (key + 1) heads) bs)
+      told-key = first-key ∙ onward-is _ _ (keyUnsound key) (keyShares key) _ (c .told)
+
+      -- The key is claimed.
+      pub keys-turn : tells ≡ Done → KeysGo units lent want s heads (key + 1) after
+      keys-turn e =
+          record {
+            claims = c .claims;
+            shows = c .shows;
+            gives = sym (told-key ∙ onward-is _ _ (keyUnsound key) (keyShares key) _ (ap (λ (t : Claiming). claimOf t (c .claims)) e)
+                ∙ onward-claimed (c .claims) (keyUnsound key) (keyShares key) _);
+          }
+
+      -- It isn't sound.
+      pub keys-unsound : tells ≡ Unfit → JudgesAs units (s .mark) lent want (KeyUnsound key) after
+      keys-unsound e =
+          record {
+            claims = c .claims;
+            shows = c .shows;
+            told = ap accepted
+                (sym (told-key ∙ onward-is _ _ (keyUnsound key) (keyShares key) _ (ap (λ (t : Claiming). claimOf t (c .claims)) e)
+                ∙ onward-unfit (keyUnsound key) (keyShares key) _));
+          }
+
+      -- It has a block that shares a byte.
+      pub keys-shared : tells ≡ Shared → JudgesAs units (s .mark) lent want (KeyShares key) after
+      keys-shared e =
+          record {
+            claims = c .claims;
+            shows = c .shows;
+            told = ap accepted
+                (sym (told-key ∙ onward-is _ _ (keyUnsound key) (keyShares key) _ (ap (λ (t : Claiming). claimOf t (c .claims)) e)
+                ∙ onward-shared (keyUnsound key) (keyShares key) _));
+          }
+
+  -- No key is left: the free lists are judged behind them.
+  pub keys-end : length heads ≤ key → ListsGo units lent want s 0 work
+  unfolding judgeKeys
+  keys-end h =
+      record {
+        claims = g .claims;
+        shows = g .shows;
+        gives = ap (λ (ws : List ℕ). judgeKeys s key ws (g .claims)) (sym (drop-of-length-le heads {i = key} h)) ∙ g .gives;
+      }
+
+-- ---- the call
+
+module _ (b : Book) (work : List ℕ) where
+  -- The shape breaks the limits.
+  pub judges-broken : shapeBroken (b .space) (length (b .heads)) ≡ true → judges b (length work) ≡ refused shapeBad
+  unfolding judges
+  judges-broken e = refuse-yes (shapeBroken (b .space) (length (b .heads))) shapeBad _ e
+
+  module _ (shape : shapeBroken (b .space) (length (b .heads)) ≡ false) where
+    -- The work list is too short.
+    pub judges-short : length work < length (b .space .body) / 16 → judges b (length work) ≡ refused listTooShort
+    unfolding judges
+    judges-short h =
+        refuse-no (shapeBroken (b .space) (length (b .heads))) shapeBad _ shape
+        ∙ refuse-yes (ltb (length work) (length (b .space .body) / 16)) listTooShort _ (lt-ltb (length work) (length (b .space .body) / 16) h)
+
+    -- It is judged.
+    pub judges-all : length (b .space .body) / 16 ≤ length work → judges b (length work) ≡ accepted (judged b)
+    unfolding judges
+    judges-all h =
+        refuse-no (shapeBroken (b .space) (length (b .heads))) shapeBad _ shape
+        ∙ refuse-no (ltb (length work) (length (b .space .body) / 16)) listTooShort _ (le-ltb (length work) (length (b .space .body) / 16) h)
+
+-- The work list after the call.
+pub after-refused : (units : ℕ) (work : List ℕ) (a : Answer Verdict) {number : ℕ} → a ≡ refused number → work ≡ workAfter units work a
+unfolding workAfter
+after-refused units work a e = rw e
+
+pub after-judged : (units : ℕ) (work : List ℕ) (a : Answer Verdict) {v : Verdict} → a ≡ accepted v → cleared units work ≡ workAfter units work a
+unfolding workAfter
+after-judged units work a e = rw e
+
+-- Clearing, as the code does it; and a judgement begins with the keys.
+pub cleared-is : (units : ℕ) (work : List ℕ) → overwrite work 0 (replicate units 0) ≡ cleared units work
+unfolding cleared
+cleared-is units work = refl
+
+pub judged-is : (b : Book) → judged b ≡ judgeKeys (b .space) 0 (b .heads) []
+unfolding judged
+judged-is b = refl
+
+-- A cleared work list shows no claims.
+pub shows-none : (units mark : ℕ) (work after : List ℕ) → mark ≤ 16 * units → units ≤ length work → after ≡ cleared units work → Marked units mark work [] after
+unfolding markAll Each
+shows-none units mark work after fits long e = record { fits = fits; long = long; stand = tt; is = e }
+
+-- A work list that shows claims, cleared, is the lent one cleared.
+pub shown-cleared : (units mark : ℕ) (lent : List ℕ) (claims : List Block) (work : List ℕ) → Marked units mark lent claims work
+    → cleared units work ≡ cleared units lent
+shown-cleared units mark lent claims work m =
+    ap (cleared units) (m .is) ∙ cleared-again units claims lent (placed-all units mark claims (m .fits) (m .stand)) (m .long)

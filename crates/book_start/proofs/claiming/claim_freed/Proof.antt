@@ -1,0 +1,155 @@
+-- `claim_freed` meets its contract. Invariant: what is left of the list, claimed behind what the work list shows, gives what all of it gives.
+-- Assumes nothing.
+use Prim.Native.Nat.{ℕ, _+_, _-_, _*_, _/_, _≤_, _<_}
+use mathlib.Core.Bool.{true}
+use mathlib.Core.List.{List}
+use mathlib.Core.Path.{_≡_, refl, sym, ap, subst, _∙_}
+use native.Mathlib.Omega.{arith}
+use borrow.Author.Needs.{needs}
+use borrow.Author.Tests.{not-true, not-false}
+use lib.ListN.{length}
+use Rattle.scripthash_free.specs.FreeList.{Block, isBlock}
+use Rattle.book_space.specs.Space.{Space, space}
+use Rattle.book_start.specs.Start.{block, claimFreed}
+use Rattle.book_start.specs.Units.{Marked}
+use Rattle.book_start.proofs.LawsUnits.{length-claim}
+use Rattle.book_start.proofs.LawsShown.{block-fits, link-inside, FreedGo, list-end, list-long, list-strays, list-shared, list-turn}
+use Rattle.book_start.proofs.claiming.claim_freed.Statement.{statement}
+use Rattle.book_start.proofs.claiming.claim_freed.Tie as tie
+
+abbrev Inv-loop : tie.InvT-loop
+Inv-loop body mark work₀ class head off₀ left₀ work off left =
+    (length work ≡ length work₀)
+    × ((free : List ℕ) (units : ℕ) (lent : List ℕ) (claims : List Block) → Marked units mark lent claims work₀
+    → FreedGo units lent (claimFreed (mark / 16) (space body mark free) class claims head) (space body mark free) class off left work)
+
+abbrev μ-loop : tie.MeasureT-loop
+μ-loop body mark work₀ class head off₀ left₀ work off left = left
+
+-- a turn
+module _ (t : tie.In-loop Inv-loop μ-loop) where
+  abbrev at : tie.Start Inv-loop μ-loop
+  at = t .before .before .before .before
+
+  abbrev s : List ℕ → Space
+  s free = space (at .args .body .now) (at .args .mark) free
+
+  abbrev off : ℕ
+  off = t .before .loop .off
+
+  abbrev left : ℕ
+  left = t .before .loop .left
+
+  abbrev work : List ℕ
+  work = t .before .loop .work
+
+  more : off ≡ 0 → ⊥
+  more z = t .loop-test .taken z
+
+  long : at .args .mark ≤ 16 * length work
+  long = let e = t .before .loop .inv .0 in let p = at .pre .2 in omega arith
+
+-- a block that stands below the mark
+module _ (c : tie.Else2 Inv-loop μ-loop) where
+  abbrev turn : tie.In-loop Inv-loop μ-loop
+  turn = c .before .before .before
+
+  stands : isBlock (at turn .args .class) (off turn) (at turn .args .mark) ≡ true
+  stands = sym (c .before .is-block .ensures) ∙ not-false _ (c .if2 .left)
+
+  some : 0 < left turn
+  some = let n = c .before .before .if1 .left in omega arith
+
+loop-holds : tie.Need-loop-holds Inv-loop μ-loop
+loop-holds c = (refl, λ free units lent claims m. record { claims = claims; shows = m; gives = refl })
+
+same-length : tie.Need-same-length Inv-loop μ-loop
+same-length c = search needs
+
+returns : tie.Need-returns Inv-loop μ-loop
+returns c free units lent claims m =
+    let t = c .before in
+    list-long units lent _ (s t free) (at t .args .class) (off t) (left t) (work t) (t .before .loop .inv .1 free units lent claims m) (more t) (omega arith)
+
+is-block-requires : tie.Need-is-block-requires Inv-loop μ-loop
+is-block-requires c κs = search needs
+
+same-length-2 : tie.Need-same-length-2 Inv-loop μ-loop
+same-length-2 c = search needs
+
+returns-2 : tie.Need-returns-2 Inv-loop μ-loop
+returns-2 c free units lent claims m =
+    let t = c .before .before .before in
+    list-strays units lent _ (s t free) (at t .args .class) (off t) (left t) (work t) (t .before .loop .inv .1 free units lent claims m) (more t)
+    (let n = c .before .before .if1 .left in omega arith) (sym (c .before .is-block .ensures) ∙ not-true _ (c .if2 .taken))
+
+claim-block-requires : tie.Need-claim-block-requires Inv-loop μ-loop
+claim-block-requires c κs =
+    let t = turn (c .before) in
+    (at t .pre .0, block-fits (at t .args .mark) (at t .args .class) (off t) (length (work t)) (long t) (stands (c .before)))
+
+same-length-3 : tie.Need-same-length-3 Inv-loop μ-loop
+same-length-3 c = search needs
+
+returns-3 : tie.Need-returns-3 Inv-loop μ-loop
+returns-3 c free units lent claims m =
+    let d = c .before .before .before .before .before in
+    let t = turn d in
+    let b = c .before .before .before .claim-block in
+    list-shared units lent _ (s t free) (at t .args .class) (off t) (left t) (work t) (t .before .loop .inv .1 free units lent claims m) (more t) (some d) (stands d) _
+    (b .ensures .1) (sym (b .ensures .0) ∙ not-true _ (c .if3 .taken))
+
+get-u64-requires : tie.Need-get-u64-requires Inv-loop μ-loop
+get-u64-requires c κs =
+    let d = c .before .before .before .before .before in
+    let t = turn d in
+    link-inside (at t .args .body .now) (at t .args .mark) (at t .args .class) (off t) (at t .pre .1) (stands d)
+
+sub-left : tie.Need-sub-left Inv-loop μ-loop
+sub-left c = let n = some (c .before .before .before .before .before .before) in omega arith
+
+loop-less : tie.Need-loop-less Inv-loop μ-loop
+loop-less c = let n = some (c .before .before .before .before .before .before) in omega arith
+
+loop-again : tie.Need-loop-again Inv-loop μ-loop
+loop-again c =
+    let d = c .before .before .before .before .before .before in
+    let t = turn d in
+    let b = c .before .before .before .before .claim-block in
+    let class = at t .args .class in (
+      ap length (b .ensures .1) ∙ length-claim (block class (off t)) (work t) (at t .args .mark) (long t) (stands d) ∙ t .before .loop .inv .0,
+      λ free units lent claims m.
+          list-turn units lent _ (s t free) class (off t) (left t) (work t) (t .before .loop .inv .1 free units lent claims m) (more t) (some d) (stands d) _
+          (b .ensures .1) (c .get-u64 .result) (c .get-u64 .ensures) (sym (b .ensures .0) ∙ not-false _ (c .before .if3 .left)),
+    )
+
+same-length-4 : tie.Need-same-length-4 Inv-loop μ-loop
+same-length-4 c = search needs
+
+returns-4 : tie.Need-returns-4 Inv-loop μ-loop
+returns-4 c free units lent claims m =
+    let l = c .before .loop in
+    let a = c .before .before .before .before .args in
+    list-end units lent _ (space (a .body .now) (a .mark) free) (a .class) (l .off) (l .left) (l .work) (l .inv .1 free units lent claims m) (omega arith)
+
+pub claim-freed-spec : {M : Type 1} → statement M
+claim-freed-spec =
+    tie.close
+    (tie.spec
+    Inv-loop
+    μ-loop
+    loop-holds
+    same-length
+    returns
+    is-block-requires
+    same-length-2
+    returns-2
+    claim-block-requires
+    same-length-3
+    returns-3
+    get-u64-requires
+    sub-left
+    loop-less
+    loop-again
+    same-length-4
+    returns-4)

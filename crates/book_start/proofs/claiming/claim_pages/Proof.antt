@@ -1,0 +1,123 @@
+-- `claim_pages` meets its contract. Invariant: the pages that are left, claimed behind what the work list shows, give what all of them give.
+-- Assumes nothing.
+use Prim.Native.Nat.{ℕ, _+_, _-_, _*_, _≤_}
+use mathlib.Core.Bool.{true}
+use mathlib.Core.List.{List}
+use mathlib.Core.Path.{_≡_, refl, sym, ap, subst, _∙_}
+use native.Mathlib.Omega.{arith}
+use borrow.Author.Needs.{needs}
+use borrow.Author.Tests.{not-true, not-false}
+use lib.ListN.{length}
+use Rattle.scripthash_layout.specs.Sizes.{pageClass}
+use Rattle.scripthash_free.specs.FreeList.{Block, isBlock}
+use Rattle.scripthash_free.proofs.LawsBlock.{block-stands}
+use Rattle.book_space.specs.Space.{Space}
+use Rattle.book_keys.specs.Keys.{pageBlocks}
+use Rattle.book_keys.specs.Steps.{keySpace}
+use Rattle.book.specs.Steps.{PagesLeft}
+use Rattle.book_start.specs.Start.{block, claimAll}
+use Rattle.book_start.specs.Units.{Marked}
+use Rattle.book_start.proofs.LawsUnits.{length-claim}
+use Rattle.book_start.proofs.LawsShown.{block-fits, PageTurn, page-turn, PagesGo, pages-turn, pages-shared, pages-end}
+use Rattle.book_start.proofs.claiming.claim_pages.Statement.{statement}
+use Rattle.book_start.proofs.claiming.claim_pages.Tie as tie
+
+abbrev Inv-loop : tie.InvT-loop
+Inv-loop body mark work₀ first pages off₀ left₀ work off left =
+    (length work ≡ length work₀) × ((offs : List ℕ) × PagesLeft (keySpace body mark) off left offs)
+    × ((whole : List ℕ) → PagesLeft (keySpace body mark) first pages whole → (units : ℕ) (lent : List ℕ) (claims : List Block)
+    → Marked units mark lent claims work₀ → PagesGo units mark lent (claimAll claims (pageBlocks whole)) (keySpace body mark) off left work)
+
+abbrev μ-loop : tie.MeasureT-loop
+μ-loop body mark work₀ first pages off₀ left₀ work off left = left
+
+-- a turn
+module _ (t : tie.In-loop Inv-loop μ-loop) where
+  abbrev at : tie.Start Inv-loop μ-loop
+  at = t .before .before .before .before
+
+  abbrev s : Space
+  s = keySpace (at .args .body .now) (at .args .mark)
+
+  abbrev off : ℕ
+  off = t .before .loop .off
+
+  abbrev work : List ℕ
+  work = t .before .loop .work
+
+  turn : PageTurn s off (t .before .loop .left) (t .before .loop .inv .1 .0)
+  turn = page-turn s off (t .before .loop .left) (t .before .loop .inv .1 .0) (t .loop-test .taken) (t .before .loop .inv .1 .1)
+
+  long : at .args .mark ≤ 16 * length work
+  long = let e = t .before .loop .inv .0 in let p = at .pre .0 in omega arith
+
+loop-holds : tie.Need-loop-holds Inv-loop μ-loop
+loop-holds c =
+    (refl, c .before .before .pre .1, λ whole p units lent claims m. record { offs = whole; pages = p; claims = claims; shows = m; gives = refl })
+
+claim-block-requires : tie.Need-claim-block-requires Inv-loop μ-loop
+claim-block-requires c κs =
+    let t = c .before in (omega arith, block-fits (at t .args .mark) pageClass (off t) (length (work t)) (long t) (turn t .stands))
+
+same-length : tie.Need-same-length Inv-loop μ-loop
+same-length c = search needs
+
+returns : tie.Need-returns Inv-loop μ-loop
+returns c whole p units lent claims m =
+    let t = c .before .before .before .before .before in
+    let b = c .before .before .before .claim-block in
+    pages-shared units lent _ (s t) (off t) (t .before .loop .left) (work t) (t .before .loop .inv .2 whole p units lent claims m) (t .loop-test .taken) _
+    (sym (b .ensures .0) ∙ not-true _ (c .if1 .taken)) (b .ensures .1)
+
+next-page-requires : tie.Need-next-page-requires Inv-loop μ-loop
+next-page-requires c κs =
+    let t = c .before .before .before .before .before in
+    let e = block-stands pageClass (off t) (at t .args .mark) (turn t .stands) .ends in
+    let w = t .before .loop .inv .1 .1 .within in
+    omega arith
+
+sub-left : tie.Need-sub-left Inv-loop μ-loop
+sub-left c = omega arith
+
+loop-less : tie.Need-loop-less Inv-loop μ-loop
+loop-less c = omega arith
+
+loop-again : tie.Need-loop-again Inv-loop μ-loop
+loop-again c =
+    let t = c .before .before .before .before .before .before in
+    let b = c .before .before .before .before .claim-block in
+    let next = c .next-page .result in
+    let left = t .before .loop .left in
+    let free = sym (b .ensures .0) ∙ not-false _ (c .before .if1 .left) in (
+      ap length (b .ensures .1) ∙ length-claim (block pageClass (off t)) (work t) (at t .args .mark) (long t) (turn t .stands) ∙ t .before .loop .inv .0,
+      (turn t .behind, subst (λ (n : ℕ). PagesLeft (s t) n (left - 1) (turn t .behind)) (sym (c .next-page .ensures)) (turn t .rest)),
+      λ whole p units lent claims m.
+          pages-turn units lent _ (s t) (off t) left (work t) (t .before .loop .inv .2 whole p units lent claims m) (t .loop-test .taken) _ next
+          (c .next-page .ensures) free (b .ensures .1),
+    )
+
+same-length-2 : tie.Need-same-length-2 Inv-loop μ-loop
+same-length-2 c = search needs
+
+returns-2 : tie.Need-returns-2 Inv-loop μ-loop
+returns-2 c whole p units lent claims m =
+    let l = c .before .loop in
+    let a = c .before .before .before .before .args in
+    pages-end units lent _ (keySpace (a .body .now) (a .mark)) (l .off) (l .left) (l .work) (l .inv .2 whole p units lent claims m) (omega arith)
+
+pub claim-pages-spec : {M : Type 1} → statement M
+claim-pages-spec =
+    tie.close
+    (tie.spec
+    Inv-loop
+    μ-loop
+    loop-holds
+    claim-block-requires
+    same-length
+    returns
+    next-page-requires
+    sub-left
+    loop-less
+    loop-again
+    same-length-2
+    returns-2)

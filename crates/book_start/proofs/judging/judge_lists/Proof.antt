@@ -1,0 +1,144 @@
+-- `judge_lists` meets its contract. Invariant: the lists that are left, judged behind what the work list shows, give what all of them give.
+-- Assumes nothing.
+use Prim.Native.Nat.{ℕ, _-_, _*_, _≤_}
+use mathlib.Core.List.{List}
+use mathlib.Core.Path.{_≡_, refl, sym, ap, _∙_}
+use native.Mathlib.Omega.{arith}
+use borrow.Author.Needs.{needs}
+use lib.ListN.{length}
+use Rattle.scripthash_free.specs.FreeList.{Block}
+use Rattle.book_space.specs.Space.{Space, space}
+use Rattle.book_start.specs.Start.{judgeLists}
+use Rattle.book_start.specs.Units.{Marked}
+use Rattle.book_start.proofs.LawsVerdict.{ListsGo, lists-turn, lists-strays, lists-shared, lists-end}
+use Rattle.book_start.proofs.judging.judge_lists.Statement.{statement}
+use Rattle.book_start.proofs.judging.judge_lists.Tie as tie
+
+abbrev Inv-loop : tie.InvT-loop
+Inv-loop body mark free work₀ class₀ work class =
+    (length work ≡ length work₀) × (class ≤ length free)
+    × ((units : ℕ) (lent : List ℕ) (claims : List Block) → Marked units mark lent claims work₀
+    → ListsGo units lent (judgeLists (space body mark free) 0 free claims) (space body mark free) class work)
+
+abbrev μ-loop : tie.MeasureT-loop
+μ-loop body mark free work₀ class₀ work class = length free - class
+
+-- a turn
+module _ (t : tie.In-loop Inv-loop μ-loop) where
+  abbrev at : tie.Start Inv-loop μ-loop
+  at = t .before .before .before .before .before
+
+  abbrev free : List ℕ
+  free = at .args .free .now
+
+  abbrev s : Space
+  s = space (at .args .body .now) (at .args .mark) free
+
+  abbrev class : ℕ
+  class = t .before .loop .class
+
+  abbrev work : List ℕ
+  work = t .before .loop .work
+
+  long : at .args .mark ≤ 16 * length work
+  long = let e = t .before .loop .inv .0 in let p = at .pre .2 in omega arith
+
+  class-to-8 : class ≤ 8
+  class-to-8 = let e = at .pre .0 in let h = t .loop-test .taken in omega arith
+
+loop-holds : tie.Need-loop-holds Inv-loop μ-loop
+loop-holds c = (refl, omega arith, λ units lent claims m. record { claims = claims; shows = m; gives = refl })
+
+cast-claim-freed : tie.Need-cast-claim-freed Inv-loop μ-loop
+cast-claim-freed c = let h = class-to-8 (c .before) in omega arith
+
+mul-claim-freed : tie.Need-mul-claim-freed Inv-loop μ-loop
+mul-claim-freed c = search needs
+
+shared-slice-read-claim-freed : tie.Need-shared-slice-read-claim-freed Inv-loop μ-loop
+shared-slice-read-claim-freed c = search needs
+
+claim-freed-requires : tie.Need-claim-freed-requires Inv-loop μ-loop
+claim-freed-requires c κs = let t = c .before .before in (class-to-8 t, at t .pre .1, long t)
+
+enum-told : tie.Need-enum-told Inv-loop μ-loop
+enum-told c = search needs
+
+enum-told-2 : tie.Need-enum-told-2 Inv-loop μ-loop
+enum-told-2 c = search needs
+
+same-length : tie.Need-same-length Inv-loop μ-loop
+same-length c = search needs
+
+returns : tie.Need-returns Inv-loop μ-loop
+returns c units lent claims m =
+    let r = c .before .before .before .before .claim-freed in
+    let t = c .before .before .before .before .before .before .before in
+    let g = t .before .loop .inv .2 units lent claims m in
+    lists-strays units lent _ (s t) (class t) (work t) g (t .loop-test .taken) _ (r .result) (r .ensures (free t) units lent (g .claims) (g .shows))
+    (c .enum-told2 .given .1)
+
+enum-told-3 : tie.Need-enum-told-3 Inv-loop μ-loop
+enum-told-3 c = search needs
+
+same-length-2 : tie.Need-same-length-2 Inv-loop μ-loop
+same-length-2 c = search needs
+
+returns-2 : tie.Need-returns-2 Inv-loop μ-loop
+returns-2 c units lent claims m =
+    let r = c .before .before .before .before .claim-freed in
+    let t = c .before .before .before .before .before .before .before in
+    let g = t .before .loop .inv .2 units lent claims m in
+    lists-shared units lent _ (s t) (class t) (work t) g (t .loop-test .taken) _ (r .result) (r .ensures (free t) units lent (g .claims) (g .shows))
+    (c .enum-told3 .given .1)
+
+add-class : tie.Need-add-class Inv-loop μ-loop
+add-class c = let h = class-to-8 (c .before .before .before .before .before .before .before) in omega arith
+
+loop-less : tie.Need-loop-less Inv-loop μ-loop
+loop-less c = omega arith
+
+loop-again : tie.Need-loop-again Inv-loop μ-loop
+loop-again c =
+    let r = c .before .before .before .before .claim-freed in
+    let t = c .before .before .before .before .before .before .before in (
+      r .kept .1 .1 .0 ∙ t .before .loop .inv .0,
+      omega arith,
+      λ units lent claims m.
+          let g = t .before .loop .inv .2 units lent claims m in
+          lists-turn units lent _ (s t) (class t) (work t) g (t .loop-test .taken) _ (r .result) (r .ensures (free t) units lent (g .claims) (g .shows))
+          (c .enum-told .given .1),
+    )
+
+same-length-3 : tie.Need-same-length-3 Inv-loop μ-loop
+same-length-3 c = search needs
+
+returns-3 : tie.Need-returns-3 Inv-loop μ-loop
+returns-3 c units lent claims m =
+    let l = c .before .loop in
+    let a = c .before .before .before .before .before .args in
+    lists-end units lent _ (space (a .body .now) (a .mark) (a .free .now)) (l .class) (l .work) (l .inv .2 units lent claims m) (omega arith)
+
+pub judge-lists-spec : {M : Type 1} → statement M
+judge-lists-spec =
+    tie.close
+    (tie.spec
+    Inv-loop
+    μ-loop
+    loop-holds
+    cast-claim-freed
+    mul-claim-freed
+    shared-slice-read-claim-freed
+    claim-freed-requires
+    enum-told
+    enum-told-2
+    same-length
+    returns
+    enum-told-3
+    same-length-2
+    returns-2
+    add-class
+    loop-less
+    loop-again
+    same-length-3
+    returns-3)

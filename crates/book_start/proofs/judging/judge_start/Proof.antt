@@ -1,0 +1,134 @@
+-- `judge_start` meets its contract: the work list is cleared, keys and free lists are judged, and it is cleared again. Assumes nothing.
+use Prim.Native.Nat.{ℕ, _*_, _/_, _≤_}
+use mathlib.Core.Bool.{false}
+use mathlib.Core.List.{List, []}
+use mathlib.Core.Path.{_≡_, refl, sym, ap, _∙_}
+use native.Mathlib.Omega.{arith}
+use borrow.Author.Needs.{needs}
+use lib.ListN.{length}
+use Rattle.error.specs.Refusal.{accepted}
+use Rattle.book_space.specs.Space.{InShape, shapeBroken}
+use Rattle.book_space.proofs.LawsShape.{shape-holds}
+use Rattle.book.specs.Book.{Book}
+use Rattle.book.specs.Answers.{bookOf}
+use Rattle.book_start.specs.Start.{judged, judges}
+use Rattle.book_start.specs.Units.{cleared, Marked}
+use Rattle.book_start.proofs.LawsVerdict.{judges-broken, judges-short, judges-all, after-refused, after-judged, cleared-is, judged-is}
+use Rattle.book_start.proofs.LawsVerdict.{shows-none, shown-cleared}
+use Rattle.book_start.proofs.judging.judge_start.Statement.{statement}
+use Rattle.book_start.proofs.judging.judge_start.Tie as tie
+
+-- the book of the call
+module _ (t : tie.Start) where
+  abbrev book : Book
+  book = bookOf (t .args .body .now) (t .args .heads .now) (t .args .state)
+
+  abbrev work : List ℕ
+  work = t .args .work .now
+
+  abbrev units : ℕ
+  units = length (t .args .body .now) / 16
+
+  abbrev mark : ℕ
+  mark = t .args .state .mark
+
+  nine : length (t .args .state .free) ≡ 9
+  nine = search needs
+
+-- shape and work list passed their tests
+module _ (e : tie.Else2) where
+  abbrev at : tie.Start
+  at = e .before .before .before .before .before .before
+
+  shape : shapeBroken (book at .space) (length (book at .heads)) ≡ false
+  shape = sym (e .before .before .shape-broken .ensures) ∙ e .before .if1 .left
+
+  in-shape : InShape (book at .space)
+  in-shape = shape-holds (book at .space) (length (book at .heads)) shape .0
+
+  enough : units at ≤ length (work at)
+  enough = let h = e .if2 .left in omega arith
+
+  fits : mark at ≤ 16 * units at
+  fits = let p = in-shape .paged in let w = in-shape .within in omega arith
+
+-- the work list was cleared
+module _ (f : tie.After-fill-units) where
+  abbrev passed : tie.Else2
+  passed = f .before .before
+
+  shows : Marked (units (at passed)) (mark (at passed)) (work (at passed)) [] (f .fill-units .last .0)
+  shows =
+      let t = at passed in
+      shows-none (units t) (mark t) (work t) _ (fits passed) (enough passed) (f .fill-units .ensures ∙ cleared-is (units t) (work t))
+
+shape-broken-requires : tie.Need-shape-broken-requires
+shape-broken-requires c κs = search needs
+
+returns : tie.Need-returns
+returns c =
+    let t = c .before .before .before .before .before in
+    let a = judges-broken (book t) (work t) (sym (c .before .shape-broken .ensures) ∙ c .if1 .taken) in
+    (sym a, after-refused (units t) (work t) (judges (book t) (length (work t))) a)
+
+returns-2 : tie.Need-returns-2
+returns-2 c =
+    let t = c .before .before .before .before .before .before in
+    let shape = sym (c .before .before .shape-broken .ensures) ∙ c .before .if1 .left in
+    let a = judges-short (book t) (work t) shape (c .if2 .taken) in
+    (sym a, after-refused (units t) (work t) (judges (book t) (length (work t))) a)
+
+fill-units-requires : tie.Need-fill-units-requires
+fill-units-requires c κs = let h = enough (c .before) in omega arith
+
+slice-aggregate-judge-keys : tie.Need-slice-aggregate-judge-keys
+slice-aggregate-judge-keys c = search needs
+
+judge-keys-requires : tie.Need-judge-keys-requires
+judge-keys-requires c κs =
+    let f = c .before .before .before .before .before in
+    let e = passed f in
+    let h = fits e in
+    let n = enough e in
+    let k = f .fill-units .kept .0 in
+    (nine (at e), in-shape e .within, omega arith)
+
+fill-units-requires-2 : tie.Need-fill-units-requires-2
+fill-units-requires-2 c κs =
+    let j = c .before .before .before in
+    let f = j .before .before .before .before .before .before in
+    let n = enough (passed f) in
+    let k = f .fill-units .kept .0 in
+    let i = j .judge-keys .kept .1 .1 .1 .1 .0 in
+    omega arith
+
+same-length : tie.Need-same-length
+same-length c = search needs
+
+returns-3 : tie.Need-returns-3
+returns-3 c =
+    let z = c .before .before in
+    let j = z .before .before .before .before in
+    let f = j .before .before .before .before .before .before in
+    let e = passed f in
+    let t = at e in
+    let r = j .judge-keys .ensures (units t) (work t) [] (shows f) in
+    let a = judges-all (book t) (work t) (shape e) (enough e) in (
+      r .told ∙ ap accepted (sym (judged-is (book t))) ∙ sym a,
+      z .fill-units2 .ensures ∙ cleared-is (units t) _ ∙ shown-cleared (units t) (mark t) (work t) (r .claims) _ (r .shows)
+          ∙ after-judged (units t) (work t) (judges (book t) (length (work t))) a,
+    )
+
+pub judge-start-spec : {M : Type 1} → statement M
+judge-start-spec =
+    tie.close
+    (tie.spec
+    shape-broken-requires
+    returns
+    returns-2
+    fill-units-requires
+    slice-aggregate-judge-keys
+    judge-keys-requires
+    fill-units-requires-2
+    same-length
+    returns-3)

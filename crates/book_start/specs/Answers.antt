@@ -1,0 +1,15 @@
+-- What the answers of the code mean: 01's number, or the verdict, for each of their cases.
+use Prim.Native.Nat.{ℕ}
+use Rattle.error.specs.Refusal.{Answer, accepted, refused}
+use Rattle.book_start.specs.Start.{Verdict, good, keyUnsound, keyShares, freeStrays, freeShares}
+use Rattle.book_start.specs.declared.judging.JudgeStart.{JudgeStart}
+use Rattle.book_start.specs.declared.judging.JudgeStart.the-variants.{Good, KeyUnsound, KeyShares, FreeStrays, FreeShares, Refused}
+
+-- The answer of `judge_start`.
+abbrev pub startAnswer : JudgeStart → Answer Verdict
+startAnswer Good = accepted good
+startAnswer (KeyUnsound key) = accepted (keyUnsound key)
+startAnswer (KeyShares key) = accepted (keyShares key)
+startAnswer (FreeStrays class) = accepted (freeStrays class)
+startAnswer (FreeShares class) = accepted (freeShares class)
+startAnswer (Refused number) = refused number

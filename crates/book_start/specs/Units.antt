@@ -1,0 +1,76 @@
+-- The work list of a judgement: a byte for each unit, which is 16 bytes of the body. It is 1 where a claimed block has the unit, else 0.
+use Prim.Native.Nat.{ℕ, _*_, _/_, _≤_}
+use mathlib.Core.Bool.{Bool, true, cond, _&&_}
+use mathlib.Core.List.{List, [], _∷_}
+use mathlib.Core.Path.{_≡_}
+use lib.Dec.{eqb}
+use lib.ListN.{length, replicate}
+use Rattle.error.specs.Refusal.{Answer, accepted, refused}
+use Rattle.buffer.specs.Bytes.{part, overwrite}
+use Rattle.scripthash_layout.specs.Sizes.{slabBytes}
+use Rattle.scripthash_free.specs.FreeList.{Block, Each}
+use Rattle.book_start.specs.Start.{Stands, Verdict, Claim, claimed, unfit, shared}
+use Rattle.book_start.specs.Answers.{startAnswer}
+use Rattle.book_start.specs.declared.claiming.Claiming.{Claiming}
+use Rattle.book_start.specs.declared.claiming.Claiming.the-variants.{Done, Unfit, Shared}
+use Rattle.book_start.specs.declared.judging.JudgeStart.{JudgeStart}
+
+-- ---- units
+
+-- No unit of some is taken.
+unfoldable pub allFree : List ℕ → Bool
+allFree [] = true
+allFree (u ∷ us) = eqb u 0 && allFree us
+
+-- No unit of a block is taken.
+unfoldable pub unitsFree : Block → List ℕ → Bool
+unitsFree x work = allFree (part work (x .off / 16) (slabBytes (x .class) / 16))
+
+-- A work list in which the units of a block are marked.
+unfoldable pub marked : Block → List ℕ → List ℕ
+marked x work = overwrite work (x .off / 16) (replicate (slabBytes (x .class) / 16) 1)
+
+-- A work list after a block was claimed: its units are marked, if none of them was taken.
+unfoldable pub claimUnits : Block → List ℕ → List ℕ
+claimUnits x work = cond (unitsFree x work) (marked x work) work
+
+-- A work list in which the units of some blocks are marked.
+unfoldable pub markAll : List Block → List ℕ → List ℕ
+markAll [] work = work
+markAll (x ∷ xs) work = marked x (markAll xs work)
+
+-- A work list with so many units cleared, from its start on.
+unfoldable pub cleared : ℕ → List ℕ → List ℕ
+cleared units work = overwrite work 0 (replicate units 0)
+
+-- A work list after a judgement of a body with so many units: they are cleared, or all is as it was where the call is refused.
+unfoldable pub workAfter : ℕ → List ℕ → Answer Verdict → List ℕ
+workAfter units work (accepted v) = cleared units work
+workAfter units work (refused number) = work
+
+-- ---- what the steps of the code tell each other
+
+-- A work list that was lent shows these claims, of blocks below the mark: all units were cleared, and those of the claims are marked.
+pub record Marked (units mark : ℕ) (lent : List ℕ) (claims : List Block) (work : List ℕ) : Type 0 where
+  pub fits : mark ≤ 16 * units
+  pub long : units ≤ length lent
+  pub stand : Each (Stands mark) claims
+  pub is : work ≡ markAll claims (cleared units lent)
+
+-- What claiming gives that is told so, where these blocks are claimed at its end.
+abbrev pub claimOf : Claiming → List Block → Claim
+claimOf Done bs = claimed bs
+claimOf Unfit bs = unfit
+claimOf Shared bs = shared
+
+-- Claiming gives what is wanted, and the work list shows the blocks that are claimed at its end.
+pub record ClaimsAs (units mark : ℕ) (lent : List ℕ) (want : Claim) (tells : Claiming) (work : List ℕ) : Type 0 where
+  pub claims : List Block
+  pub shows : Marked units mark lent claims work
+  pub told : want ≡ claimOf tells claims
+
+-- A part of a judgement gives the wanted verdict, and the work list shows the blocks that are claimed at its end.
+pub record JudgesAs (units mark : ℕ) (lent : List ℕ) (want : Verdict) (tells : JudgeStart) (work : List ℕ) : Type 0 where
+  pub claims : List Block
+  pub shows : Marked units mark lent claims work
+  pub told : startAnswer tells ≡ accepted want

@@ -1,0 +1,91 @@
+// Judging a start: keys rising, then classes rising, and the first fault decides.
+ghost use mathlib.Core.List.{List};
+ghost use mathlib.Core.Path.{_≡_};
+ghost use Prim.Native.Nat.{ℕ, _*_, _/_, _≤_};
+ghost use lib.ListN.{length};
+ghost use Rattle.scripthash_free.specs.FreeList.{Block};
+ghost use Rattle.book_space.specs.Space.{space};
+ghost use Rattle.book.specs.Answers.{bookOf};
+ghost use Rattle.book_start.specs.Start.{judgeLists, judgeKeys, judges};
+ghost use Rattle.book_start.specs.Answers.{startAnswer};
+ghost use Rattle.book_start.specs.Units.{Marked, JudgesAs, workAfter};
+use crate::claiming::Claiming;
+use crate::claiming::claim_freed;
+use crate::claiming::claim_key;
+use crate::units::UNIT_BYTES;
+use crate::units::fill_units;
+use book_space::State;
+use error::Refusal;
+
+// What judging a start answers: it is good, or the first fault, with its key or the class of its free list; or a refusal.
+pub enum JudgeStart {
+    Good,
+    KeyUnsound(u64),
+    KeyShares(u64),
+    FreeStrays(u64),
+    FreeShares(u64),
+    Refused(Refusal),
+}
+
+// Claims the blocks of all free lists, classes rising, behind those that the work list shows: good where all are claimed, else the first
+// fault.
+fn judge_lists(body: &[u8], mark: u64, free: &[u64], work: &mut [u8]) -> JudgeStart
+    requires { ⌜ (length (now free) ≡ 9) × (mark ≤ length (now body)) × (mark ≤ 16 * length (now work)) ⌝ }
+    ensures { λ r. ⌜ ((units : ℕ) (lent : List ℕ) (claims : List Block) → Marked units mark lent claims (now (work .entry))
+        → JudgesAs units mark lent (judgeLists (space (now (body .entry)) mark (now (free .entry))) 0 (now (free .entry)) claims) r
+        (now (work .exit))) ⌝ }
+{
+    let mut class: usize = 0;
+    while class < free.len() {
+        let got = claim_freed(body, mark, work, class as u8, free[class]);
+        match got {
+            Claiming::Done => {}
+            Claiming::Unfit => return JudgeStart::FreeStrays(class as u64),
+            Claiming::Shared => return JudgeStart::FreeShares(class as u64),
+        }
+        class += 1;
+    }
+    JudgeStart::Good
+}
+
+// Claims the blocks of all keys, keys rising, behind those that the work list shows, and then those of all free lists: good where all are
+// claimed, else the first fault.
+fn judge_keys(body: &[u8], heads: &[u64], mark: u64, free: &[u64], work: &mut [u8]) -> JudgeStart
+    requires { ⌜ (length (now free) ≡ 9) × (mark ≤ length (now body)) × (mark ≤ 16 * length (now work)) ⌝ }
+    ensures { λ r. ⌜ ((units : ℕ) (lent : List ℕ) (claims : List Block) → Marked units mark lent claims (now (work .entry))
+        → JudgesAs units mark lent (judgeKeys (space (now (body .entry)) mark (now (free .entry))) 0 (now (heads .entry)) claims) r
+        (now (work .exit))) ⌝ }
+{
+    let mut key: usize = 0;
+    while key < heads.len() {
+        let got = claim_key(body, mark, work, heads[key]);
+        match got {
+            Claiming::Done => {}
+            Claiming::Unfit => return JudgeStart::KeyUnsound(key as u64),
+            Claiming::Shared => return JudgeStart::KeyShares(key as u64),
+        }
+        key += 1;
+    }
+    judge_lists(body, mark, free, work)
+}
+
+// Judges whether a body, its head words and its state are a good start. The work list has a byte for each 16 bytes of the body; these are
+// 0 afterwards.
+pub fn judge_start(body: &[u8], heads: &[u64], state: State, work: &mut [u8]) -> JudgeStart
+    ensures answer { λ r. ⌜ startAnswer r ≡ judges (bookOf (now (body .entry)) (now (heads .entry)) state) (length (now (work .entry))) ⌝ }
+    ensures list { λ r. ⌜ now (work .exit) ≡ workAfter (length (now (body .entry)) / 16) (now (work .entry))
+        (judges (bookOf (now (body .entry)) (now (heads .entry)) state) (length (now (work .entry)))) ⌝ }
+{
+    if book_space::shape_broken(body, heads.len(), state) {
+        return JudgeStart::Refused(error::SHAPE_BAD);
+    }
+    let units = body.len() / UNIT_BYTES;
+    if work.len() < units {
+        return JudgeStart::Refused(error::LIST_TOO_SHORT);
+    }
+    fill_units(work, 0, units, 0);
+    let free = state.free;
+    let got = judge_keys(body, heads, state.mark, &free, work);
+    fill_units(work, 0, units, 0);
+    got
+}
