@@ -63,7 +63,7 @@ alike-cond false false a a' b b' e yes' no' = no' refl
 -- ---- the tests that a call begins with
 
 -- A mark of a good book in shape.
-mark-good : (plain : PlainBook) (b : Book) → GoodPlain plain → outOfShape (plain .size) (length (plain .keys)) ≡ false
+pub mark-good : (plain : PlainBook) (b : Book) → GoodPlain plain → outOfShape (plain .size) (length (plain .keys)) ≡ false
     → length (b .space .body) ≡ plain .size
     → AgreesInside plain b → markBad (length (b .space .body)) (b .space .mark) ≡ false
 unfolding markBad

@@ -19,6 +19,7 @@ pub mod LawsStartApart
 pub mod LawsStartKeys
 pub mod LawsStart
 pub mod LawsStartFresh
+pub mod LawsStartKept
 pub mod ExamplesStart
 pub mod Demand3
 pub mod Licence
