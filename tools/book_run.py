@@ -1,117 +1,71 @@
 #!/usr/bin/env python3
-"""Writes what the program `book_run` has to write, computed from document 01's plain book and not from the program:
+"""Writes what the program `book_run` has to write for its lists of calls, computed from document 01's plain book and not from the program:
 
-    python3 tools/book_run.py > crates/book_run/stdout
+    python3 tools/book_run.py < crates/book_run/stdin > crates/book_run/stdout
 """
-from plain_book import Book as PlainBook, Refused
+import sys
+from plain_book import Book, Refused
 
 
-class Book(PlainBook):
-    """A plain book that tells its answers as the program does."""
-
-    def __init__(self, size, heads):
-        super().__init__(size, heads)
-        print("fresh")
-
-    def append(self, key, n):
-        rewritten = super().append(key, n)
-        return f"{self.shown(key)}, rewritten {rewritten}"
-
-    def load(self, key, ns):
-        return f" pages {super().load(key, ns)}"
-
-    def read(self, key, room):
-        ns, pages = super().read(key, room)
-        told = "".join(f" {n}" for n in ns) if len(ns) <= 8 else f" sum {sum(ns)}"
-        return f"{told}, length {len(ns)}, pages {pages}"
-
-    def drop(self, key):
-        return f" length {super().drop(key)}"
-
-    def shown(self, key):
-        place = self.places[key]
-        if place[0] == "inline":
-            return f" inline {self.lists[key][0]}"
-        if place[0] == "slab":
-            return f" slab class {place[1]} used {len(self.lists[key])} at {place[2]}"
-        return f" pages, the last at {place[1][-1][0]}"
-
-    def state(self):
-        tops = "".join(f" {s[-1] if s else 0}" for s in self.stacks)
-        print(f"mark {self.mark}, free{tops}")
+class Unspelled(Exception):
+    """Words that spell no calls."""
 
 
-def show(text, call, *args):
+def calls_of(words):
+    """The calls that some words spell: kind, key, a third word, and a load's numbers."""
+    calls = []
+    while words:
+        if len(words) < 3 or words[0] > 3 or words[0] == 3 and words[2] != 0:
+            raise Unspelled
+        kind, key, third, words = *words[:3], words[3:]
+        if kind == 0 and third > len(words):
+            raise Unspelled
+        count = third if kind == 0 else 0
+        calls.append((kind, key, words[:count] if kind == 0 else third))
+        words = words[count:]
+    return calls
+
+
+def room(call):
+    """The most words that the answer to a call has."""
+    return (3, 7, 4 + call[2] if call[0] == 2 else 0, 3)[call[0]]
+
+
+def place(book, key):
+    at, ns = book.places[key], book.lists[key]
+    if at[0] == "inline":
+        return [1, 0, 1, ns[0]]
+    if at[0] == "slab":
+        return [2, at[1], len(ns), at[2]]
+    return [3, 0, 0, at[1][-1][0]]
+
+
+def answer(book, kind, key, third):
     try:
-        print(f"{text}:{call(*args)}")
+        if kind == 0:
+            return [0, 0, book.load(key, third)]
+        if kind == 1:
+            rewritten = book.append(key, third)
+            return [0, 1, rewritten] + place(book, key)
+        if kind == 2:
+            ns, pages = book.read(key, third)
+            return [0, 2, pages, len(ns)] + ns
+        return [0, 3, book.drop(key)]
     except Refused as number:
-        print(f"{text}: refused {number}")
+        return [number.args[0]]
 
 
-def append(b, key, *ns):
-    for n in ns:
-        show(f"append {n} to {key}", b.append, key, n)
+def run(size, heads, most, *words):
+    try:
+        calls = calls_of(list(words))
+    except Unspelled:
+        return "these words spell no calls"
+    if sum(map(room, calls)) > most:
+        return "nothing was run: refused 34"
+    book = Book(size, heads)
+    return "".join(["ran:"] + [f" {word}" for call in calls for word in answer(book, *call)])
 
 
-def load(b, key, ns):
-    show(f"load {len(ns)} onto {key}", b.load, key, ns)
-
-
-def read(b, key, room):
-    show(f"read {key}", b.read, key, room)
-
-
-def row(k):
-    return list(range(1, k + 1))
-
-
-print("the run case")
-b = Book(8192, 2)
-append(b, 0, 5, 300, 301, 302, 303)
-append(b, 1, 9, 10)
-read(b, 0, 16)
-read(b, 1, 16)
-b.state()
-print("a full page")
-b = Book(16384, 2)
-load(b, 0, row(4072))
-append(b, 0, 4073, 4074)
-read(b, 0, 4100)
-show("drop 0", b.drop, 0)
-load(b, 1, row(256))
-append(b, 1, 257)
-read(b, 1, 4100)
-b.state()
-print("a run of pages")
-b = Book(16384, 3)
-append(b, 0, 1, 2)
-load(b, 1, row(4073))
-append(b, 1, 4074)
-load(b, 2, row(300))
-load(b, 2, row(256))
-read(b, 1, 4100)
-read(b, 2, 255)
-b.state()
-print("turned back")
-b = Book(8192, 3)
-append(b, 3, 5)
-append(b, 0, 0, 2**63, 2**62)
-b.state()
-b = Book(8192, 3)
-append(b, 0, 5, 5, 6)
-load(b, 0, [])
-read(b, 0, 1)
-b.state()
-# What the plain book can't tell: a slab whose stored count differs from its head's, a free head that no block can have, a mark at the body's end,
-# and one that is no multiple of 16.
-print("damage")
-b = Book(8192, 3)
-append(b, 0, 5, 6)
-for line in ("read 0", "append 7 to 0", "drop 0"):
-    print(f"{line}: refused 31")
-b.state()
-b = Book(8192, 3)
-append(b, 1, 1)
-for number in (35, 36, 1):
-    print(f"append 2 to 1: refused {number}")
-print("mark 8200, free 0 0 0 0 0 0 0 0 0")
+for line in sys.stdin:
+    words = line.split()
+    print(run(*map(int, words)) if all(map(str.isdigit, words)) else line.rstrip("\n"))

@@ -1,5 +1,5 @@
-//! A fixed list of their answers, and of ours where a listed difference names it, in the files that the program `replay` reads: it needs
-//! no Rust to run.
+//! A fixed list of their answers, and of ours where a listed difference names it, in the files that the program `replay` reads, and histories
+//! of the second book in those that `histories` reads: neither needs Rust to run.
 use crate::case::{Input, Output};
 use crate::judge::expected;
 use crate::pages;
@@ -166,18 +166,26 @@ fn lines(place: usize, function: &Function) -> Vec<String> {
     out
 }
 
-/// Writes a file to a folder, with a number as its name: its lines, and after them one with what they are about.
-fn write_file(folder: &str, place: usize, lines: &[String], name: &str) {
-    let path = format!("{folder}/{place:02}");
-    std::fs::write(&path, format!("{}\n={name}\n", lines.join("\n"))).unwrap_or_else(|e| panic!("{path}: {e}"));
+/// Writes a file: its lines, and after them one with what they are about.
+fn write_file(path: &str, lines: &[String], name: &str) {
+    std::fs::write(path, format!("{}\n={name}\n", lines.join("\n"))).unwrap_or_else(|e| panic!("{path}: {e}"));
 }
 
-/// Writes a file for each function, and behind them, where they are wanted, some with histories of the book.
-pub fn answers(folder: &str, histories: bool) {
-    functions().enumerate().for_each(|(place, function)| write_file(folder, place, &lines(place, function), function.name));
-    if histories {
-        for (k, lines) in crate::lockstep::written_histories().iter().enumerate() {
-            write_file(folder, functions().count() + k, lines, &format!("book, histories {}", k + 1));
-        }
+/// Writes a file for each function to a folder.
+pub fn answers(folder: &str) {
+    for (place, function) in functions().enumerate() {
+        write_file(&format!("{folder}/{place:02}"), &lines(place, function), function.name);
     }
+}
+
+/// Writes histories of the book to the folder `data` of a program, and what it has to say of them.
+pub fn histories(program: &str) {
+    let mut said = String::new();
+    for (k, lines) in crate::lockstep::written_histories().iter().enumerate() {
+        let name = if k == 0 { "by hand".into() } else { format!("file {k}") };
+        write_file(&format!("{program}/data/h{k}"), lines, &name);
+        let begun = lines.iter().filter(|line| line.starts_with("36")).count();
+        writeln!(said, "{name}: {begun} histories, {} lines replayed, 0 differ", lines.len()).unwrap();
+    }
+    std::fs::write(format!("{program}/stdout"), said).unwrap_or_else(|e| panic!("{program}/stdout: {e}"));
 }

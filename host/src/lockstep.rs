@@ -1,4 +1,5 @@
 //! Our book in lockstep with the second one, on random histories and damaged ones.
+mod cases;
 mod damage;
 mod history;
 mod lists;
@@ -38,20 +39,21 @@ fn written(number: u64, pair: &mut Pair) -> (Vec<String>, usize, BTreeSet<String
     (lines, len, met)
 }
 
-/// The lines of some short histories, in files, so chosen that they meet what short ones can: each time the one that meets the most that those
-/// before it don't, for its length.
+/// The lines of histories by hand, and of some short ones, in files, so chosen that they meet what short ones can: each time the one that
+/// meets the most that those before it don't, for its length.
 pub fn written_histories() -> Vec<Vec<String>> {
     let mut pair = Pair::default();
+    let by_hand = cases::lines(&mut pair);
     let mut candidates: Vec<(u64, usize, BTreeSet<String>)> = Vec::new();
     for number in 0..CANDIDATES {
         let (_, len, met) = written(number, &mut pair);
         candidates.push((number, len, met));
     }
-    let (mut met, mut files) = (BTreeSet::new(), Vec::new());
+    let (mut met, mut files) = (BTreeSet::new(), vec![by_hand]);
     let (mut lines, mut text) = (Vec::new(), 0);
     loop {
         let worth = |c: &(u64, usize, BTreeSet<String>)| c.2.difference(&met).count() * 1_000_000 / c.1;
-        candidates.retain(|c| worth(c) > 0);
+        candidates.retain(|c| worth(c) > 0 && c.1 <= MOST_TEXT);
         let best = candidates.iter().filter(|c| text + c.1 <= MOST_TEXT).max_by_key(|c| worth(c)).cloned();
         if let Some((number, len, kinds)) = best {
             met.extend(kinds);
@@ -61,7 +63,7 @@ pub fn written_histories() -> Vec<Vec<String>> {
         }
         files.push(std::mem::take(&mut lines));
         text = 0;
-        if candidates.is_empty() || files.len() == FILES {
+        if candidates.is_empty() || files.len() == 1 + FILES {
             break;
         }
     }

@@ -1,4 +1,4 @@
-//! Our code against the published source: `compare` the answers, `bench` the speed, or write the fixed list of their `answers`.
+//! Our code against the published source: `compare` the answers, `bench` the speed, or write the fixed list of their `answers` and of `histories`.
 mod answers;
 mod bench;
 mod blocks;
@@ -30,7 +30,8 @@ use std::process::ExitCode;
 
 const USAGE: &str = "usage: host compare [--seconds N] [--seed N] [--only NAME] [--long]
        host bench [--only PHRASE]
-       host answers FOLDER [--histories]";
+       host answers FOLDER
+       host histories PROGRAM";
 /// How long a comparison goes on, where nothing else is said.
 const SECONDS: u64 = 160;
 
@@ -58,6 +59,14 @@ fn compare(words: &[String]) -> Result<bool, String> {
     Ok(compare::compare(&compare::Run { seed, seconds: flags.number("--seconds")?.unwrap_or(SECONDS), long: flags.is_set("--long"), only }))
 }
 
+/// The only word of some, which is a folder.
+fn only(words: &[String]) -> Result<&str, String> {
+    match words {
+        [folder] => Ok(folder),
+        _ => Err("a folder is wanted, and nothing else".into()),
+    }
+}
+
 /// Runs a command, and tells whether it succeeded.
 fn run(words: &[String]) -> Result<bool, String> {
     match words.split_first() {
@@ -67,11 +76,14 @@ fn run(words: &[String]) -> Result<bool, String> {
             Ok(true)
         }
         Some((command, rest)) if command == "answers" => {
-            let (folder, rest) = rest.split_first().ok_or("a folder is wanted")?;
-            answers::answers(folder, Flags::of(rest, &[], &["--histories"])?.is_set("--histories"));
+            answers::answers(only(rest)?);
             Ok(true)
         }
-        _ => Err("there are the commands compare, bench and answers".into()),
+        Some((command, rest)) if command == "histories" => {
+            answers::histories(only(rest)?);
+            Ok(true)
+        }
+        _ => Err("there are the commands compare, bench, answers and histories".into()),
     }
 }
 

@@ -14,7 +14,7 @@ use borrow.Author.Tests.{eqb-true, eqb-false}
 use Rattle.scripthash_free.specs.FreeList.{Block, Each, nextOf, Names}
 use Rattle.scripthash_free.proofs.LawsBlock.{bytes-from-16, block-stands}
 use Rattle.book_rules.specs.Calls.{Call}
-use Rattle.book_rules.specs.Limits.{outOfShape}
+use Rattle.book_limits.specs.Limits.{outOfShape}
 use Rattle.plain_book.specs.Space.{stackOf}
 use Rattle.plain_book.specs.Key.{Page, Place, empty, inline, slab, pages}
 use Rattle.plain_book.specs.Book.{Book as PlainBook, keyOf, after as plainAfter}

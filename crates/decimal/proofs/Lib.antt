@@ -1,1 +1,2 @@
 pub mod LawsDecimal
+pub mod LawsWords

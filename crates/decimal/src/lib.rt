@@ -1,8 +1,14 @@
 // Numbers in decimal, read from text. They are printed by the toolchain's `io`, whose contract says which digits; a number that was printed
 // so is read back (`proofs/LawsDecimal`).
+mod words;
+
 ghost use mathlib.Core.Path.{_≡_};
 ghost use Prim.Native.Nat.{_-_};
 ghost use Rattle.decimal.specs.Decimal.{isDigit, allDigits, valueOf, fitting, readDecimal};
+pub use words::Numbers;
+pub use words::numbers_into;
+pub use words::skip_spaces;
+pub use words::word_end;
 
 // What reading a word answers.
 pub enum ReadDecimal {

@@ -37,21 +37,9 @@ fn get_body(body: &[u8], bytes: &mut [u8]) {
     }
 }
 
-// Copies numbers to the start of a list, as far as it reaches.
-fn put_numbers(from: &[u64], to: &mut [u64]) {
-    let mut k: usize = 0;
-    while k < from.len() {
-        if to.len() <= k {
-            return;
-        }
-        to[k] = from[k];
-        k += 1;
-    }
-}
-
 // Copies nine free heads to the start of a list, as far as it reaches.
 fn put_heads(heads: &[u64; 9], to: &mut [u64]) {
-    put_numbers(heads, to);
+    hex_fields::put(heads, to);
 }
 
 // Pops a block.
@@ -146,7 +134,7 @@ pub fn call(
         return UNKNOWN;
     }
     put_body(bytes, &mut body);
-    put_numbers(list, &mut heads);
+    hex_fields::put(list, &mut heads);
     let number = call_on(
         function,
         given,

@@ -4,10 +4,11 @@
 mod call;
 mod cut;
 mod free;
-mod line;
 mod page;
-mod same;
 
+use hex_fields::field;
+use hex_fields::hex;
+use hex_fields::part;
 use libc::STDOUT_FILENO;
 
 // The most bytes and numbers of an answer.
@@ -15,81 +16,70 @@ const MOST_BYTES: usize = 4097;
 
 const MOST_NUMBERS: usize = 65536;
 
-// A buffer and a list hold what two fields say.
-fn leaves(bytes_field: &[u8], list_field: &[u8], bytes: &[u8], list: &[u64]) -> bool {
+// A buffer and a list hold what the last two fields of a line say.
+fn leaves(s: &[u8], bytes: &[u8], list: &[u64]) -> bool {
     let mut expected = [0u8; MOST_BYTES];
-    line::bytes(bytes_field, &mut expected);
+    hex_fields::bytes(field(s, 5), &mut expected);
+    if !hex_fields::same_bytes(&expected, bytes) {
+        return false;
+    }
     let mut numbers = [0u64; MOST_NUMBERS];
-    if line::numbers(list_field, &mut numbers) != list.len() {
+    if hex_fields::numbers(field(s, 6), &mut numbers) != list.len() {
         return false;
     }
-    if !same::bytes(&expected, bytes) {
-        return false;
-    }
-    same::numbers(&numbers, list)
+    hex_fields::same_numbers(&numbers, list)
 }
 
 // Puts the numbers of a field over the first of four.
 fn put_said(field: &[u8], four: &mut [u64; 4]) {
-    line::numbers(field, four);
+    hex_fields::numbers(field, four);
 }
 
-// Calls the function of a number, and compares what it answers and leaves with the fields of s. Of the numbers told those count that the
-// fields have.
-fn agrees(
-    function: u64,
-    refusal: u64,
-    given: &[u64; 4],
-    s: &[u8],
-    bytes: &mut [u8],
-    list: &mut [u64],
-) -> bool {
+// Two arrays of four numbers are the same.
+fn same_four(a: &[u64; 4], b: &[u64; 4]) -> bool {
+    hex_fields::same_numbers(a, b)
+}
+
+// Of the numbers told those are as a line says that it has.
+fn tells(s: &[u8], told: &[u64; 4]) -> bool {
+    let mut expected = *told;
+    put_said(field(s, 4), &mut expected);
+    same_four(told, &expected)
+}
+
+// Calls the function of a line on the numbers that it gives, a buffer and a list, and compares what it answers and tells.
+fn answers(s: &[u8], bytes: &mut [u8], list: &mut [u64]) -> bool {
+    let mut given = [0u64; 4];
+    hex_fields::numbers(field(s, 1), &mut given);
     let mut told = [0; 4];
-    let number = call::call(function, given, bytes, list, &mut told);
-    if number as u64 != refusal {
+    let number = call::call(hex(part(s, 0, 2)), &given, bytes, list, &mut told);
+    if number as u64 != hex(part(s, 2, 4)) {
         return false;
     }
-    let mut expected = told;
-    put_said(line::before(s, b'|'), &mut expected);
-    if !same::four(&told, &expected) {
-        return false;
+    tells(s, &told)
+}
+
+// Calls the function of a line, and compares what it answers and leaves.
+fn agrees(s: &[u8], bytes: &mut [u8], list: &mut [u64]) -> bool {
+    if answers(s, bytes, list) {
+        return leaves(s, bytes, list);
     }
-    let rest = line::after(s, b'|');
-    leaves(
-        line::before(rest, b'|'),
-        line::after(rest, b'|'),
-        bytes,
-        list,
-    )
+    false
 }
 
 // Replays the answer on a line, within lent room: function, refusal and the buffer's length; numbers given, bytes, list; numbers told,
 // bytes, list.
 fn replay_in(s: &[u8], bytes: &mut [u8], list: &mut [u64]) -> bool {
-    let given_field = line::after(s, b'|');
-    let bytes_field = line::after(given_field, b'|');
-    let list_field = line::after(bytes_field, b'|');
-    let mut given = [0u64; 4];
-    line::numbers(line::before(given_field, b'|'), &mut given);
-    line::bytes(line::before(bytes_field, b'|'), bytes);
-    let count = line::numbers(line::before(list_field, b'|'), list);
-    let len = line::hex(line::part(s, 4, 8)) as usize;
+    hex_fields::bytes(field(s, 2), bytes);
+    let count = hex_fields::numbers(field(s, 3), list);
+    let len = hex(part(s, 4, 8)) as usize;
     if bytes.len() < len {
         return false;
     }
     if list.len() < count {
         return false;
     }
-    let function = line::hex(line::part(s, 0, 2));
-    let refusal = line::hex(line::part(s, 2, 4));
-    agrees(
-        function,
-        refusal,
-        &given,
-        line::after(list_field, b'|'),
-        &mut bytes[0..len],
-        &mut list[0..count],
-    )
+    agrees(s, &mut bytes[0..len], &mut list[0..count])
 }
 
 // Replays the answer on a line.
@@ -115,11 +105,9 @@ fn replay_all(text: &[u8]) {
     let mut answers: u64 = 0;
     let mut differ: u64 = 0;
     while at < text.len() {
-        let rest = &text[at..];
-        let len = line::find(rest, b'\n');
-        let s = line::part(rest, 0, len);
-        if line::find(s, b'=') == 0 {
-            show(line::after(s, b'='), answers, differ);
+        let s = hex_fields::until(text, at, b'\n');
+        if hex_fields::find(s, b'=') == 0 {
+            show(part(s, 1, s.len()), answers, differ);
             answers = 0;
             differ = 0;
         } else {
@@ -128,10 +116,10 @@ fn replay_all(text: &[u8]) {
                 differ = std::num::wrapping_add_u64(differ, 1);
             }
         }
-        if text.len() - at <= len {
+        if text.len() - at <= s.len() {
             return;
         }
-        at += len + 1;
+        at += s.len() + 1;
     }
 }
 

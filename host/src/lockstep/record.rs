@@ -1,4 +1,4 @@
-//! Histories as lines, for the program `replay`: what each call was given and answered, and what it changed. host/README.md has the format.
+//! Histories as lines, for the program `histories`: what each call was given and answered, and what it changed. host/README.md has the format.
 use crate::lockstep::pair::{Answer, Call, Pair};
 use std::fmt::Write;
 
@@ -17,19 +17,28 @@ pub struct Record {
     words: Vec<u64>,
 }
 
-/// A field of numbers: 16 digits and a space each.
+/// The memory of the program that replays: all of it is written where a history begins.
+const MOST_BODY: usize = 61_440;
+const MOST_WORDS: usize = 16;
+
+/// A field of numbers, with a space behind each.
 fn numbers(out: &mut String, list: &[u64]) {
-    list.iter().for_each(|n| write!(out, "{n:016x} ").unwrap());
+    list.iter().for_each(|n| write!(out, "{n:x} ").unwrap());
 }
 
-/// A field of a list, by runs of numbers that rise by one difference: the first, the difference, and how many follow the first.
+/// A field of a list: numbers, and where several rise by one difference, the first, the difference and how many follow, with colons between.
 fn list(out: &mut String, list: &[u64]) {
     let mut rest = list;
     while let [first, more @ ..] = rest {
         let step = more.first().map_or(0, |next| next.wrapping_sub(*first));
         let follow = rest.windows(2).take_while(|w| w[1].wrapping_sub(w[0]) == step).count();
-        numbers(out, &[*first, step, follow as u64]);
-        rest = &rest[1 + follow..];
+        if follow > 1 {
+            write!(out, "{first:x}:{step:x}:{follow:x} ").unwrap();
+            rest = &rest[1 + follow..];
+        } else {
+            numbers(out, &[*first]);
+            rest = more;
+        }
     }
 }
 
@@ -39,23 +48,21 @@ fn words_of(pair: &Pair) -> Vec<u64> {
 }
 
 impl Record {
-    /// The first line: a body of zeros and heads of 0, and then what they hold.
+    /// The first line: all that body, state and heads hold, and behind them zeros.
     pub fn begin(&mut self, pair: &Pair) {
-        self.body = vec![0; pair.body.len()];
-        self.words = vec![0; 10 + pair.heads.len()];
-        let head = format!("{BEGIN:02x}00{:04x}|{:016x} |||", pair.body.len(), pair.heads.len());
-        self.line(head, pair);
+        self.body = Vec::new();
+        self.words = Vec::new();
+        self.line(format!("{BEGIN:02x}000000||||"), pair);
     }
 
     /// What was written between calls.
     pub fn written(&mut self, pair: &Pair) {
-        let head = format!("{WRITTEN:02x}00{:04x}||||", pair.body.len());
-        self.line(head, pair);
+        self.line(format!("{WRITTEN:02x}000000||||"), pair);
     }
 
     /// A call on so much of body and heads.
     pub fn call(&mut self, call: &Call, body: usize, heads: usize, answer: &Answer, pair: &Pair) {
-        let mut out = format!("{:02x}{:02x}{body:04x}|{heads:016x} ", FIRST + call.kind(), answer.refusal);
+        let mut out = format!("{:02x}{:02x}{body:04x}|{heads:x} ", FIRST + call.kind(), answer.refusal);
         self.longest = self.longest.max(pair.list.len());
         let (given, offered, told): (&[u64], &[u64], usize) = match call {
             Call::Fresh => (&[], &[], 0),
@@ -76,24 +83,25 @@ impl Record {
         self.line(out, pair);
     }
 
-    /// Ends a line with what changed: parts of the body, each with its offset, how many runs it has and the runs; and words with their places.
+    /// Ends a line with what changed: parts of the body by runs, and words. Where a history begins, all of it did.
     fn line(&mut self, mut out: String, pair: &Pair) {
         out.push('|');
-        let changed: Vec<usize> = (0..self.body.len()).filter(|&k| self.body[k] != pair.body[k]).collect();
+        let (mut body, mut words) = (pair.body.clone(), words_of(pair));
+        body.resize(MOST_BODY, 0);
+        words.resize(MOST_WORDS, 0);
+        let changed: Vec<usize> = (0..MOST_BODY).filter(|&k| self.body.get(k) != Some(&body[k])).collect();
         for part in changed.chunk_by(|a, b| a + 1 == *b) {
-            let bytes = &pair.body[part[0]..part[0] + part.len()];
-            let runs: Vec<&[u8]> = bytes.chunk_by(|a, b| a == b).flat_map(|run| run.chunks(256)).collect();
-            write!(out, "{:04x}{:04x}", part[0], runs.len()).unwrap();
-            runs.iter().for_each(|run| write!(out, "{:02x}{:02x}", run.len() - 1, run[0]).unwrap());
+            write!(out, "b{:04x}", part[0]).unwrap();
+            for run in body[part[0]..part[0] + part.len()].chunk_by(|a, b| a == b).flat_map(|run| run.chunks(256)) {
+                write!(out, "{:02x}{:02x}", run.len() - 1, run[0]).unwrap();
+            }
+            out.push(' ');
         }
-        out.push('|');
-        let words = words_of(pair);
-        for (place, word) in words.iter().enumerate().filter(|(place, word)| self.words[*place] != **word) {
-            numbers(&mut out, &[place as u64, *word]);
+        for (place, word) in words.iter().enumerate().filter(|(place, word)| self.words.get(*place) != Some(word)) {
+            write!(out, "w{place:02x}{word:x} ").unwrap();
         }
         self.lines.push(out);
-        self.body.clone_from(&pair.body);
-        self.words = words;
+        (self.body, self.words) = (body, words);
     }
 }
 
@@ -101,6 +109,7 @@ impl Record {
 mod tests {
     use crate::lent::Placing;
     use crate::lockstep::pair::{Call, Pair};
+    use crate::lockstep::record::{MOST_BODY, MOST_WORDS};
     use crate::lockstep::{written, TESTED};
 
     fn hex(text: &str) -> u64 {
@@ -111,24 +120,31 @@ mod tests {
         field.split_whitespace().map(hex).collect()
     }
 
-    /// The list of a field: the first of each run, and those that follow.
-    fn list(field: &str) -> Vec<u64> {
-        numbers(field).chunks(3).flat_map(|run| (0..=run[2]).map(|k| run[0].wrapping_add(k.wrapping_mul(run[1])))).collect()
+    /// The numbers of an item: one, or the first of a run and those that follow.
+    fn run(item: &str) -> Vec<u64> {
+        let run: Vec<u64> = item.split(':').map(hex).collect();
+        (0..=run.get(2).copied().unwrap_or(0)).map(|k| run[0].wrapping_add(k.wrapping_mul(*run.get(1).unwrap_or(&0)))).collect()
     }
 
-    /// Makes body, state and heads hold what the last two fields of a line change.
-    fn change(fields: &[&str], body: &mut [u8], words: &mut [u64]) {
-        let mut rest = fields[5];
-        while !rest.is_empty() {
-            let (mut at, runs) = (hex(&rest[..4]) as usize, hex(&rest[4..8]) as usize);
-            for run in rest.as_bytes()[8..8 + 4 * runs].chunks(4) {
+    /// The list of a field.
+    fn list(field: &str) -> Vec<u64> {
+        field.split_whitespace().flat_map(run).collect()
+    }
+
+    /// Makes body, state and heads hold what the last field of a line changes.
+    fn change(field: &str, body: &mut [u8], words: &mut [u64]) {
+        for item in field.split_whitespace() {
+            if let Some(word) = item.strip_prefix('w') {
+                words[hex(&word[..2]) as usize] = hex(&word[2..]);
+                continue;
+            }
+            let mut at = hex(&item[1..5]) as usize;
+            for run in item.as_bytes()[5..].chunks(4) {
                 let (len, byte) = (hex(std::str::from_utf8(&run[..2]).unwrap()) as usize + 1, hex(std::str::from_utf8(&run[2..]).unwrap()));
                 body[at..at + len].fill(byte as u8);
                 at += len;
             }
-            rest = &rest[8 + 4 * runs..];
         }
-        numbers(fields[6]).chunks(2).for_each(|pair| words[pair[0] as usize] = pair[1]);
     }
 
     /// The call of a line, by its number and the numbers given after how many heads there are.
@@ -147,15 +163,12 @@ mod tests {
     fn lines_can_be_replayed() {
         let mut pair = Pair::default();
         let lines: Vec<String> = (0..TESTED).flat_map(|number| written(number, &mut pair).0).collect();
-        let (mut body, mut words) = (Vec::new(), Vec::new());
+        let (mut body, mut words) = (vec![0; MOST_BODY], vec![0; MOST_WORDS]);
         for line in &lines {
             let fields: Vec<&str> = line.split('|').collect();
             let (function, refusal, len) = (hex(&line[..2]), hex(&line[2..4]), hex(&line[4..8]) as usize);
             let given = numbers(fields[1]);
-            if function == 0x36 {
-                (body, words) = (vec![0; len], vec![0; 10 + given[0] as usize]);
-            }
-            change(&fields, &mut body, &mut words);
+            change(fields[5], &mut body, &mut words);
             if function >= 0x35 {
                 pair.begin(body.clone(), words[10..].to_vec(), words[..10].try_into().unwrap(), Placing::End);
                 continue;

@@ -1,0 +1,39 @@
+// The limits of the shell, and reports of lines that can't be read: what goes past a limit is told so, and nothing is done for it.
+
+// The bytes of a line, with its end.
+pub const LINE_BYTES: usize = 16384;
+// The numbers on a line, the key among them, and the numbers that a read can list.
+pub const NUMBERS: usize = 4096;
+// The keys of a book.
+pub const KEYS: usize = 4096;
+// The bytes of a body.
+pub const BODY_BYTES: usize = 262144;
+
+// Begins the report of a line.
+fn report(number: u64) {
+    text::named(b"line ", number);
+    text::words(b": ");
+}
+
+// Begins the report of what was expected of a line.
+pub fn expected(number: u64) {
+    report(number);
+    text::words(b"expected ");
+}
+
+// Reports what goes past a limit.
+pub fn past(number: u64, what: &[u8], most: usize) {
+    report(number);
+    text::words(what);
+    text::named(b", the most here is ", most as u64);
+    text::end();
+}
+
+// Reports a word that isn't what was expected.
+pub fn unread(number: u64, what: &[u8], word: &[u8]) {
+    expected(number);
+    text::words(what);
+    text::words(b", found ");
+    text::words(word);
+    text::end();
+}

@@ -1,0 +1,78 @@
+// Answers of accepted calls, in words.
+use scripthash_layout::ShHeadValue;
+
+// Writes a number of things, in the singular where it is 1.
+fn counted(n: u64, one: &[u8], many: &[u8]) {
+    text::number(n);
+    if n == 1 {
+        text::words(one);
+        return;
+    }
+    text::words(many);
+}
+
+// Writes a number of numbers and a comma.
+fn numbers_and(n: u64) {
+    counted(n, b" number, ", b" numbers, ");
+}
+
+// Writes the place of a slab.
+fn slab(class: u8, used: u16, off: u64) {
+    text::named(b"slab class ", class as u64);
+    text::named(b", used ", used as u64);
+    text::named(b", offset ", off);
+}
+
+// Writes a key's place.
+pub fn place(place: ShHeadValue) {
+    match place {
+        ShHeadValue::Empty => text::words(b"empty"),
+        ShHeadValue::Inline { entry, used: _ } => text::named(b"inline ", entry),
+        ShHeadValue::Slab { class, used, off } => slab(class, used, off),
+        ShHeadValue::Extent { last_page } => text::named(b"pages, the last at offset ", last_page),
+    }
+}
+
+// A body was asked for.
+pub fn body_made(size: u64) {
+    text::named(b"body of ", size);
+    text::words(b" bytes\n");
+}
+
+// A book was made fresh.
+pub fn keys_made(keys: u64, size: u64) {
+    counted(keys, b" key over ", b" keys over ");
+    counted(size, b" byte: a fresh book\n", b" bytes: a fresh book\n");
+}
+
+// A list was loaded.
+pub fn loaded(numbers: u64, pages: u64) {
+    text::words(b"loaded: ");
+    numbers_and(numbers);
+    counted(pages, b" page\n", b" pages\n");
+}
+
+// A number was appended.
+pub fn appended(to: ShHeadValue, rewritten: u64) {
+    text::words(b"appended: ");
+    place(to);
+    text::words(b"; ");
+    counted(rewritten, b" record rewritten\n", b" records rewritten\n");
+}
+
+// A list was read, and stands at the start of another.
+pub fn listed(list: &[u64], length: u64, pages: u64) {
+    text::words(b"read: ");
+    numbers_and(length);
+    counted(pages, b" page:", b" pages:");
+    if length <= list.len() as u64 {
+        text::numbers(&list[0..length as usize]);
+    }
+    text::end();
+}
+
+// A list was dropped.
+pub fn dropped(length: u64) {
+    text::words(b"dropped: ");
+    counted(length, b" number\n", b" numbers\n");
+}

@@ -1,0 +1,44 @@
+// The memory that the shell lends, as large as its limits allow. The contracts give the lengths, which lending an array as a slice needs.
+ghost use mathlib.Core.Path.{_≡_};
+ghost use lib.ListN.{length};
+use book_script::BODY_BYTES;
+use book_script::KEYS;
+use book_script::LINE_BYTES;
+use book_script::NUMBERS;
+use book_space::State;
+
+// The state of no book.
+pub fn no_state() -> State {
+    State {
+        mark: 0,
+        free: [0; 9],
+    }
+}
+
+// A line's bytes.
+pub fn line_bytes() -> [u8; LINE_BYTES]
+    ensures { λ r. ⌜ 16384 ≡ length r ⌝ }
+{
+    [0; LINE_BYTES]
+}
+
+// A list of numbers.
+pub fn numbers() -> [u64; NUMBERS]
+    ensures { λ r. ⌜ 4096 ≡ length r ⌝ }
+{
+    [0; NUMBERS]
+}
+
+// The head words of the most keys.
+pub fn keys() -> [u64; KEYS]
+    ensures { λ r. ⌜ 4096 ≡ length r ⌝ }
+{
+    [0; KEYS]
+}
+
+// The bytes of the largest body.
+pub fn body_bytes() -> [u8; BODY_BYTES]
+    ensures { λ r. ⌜ 262144 ≡ length r ⌝ }
+{
+    [0; BODY_BYTES]
+}

@@ -1,0 +1,154 @@
+// Replays histories of the account book, which data/ holds with the answers of a second book: makes each call through the C boundary, and
+// compares its whole answer, and after it all of body, state and heads. Writes a line for each file, and one for each line that differs.
+mod calls;
+mod changes;
+mod memory;
+
+use hex_fields::field;
+use hex_fields::hex;
+use hex_fields::part;
+use libc::STDOUT_FILENO;
+
+// The kinds of lines that make no call: somebody else wrote the book, and a history begins.
+const WRITTEN: u64 = 0x35;
+
+const BEGINS: u64 = 0x36;
+
+// Makes the call of a line, and then compares the book with the one that is wanted.
+fn call_agrees(s: &[u8], body: &mut [u8], wanted: &mut [u8], words: &mut [u64]) -> bool {
+    let answered = calls::agrees(s, body, words);
+    changes::make(field(s, 5), wanted, words, memory::WANTED);
+    if !answered {
+        return false;
+    }
+    if !memory::same_words(words) {
+        return false;
+    }
+    hex_fields::same_bytes(body, wanted)
+}
+
+// Replays a line: what somebody else wrote is written to both books.
+fn replay(s: &[u8], body: &mut [u8], wanted: &mut [u8], words: &mut [u64]) -> bool {
+    if hex(part(s, 0, 2)) < WRITTEN {
+        return call_agrees(s, body, wanted, words);
+    }
+    changes::make(field(s, 5), body, words, memory::OURS);
+    changes::make(field(s, 5), wanted, words, memory::WANTED);
+    true
+}
+
+// How many lines of a file were replayed, how many of them differ, and how many histories began.
+struct Count {
+    lines: u64,
+    differ: u64,
+    histories: u64,
+}
+
+impl Count {
+    // A line more was replayed.
+    fn line(mut self, agrees: bool) -> Self {
+        self.lines = std::num::wrapping_add_u64(self.lines, 1);
+        if !agrees {
+            self.differ = std::num::wrapping_add_u64(self.differ, 1);
+        }
+        self
+    }
+
+    // A history more began.
+    fn history(mut self) -> Self {
+        self.histories = std::num::wrapping_add_u64(self.histories, 1);
+        self
+    }
+}
+
+// Writes that a line differs.
+fn show_line(number: u64) {
+    io::write_all(STDOUT_FILENO, b"line ");
+    io::print_decimal(STDOUT_FILENO, number);
+    io::write_all(STDOUT_FILENO, b" differs\n");
+}
+
+// Writes the line of a file: its name, and what was counted.
+fn show(name: &[u8], count: Count) {
+    io::write_all(STDOUT_FILENO, name);
+    io::write_all(STDOUT_FILENO, b": ");
+    io::print_decimal(STDOUT_FILENO, count.histories);
+    io::write_all(STDOUT_FILENO, b" histories, ");
+    io::print_decimal(STDOUT_FILENO, count.lines);
+    io::write_all(STDOUT_FILENO, b" lines replayed, ");
+    io::print_decimal(STDOUT_FILENO, count.differ);
+    io::write_all(STDOUT_FILENO, b" differ\n");
+}
+
+// Counts a line that was replayed, and writes where it differs.
+fn counted(s: &[u8], agrees: bool, count: Count) -> Count {
+    let after = count.line(agrees);
+    if !agrees {
+        show_line(after.lines);
+    }
+    if hex(part(s, 0, 2)) == BEGINS {
+        return after.history();
+    }
+    after
+}
+
+// Replays a text: lines of histories, and at its end one with '=' and what they are.
+fn replay_all(text: &[u8], body: &mut [u8], wanted: &mut [u8], words: &mut [u64]) {
+    let mut count = Count {
+        lines: 0,
+        differ: 0,
+        histories: 0,
+    };
+    let mut at: usize = 0;
+    while at < text.len() {
+        let s = hex_fields::until(text, at, b'\n');
+        if hex_fields::find(s, b'=') == 0 {
+            show(part(s, 1, s.len()), count);
+            return;
+        }
+        let agrees = replay(s, body, wanted, words);
+        count = counted(s, agrees, count);
+        if text.len() - at <= s.len() {
+            return;
+        }
+        at += s.len() + 1;
+    }
+}
+
+// Reads a file into lent room and replays it; false where there is none.
+fn replay_file(
+    name: &[u8; 2],
+    text: &mut [u8],
+    body: &mut [u8],
+    wanted: &mut [u8],
+    words: &mut [u64],
+) -> bool {
+    let file = os::open_read(name);
+    if file < 0 {
+        return false;
+    }
+    let len = io::read_full(file, text);
+    libc::close(file);
+    replay_all(&text[0..len], body, wanted, words);
+    true
+}
+
+// Replays the files, each named by h and a digit.
+fn replay_files(text: &mut [u8], body: &mut [u8], wanted: &mut [u8], words: &mut [u64]) {
+    let mut k: u8 = 0;
+    while k < 10 {
+        let name = [b'h', b'0' + k];
+        if !replay_file(&name, text, body, wanted, words) {
+            return;
+        }
+        k += 1;
+    }
+}
+
+fn main() {
+    let mut text = io::large_buffer();
+    let mut body = memory::body();
+    let mut wanted = memory::body();
+    let mut words = memory::words();
+    replay_files(&mut text, &mut body, &mut wanted, &mut words);
+}
