@@ -37,7 +37,7 @@ use Rattle.book_keys.specs.Steps.{keySpace, TailEndOf, tailEndOf}
 use Rattle.book_keys.proofs.LawsSound.{soundly-yes, soundly-no, was-sound, was-unsound, was-sure}
 use Rattle.book_keys.proofs.LawsSlab.{slab-sound}
 use Rattle.book_keys.proofs.LawsPages.{page-read}
-use Rattle.book_blocks.specs.Blocks.{slabWith, lastPageOf, pageWith, pageBefore}
+use Rattle.book_blocks.specs.Blocks.{slabWith, lastPageOf, totalWith, pageWith, pageBefore}
 use Rattle.book_blocks.specs.Steps.{PageNumbers}
 use Rattle.book_blocks.proofs.LawsReadsMore.{extent-start, spot-fits, spot-none}
 use Rattle.book.specs.Book.{Book, Outcome, wordOf, onKey}
@@ -162,7 +162,7 @@ tail-sound s last t e =
     let (goes, e8) = was-sure _ _ e7 in
     let same-scan : read ≡ t .scan = accepted-inj e8 ∙ ap (λ (x : Tail). x .scan) same in
     let same-last : h ≡ t .last = ap (λ (x : Tail). x .last) same in
-    let low = ltb-true (h .creates) (2 ^ 32 - 1) (both (ltb 0 (h .creates)) (ltb (h .creates) (2 ^ 32 - 1)) good .1) in
+    let low = ltb-true (h .creates) (2 ^ 32 - 1) good in
     record {
       stands = stands;
       names = names;
@@ -388,7 +388,7 @@ module _ (b : Book) (key n : ℕ) where
     pub chain-yes : {off : ℕ} {after : Space} (linked written : List ℕ)
         → takeBlock pageClass (b .space) ≡ accepted (record { off = off; space = after })
         → linked ≡ overwrite (after .body) last (pageBefore (part (after .body) last pageSize) off)
-        → written ≡ overwrite linked off (lastPageOf first off 1 (creates + 1) (n ∷ []))
+        → written ≡ overwrite linked off (lastPageOf first off 1 (totalWith creates) (n ∷ []))
         → appendAt b key n (Extent last) ≡ accepted (appending key (Extent off) 0 (space written (after .mark) (after .free)) b)
     unfolding growChain
     chain-yes linked written e links writes = growing ∙ then-yes (takeBlock pageClass (b .space)) _ e ∙ rw (writes, links, g .first-is, g .creates-is)

@@ -21,7 +21,7 @@ use Rattle.book_rules.specs.Limits.{offeredNumber}
 use Rattle.book_rules.specs.Places.{stays, movesTo}
 use Rattle.book_space.specs.Space.{Space, space, Taken, takeBlock, release}
 use Rattle.book_keys.specs.Keys.{soundly, blockAt, pageAt, slabScan, Tail, tailAt}
-use Rattle.book_blocks.specs.Blocks.{lastPageOf, slabWith, pageWith, pageBefore}
+use Rattle.book_blocks.specs.Blocks.{lastPageOf, slabWith, totalWith, pageWith, pageBefore}
 use Rattle.book.specs.Book.{Book, Outcome, wordOf, onKey, placing, filled}
 
 -- What an append leaves: the key's new place, and the records rewritten.
@@ -67,7 +67,7 @@ growChain b key n last t =
     andThen (takeBlock pageClass (b .space))
     (λ p. let body = overwrite (p .space .body) last (pageBefore (pageAt (p .space) last) (p .off)) in
     accepted (appending key (Extent (p .off)) 0
-    (space (overwrite body (p .off) (lastPageOf (t .last .first) (p .off) 1 (t .last .creates + 1) (n ∷ [])))
+    (space (overwrite body (p .off) (lastPageOf (t .last .first) (p .off) 1 (totalWith (t .last .creates)) (n ∷ [])))
     (p .space .mark) (p .space .free)) b))
 
 -- A number behind a key's last page: at its spot, or else in a page more.

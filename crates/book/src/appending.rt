@@ -186,7 +186,8 @@ fn grow_chain(
     };
     book_blocks::link_page(body, last as usize, off);
     let list = [n];
-    book_blocks::put_last_page(body, off as usize, &list, first, off, 1, creates + 1);
+    let total = book_blocks::total_with(creates);
+    book_blocks::put_last_page(body, off as usize, &list, first, off, 1, total);
     accept_append(heads, after, key, ShHeadValue::Extent { last_page: off }, 0)
 }
 

@@ -24,7 +24,8 @@ use Rattle.scripthash_pages.specs.Entries.{streamPlace, pageScan, lastOf, Spot,
 use Rattle.scripthash_pages.proofs.LawsEntries.{scan-placed, place-accepted, scan-yes}
 use Rattle.scripthash_pages.proofs.LawsAppend.{Roomy, scan-ends, spot-full, spot-room}
 use Rattle.scripthash_pages.proofs.LawsAppended.{withLast, appended-long, appended-version, appended-header, appended-scan}
-use Rattle.book_blocks.specs.Blocks.{pageWith, pageBefore}
+use Rattle.book_blocks.specs.Blocks.{totalWith, pageWith, pageBefore}
+use Rattle.book_blocks.proofs.LawsTotals.{total-fits}
 use Rattle.book_blocks.proofs.LawsReadsPage.{link-told, LastReads, LinkReads}
 
 -- ---- a field of the header that is set
@@ -77,7 +78,8 @@ module _ (page : List ℕ) (n : ℕ) (s : Scan) where
       (λ (h : s .taken + ulebLen d ≤ streamCap page). (h, Option·some-injective w (record { at = streamOff page + s .taken; difference = d }) (sym e ∙ spot-fits h)))
       (lt-or-ge (streamCap page) (s .taken + ulebLen d))
 
--- What a last page reads as with a number more: its stream has that number too, the header is as it was, and creates is one more.
+-- What a last page reads as with a number more: its stream has that number too, the header is as it was, and creates counts it
+-- or is unknown.
 pub record MoreReads (page after : List ℕ) (s : Scan) (creates : ℕ) : Type 0 where
   pub long : length after ≡ pageSize
   pub scans : pageScan after ≡ accepted s
@@ -85,7 +87,7 @@ pub record MoreReads (page after : List ℕ) (s : Scan) (creates : ℕ) : Type 0
   pub link : linkOf after ≡ linkOf page
   pub base : extentBaseOf after ≡ extentBaseOf page
   pub extents : extentCountOf after ≡ extentCountOf page
-  pub counts : createsFieldOf after ≡ creates + 1
+  pub counts : createsFieldOf after ≡ totalWith creates
   pub room : streamCap after ≡ streamCap page
 
 module _ (page : List ℕ) (n creates : ℕ) (s : Scan) (w : Spot) (scans : pageScan page ≡ accepted s) (names : namesExtent page ≡ true)
@@ -118,10 +120,10 @@ module _ (page : List ℕ) (n creates : ℕ) (s : Scan) (w : Spot) (scans : page
   grown-names = eq-eqb (versionOf grown) 2 (appended-version page n w roomy ∙ ap (λ (b : Bool). cond b 2 1) names)
 
   -- a field of the header behind the count and before creates is as it was
-  header : (o k : ℕ) → 3 ≤ o → o + k ≤ 20 → field (setField grown 20 4 (creates + 1)) o k ≡ field page o k
+  header : (o k : ℕ) → 3 ≤ o → o + k ≤ 20 → field (setField grown 20 4 (totalWith creates)) o k ≡ field page o k
   unfolding field
   header o k behind before =
-      field-apart grown 20 4 (creates + 1) (omega (arith, grown-long)) o k (inl before)
+      field-apart grown 20 4 (totalWith creates) (omega (arith, grown-long)) o k (inl before)
       ∙ ap littleEndian (appended-header page n w roomy o k behind (omega (arith, extent-start page names)))
 
   -- a last page with a number more
@@ -130,22 +132,22 @@ module _ (page : List ℕ) (n creates : ℕ) (s : Scan) (w : Spot) (scans : page
   page-more small =
       let inside : 20 + 4 ≤ length grown = omega (arith, grown-long) in
       let after-names : namesExtent (pageWith page w creates) ≡ true =
-      names-kept grown 20 4 (creates + 1) (omega arith) inside ∙ grown-names in
+      names-kept grown 20 4 (totalWith creates) (omega arith) inside ∙ grown-names in
       record {
-        long = length-setField grown 20 4 (creates + 1) inside ∙ grown-long;
-        scans = scan-kept grown 20 4 (creates + 1) (withLast 0 s n) (omega arith) (omega (arith, extent-start grown grown-names)) (appended-scan page n w roomy);
+        long = length-setField grown 20 4 (totalWith creates) inside ∙ grown-long;
+        scans = scan-kept grown 20 4 (totalWith creates) (withLast 0 s n) (omega arith) (omega (arith, extent-start grown grown-names)) (appended-scan page n w roomy);
         names = after-names;
         link = header 3 5 (omega arith) (omega arith);
         base = header 8 8 (omega arith) (omega arith);
         extents = header 16 4 (omega arith) (omega arith);
-        counts = field-set grown 20 4 (creates + 1) inside small;
+        counts = field-set grown 20 4 (totalWith creates) inside (total-fits creates small);
         room = ap (λ (b : Bool). pageSize - cond b 24 8) (after-names ∙ sym names);
       }
 
 -- so a key's last page stays one
 pub last-more : {page : List ℕ} {s : Scan} {first creates : ℕ} → LastReads page s first creates → (n : ℕ) (w : Spot) → lastOf s < n
     → n < 2 ^ 63
-    → spotBehind page n s ≡ some w → creates + 1 < 2 ^ 32 → LastReads (pageWith page w creates) (withLast 0 s n) first (creates + 1)
+    → spotBehind page n s ≡ some w → creates + 1 < 2 ^ 32 → LastReads (pageWith page w creates) (withLast 0 s n) first (totalWith creates)
 last-more {page} {s} {first} {creates} r n w above below spot small =
     let m = page-more page n creates s w (r .scans) (r .names) above below spot small in
     let after = pageWith page w creates in

@@ -37,7 +37,7 @@ use Rattle.scripthash_pages.specs.Entries.{Spot, oneMore, withAppended}
 use Rattle.scripthash_pages.proofs.LawsEntries.{version-byte}
 use Rattle.scripthash_pages.proofs.LawsAppend.{kept-extent, one-more-is, length-one-more}
 use Rattle.scripthash_pages.proofs.LawsPacked.{page-packed, extent-packed}
-use Rattle.book_blocks.specs.Blocks.{slabWith, lastPageOf, pageWith, pageBefore, pageTo, writeRun}
+use Rattle.book_blocks.specs.Blocks.{slabWith, lastPageOf, totalWith, pageWith, pageBefore, pageTo, writeRun}
 use Rattle.book_blocks.specs.Steps.{PageNumbers, LastPage, LinkedPage, Run}
 
 -- ---- a block of a body that is lent and put back
@@ -155,7 +155,7 @@ counted page n h version is =
 -- the count, the form and creates written into such a page
 pub grown-written : (page : List ℕ) (n taken difference creates : ℕ) → 3 ≤ length page → versionOf page ≡ 2
     → n ≡ littleEndian (part page 1 2)
-    → overwrite (overwrite (overwrite page 1 (bytesOf 2 (n + 1))) (24 + taken) (shortest difference)) 20 (bytesOf 4 (creates + 1))
+    → overwrite (overwrite (overwrite page 1 (bytesOf 2 (n + 1))) (24 + taken) (shortest difference)) 20 (bytesOf 4 (totalWith creates))
     ≡ pageWith page (record { at = streamOff page + taken; difference = difference }) creates
 unfolding pageWith withAppended setField
 grown-written page n taken difference creates h version is =
@@ -169,7 +169,7 @@ length-pageWith page w creates long fits =
     let one = length-one-more page (omega arith) in
     let form = length-shortest (w .difference) in
     let appended = length-overwrite (oneMore page) (w .at) (shortest (w .difference)) (omega arith) in
-    length-setField (overwrite (oneMore page) (w .at) (shortest (w .difference))) 20 4 (creates + 1) (omega arith) ∙ appended ∙ one ∙ long
+    length-setField (overwrite (oneMore page) (w .at) (shortest (w .difference))) 20 4 (totalWith creates) (omega arith) ∙ appended ∙ one ∙ long
 
 -- and so is one that got a next page
 pub length-pageBefore : (page : List ℕ) (next : ℕ) → length page ≡ pageSize → length (pageBefore page next) ≡ pageSize

@@ -1,3 +1,4 @@
+pub mod LawsTotals
 pub mod LawsWrites
 pub mod LawsReadsSlab
 pub mod LawsReadsPage

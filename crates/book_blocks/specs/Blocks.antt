@@ -1,7 +1,8 @@
 -- What a book's calls write into blocks (document 01, "Append" and "Load"): a slab that grows, a last page, a page before another, a run.
 use Prim.Native.Nat.{ℕ, _+_}
-use mathlib.Core.Bool.{true, false}
+use mathlib.Core.Bool.{true, false, cond}
 use mathlib.Core.List.{List, [], _∷_}
+use lib.Dec.{eqb}
 use lib.ListN.{length}
 use Rattle.buffer.specs.Bytes.{overwrite}
 use Rattle.buffer.specs.LittleEndian.{bytesOf}
@@ -20,9 +21,13 @@ slabWith block used taken difference = overwrite (overwrite block 0 (bytesOf 2 (
 abbrev pub lastPageOf : ℕ → ℕ → ℕ → ℕ → List ℕ → List ℕ
 lastPageOf first base extents creates ns = pageOf (extentHeader (length ns) (linkTo true first) base extents creates) (stream ns)
 
--- A last page with a number appended: creates is one more.
+-- A total with one number more: one that was never counted, 0, stays unknown.
+unfoldable pub totalWith : ℕ → ℕ
+totalWith creates = cond (eqb creates 0) 0 (creates + 1)
+
+-- A last page with a number appended: creates is one more, or stays unknown.
 unfoldable pub pageWith : List ℕ → Spot → ℕ → List ℕ
-pageWith page w creates = setField (withAppended page w) 20 4 (creates + 1)
+pageWith page w creates = setField (withAppended page w) 20 4 (totalWith creates)
 
 -- A page that was the last, with a next page and creates 0.
 unfoldable pub pageBefore : List ℕ → ℕ → List ℕ

@@ -7,6 +7,7 @@ pub use page::grow_page;
 pub use page::link_page;
 pub use page::put_last_page;
 pub use page::put_page_to;
+pub use page::total_with;
 pub use run::put_run;
 pub use slab::grow_slab;
 pub use slab::put_slab;

@@ -8,7 +8,7 @@ ghost use Rattle.compact.specs.Uleb128.{ulebLen};
 ghost use Rattle.scripthash_layout.specs.Sizes.{pageSize};
 ghost use Rattle.scripthash_stream.specs.Stream.{maxOffered};
 ghost use Rattle.scripthash_fields.specs.Page.{versionOf, countOf, streamOff};
-ghost use Rattle.book_blocks.specs.Blocks.{lastPageOf, pageWith, pageBefore, pageTo};
+ghost use Rattle.book_blocks.specs.Blocks.{lastPageOf, totalWith, pageWith, pageBefore, pageTo};
 ghost use Rattle.book_blocks.specs.Steps.{LastPage, LinkedPage};
 use scripthash_fields::SH_PAGE_EXTENT_HEADER_LEN;
 use scripthash_fields::SH_PAGE_OFF_EXTENT_CREATES;
@@ -53,7 +53,19 @@ pub fn put_page_to(body: &mut [u8], off: usize, fks: &[u64], next: u64)
     scripthash_pages::sh_page_pack_fks(&mut body[off..end], fks, next);
 }
 
-// Counts one number more in a page that names an extent, and writes its form behind the bytes that its stream takes, and creates, one more.
+// A total with one number more: one that was never counted, 0, stays unknown.
+pub fn total_with(creates: u32) -> u32
+    requires { ⌜ creates + 1 < 2 ^ 32 ⌝ }
+    ensures { λ r. ⌜ r ≡ totalWith creates ⌝ }
+{
+    if creates == 0 {
+        return 0;
+    }
+    creates + 1
+}
+
+// Counts one number more in a page that names an extent, and writes its form behind the bytes that its stream takes, and creates, one more
+// or unknown.
 fn append_last(page: &mut [u8], taken: usize, difference: u64, creates: u32)
     requires { ⌜ (length (now page) ≡ pageSize) × (versionOf (now page) ≡ 2) × (countOf (now page) < maxOffered)
         × (24 + taken + ulebLen difference ≤ pageSize) × (creates + 1 < 2 ^ 32) ⌝ }
@@ -63,7 +75,7 @@ fn append_last(page: &mut [u8], taken: usize, difference: u64, creates: u32)
     let count = buffer::get_u16(page, SH_PAGE_OFF_N_FKS);
     buffer::put_u16(page, SH_PAGE_OFF_N_FKS, count + 1);
     scripthash_stream::put_form(page, SH_PAGE_EXTENT_HEADER_LEN + taken, difference);
-    buffer::put_u32(page, SH_PAGE_OFF_EXTENT_CREATES, creates + 1);
+    buffer::put_u32(page, SH_PAGE_OFF_EXTENT_CREATES, total_with(creates));
 }
 
 // Appends a number, by its difference, to a key's last page in a body: only the count, the new form and creates are written.

@@ -18,7 +18,7 @@ use Rattle.scripthash_pages.specs.Entries.{pageScan}
 use Rattle.scripthash_free.specs.FreeList.{Block}
 use Rattle.book_rules.specs.Limits.{outOfShape}
 use Rattle.plain_book.specs.Space.{Space as PlainSpace, stackOf}
-use Rattle.plain_book.specs.Key.{Kept, Page, Place, empty, inline, slab, pages, headOf}
+use Rattle.plain_book.specs.Key.{Kept, Page, Place, empty, inline, slab, pages, totalOf, headOf}
 use Rattle.plain_book.specs.Book.{Book as PlainBook, keyOf}
 use Rattle.plain_book.specs.Owners.{Owner, hand, stack, slabOf, pageOf, has, places}
 use Rattle.book_space.specs.Space.{Space}
@@ -51,7 +51,7 @@ pub record PageReads (p : Page) (block : List ℕ) : Type 0 where
   pub reads : pageScan block ≡ accepted (scanOf (p .part))
   pub room : streamCap block ≡ p .room
 
--- A last page names an extent, is LAST with the first page's offset, and tells how many numbers the key has.
+-- A last page names an extent, is LAST with the first page's offset, and tells how many numbers the key has, or 0, unknown.
 pub record LastReads (start total : ℕ) (block : List ℕ) : Type 0 where
   pub extent : namesExtent block ≡ true
   pub last : isLastLink (linkOf block) ≡ true
@@ -64,7 +64,7 @@ pub record NextReads (off : ℕ) (block : List ℕ) : Type 0 where
   pub more : isLastLink (linkOf block) ≡ false
   pub next : linkOffset (linkOf block) ≡ off
 
--- The page at an index of some pages, of a key with a first page and so many numbers.
+-- The page at an index of some pages, of a key with a first page and a total.
 unfoldable pub ChainReads : ℕ → ℕ → ℕ → List Page → List ℕ → Type 0
 ChainReads first creates i [] block = Unit {0}
 ChainReads first creates zero (p ∷ []) block = PageReads p block × LastReads first creates block
@@ -83,7 +83,7 @@ SlabIn inline block = Unit {0}
 SlabIn (slab class off kept) block = SlabReads kept block
 SlabIn (pages ps) block = Unit {0}
 
--- The page of a place at an index reads as its part of a list of so many numbers.
+-- The page of a place at an index reads as its part of a list with a total.
 abbrev pub PageIn : ℕ → ℕ → Place → List ℕ → Type 0
 PageIn creates i empty block = Unit {0}
 PageIn creates i inline block = Unit {0}
@@ -130,7 +130,7 @@ contentsOf b =
     record {
       inHand = λ block. Unit {0};
       slabs = λ key block. SlabIn (places b key) block;
-      pages = λ key i block. PageIn (length (keyOf key b .list)) i (places b key) block;
+      pages = λ key i block. PageIn (totalOf (keyOf key b)) i (places b key) block;
     }
 
 -- A book over bytes, in shape, stands for a plain book.

@@ -1,14 +1,13 @@
 -- A key's chain: the tests of the whole, and what is known of a sound one. Assumes nothing.
 use Prim.Native.Nat.{ℕ, _-_, _/_}
-use mathlib.Core.Path.{_≡_, ap, _∙_}
-use borrow.Author.Tests.{eq-eqb, ne-eqb, eqb-true}
-use lib.Dec.{eqb}
+use mathlib.Core.Bool.{true, false}
+use mathlib.Core.Path.{_≡_, sym, ap, _∙_}
 use lib.ListN.{length, getD}
 use Rattle.error.specs.Refusal.{accepted, refused, keyUnsound}
 use Rattle.error.proofs.LawsAnswer.{accepted-inj, then-yes, then-no, went-on}
 use Rattle.scripthash_layout.specs.Sizes.{pageSize}
 use Rattle.book_space.specs.Space.{Space}
-use Rattle.book_keys.specs.Keys.{sure, Last, lastAt, Chain, walk, chainAt}
+use Rattle.book_keys.specs.Keys.{sure, Last, lastAt, Chain, walk, totalGood, chainAt}
 use Rattle.book_keys.proofs.LawsSound.{sure-yes, sure-no, was-sure}
 use Rattle.book_keys.proofs.LawsWalk.{walk-first}
 
@@ -27,17 +26,17 @@ module _ (s : Space) (last : ℕ) where
     chain-unwalked e = then-yes (lastAt s last) _ is ∙ then-no (walk (s .mark / pageSize) s last 0 (h .first)) _ e
 
     module _ (c : Chain) (walks : walk (s .mark / pageSize) s last 0 (h .first) ≡ accepted c) where
-      walked : chainAt s last ≡ sure (eqb (h .creates) (length (c .numbers))) (accepted c)
+      walked : chainAt s last ≡ sure (totalGood (h .creates) (length (c .numbers))) (accepted c)
       unfolding chainAt
       walked = then-yes (lastAt s last) _ is ∙ then-yes (walk (s .mark / pageSize) s last 0 (h .first)) _ walks
 
-      -- creates that isn't the length
-      pub chain-other : (h .creates ≡ length (c .numbers) → ⊥) → chainAt s last ≡ refused keyUnsound
-      chain-other n = walked ∙ sure-no (eqb (h .creates) (length (c .numbers))) _ (ne-eqb (h .creates) (length (c .numbers)) n)
+      -- creates that tells another length
+      pub chain-other : totalGood (h .creates) (length (c .numbers)) ≡ false → chainAt s last ≡ refused keyUnsound
+      chain-other e = walked ∙ sure-no (totalGood (h .creates) (length (c .numbers))) _ e
 
-      -- and one that is
-      pub chain-yes : h .creates ≡ length (c .numbers) → chainAt s last ≡ accepted c
-      chain-yes e = walked ∙ sure-yes (eqb (h .creates) (length (c .numbers))) _ (eq-eqb (h .creates) (length (c .numbers)) e)
+      -- and one that doesn't
+      pub chain-yes : totalGood (h .creates) (length (c .numbers)) ≡ true → chainAt s last ≡ accepted c
+      chain-yes e = walked ∙ sure-yes (totalGood (h .creates) (length (c .numbers))) _ e
 
 -- ---- what is known of a sound one
 
@@ -46,7 +45,7 @@ pub record SoundChain (s : Space) (last : ℕ) (c : Chain) : Type 0 where
   pub header : Last
   pub header-is : lastAt s last ≡ accepted header
   pub walks : walk (s .mark / pageSize) s last 0 (header .first) ≡ accepted c
-  pub creates : header .creates ≡ length (c .numbers)
+  pub creates : totalGood (header .creates) (length (c .numbers)) ≡ true
   pub begins : getD (c .offs) 0 0 ≡ header .first
 
 pub chain-sound : (s : Space) (last : ℕ) (c : Chain) → chainAt s last ≡ accepted c → SoundChain s last c
@@ -54,14 +53,14 @@ unfolding chainAt
 chain-sound s last c e =
     let head = went-on (lastAt s last) _ e in
     let gone = went-on (walk (s .mark / pageSize) s last 0 (head .0 .first)) _ (head .2) in
-    let all = was-sure (eqb (head .0 .creates) (length (gone .0 .numbers))) _ (gone .2) in
+    let all = was-sure (totalGood (head .0 .creates) (length (gone .0 .numbers))) _ (gone .2) in
     let same : gone .0 ≡ c = accepted-inj (all .1) in
     let walks : walk (s .mark / pageSize) s last 0 (head .0 .first) ≡ accepted c = gone .1 ∙ ap accepted same in
     record {
       header = head .0;
       header-is = head .1;
       walks = walks;
-      creates = eqb-true (head .0 .creates) (length (gone .0 .numbers)) (all .0) ∙ ap (λ (x : Chain). length (x .numbers)) same;
+      creates = ap (λ (x : Chain). totalGood (head .0 .creates) (length (x .numbers))) (sym same) ∙ all .0;
       begins = walk-first (s .mark / pageSize) s last 0 (head .0 .first) c walks;
     }
 

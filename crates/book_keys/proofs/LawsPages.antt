@@ -166,26 +166,14 @@ module _ (page : List ℕ) where
         then-yes (lastRead page) _ is ∙ sure-yes (createsGood (h .creates)) _ e
         ∙ ap (λ (a : Answer Scan). andThen a (λ c. accepted (record { scan = c; last = h }))) (link-by-last page)
 
--- creates 0, creates too large, and creates that an append takes
-pub creates-none : (n : ℕ) → n ≡ 0 → createsGood n ≡ false
-unfolding createsGood
-creates-none n e = rw e
-
+-- creates too large, and creates that an append takes
 pub creates-large : (n : ℕ) → 2 ^ 32 - 1 ≤ n → createsGood n ≡ false
 unfolding createsGood
-creates-large n h = rw (le-ltb n (2 ^ 32 - 1) h) (never (ltb 0 n))
-  where
-    never : (t : Bool) → t && false ≡ false
-    never true = refl
-    never false = refl
+creates-large n h = le-ltb n (2 ^ 32 - 1) h
 
-pub creates-fine : (n : ℕ) → (n ≡ 0 → ⊥) → n < 2 ^ 32 - 1 → createsGood n ≡ true
+pub creates-fine : (n : ℕ) → n < 2 ^ 32 - 1 → createsGood n ≡ true
 unfolding createsGood
-creates-fine n k h = rw (lt-ltb 0 n (pos-of-ne n k), lt-ltb n (2 ^ 32 - 1) h)
-  where
-    pos-of-ne : (m : ℕ) → (m ≡ 0 → ⊥) → 0 < m
-    pos-of-ne zero k = absurd (k refl)
-    pos-of-ne (suc m) k = omega arith
+creates-fine n h = lt-ltb n (2 ^ 32 - 1) h
 
 -- ---- where pages stand
 
@@ -279,7 +267,6 @@ last-sound s off h e =
 -- What is known of a key's last page as an append looks at it.
 pub record SoundTail (s : Space) (off : ℕ) (t : Tail) : Type 0 where
   pub header : SoundLast s off (t .last)
-  pub creates-some : 0 < t .last .creates
   pub creates-below : t .last .creates < 2 ^ 32 - 1
   pub link : SoundLink s 0 off (t .scan)
 
@@ -288,14 +275,12 @@ unfolding tailAt createsGood
 tail-sound s off t e =
     let head = went-on (lastAt s off) _ e in
     let made = was-sure (createsGood (head .0 .creates)) _ (head .2) in
-    let tests = both (ltb 0 (head .0 .creates)) (ltb (head .0 .creates) (2 ^ 32 - 1)) (made .0) in
     let read = went-on (linkScan s 0 off) _ (made .1) in
     let same : record { scan = read .0; last = head .0 } ≡ t = accepted-inj (read .2) in
     let last-is : head .0 ≡ t .last = ap (λ (x : Tail). x .last) same in
     let scan-is : read .0 ≡ t .scan = ap (λ (x : Tail). x .scan) same in
     record {
       header = last-sound s off (t .last) (head .1 ∙ ap accepted last-is);
-      creates-some = rw last-is at (ltb-true 0 (head .0 .creates) (tests .0));
-      creates-below = rw last-is at (ltb-true (head .0 .creates) (2 ^ 32 - 1) (tests .1));
+      creates-below = rw last-is at (ltb-true (head .0 .creates) (2 ^ 32 - 1) (made .0));
       link = link-sound s 0 off (t .scan) (read .1 ∙ ap accepted scan-is);
     }

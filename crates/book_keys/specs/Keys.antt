@@ -59,7 +59,7 @@ linkScan s prev off =
 unfoldable pub goodExtent : List ℕ → Answer (Unit {0})
 goodExtent page = onExtent (extentBaseOf page) (extentCountOf page) (accepted tt)
 
--- What the header of a key's last page tells: the first page's offset, and how many numbers the key has.
+-- What the header of a key's last page tells: the first page's offset, and how many numbers the key has, or 0, unknown.
 pub record Last : Type 0 where
   pub first : ℕ
   pub creates : ℕ
@@ -90,12 +90,16 @@ walk (suc k) s last prev off =
     (sure (not (isLastLink (linkOf (pageAt s off))))
     (andThen (walk k s last (lastFrom prev (c .numbers)) (linkOffset (linkOf (pageAt s off)))) (λ rest. accepted (linked off c rest)))))
 
+-- The last page's creates tells the length of the list, or 0, which says that it was never counted.
+unfoldable pub totalGood : ℕ → ℕ → Bool
+totalGood creates n = eqb creates 0 || eqb creates n
+
 -- The chain of a key whose last page is at an offset: from the first page that the last one names, no more than mark / 4,096 pages, and the
--- last page's creates is the length of the list.
+-- last page's creates is the length of the list, or unknown.
 unfoldable pub chainAt : Space → ℕ → Answer Chain
 chainAt s last =
     andThen (lastAt s last)
-    (λ h. andThen (walk (s .mark / pageSize) s last 0 (h .first)) (λ c. sure (eqb (h .creates) (length (c .numbers))) (accepted c)))
+    (λ h. andThen (walk (s .mark / pageSize) s last 0 (h .first)) (λ c. sure (totalGood (h .creates) (length (c .numbers))) (accepted c)))
 
 -- ---- a key
 
@@ -126,9 +130,9 @@ content s word = soundly (andThen (unpackHead word) (contentAt s))
 
 -- ---- an append's look at a key
 
--- Creates as an append takes it: 1 to 2^32 - 2.
+-- Creates as an append takes it: 0, unknown, to 2^32 - 2.
 unfoldable pub createsGood : ℕ → Bool
-createsGood creates = ltb 0 creates && ltb creates (2 ^ 32 - 1)
+createsGood creates = ltb creates (2 ^ 32 - 1)
 
 -- What an append is told of a key's last page: its stream, and its header.
 pub record Tail : Type 0 where

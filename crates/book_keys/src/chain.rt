@@ -7,7 +7,8 @@ ghost use Rattle.scripthash_layout.specs.Sizes.{pageSize};
 ghost use Rattle.scripthash_stream.specs.Stream.{afterDecode};
 ghost use Rattle.scripthash_answers.specs.EntryAnswers.{sliceAnswer};
 ghost use Rattle.scripthash_pages.specs.Entries.{pageReadOf};
-ghost use Rattle.book_keys.specs.Keys.{soundly, pageAt, linkScan, lastAt, walk, Chain as ChainIs, chainAt, tailAt};
+ghost use Rattle.book_keys.specs.Keys.{soundly, pageAt, linkScan, lastAt, walk, Chain as ChainIs, totalGood, chainAt};
+ghost use Rattle.book_keys.specs.Keys.{tailAt};
 ghost use Rattle.book_keys.specs.Steps.{keySpace, linkRead, lastRead, tailRead, tailEndOf, linkEndOf, walkedFrom, chainEndOf};
 ghost use Rattle.book_keys.specs.Steps.{pageInto, Written};
 ghost use Rattle.book_keys.specs.Answers.{lastPageAnswer, tailAnswer, linkEndAnswer, walkAnswer, chainAnswer};
@@ -30,7 +31,7 @@ use scripthash_layout::SH_PAGE_SIZE;
 use scripthash_pages::sh_page_stream_tail;
 use scripthash_stream::ScanStream;
 
-// The header of a key's last page: the first page's offset, and how many numbers the key has; or 31.
+// The header of a key's last page: the first page's offset, and how many numbers the key has, or 0, unknown; or 31.
 pub enum LastPage {
     Header { first: u64, creates: u32 },
     Refused(Refusal),
@@ -134,9 +135,6 @@ fn read_tail(page: &[u8]) -> TailEnd
     let LastPage::Header { first, creates } = header else {
         return TailEnd::Refused(error::KEY_UNSOUND);
     };
-    if creates == 0 {
-        return TailEnd::Refused(error::KEY_UNSOUND);
-    }
     if 0xffff_ffff <= creates {
         return TailEnd::Refused(error::KEY_UNSOUND);
     }
@@ -262,6 +260,16 @@ fn walk_pages(body: &[u8], mark: u64, first: u64, last: u64) -> WalkEnd
     WalkEnd::Refused(error::KEY_UNSOUND)
 }
 
+// Tells whether a last page's creates is the length of the list, or 0, which says that it was never counted.
+fn total_good(creates: u32, length: u64) -> bool
+    ensures { λ r. ⌜ r ≡ totalGood creates length ⌝ }
+{
+    if creates == 0 {
+        return true;
+    }
+    creates as u64 == length
+}
+
 // A key's chain whose last page is at an offset, or 31 where it isn't sound.
 pub fn chain_end(body: &[u8], mark: u64, last: u64) -> ChainEnd
     requires { ⌜ mark ≤ length (now body) ⌝ }
@@ -275,7 +283,7 @@ pub fn chain_end(body: &[u8], mark: u64, last: u64) -> ChainEnd
     let WalkEnd::Pages { length, pages } = walked else {
         return ChainEnd::Refused(error::KEY_UNSOUND);
     };
-    if creates as u64 != length {
+    if !total_good(creates, length) {
         return ChainEnd::Refused(error::KEY_UNSOUND);
     }
     ChainEnd::Chain {

@@ -1,10 +1,11 @@
--- The ceilings of demand 3, over every list of calls on a fresh plain book: moves, records rewritten, and the pages of a load. Assumes
--- nothing.
+-- The ceilings of demand 3, over every list of calls on a plain book, from the start or the last drop: moves, records rewritten, and the
+-- pages of a load. Assumes nothing.
 use Prim.Native.Nat.{ℕ, suc, _+_, _^_, _≤_}
 use mathlib.Core.Bool.{false, false≢true}
-use mathlib.Core.List.{List, [], _∷_}
+use mathlib.Core.List.{List, [], _∷_, _++_}
+use mathlib.Core.Logic.{inl}
 use mathlib.Core.Option.{Option, none, some}
-use mathlib.Core.Path.{_≡_, refl, sym, ap}
+use mathlib.Core.Path.{_≡_, refl, sym, ap, _∙_}
 use native.Mathlib.Nat.{le-refl, le-trans}
 use native.Mathlib.Omega.{arith}
 use lib.ListN.{length, length-append}
@@ -16,15 +17,17 @@ use Rattle.scripthash_cutting.specs.Cutting.{cutting, AllowedCutting}
 use Rattle.scripthash_cutting.proofs.LawsPages.{pages-optimal}
 use Rattle.plain_book.specs.Space.{Space, takeBlock, takeRun}
 use Rattle.book_rules.specs.Places.{loadsTo}
-use Rattle.plain_book.specs.Key.{Place, empty, inline, slab, pages, emptyKey, pagesOf, Placed, runPages, loadInto, loadPlace}
+use Rattle.plain_book.specs.Key.{Place, empty, inline, slab, pages, Kept, longer, pagesOf, Placed, runPages, loadInto}
+use Rattle.plain_book.specs.Key.{loadPlace}
 use Rattle.book_rules.specs.Calls.{Call, load, append, read, drop, loaded, bookAfter, answerOf, answersTo}
 use Rattle.plain_book.specs.Book.{Book, fresh, Outcome, keyOf, inUse, extended, loads, does, after, answers}
 use Rattle.book_rules.specs.Moves.{Tally, noMoves, tallyOf}
-use Rattle.plain_book.specs.Sound.{SoundKey}
+use Rattle.plain_book.specs.Sound.{Fits, SoundKey}
 use Rattle.plain_book.specs.Ceilings.{mostMoves, mostRewritten, FewestPages, EachFewest}
 use Rattle.plain_book.proofs.LawsMoves.{placed, Spent, spent-most, append-spent, load-spent}
 use Rattle.plain_book.proofs.LawsHistory.{load-did, fresh-key, KeptByCalls, kept-calls}
-use Rattle.plain_book.proofs.LawsSound.{rising-below, sound-longer, sound-kept}
+use Rattle.plain_book.proofs.LawsSound.{rising-below, empty-sound, sound-kept}
+use Rattle.plain_book.proofs.LawsKept.{longer-numbers}
 
 -- A key that is not in use was never moved.
 unused : (n : ℕ) (place : Place) (t : Tally) → inUse place ≡ false → Spent n place t → (t .moves ≡ 0) × (t .rewritten ≡ 0)
@@ -32,6 +35,12 @@ unused n empty t f (z, m, r) = (m, r)
 unused n inline t f (z, m, r) = (m, r)
 unused n (slab class off kept) t f s = absurd (false≢true (sym f))
 unused n (pages ps) t f s = absurd (false≢true (sym f))
+
+-- The stream of a sound key's slab with one number more holds the key's list with that number.
+longer-is : (n : ℕ) (list : List ℕ) (class off : ℕ) (kept : Kept) → Fits list (slab class off kept)
+    → longer n kept .numbers ≡ list ++ (n ∷ [])
+unfolding Fits
+longer-is n list class off kept f = longer-numbers n kept ∙ ap (λ (l : List ℕ). l ++ (n ∷ [])) (f .0)
 
 -- Calls keep a key sound, and its tally within what its place allows.
 spent-kept : KeptByCalls (λ k t. SoundKey k × Spent (length (k .list)) (k .place) t)
@@ -41,22 +50,32 @@ spent-kept =
           let (m, r) = unused (length (k .list)) (k .place) t f h in (sound-kept .loads end k ns s p t sound f rises e, load-spent end ns s t m r e);
       appends = λ end k n s p t (sound, h) rises low e. (
         sound-kept .appends end k n s p t sound rises low e,
-        append-spent end (length (k .list)) (extended (k .list) n) n (k .place) s t (length-append (k .list) (n ∷ [])) (λ class off kept is. sound-longer n k class off kept is sound) h e,
+        append-spent end (length (k .list)) (extended (k .list) n) n (k .place) s t (length-append (k .list) (n ∷ [])) (λ class off kept is. longer-is n (k .list) class off kept (rw is at (sound .fits))) h e,
       );
       drops = (sound-kept .drops, (refl, refl, refl));
     }
 
--- Take any book with an empty key and any list of calls: from empty to drop the key is moved no more than 9 times, and has no more than 765
--- records rewritten by moves.
-pub ceilings-from : (b : Book) (key : ℕ) (cs : List Call) → keyOf key b ≡ emptyKey
+-- A sound key that nothing moved yet is within what its place allows, in whatever forms its list is kept.
+start-spent : (list : List ℕ) (place : Place) → Fits list place → Spent (length list) place noMoves
+unfolding Fits
+start-spent list empty f = (f, refl, refl)
+start-spent list inline f = (f, refl, refl)
+start-spent list (slab class off kept) (same, each, c, two, few, bytes) = record { class = c; few = few; so-far = inl (refl, refl) }
+start-spent list (pages ps) f = (omega arith, omega arith)
+
+-- Take any book with a sound key and any list of calls: from the start or the last drop the key is moved no more than 9 times, and has no
+-- more than 765 records rewritten by moves.
+pub ceilings-from : (b : Book) (key : ℕ) (cs : List Call) → SoundKey (keyOf key b)
     → (tallyOf key cs (answers b cs) noMoves .moves ≤ mostMoves) × (tallyOf key cs (answers b cs) noMoves .rewritten ≤ mostRewritten)
-ceilings-from b key cs is = spent-most _ (keyOf key (after b cs) .place) _ (kept-calls _ spent-kept key b cs noMoves (rw is (spent-kept .drops)) .1)
+ceilings-from b key cs sound =
+    spent-most _ (keyOf key (after b cs) .place) _
+    (kept-calls _ spent-kept key b cs noMoves (sound, start-spent (keyOf key b .list) (keyOf key b .place) (sound .fits)) .1)
 
 -- Take any fresh book and any list of calls: from empty to drop no key is moved more than 9 times, nor has more than 765 records rewritten
 -- by moves.
 pub ceilings : (size heads key : ℕ) (cs : List Call)
     → (tallyOf key cs (answers (fresh size heads) cs) noMoves .moves ≤ mostMoves) × (tallyOf key cs (answers (fresh size heads) cs) noMoves .rewritten ≤ mostRewritten)
-ceilings size heads key cs = ceilings-from (fresh size heads) key cs (fresh-key size heads key)
+ceilings size heads key cs = ceilings-from (fresh size heads) key cs (rw (fresh-key size heads key) empty-sound)
 
 -- ---- the pages of a load
 

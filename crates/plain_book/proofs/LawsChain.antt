@@ -23,7 +23,6 @@ use Rattle.plain_book.specs.Sound.{held, FitsPage, FitPages, Fits, Rises
 use Rattle.plain_book.specs.Owners.{pageOf, pageAt, pageIn, has, places}
 use Rattle.plain_book.specs.Good.{GoodPlain}
 use Rattle.plain_book.proofs.LawsOwners.{depthOf}
-use Rattle.plain_book.proofs.LawsKept.{count-kept}
 
 -- ---- how many pages
 
@@ -104,7 +103,7 @@ mark-most {b} g shape = omega (arith, g .within shape, in-shape (b .size) (lengt
 
 -- A page has at most 4,088 numbers.
 pub page-count : (p : Page) → FitsPage p → length (p .part .numbers) ≤ 4088
-page-count p (some', fits, room, shortest) = omega (arith, count-kept (p .part) shortest)
+page-count p (some', fits, room, each) = omega arith
 
 -- So have pages together, each.
 pub held-count : (ps : List Page) → FitPages ps → length (held ps) ≤ 4088 * length ps

@@ -6,14 +6,15 @@ use mathlib.Core.List.{List, [], _∷_}
 use mathlib.Core.Logic.{_≢_}
 use mathlib.Core.Path.{_≡_, refl, sym, ap, _∙_}
 use lib.Dec.{eqb, leb}
-use lib.ListN.{length, getD, replicate}
+use lib.ListN.{length, getD, set, replicate}
 use lib.Seq.{getD-set-same, getD-set-other, set-getD}
 use borrow.Author.Tests.{leb-false, eqb-true, eqb-false}
 use Rattle.error.specs.Refusal.{Answer, accepted, refused, answered, shapeBad, keyBeyond}
 use Rattle.error.proofs.LawsAnswer.{accepted-inj, passed, went-on}
 use Rattle.scripthash_stream.specs.Stream.{Rising, lastFrom}
 use Rattle.plain_book.specs.Space.{Space}
-use Rattle.plain_book.specs.Key.{Place, empty, Key, emptyKey, headOf, pagesOf, freedPlace, Placed, appendPlace, loadPlace}
+use Rattle.plain_book.specs.Key.{Place, empty, Key, emptyKey, headOf, pagesOf, freedPlace, countedAfter, Placed}
+use Rattle.plain_book.specs.Key.{appendPlace, loadPlace}
 use Rattle.book_rules.specs.Calls.{Call, load, append, read, drop, loaded, appended, listed, dropped, bookAfter, answerOf, keyOfCall}
 use Rattle.book_rules.specs.Calls.{afterCalls, answersTo}
 use Rattle.book_rules.specs.Limits.{outOfShape}
@@ -35,7 +36,7 @@ on-key b key after e =
 
 pub load-did : (b : Book) (key : ℕ) (ns : List ℕ) {o : Outcome} → loads b key ns ≡ accepted o
     → (p : Placed) × (key < length (b .keys)) × (inUse (keyOf key b .place) ≡ false) × Rising (2 ^ 62) 0 ns × (loadPlace (b .size) ns (b .space) ≡ accepted p)
-    × (o ≡ record { told = loaded (record { pages = pagesOf (p .place) }); book = withKey key ns (p .place) (p .space) b })
+    × (o ≡ record { told = loaded (record { pages = pagesOf (p .place) }); book = withKey key ns (p .place) true (p .space) b })
 unfolding loads
 load-did b key ns e =
     let (within, e1) = on-key b key _ e in
@@ -50,7 +51,7 @@ pub append-did : (b : Book) (key n : ℕ) {o : Outcome} → appends b key n ≡ 
     × (appendPlace (b .size) (length (keyOf key b .list)) (extended (keyOf key b .list) n) n (keyOf key b .place) (b .space) ≡ accepted p)
     × (o ≡ record {
       told = appended (record { place = headOf (extended (keyOf key b .list) n) (p .place); rewritten = p .rewritten });
-      book = withKey key (extended (keyOf key b .list) n) (p .place) (p .space) b;
+      book = withKey key (extended (keyOf key b .list) n) (p .place) (countedAfter (keyOf key b .place) (keyOf key b .counted)) (p .space) b;
     })
 unfolding appends
 append-did b key n e =
@@ -71,7 +72,7 @@ pub drop-did : (b : Book) (key : ℕ) {o : Outcome} → drops b key ≡ accepted
     → (key < length (b .keys))
     × (o ≡ record {
       told = dropped (record { length = length (keyOf key b .list) });
-      book = withKey key [] empty (freedPlace (keyOf key b .place) (b .space)) b;
+      book = withKey key [] empty true (freedPlace (keyOf key b .place) (b .space)) b;
     })
 unfolding drops
 drop-did b key e = let (within, is) = on-key b key _ e in (within, sym (accepted-inj is))
@@ -86,16 +87,25 @@ all-same a (suc n) (suc i) = all-same a n i
 pub fresh-key : (size heads key : ℕ) → keyOf key (fresh size heads) ≡ emptyKey
 fresh-key size heads key = all-same emptyKey heads key
 
+-- A key of a book with a key changed: the new one where it is that key.
+pub key-with : (b : Book) (own : ℕ) (k : Key) → own < length (b .keys) → (j : ℕ)
+    → getD (set (b .keys) own k) j emptyKey ≡ cond (eqb j own) k (keyOf j b)
+key-with b own k l j = go (eqb j own) refl
+  where
+    go : (t : Bool) → eqb j own ≡ t → getD (set (b .keys) own k) j emptyKey ≡ cond t k (keyOf j b)
+    go true e = ap (λ (i : ℕ). getD (set (b .keys) own k) i emptyKey) (eqb-true j own e) ∙ getD-set-same (b .keys) own k emptyKey l
+    go false e = getD-set-other (b .keys) own j k emptyKey (eqb-false j own e)
+
 -- ---- what calls keep
 
 -- Something about a key and its tally that loads, appends and drops keep.
 pub record KeptByCalls (P : Key → Tally → Type 0) : Type 0 where
   pub loads : (end : ℕ) (k : Key) (ns : List ℕ) (s : Space) (p : Placed) (t : Tally) → P k t → inUse (k .place) ≡ false
       → Rising (2 ^ 62) 0 ns
-      → loadPlace end ns s ≡ accepted p → P (record { list = ns; place = p .place }) t
+      → loadPlace end ns s ≡ accepted p → P (record { list = ns; place = p .place; counted = true }) t
   pub appends : (end : ℕ) (k : Key) (n : ℕ) (s : Space) (p : Placed) (t : Tally) → P k t → lastFrom 0 (k .list) < n → n < 2 ^ 62
       → appendPlace end (length (k .list)) (extended (k .list) n) n (k .place) s ≡ accepted p
-      → P (record { list = extended (k .list) n; place = p .place }) (counted (p .rewritten) t)
+      → P (record { list = extended (k .list) n; place = p .place; counted = countedAfter (k .place) (k .counted) }) (counted (p .rewritten) t)
   pub drops : P emptyKey noMoves
 
 module _ (P : Key → Tally → Type 0) (kept : KeptByCalls P) where
@@ -104,9 +114,10 @@ module _ (P : Key → Tally → Type 0) (kept : KeptByCalls P) where
     within : key < length (b .keys)
     list : List ℕ
     place : Place
+    known : Bool
     space : Space
-    book : o .book ≡ withKey key list place space b
-    keeps : (t : Tally) → P (keyOf key b) t → P (record { list = list; place = place }) (talliedBy (o .told) t)
+    book : o .book ≡ withKey key list place known space b
+    keeps : (t : Tally) → P (keyOf key b) t → P (record { list = list; place = place; counted = known }) (talliedBy (o .told) t)
 
   load-changed : (b : Book) (key : ℕ) (ns : List ℕ) {o : Outcome} → loads b key ns ≡ accepted o → Changed b key o
   unfolding talliedBy
@@ -116,6 +127,7 @@ module _ (P : Key → Tally → Type 0) (kept : KeptByCalls P) where
         within = within;
         list = ns;
         place = p .place;
+        known = true;
         space = p .space;
         book = ap (λ (x : Outcome). x .book) is;
         keeps = λ t h. rw (ap (λ (x : Outcome). talliedBy (x .told) t) is) (kept .loads (b .size) (keyOf key b) ns (b .space) p t h free rises got);
@@ -129,6 +141,7 @@ module _ (P : Key → Tally → Type 0) (kept : KeptByCalls P) where
         within = within;
         list = extended (keyOf key b .list) n;
         place = p .place;
+        known = countedAfter (keyOf key b .place) (keyOf key b .counted);
         space = p .space;
         book = ap (λ (x : Outcome). x .book) is;
         keeps = λ t h. rw (ap (λ (x : Outcome). talliedBy (x .told) t) is) (kept .appends (b .size) (keyOf key b) n (b .space) p t h rises low got);
@@ -142,6 +155,7 @@ module _ (P : Key → Tally → Type 0) (kept : KeptByCalls P) where
         within = within;
         list = keyOf key b .list;
         place = keyOf key b .place;
+        known = keyOf key b .counted;
         space = b .space;
         book = ap (λ (x : Outcome). x .book) is ∙ ap (λ (ks : List Key). record { size = b .size; keys = ks; space = b .space }) (sym (set-getD (b .keys) key emptyKey));
         keeps = λ t h. rw (ap (λ (x : Outcome). talliedBy (x .told) t) is) h;
@@ -155,6 +169,7 @@ module _ (P : Key → Tally → Type 0) (kept : KeptByCalls P) where
         within = within;
         list = [];
         place = empty;
+        known = true;
         space = freedPlace (keyOf key b .place) (b .space);
         book = ap (λ (x : Outcome). x .book) is;
         keeps = λ t h. rw (ap (λ (x : Outcome). talliedBy (x .told) t) is) (kept .drops);
@@ -179,7 +194,7 @@ module _ (P : Key → Tally → Type 0) (kept : KeptByCalls P) where
       go ch true q =
           let is : keyOfCall c ≡ key = eqb-true (keyOfCall c) key q in
           let h' : P (keyOf (keyOfCall c) b) t = rw is h in
-          let new : keyOf (keyOfCall c) (o .book) ≡ record { list = ch .list; place = ch .place } =
+          let new : keyOf (keyOfCall c) (o .book) ≡ record { list = ch .list; place = ch .place; counted = ch .known } =
           ap (λ (x : Book). keyOf (keyOfCall c) x) (ch .book) ∙ getD-set-same (b .keys) (keyOfCall c) _ emptyKey (ch .within) in
           let done : P (keyOf (keyOfCall c) (o .book)) (talliedBy (o .told) t) = rw new (ch .keeps t h') in
           rw (← is) done

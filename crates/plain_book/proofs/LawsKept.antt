@@ -1,15 +1,16 @@
--- Kept streams: a list written anew, and a stream with one number more, are as long as shortest forms. Assumes nothing.
+-- Kept streams: a list written anew, and a stream with one number more; both have a byte at least for each number, and are as long as
+-- shortest forms, the second where it was before. Assumes nothing.
 use Prim.Native.Nat.{ℕ, _+_, _-_, _≤_}
 use mathlib.Core.List.{List, [], _∷_, _++_}
 use mathlib.Core.Path.{_≡_, refl, ap, _∙_}
 use native.Mathlib.Omega.{arith}
-use lib.ListN.{length}
+use lib.ListN.{length, length-append}
 use Rattle.compact.specs.Uleb128.{ulebLen}
 use Rattle.compact.proofs.LawsLength.{len-pos}
 use Rattle.scripthash_stream.specs.Stream.{lastFrom, streamLen, streamLenFrom}
 use Rattle.scripthash_stream.proofs.LawsStream.{stream-len-append}
 use Rattle.plain_book.specs.Key.{Kept, written, longer}
-use Rattle.plain_book.specs.Sound.{Shortest}
+use Rattle.plain_book.specs.Sound.{ByteEach, Shortest}
 
 -- The stream of a list with one number more has the bytes of the difference more.
 pub len-snoc : (prev : ℕ) (ns : List ℕ) (n : ℕ)
@@ -52,6 +53,12 @@ unfolding streamLenFrom
 count-stream prev [] = omega arith
 count-stream prev (n ∷ ns) = omega (arith, len-pos (n - prev), count-stream n ns)
 
--- A kept stream has no more numbers than bytes.
-pub count-kept : (k : Kept) → Shortest k → length (k .numbers) ≤ k .bytes
-count-kept k h = omega (arith, count-stream 0 (k .numbers))
+-- So it is of a list written anew,
+pub written-each : (ns : List ℕ) → ByteEach (written ns)
+unfolding written
+written-each ns = count-stream 0 ns
+
+-- and of a stream with one number more, in whatever forms the others are kept.
+pub longer-each : (n : ℕ) (k : Kept) → ByteEach k → ByteEach (longer n k)
+unfolding longer
+longer-each n k h = omega (arith, length-append (k .numbers) (n ∷ []), len-pos (n - lastFrom 0 (k .numbers)))

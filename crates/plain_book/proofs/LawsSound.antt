@@ -1,5 +1,6 @@
 -- After every list of calls on a fresh plain book, each key is sound. Assumes nothing.
-use Prim.Native.Nat.{ℕ, suc, _+_, _-_, _^_, _≤_, _<_}
+use Prim.Native.Nat.{ℕ, suc, _+_, _-_, _*_, _^_, _≤_, _<_}
+use mathlib.Core.Bool.{Bool, true}
 use mathlib.Core.List.{List, [], _∷_, _++_, append-assoc, append-nil}
 use mathlib.Core.Logic.{⊎-elim}
 use mathlib.Core.Option.{Option, none, some}
@@ -12,24 +13,24 @@ use Rattle.error.specs.Refusal.{accepted}
 use Rattle.error.proofs.LawsAnswer.{went-on}
 use Rattle.compact.specs.Uleb128.{divided, ulebLen}
 use Rattle.compact.proofs.LawsLength.{len-mono}
-use Rattle.scripthash_layout.specs.Sizes.{slabBytes, maxSlabClass, pageClass}
+use Rattle.scripthash_layout.specs.Sizes.{maxSlabCount, pageClass}
 use Rattle.scripthash_stream.specs.Stream.{Rising, lastFrom, streamLen, streamLenFrom}
 use Rattle.scripthash_stream.proofs.LawsStream.{rising-append}
 use Rattle.scripthash_cutting.specs.Cutting.{pageRoom, lastPageRoom, cutting, replaceLast, joined, Fit}
 use Rattle.scripthash_cutting.proofs.LawsPages.{pages-allowed}
 use Rattle.scripthash_cutting.proofs.LawsRising.{rising-words}
 use Rattle.plain_book.specs.Space.{Space, takeBlock, takeRun}
-use Rattle.book_rules.specs.Places.{payloadLen, movesTo, stays, loadsTo}
+use Rattle.book_rules.specs.Places.{movesTo, stays, loadsTo}
 use Rattle.plain_book.specs.Key.{Kept, written, longer, Page, Place, empty, inline, slab, pages, Key, emptyKey, lastPage, noPage}
-use Rattle.plain_book.specs.Key.{onePage, longerPage, joins, joinedTo, beginPage, Placed, moved, appendPages, appendPlace, runPages}
+use Rattle.plain_book.specs.Key.{countedAfter, onePage, longerPage, joins, joinedTo, beginPage, Placed, moved, appendPages, appendPlace, runPages}
 use Rattle.plain_book.specs.Key.{loadInto, loadPlace}
-use Rattle.book_rules.proofs.LawsRules.{bytes-mono, stays-holds, moves-to, loads-to}
-use Rattle.plain_book.proofs.LawsKept.{len-snoc, longer-numbers, shortest-longer, longer-bytes}
-use Rattle.plain_book.proofs.LawsMoves.{placed, which, moved-slab, moved-page}
+use Rattle.book_rules.proofs.LawsRules.{stays-holds, moves-to, loads-to}
+use Rattle.plain_book.proofs.LawsKept.{len-snoc, longer-numbers, written-each, longer-each}
+use Rattle.plain_book.proofs.LawsMoves.{placed, which, moved-slab, moved-page, pages-spent}
 use Rattle.book_rules.specs.Calls.{Call}
-use Rattle.plain_book.specs.Book.{fresh, keyOf, after}
+use Rattle.plain_book.specs.Book.{fresh, keyOf, extended, after}
 use Rattle.plain_book.proofs.LawsHistory.{KeptByCalls, kept-fresh}
-use Rattle.plain_book.specs.Sound.{held, FitPages, Fits, SoundKey}
+use Rattle.plain_book.specs.Sound.{held, FitPages, Fits, Known, SoundKey}
 
 -- ---- a list with one number more
 
@@ -55,9 +56,10 @@ rising-below top higher prev (n ∷ ns) h (a, b, r) = (a, omega arith, rising-be
 run-fits : (off : ℕ) (parts : List (List ℕ)) → 0 < length parts → Fit lastPageRoom pageRoom parts → FitPages (runPages off parts)
 unfolding runPages Fit FitPages written
 run-fits off [] h f = absurd (omega arith)
-run-fits off (p ∷ []) h (some', fits) = ((some', fits, omega arith, refl), refl)
-run-fits off (p ∷ q ∷ []) h (some', fits, f) = ((some', fits, le-refl pageRoom, refl), run-fits (off + 4096) (q ∷ []) (omega arith) f)
-run-fits off (p ∷ q ∷ r ∷ ps) h (some', fits, f) = ((some', fits, le-refl pageRoom, refl), run-fits (off + 4096) (q ∷ r ∷ ps) (omega arith) f)
+run-fits off (p ∷ []) h (some', fits) = ((some', fits, omega arith, written-each p), refl)
+run-fits off (p ∷ q ∷ []) h (some', fits, f) = ((some', fits, le-refl pageRoom, written-each p), run-fits (off + 4096) (q ∷ []) (omega arith) f)
+run-fits off (p ∷ q ∷ r ∷ ps) h (some', fits, f) =
+    ((some', fits, le-refl pageRoom, written-each p), run-fits (off + 4096) (q ∷ r ∷ ps) (omega arith) f)
 
 run-held : (off : ℕ) (parts : List (List ℕ)) → held (runPages off parts) ≡ joined parts
 unfolding runPages held joined written
@@ -78,7 +80,7 @@ join-fits : (n : ℕ) (page : Page) (ps : List Page) → FitPages ps → longer 
 unfolding FitPages replaceLast lastPage
 join-fits n page [] f h = f
 join-fits n page (p ∷ []) ((a, b, c, d), r) h =
-    ((rw (longer-numbers n (p .part), length-append (p .part .numbers) (n ∷ [])) (omega arith), h, c, shortest-longer n (p .part) d), r)
+    ((rw (longer-numbers n (p .part), length-append (p .part .numbers) (n ∷ [])) (omega arith), h, c, longer-each n (p .part) d), r)
 join-fits n page (p ∷ q ∷ []) (f, fs) h = (f, join-fits n p (q ∷ []) fs h)
 join-fits n page (p ∷ q ∷ r ∷ ps) (f, fs) h = (f, join-fits n p (q ∷ r ∷ ps) fs h)
 
@@ -91,20 +93,20 @@ begin-held n off (p ∷ ps) = ap (λ (l : List ℕ). p .part .numbers ++ l) (beg
 begin-fits : (n off : ℕ) (ps : List Page) → FitPages ps → ulebLen (n - 0) ≤ lastPageRoom → FitPages (ps ++ onePage off (n ∷ []))
 unfolding FitPages streamLenFrom written
 begin-fits n off [] f h = absurd f
-begin-fits n off (p ∷ []) (f, r) h = (f, ((omega arith, omega arith, omega arith, refl), refl))
+begin-fits n off (p ∷ []) (f, r) h = (f, ((omega arith, omega arith, omega arith, written-each (n ∷ [])), refl))
 begin-fits n off (p ∷ q ∷ ps) (f, fs) h = (f, begin-fits n off (q ∷ ps) fs h)
 
 -- ---- places
 
--- a list in the head word has at most 9 bytes, and one in a slab few
-pub one-bytes : (list : List ℕ) → Rising (2 ^ 62) 0 list → length list ≡ 1 → streamLen list ≤ 9
+-- Numbers below 2^62 take at most 9 bytes each in shortest forms.
+nine-each : (prev : ℕ) (ns : List ℕ) → Rising (2 ^ 62) prev ns → streamLenFrom prev ns ≤ 9 * length ns
 unfolding Rising streamLenFrom
-one-bytes [] r e = absurd (omega arith)
-one-bytes (n ∷ []) (a, b, r) e = omega (arith, len-below n 0 b)
-one-bytes (n ∷ m ∷ ns) r e = absurd (omega arith)
+nine-each prev [] r = omega arith
+nine-each prev (n ∷ ns) (a, b, r) = omega (arith, len-below n prev b, nine-each n ns r)
 
-pub slab-bytes : (class bytes : ℕ) → class ≤ maxSlabClass → payloadLen bytes ≤ slabBytes class → bytes ≤ 2046
-slab-bytes class bytes c h = let m = bytes-mono {c = class} {d = 7} c in omega arith
+-- So a list that a slab may hold fits a last page, written anew, with one number more.
+pub moved-small : (ns : List ℕ) (n : ℕ) → Rising (2 ^ 62) 0 ns → n < 2 ^ 62 → length ns ≤ maxSlabCount → streamLen (ns ++ (n ∷ [])) ≤ lastPageRoom
+moved-small ns n r l few = omega (arith, len-snoc 0 ns n, len-below n (lastFrom 0 ns) l, nine-each 0 ns r)
 
 -- a list that moves fits the slab or the page that it moves to
 moved-fits : (end count : ℕ) (list : List ℕ) (old : Place) (s : Space) {p : Placed} → 2 ≤ length list → streamLen list ≤ lastPageRoom
@@ -116,10 +118,10 @@ moved-fits end count list old s {p} two small e = go (movesTo (length list) (str
     go (some c) q e =
         let m = moves-to (length list) (streamLen list) q in
         let (off, at, told) = moved-slab end count list old s c e in
-        rw at (refl, refl, m .slab, two, m .few, m .fits)
+        rw at (refl, written-each list, m .slab, two, m .few, m .fits)
     go none q e =
         let (off, at, told) = moved-page end count list old s e in
-        rw at (append-nil list, ((omega arith, small, omega arith, refl), refl))
+        rw at (append-nil list, ((omega arith, small, omega arith, written-each list), refl))
 
 -- a number that joins pages, or begins one
 pages-fit : (end : ℕ) (ps : List Page) (ns : List ℕ) (n : ℕ) (s : Space) {p : Placed} → n < 2 ^ 62 → held ps ≡ ns → FitPages ps
@@ -142,23 +144,16 @@ append-fits : (end count : ℕ) (ns : List ℕ) (n : ℕ) (old : Place) (s : Spa
 unfolding appendPlace Fits
 append-fits end count ns n empty s r l f e = rw (placed e) (omega (arith, length-append ns (n ∷ [])))
 append-fits end count ns n inline s r l f e =
-    let a = len-snoc 0 ns n in
-    let b = len-below n (lastFrom 0 ns) l in
-    let c = one-bytes ns r f in
     let d = length-append ns (n ∷ []) in
-    moved-fits end count (ns ++ (n ∷ [])) inline s (omega arith) (omega arith) e
-append-fits end count ns n (slab class off kept) s r l (same, shortest, c, two, few, bytes) e =
-    let a = len-snoc 0 ns n in
-    let b = len-below n (lastFrom 0 ns) l in
-    let all : kept .bytes ≡ streamLen ns = shortest ∙ ap streamLen same in
-    let m = slab-bytes class (kept .bytes) c bytes in
+    moved-fits end count (ns ++ (n ∷ [])) inline s (omega arith) (moved-small ns n r l (omega arith)) e
+append-fits end count ns n (slab class off kept) s r l (same, each, c, two, few, bytes) e =
     let d = length-append ns (n ∷ []) in
     ⊎-elim
     (λ (t, is).
     let (few', slots, fits) = stays-holds class (length (ns ++ (n ∷ []))) (longer n kept .bytes) t in
     rw (placed is)
-    (longer-numbers n kept ∙ ap (λ (l : List ℕ). l ++ (n ∷ [])) same, shortest-longer n kept shortest, c, omega arith, few', fits))
-    (λ (t, is). moved-fits end count (ns ++ (n ∷ [])) (slab class off kept) s (omega arith) (omega arith) is)
+    (longer-numbers n kept ∙ ap (λ (l : List ℕ). l ++ (n ∷ [])) same, longer-each n kept each, c, omega arith, few', fits))
+    (λ (t, is). moved-fits end count (ns ++ (n ∷ [])) (slab class off kept) s (omega arith) (moved-small ns n r l few) is)
     (which (stays class (length (ns ++ (n ∷ []))) (longer n kept .bytes)) _ _ e)
 append-fits end count ns n (pages ps) s r l (is-held, fit) e = pages-fit end ps ns n s l is-held fit e
 
@@ -180,34 +175,48 @@ load-fits end (n ∷ m ∷ ns) s {p} r e = go (loadsTo (length (n ∷ m ∷ ns))
     go (some c) q e =
         let (few, class, fits) = loads-to (length (n ∷ m ∷ ns)) (streamLen (n ∷ m ∷ ns)) q in
         let (t, got, is) = went-on (takeBlock end c s) _ e in
-        rw (placed is) (refl, refl, class, omega arith, few, fits)
+        rw (placed is) (refl, written-each (n ∷ m ∷ ns), class, omega arith, few, fits)
     go none q e =
         let (t, got, is) = went-on (takeRun end (length (cutting (n ∷ m ∷ ns))) s) _ e in
         let ok = pages-allowed (n ∷ m ∷ ns) (rising-words 0 (n ∷ m ∷ ns) (rising-below (2 ^ 62) (2 ^ 63) 0 (n ∷ m ∷ ns) (omega arith) r)) in
         rw (placed is) (run-held (t .off) (cutting (n ∷ m ∷ ns)) ∙ ok .consecutive, run-fits (t .off) (cutting (n ∷ m ∷ ns)) (some-parts n (m ∷ ns) (cutting (n ∷ m ∷ ns)) (ok .consecutive)) (ok .fit))
 
--- A sound key's slab takes a number more in the bytes of shortest forms.
-pub sound-longer : (n : ℕ) (k : Key) (class off : ℕ) (kept : Kept) → k .place ≡ slab class off kept → SoundKey k
-    → longer n kept .bytes ≡ streamLen (k .list ++ (n ∷ []))
-unfolding Fits
-sound-longer n k class off kept is h =
-    let fits : Fits (k .list) (slab class off kept) = rw is at (h .fits) in
-    longer-bytes n kept (k .list) (fits .0) (fits .1)
+-- ---- totals
+
+-- A total that is told stays so in any place.
+pub known-anywhere : (place : Place) → Known place true
+known-anywhere empty = refl
+known-anywhere inline = refl
+known-anywhere (slab class off kept) = refl
+known-anywhere (pages ps) = tt
+
+-- An append leaves a total unknown only where the list was in pages, and there it stays.
+known-append : (end count : ℕ) (list : List ℕ) (n : ℕ) (old : Place) (counted : Bool) (s : Space) {p : Placed}
+    → appendPlace end count list n old s ≡ accepted p → Known (p .place) (countedAfter old counted)
+unfolding appendPlace
+known-append end count list n empty counted s {p} e = known-anywhere (p .place)
+known-append end count list n inline counted s {p} e = known-anywhere (p .place)
+known-append end count list n (slab class off kept) counted s {p} e = known-anywhere (p .place)
+known-append end count list n (pages ps) counted s {p} e = let (qs, at, told) = pages-spent end ps n s e in rw at tt
 
 -- ---- every list of calls
 
 -- A key that holds nothing is sound.
 pub empty-sound : SoundKey emptyKey
 unfolding Rising Fits
-empty-sound = record { rises = tt; fits = refl }
+empty-sound = record { rises = tt; fits = refl; known = refl }
 
 -- Calls keep a key sound.
 pub sound-kept : KeptByCalls (λ k t. SoundKey k)
 sound-kept =
     record {
-      loads = λ end k ns s p t h f rises e. record { rises = rises; fits = load-fits end ns s rises e };
+      loads = λ end k ns s p t h f rises e. record { rises = rises; fits = load-fits end ns s rises e; known = known-anywhere (p .place) };
       appends = λ end k n s p t h rises low e.
-          record { rises = rises-snoc (2 ^ 62) (k .list) n (h .rises) rises low; fits = append-fits end (length (k .list)) (k .list) n (k .place) s (h .rises) low (h .fits) e };
+          record {
+            rises = rises-snoc (2 ^ 62) (k .list) n (h .rises) rises low;
+            fits = append-fits end (length (k .list)) (k .list) n (k .place) s (h .rises) low (h .fits) e;
+            known = known-append end (length (k .list)) (extended (k .list) n) n (k .place) (k .counted) s e;
+          };
       drops = empty-sound;
     }
 

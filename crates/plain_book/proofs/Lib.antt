@@ -3,6 +3,8 @@ pub mod LawsKept
 pub mod LawsMoves
 pub mod LawsHistory
 pub mod LawsSound
+pub mod LawsShortest
+pub mod LawsTotals
 pub mod LawsCeilings
 pub mod LawsApart
 pub mod LawsOwners

@@ -2,6 +2,7 @@
 use Prim.Native.Nat.{ℕ, _+_}
 use mathlib.Core.Bool.{Bool, true, false}
 use mathlib.Core.List.{List, [], _∷_, _++_}
+use mathlib.Core.Logic.{_≢_}
 use lib.Dec.{leb, ltb}
 use lib.ListN.{length, getD, set, replicate}
 use Rattle.error.specs.Refusal.{Answer, accepted, refuseIf, andThen, listTooShort}
@@ -13,8 +14,8 @@ use Rattle.book_rules.specs.Calls.{Call, load, append, read, drop, Told, loaded
 use Rattle.book_rules.specs.Calls.{answersTo}
 use Rattle.book_rules.specs.Limits.{outOfShape, offeredNumber, offeredList}
 use Rattle.plain_book.specs.Space.{Space}
-use Rattle.plain_book.specs.Key.{Place, empty, inline, slab, pages, Key, emptyKey, headOf, pagesOf, freedPlace, appendPlace}
-use Rattle.plain_book.specs.Key.{loadPlace}
+use Rattle.plain_book.specs.Key.{Place, empty, inline, slab, pages, Key, emptyKey, headOf, pagesOf, freedPlace, countedAfter}
+use Rattle.plain_book.specs.Key.{appendPlace, loadPlace}
 
 -- A plain book: the length of the body that it stands for, its keys, and its space.
 pub record Book : Type 0 where
@@ -45,8 +46,9 @@ abbrev pub keyOf : ℕ → Book → Key
 keyOf key b = getD (b .keys) key emptyKey
 
 -- A book with a key and its space changed.
-abbrev pub withKey : ℕ → List ℕ → Place → Space → Book → Book
-withKey key list place space b = record { size = b .size; keys = set (b .keys) key (record { list = list; place = place }); space = space }
+abbrev pub withKey : ℕ → List ℕ → Place → Bool → Space → Book → Book
+withKey key list place counted space b =
+    record { size = b .size; keys = set (b .keys) key (record { list = list; place = place; counted = counted }); space = space }
 
 -- A place that holds something: the key is in use.
 abbrev pub inUse : Place → Bool
@@ -63,7 +65,7 @@ loads b key ns =
     (refuseIf (ltb maxOffered (length ns)) tooManyOffered
     (offeredList true 0 ns
     (andThen (loadPlace (b .size) ns (b .space))
-    (λ p. accepted (record { told = loaded (record { pages = pagesOf (p .place) }); book = withKey key ns (p .place) (p .space) b }))))))
+    (λ p. accepted (record { told = loaded (record { pages = pagesOf (p .place) }); book = withKey key ns (p .place) true (p .space) b }))))))
 
 -- A list with one number more.
 abbrev pub extended : List ℕ → ℕ → List ℕ
@@ -78,7 +80,7 @@ appends b key n =
     (andThen (appendPlace (b .size) (length (keyOf key b .list)) list n (keyOf key b .place) (b .space))
     (λ p. accepted (record {
       told = appended (record { place = headOf list (p .place); rewritten = p .rewritten });
-      book = withKey key list (p .place) (p .space) b;
+      book = withKey key list (p .place) (countedAfter (keyOf key b .place) (keyOf key b .counted)) (p .space) b;
     }))))
 
 -- A read of a key into a lent list with room for some numbers.
@@ -94,7 +96,7 @@ drops b key =
     onKey b key
     (accepted (record {
       told = dropped (record { length = length (keyOf key b .list) });
-      book = withKey key [] empty (freedPlace (keyOf key b .place) (b .space)) b;
+      book = withKey key [] empty true (freedPlace (keyOf key b .place) (b .space)) b;
     }))
 
 -- What a call does.
@@ -113,3 +115,8 @@ after b cs = afterCalls does b cs
 -- The answers to a list of calls, each on the book that the one before it left.
 abbrev pub answers : Book → List Call → List (Answer Told)
 answers b cs = answersTo does b cs
+
+-- None of some calls is a drop of a key.
+unfoldable pub NeverDropped : ℕ → List Call → Type 0
+NeverDropped key [] = Unit {0}
+NeverDropped key (c ∷ cs) = (c ≢ drop key) × NeverDropped key cs

@@ -1,6 +1,6 @@
 -- A key of a plain book: the list that it holds, and where that stands.
 use Prim.Native.Nat.{ℕ, _+_, _-_}
-use mathlib.Core.Bool.{Bool, cond}
+use mathlib.Core.Bool.{Bool, true, cond}
 use mathlib.Core.List.{List, [], _∷_, _++_}
 use mathlib.Core.Option.{Option, none, some}
 use lib.Dec.{leb}
@@ -41,14 +41,20 @@ pub data Place : Type 0 where
   slab : ℕ → ℕ → Kept → Place
   pages : List Page → Place
 
--- A key: its list and its place.
+-- A key: its list, its place, and whether its last page tells how many numbers it has. A total that was never counted stays unknown until
+-- the key is dropped.
 pub record Key : Type 0 where
   pub list : List ℕ
   pub place : Place
+  pub counted : Bool
 
 -- A key that holds nothing.
 abbrev pub emptyKey : Key
-emptyKey = record { list = []; place = empty }
+emptyKey = record { list = []; place = empty; counted = true }
+
+-- The total that a key's last page tells: how many numbers it has, or 0, unknown.
+abbrev pub totalOf : Key → ℕ
+totalOf k = cond (k .counted) (length (k .list)) 0
 
 -- The last of some pages, or a given one where there are none.
 unfoldable pub lastPage : Page → List Page → Page
@@ -86,6 +92,13 @@ freedPlace (slab class off kept) s = freed class off s
 freedPlace (pages ps) s = freedPages ps s
 
 -- ---- appending
+
+-- Whether a key is counted after an append: one in pages is if it was before, any other is, since a list that moves has its exact total.
+abbrev pub countedAfter : Place → Bool → Bool
+countedAfter empty counted = true
+countedAfter inline counted = true
+countedAfter (slab class off kept) counted = true
+countedAfter (pages ps) counted = counted
 
 -- A list in one page.
 abbrev pub onePage : ℕ → List ℕ → List Page

@@ -1,5 +1,6 @@
 -- What every key of a plain book is, whatever calls led there: its list rises, and fits where it stands.
 use Prim.Native.Nat.{ℕ, _^_, _≤_, _<_}
+use mathlib.Core.Bool.{Bool, true}
 use mathlib.Core.List.{List, [], _∷_, _++_}
 use mathlib.Core.Path.{_≡_}
 use lib.ListN.{length}
@@ -14,13 +15,13 @@ unfoldable pub held : List Page → List ℕ
 held [] = []
 held (p ∷ ps) = p .part .numbers ++ held ps
 
--- A kept stream takes the bytes of shortest forms.
-abbrev pub Shortest : Kept → Type 0
-Shortest k = k .bytes ≡ streamLen (k .numbers)
+-- A kept stream has a byte at least for each number.
+abbrev pub ByteEach : Kept → Type 0
+ByteEach k = length (k .numbers) ≤ k .bytes
 
--- A page holds a number, its stream, in shortest forms, fits its room, and that is no more than a page has.
+-- A page holds a number, its stream has a byte at least for each and fits its room, and that is no more than a page has.
 abbrev pub FitsPage : Page → Type 0
-FitsPage p = (0 < length (p .part .numbers)) × (p .part .bytes ≤ p .room) × (p .room ≤ pageRoom) × Shortest (p .part)
+FitsPage p = (0 < length (p .part .numbers)) × (p .part .bytes ≤ p .room) × (p .room ≤ pageRoom) × ByteEach (p .part)
 
 -- Pages that fit: there is one, and the last has the room of a last page.
 unfoldable pub FitPages : List Page → Type 0
@@ -39,11 +40,37 @@ unfoldable pub Fits : List ℕ → Place → Type 0
 Fits list empty = length list ≡ 0
 Fits list inline = length list ≡ 1
 Fits list (slab class off kept) =
-    (kept .numbers ≡ list) × Shortest kept × (class ≤ maxSlabClass) × (2 ≤ length list) × (length list ≤ maxSlabCount)
+    (kept .numbers ≡ list) × ByteEach kept × (class ≤ maxSlabClass) × (2 ≤ length list) × (length list ≤ maxSlabCount)
     × (payloadLen (kept .bytes) ≤ slabBytes class)
 Fits list (pages ps) = (held ps ≡ list) × FitPages ps
 
--- A sound key: its list rises, below 2^62, and fits its place.
+-- A total may be unknown only of a list in pages.
+abbrev pub Known : Place → Bool → Type 0
+Known empty counted = counted ≡ true
+Known inline counted = counted ≡ true
+Known (slab class off kept) counted = counted ≡ true
+Known (pages ps) counted = Unit {0}
+
+-- A sound key: its list rises, below 2^62, and fits its place, and without pages its total is known.
 pub record SoundKey (k : Key) : Type 0 where
   pub rises : Rising (2 ^ 62) 0 (k .list)
   pub fits : Fits (k .list) (k .place)
+  pub known : Known (k .place) (k .counted)
+
+-- ---- what calls write
+
+-- A kept stream takes the bytes of shortest forms.
+abbrev pub Shortest : Kept → Type 0
+Shortest k = k .bytes ≡ streamLen (k .numbers)
+
+-- So does the stream of each of some pages.
+unfoldable pub ShortestPages : List Page → Type 0
+ShortestPages [] = Unit {0}
+ShortestPages (p ∷ ps) = Shortest (p .part) × ShortestPages ps
+
+-- Lengths are those of shortest forms, wherever a list stands.
+unfoldable pub ShortestPlace : Place → Type 0
+ShortestPlace empty = Unit {0}
+ShortestPlace inline = Unit {0}
+ShortestPlace (slab class off kept) = Shortest kept
+ShortestPlace (pages ps) = ShortestPages ps

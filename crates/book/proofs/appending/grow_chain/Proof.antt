@@ -1,15 +1,18 @@
 -- `grow_chain` meets its contract: what the take tells decides; the pages' writes are those of the definition. Assumes nothing.
 use Prim.Native.Nat.{ℕ, _+_, _≤_}
+use mathlib.Core.List.{[], _∷_}
 use mathlib.Core.Path.{_≡_, refl, sym, ap, _∙_}
 use native.Mathlib.Omega.{arith}
 use borrow.Author.Needs.{needs}
 use lib.ListN.{length}
 use Rattle.error.specs.Refusal.{accepted}
+use Rattle.buffer.specs.Bytes.{overwrite}
 use Rattle.scripthash_layout.specs.Sizes.{pageClass, pageSize}
 use Rattle.scripthash_layout.specs.declared.head.ShHeadValue.the-variants.{Extent}
 use Rattle.book_space.specs.Space.{Space, takeBlock}
 use Rattle.book_space.specs.Answers.{spaceOf, takeAnswer}
 use Rattle.book_keys.proofs.LawsPages.{page-inside}
+use Rattle.book_blocks.specs.Blocks.{lastPageOf}
 use Rattle.book.specs.Book.{Book}
 use Rattle.book.specs.Answers.{bookOf}
 use Rattle.book.specs.Appends.{appendAt}
@@ -83,17 +86,17 @@ returns c =
 link-page-requires : tie.Need-link-page-requires
 link-page-requires c κs = let h = last-inside (taking (c .before)) in omega arith
 
+total-with-requires : tie.Need-total-with-requires
+total-with-requires c κs =
+    let t = taking (c .before .before .before .before) in
+    omega (arith, sound t .creates-low, start t .pre .1 .creates-is)
+
 slice-aggregate-put-last-page : tie.Need-slice-aggregate-put-last-page
 slice-aggregate-put-last-page c = search needs
 
-add-put-last-page : tie.Need-add-put-last-page
-add-put-last-page c =
-    let t = taking (c .before .before .before .before .before .before) in
-    omega (arith, sound t .creates-low, start t .pre .1 .creates-is)
-
 put-last-page-requires : tie.Need-put-last-page-requires
 put-last-page-requires c κs =
-    let k = c .before .before .before .before .before .before in
+    let k = c .before .before .before .before .before .before .before in
     let t = taking k in
     let pre = start t .pre .0 in
     let lies = block-lies pageClass (off k) (b t .space) (after t) (pre .shape) (omega arith) (took k) in (
@@ -117,13 +120,16 @@ same-length-3 c = search needs
 returns-2 : tie.Need-returns-2
 returns-2 c =
     let written = c .before .before .before .before .before .before in
-    let linked = written .before .before .before .before .before in
+    let total = written .before .before .before in
+    let linked = total .before .before .before in
     let k = linked .before .before in
     let t = taking k in
     let a = start t .args in
     does-as
     (chain-yes (b t) (a .key) (a .n) (a .last) (a .first) (a .creates) (start t .pre .1) (linked .link-page .last .0) (written .put-last-page .last .0) (took k)
-    (linked .link-page .ensures) (written .put-last-page .ensures))
+    (linked .link-page .ensures)
+    (written .put-last-page .ensures
+    ∙ ap (λ (n : ℕ). overwrite (linked .link-page .last .0) (off k) (lastPageOf (a .first) (off k) 1 n (a .n ∷ []))) (total .total-with .ensures)))
     (c .before .before .accept-append .ensures (b t) (written .put-last-page .last .0) refl)
 
 pub grow-chain-spec : {M : Type 1} → statement M
@@ -138,8 +144,8 @@ grow-chain-spec =
     same-length
     returns
     link-page-requires
+    total-with-requires
     slice-aggregate-put-last-page
-    add-put-last-page
     put-last-page-requires
     accept-append-requires
     same-length-2

@@ -1,7 +1,7 @@
 -- `append_last` meets its contract: the count, the form and creates are written, and the version stays. Assumes nothing.
 use Prim.Native.Nat.{ℕ, _+_}
 use mathlib.Core.List.{List}
-use mathlib.Core.Path.{ap, _∙_}
+use mathlib.Core.Path.{ap, ap₂, _∙_}
 use native.Mathlib.Omega.{arith}
 use borrow.Author.Needs.{needs}
 use Rattle.buffer.specs.Bytes.{overwrite}
@@ -27,8 +27,8 @@ add-put-form c = search needs
 put-form-requires : tie.Need-put-form-requires
 put-form-requires c κs = search needs
 
-add-put-u32 : tie.Need-add-put-u32
-add-put-u32 c = search needs
+total-with-requires : tie.Need-total-with-requires
+total-with-requires c κs = search needs
 
 put-u32-requires : tie.Need-put-u32-requires
 put-u32-requires c κs = search needs
@@ -38,14 +38,16 @@ same-length c = search needs
 
 returns : tie.Need-returns
 returns c =
-    let formed = c .before .before .before .before .before .before in
+    let total = c .before .before .before in
+    let formed = total .before .before .before .before in
     let counted = formed .before .before .before .before in
     let got = counted .before .before in
     let s = got .before .before .before in
     let a = s .args in
     c .before .before .put-u32 .ensures
-    ∙ ap (λ (b : List ℕ). overwrite b 20 (bytesOf 4 (a .creates + 1)))
+    ∙ ap₂ (λ (b : List ℕ) (t : ℕ). overwrite b 20 (bytesOf 4 t))
     (formed .put-form .ensures .1 ∙ ap (λ (b : List ℕ). overwrite b (24 + a .taken) (shortest (a .difference))) (counted .put-u16 .ensures))
+    (total .total-with .ensures)
     ∙ grown-written (a .page .now) (got .get-u16 .result) (a .taken) (a .difference) (a .creates) (omega (arith, s .pre .0)) (s .pre .1) (got .get-u16 .ensures)
 
 pub append-last-spec : {M : Type 1} → statement M
@@ -57,7 +59,7 @@ append-last-spec =
     put-u16-requires
     add-put-form
     put-form-requires
-    add-put-u32
+    total-with-requires
     put-u32-requires
     same-length
     returns)

@@ -3,12 +3,13 @@ use Prim.Native.Nat.{ℕ, _+_, _/_}
 use mathlib.Core.Path.{_≡_, sym, ap, _∙_}
 use native.Mathlib.Omega.{arith}
 use borrow.Author.Needs.{needs}
+use borrow.Author.Tests.{not-true, not-false}
 use lib.ListN.{length, getD}
 use Rattle.error.specs.Refusal.{accepted}
 use Rattle.error.proofs.LawsAnswer.{was-accepted, was-refused}
 use Rattle.scripthash_layout.specs.Sizes.{pageSize}
 use Rattle.book_space.specs.Space.{Space}
-use Rattle.book_keys.specs.Keys.{soundly, Last, lastAt, Chain, walk}
+use Rattle.book_keys.specs.Keys.{soundly, Last, lastAt, Chain, walk, totalGood}
 use Rattle.book_keys.specs.Steps.{keySpace, Walked, walkedFrom, chainEndOf}
 use Rattle.book_keys.specs.Answers.{lastPageAnswer, walkAnswer}
 use Rattle.book_keys.proofs.LawsSound.{was-sound, was-unsound, turned-back, let-through}
@@ -84,25 +85,28 @@ returns-2 c =
     let stop = was-refused (walkedFrom 0 0) _ (sym (c .before .before .walk-pages .ensures) ∙ ap walkAnswer (c .enum-told2 .given .1)) in
     turned-back chainEndOf _ (chain-unwalked (s d) (last d) (head d) (is d) (was-unsound _ stop .1))
 
-cast-if1 : tie.Need-cast-if1
-cast-if1 c = search needs
+total-good-requires : tie.Need-total-good-requires
+total-good-requires c κs = search needs
 
 returns-3 : tie.Need-returns-3
 returns-3 c =
-    let w = c .before .before in
+    let w = c .before .before .before in
     let d = told w in
     turned-back chainEndOf _
-    (chain-other (s d) (last d) (head d) (is d) (chain w .0) (walks w) (λ (e : head d .creates ≡ length (chain w .0 .numbers)). c .if1 .taken (e ∙ length-is w)))
+    (chain-other (s d) (last d) (head d) (is d) (chain w .0) (walks w)
+    (ap (totalGood (head d .creates)) (length-is w) ∙ sym (c .before .total-good .ensures) ∙ not-true _ (c .if1 .taken)))
 
 returns-4 : tie.Need-returns-4
 returns-4 c =
-    let w = c .before .before in
+    let w = c .before .before .before in
     let d = told w in
     let k = chain w .0 in
     ap (λ (f : ℕ). accepted (record { first = f; length = end w .length; pages = end w .pages })) (sym (walk-first _ (s d) (last d) 0 (head d .first) k (walks w)))
     ∙ ap (λ (n : ℕ). accepted (record { first = getD (k .offs) 0 0; length = n; pages = end w .pages })) (sym (length-is w))
     ∙ ap (λ (n : ℕ). accepted (record { first = getD (k .offs) 0 0; length = length (k .numbers); pages = n })) (sym (pages-is w))
-    ∙ let-through chainEndOf _ (chain-yes (s d) (last d) (head d) (is d) k (walks w) (c .if1 .left ∙ sym (length-is w)))
+    ∙ let-through chainEndOf _
+    (chain-yes (s d) (last d) (head d) (is d) k (walks w)
+    (ap (totalGood (head d .creates)) (length-is w) ∙ sym (c .before .total-good .ensures) ∙ not-false _ (c .if1 .left)))
 
 pub chain-end-spec : {M : Type 1} → statement M
 chain-end-spec =
@@ -116,6 +120,6 @@ chain-end-spec =
     enum-known-walked
     enum-told-2
     returns-2
-    cast-if1
+    total-good-requires
     returns-3
     returns-4)
