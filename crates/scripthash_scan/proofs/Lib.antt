@@ -4,3 +4,4 @@ pub mod LawsSums
 pub mod LawsTotals
 pub mod LawsWeigh
 pub mod LawsLongest
+pub mod LawsFill
