@@ -1,5 +1,5 @@
 -- Writing a chain's numbers into a lent list, page by page: what is left to write makes the whole. Assumes nothing.
-use Prim.Native.Nat.{ℕ, suc, _+_, _-_, _≤_}
+use Prim.Native.Nat.{ℕ, suc, _+_, _-_, _≤_, _<_}
 use mathlib.Core.List.{List, _++_}
 use mathlib.Core.Logic.{_⊎_, ⊎-elim}
 use mathlib.Core.Path.{_≡_, refl, sym, ap, _∙_, subst}
@@ -7,42 +7,74 @@ use native.Mathlib.Nat.{sub-zero, add-zero}
 use native.Mathlib.Omega.{arith}
 use borrow.Author.Tests.{le-ltb, ltb-false}
 use lib.Dec.{ltb}
-use lib.ListN.{length, length-append}
+use lib.ListN.{length, length-append, length-take, length-drop}
 use Rattle.error.specs.Refusal.{Answer, accepted, refused}
 use Rattle.error.proofs.LawsAnswer.{refused≢accepted, accepted-inj, passed, refuse-no, then-yes, went-on}
 use Rattle.buffer.specs.Bytes.{overwrite}
 use Rattle.buffer.proofs.LawsBytes.{length-overwrite, overwrite-part}
 use Rattle.buffer.proofs.LawsOverwrite.{overwrite-adjoin}
-use Rattle.scripthash_stream.specs.Stream.{Scan, lastFrom, afterDecode}
-use Rattle.scripthash_stream.proofs.LawsDecode.{after-accepted}
-use Rattle.scripthash_stream.proofs.LawsLent.{lent, putBack}
-use Rattle.scripthash_fields.specs.Page.{nextOff, linkOf, linkOffset}
-use Rattle.scripthash_pages.specs.EntryAnswers.{PageRead}
+use Rattle.scripthash_stream.specs.Stream.{Scan, scan, lastFrom}
+use Rattle.scripthash_stream.proofs.LawsLent.{lent, putBack, length-lent}
+use Rattle.scripthash_fields.specs.Page.{nextOff, countOf, linkOf, streamOf, linkOffset}
+use Rattle.scripthash_pages.specs.EntryAnswers.{PageRead as Told}
 use Rattle.scripthash_pages.specs.Entries.{pageScan, pageEntries, pageReadOf}
 use Rattle.book_space.specs.Space.{Space}
 use Rattle.book_keys.specs.Keys.{pageAt, linkScan, Chain, linked, walk}
-use Rattle.book_keys.specs.Steps.{pageInto}
-use Rattle.book_keys.proofs.LawsSound.{was-sure}
-use Rattle.book_keys.proofs.LawsPages.{link-sound, into-on}
+use Rattle.book_keys.specs.Steps.{pageInto, PageFilled}
+use Rattle.book_keys.proofs.LawsPages.{PageRead, page-read, link-sound, into-on}
 use Rattle.book_keys.proofs.LawsWalk.{Ends, GoesOn, walk-step}
 
 -- ---- one page
 
 -- what reading a page tells besides its numbers
-pub read-told : (page : List ℕ) (c : Scan) (r : PageRead) → pageReadOf page c ≡ r
+pub read-told : (page : List ℕ) (c : Scan) (r : Told) → pageReadOf page c ≡ r
     → (length (c .numbers) ≡ r .count) × (nextOff page ≡ r .next)
 unfolding pageReadOf
-read-told page c r e = (ap (λ (x : PageRead). x .count) e, ap (λ (x : PageRead). x .next) e)
+read-told page c r e = (ap (λ (x : Told). x .count) e, ap (λ (x : Told). x .next) e)
 
--- a page that was read fits the list
-pub into-fits : (room : ℕ) (s : Space) (off : ℕ) (c : Scan) → pageInto room s off ≡ accepted c → length (c .numbers) ≤ room
-unfolding pageInto pageEntries
-into-fits room s off c e =
-    let there = was-sure _ _ e in
-    let read = went-on (pageScan (pageAt s off)) _ (there .1) in
+-- a page that was read fits the list, and its stream scans
+entries-read : (room : ℕ) (page : List ℕ) (c : Scan) → pageEntries room page ≡ accepted c → (PageRead page c) × (length (c .numbers) ≤ room)
+unfolding pageEntries
+entries-read room page c e =
+    let read = went-on (pageScan page) _ e in
     let fits = passed (ltb room (length (read .0 .numbers))) _ _ (read .2) in
     let same : read .0 ≡ c = accepted-inj (fits .1) in
-    rw same at (ltb-false room (length (read .0 .numbers)) (fits .0))
+    (page-read page c (read .1 ∙ ap accepted same), rw same at (ltb-false room (length (read .0 .numbers)) (fits .0)))
+
+-- filling a list from a page that has no room in it
+pub page-short : (page out : List ℕ) {number : ℕ} → length out < countOf page
+    → PageFilled (refused number) out out page (pageEntries (length out) page)
+page-short page out h =
+    record {
+      reads = λ c e. let k = entries-read (length out) page c e in absurd (omega (arith, h, k .0 .counted, k .1));
+      within = λ t e. absurd (refused≢accepted e);
+    }
+
+-- from one that has
+pub page-filled : (page out after : List ℕ) (count next : ℕ) → count ≡ countOf page → next ≡ nextOff page → count ≤ length out
+    → ((c : Scan) → scan count (streamOf page) ≡ accepted c → count ≤ length out → after ≡ overwrite out 0 (c .numbers))
+    → PageFilled (accepted (record { count = count; next = next })) out after page (pageEntries (length out) page)
+unfolding pageReadOf
+page-filled page out after count next n m h f =
+    record {
+      reads = λ c e.
+          let k = entries-read (length out) page c e .0 in (
+            ap accepted (rw (n, m, k .counted)),
+            f c (ap (λ (i : ℕ). scan i (streamOf page)) n ∙ k .scanned) h,
+          );
+      within = λ t e. let is : count ≡ t .count = ap (λ (x : Told). x .count) (accepted-inj e) in omega arith;
+    }
+
+-- from one that can't stand
+pub page-nowhere : (page out : List ℕ) (a : Answer Scan) {number m : ℕ} → a ≡ refused m → PageFilled (refused number) out out page a
+page-nowhere page out a e =
+    record { reads = λ c f. absurd (refused≢accepted (sym e ∙ f)); within = λ t f. absurd (refused≢accepted f) }
+
+-- the same by other terms
+pub filled-as : (told : Answer Told) (before after : List ℕ) {page page' : List ℕ} {a a' : Answer Scan} → page ≡ page' → a ≡ a'
+    → PageFilled told before after page a → PageFilled told before after page' a'
+filled-as told before after {page} {page'} {a} {a'} e f h =
+    subst (λ (x : Answer Scan). PageFilled told before after page' x) f (subst (λ (p : List ℕ). PageFilled told before after p a) e h)
 
 -- a sound page that fits the list is read
 pub into-sound : (room : ℕ) (s : Space) (prev off : ℕ) (c : Scan) → linkScan s prev off ≡ accepted c → length (c .numbers) ≤ room
@@ -53,11 +85,15 @@ into-sound room s prev off c e h =
     into-on room s off (k .stands) ∙ then-yes (pageScan (pageAt s off)) _ (k .scanned) ∙ refuse-no (ltb room (length (c .numbers))) _ _ (le-ltb room (length (c .numbers)) h)
 
 -- the list with a page's numbers written into its lent part
-pub page-written : (out : List ℕ) (at : ℕ) (part : List ℕ) (a : Answer Scan) (c : Scan) → at + length (c .numbers) ≤ length out
-    → part ≡ afterDecode (lent out at) a → a ≡ accepted c → putBack out at part ≡ overwrite out at (c .numbers)
-page-written out at part a c h e is =
-    ap (putBack out at) (e ∙ after-accepted (lent out at) a is)
+pub page-written : (out : List ℕ) (at : ℕ) (part : List ℕ) (c : Scan) → at + length (c .numbers) ≤ length out
+    → part ≡ overwrite (lent out at) 0 (c .numbers) → putBack out at part ≡ overwrite out at (c .numbers)
+page-written out at part c h e =
+    ap (putBack out at) e
     ∙ overwrite-part out at (length out - at) 0 (c .numbers) (omega arith) (omega arith) ∙ ap (λ (p : ℕ). overwrite out p (c .numbers)) (add-zero at)
+
+-- it is as long as before
+pub length-put : (out : List ℕ) (at : ℕ) (part : List ℕ) → at ≤ length out → length part ≡ length (lent out at) → length (putBack out at part) ≡ length out
+length-put out at part h e = simp (length-append, length-take, length-drop) (omega (arith, e, length-lent out at h))
 
 -- ---- what is left
 

@@ -1,17 +1,17 @@
 -- A key's slab: by its bytes, and where it stands. Assumes nothing.
-use Prim.Native.Nat.{ℕ, _+_, _-_, _^_, _≤_, _<_}
+use Prim.Native.Nat.{ℕ, zero, suc, _+_, _-_, _^_, _≤_, _<_}
 use mathlib.Core.Bool.{Bool, true, false, _&&_}
-use mathlib.Core.List.{List}
+use mathlib.Core.List.{List, [], _∷_}
 use mathlib.Core.Path.{_≡_, refl, sym, ap, _∙_}
 use native.Mathlib.Omega.{arith}
-use borrow.Author.Tests.{leb-true, eqb-true, ltb-false, le-leb, lt-leb, eq-eqb, ne-eqb}
+use borrow.Author.Tests.{leb-true, eqb-true, ltb-false, lt-ltb, le-leb, lt-leb, eq-eqb, ne-eqb}
 use lib.Dec.{leb, ltb, eqb}
 use lib.ListN.{length, drop, length-take, length-drop}
 use Rattle.error.specs.Refusal.{Answer, accepted, refused, andThen, keyUnsound}
 use Rattle.error.proofs.LawsAnswer.{accepted-inj, passed, then-yes, went-on}
 use Rattle.buffer.specs.Bytes.{part}
 use Rattle.scripthash_layout.specs.Sizes.{slabBytes, maxSlabClass, maxSlabCount}
-use Rattle.scripthash_stream.specs.Stream.{Rising, Scan, scan, decodeStream}
+use Rattle.scripthash_stream.specs.Stream.{Rising, lastFrom, Scan, scanFrom, scan, decodeStream}
 use Rattle.scripthash_stream.proofs.LawsScan.{scan-accepted}
 use Rattle.scripthash_stream.proofs.LawsDecode.{decode-refused, decode-fits, decode-accepted}
 use Rattle.scripthash_slabs.specs.Slab.{slabUsed, decodeSlab}
@@ -20,8 +20,8 @@ use Rattle.scripthash_free.specs.FreeList.{isBlock}
 use Rattle.scripthash_free.proofs.LawsBlock.{both}
 use Rattle.book_space.specs.Space.{Space}
 use Rattle.book_keys.specs.Keys.{sure, goOn, blockAt, slabScan}
-use Rattle.book_keys.specs.Steps.{slabRead}
-use Rattle.book_keys.proofs.LawsSound.{sure-yes, sure-no, was-sure, going, lastSound, first-by-last}
+use Rattle.book_keys.specs.Steps.{soundLast, slabRead}
+use Rattle.book_keys.proofs.LawsSound.{sure-yes, sure-no, was-sure, last-above, going, lastSound, first-by-last}
 use Rattle.book_keys.proofs.LawsBlocks.{isSlab, slab-lies}
 
 -- ---- by its bytes
@@ -51,6 +51,28 @@ module _ (slab : List ℕ) (used : ℕ) where
       sure-yes _ _ (rw (le-leb used maxSlabCount h, eq-eqb (slabUsed slab) used e))
       ∙ ap (λ (a : Answer Scan). andThen a (λ c. sure (goOn 0 (c .numbers)) (accepted c))) (decode-as-scan e l)
       ∙ first-by-last (scan used (drop 2 slab)) (λ c f. scan-accepted 0 used (drop 2 slab) c f .rising)
+
+-- a stream that takes bytes has a last number
+last-some : (ns : List ℕ) → Rising (2 ^ 63) 0 ns → 0 < length ns → 0 < lastFrom 0 ns
+unfolding Rising lastFrom
+last-some [] h some = absurd (omega (arith, some))
+last-some (n ∷ ns) h some = omega (arith, last-above (2 ^ 63) n ns (h .2), h .0)
+
+scanned-last : (n : ℕ) (bs : List ℕ) (c : Scan) → scan n bs ≡ accepted c → 0 < c .taken → 0 < lastFrom 0 (c .numbers)
+unfolding scanFrom
+scanned-last zero bs c e h = absurd (omega (arith, h, ap (λ (x : Scan). x .taken) (accepted-inj e)))
+scanned-last (suc k) bs c e h =
+    let w = scan-accepted 0 (suc k) bs c e in
+    last-some (c .numbers) (w .rising) (omega (arith, w .counted))
+
+-- a slab whose stream takes bytes and ends below 2 ^ 62 is read as that stream
+pub slab-short : (slab : List ℕ) (used : ℕ) (c : Scan) → used ≤ maxSlabCount → slabUsed slab ≡ used → 2 ≤ length slab
+    → scan used (drop 2 slab) ≡ accepted c → 0 < c .taken → lastFrom 0 (c .numbers) < 2 ^ 62 → slabRead slab used ≡ accepted c
+unfolding soundLast
+slab-short slab used c few e l is some low =
+    let last = lastFrom 0 (c .numbers) in
+    slab-by-scan slab used few e l ∙ then-yes (scan used (drop 2 slab)) _ is
+    ∙ sure-yes _ _ (rw (lt-ltb 0 last (scanned-last used (drop 2 slab) c is some), lt-ltb last (2 ^ 62) low))
 
 -- ---- where it stands
 
@@ -90,6 +112,22 @@ payload-read room slab c e =
       into = λ r h. unslab-as-stream r slab two ∙ decode-fits r (slabUsed slab) (drop 2 slab) read (omega (arith, known .counted));
     }
 
+-- What is known of a slab that reads as its head tells.
+pub slab-payload : (slab : List ℕ) (used : ℕ) (c : Scan) → slabRead slab used ≡ accepted c
+    → (slabUsed slab ≡ used) × (used ≤ maxSlabCount) × Payload slab c × (goOn 0 (c .numbers) ≡ true)
+unfolding slabRead
+slab-payload slab used c e =
+    let told = was-sure (leb used maxSlabCount && eqb (slabUsed slab) used) _ e in
+    let tests = both (leb used maxSlabCount) (eqb (slabUsed slab) used) (told .0) in
+    let read = went-on (decodeSlab used slab) _ (told .1) in
+    let gone = was-sure (goOn 0 (read .0 .numbers)) _ (read .2) in
+    let same : read .0 ≡ c = accepted-inj (gone .1) in (
+      eqb-true (slabUsed slab) used (tests .1),
+      leb-true used maxSlabCount (tests .0),
+      rw same at (payload-read used slab (read .0) (read .1)),
+      ap (λ (x : Scan). goOn 0 (x .numbers)) (sym same) ∙ gone .0,
+    )
+
 -- What is known of a sound slab: where it stands, how many numbers its head and its bytes tell, and its numbers.
 pub record SoundSlab (s : Space) (class used off : ℕ) (c : Scan) : Type 0 where
   pub class-to-7 : class ≤ maxSlabClass
@@ -104,27 +142,28 @@ pub record SoundSlab (s : Space) (class used off : ℕ) (c : Scan) : Type 0 wher
   pub taken-fits : c .taken + 2 ≤ slabBytes class
 
 module _ (s : Space) (class used off : ℕ) where
+  -- it stands, and its bytes read
+  pub slab-there : {c : Scan} → slabScan s class used off ≡ accepted c
+      → (isSlab class off (s .mark) ≡ true) × (slabRead (blockAt s class off) used ≡ accepted c)
+  unfolding slabScan slabRead
+  slab-there e = was-sure (isSlab class off (s .mark)) _ e
+
   pub slab-sound : (c : Scan) → slabScan s class used off ≡ accepted c → SoundSlab s class used off c
-  unfolding slabScan part
+  unfolding part
   slab-sound c e =
       let slab = blockAt s class off in
-      let there = was-sure (isSlab class off (s .mark)) _ e in
+      let there = slab-there e in
       let lies = slab-lies class off (s .mark) (there .0) in
-      let told = was-sure (leb used maxSlabCount && eqb (slabUsed slab) used) _ (there .1) in
-      let tests = both (leb used maxSlabCount) (eqb (slabUsed slab) used) (told .0) in
-      let read = went-on (decodeSlab used slab) _ (told .1) in
-      let gone = was-sure (goOn 0 (read .0 .numbers)) _ (read .2) in
-      let same : read .0 ≡ c = accepted-inj (gone .1) in
-      let payload = rw same at (payload-read used slab (read .0) (read .1)) in
-      let goes : goOn 0 (c .numbers) ≡ true = ap (λ (x : Scan). goOn 0 (x .numbers)) (sym same) ∙ gone .0 in
-      let stored : slabUsed slab ≡ used = eqb-true (slabUsed slab) used (tests .1) in
-      let counted : length (c .numbers) ≡ used = payload .counted ∙ stored in
+      let read = slab-payload slab used c (there .1) in
+      let payload = read .2 in
+      let goes = read .3 in
+      let counted : length (c .numbers) ≡ used = payload .counted ∙ read .0 in
       let know = going 0 (c .numbers) (payload .rising) goes in
       record {
         class-to-7 = lies .0;
         stands = lies .1;
-        used-to-256 = leb-true used maxSlabCount (tests .0);
-        stored = stored;
+        used-to-256 = read .1;
+        stored = read .0;
         payload = payload;
         counted = counted;
         some = omega (arith, know .some);

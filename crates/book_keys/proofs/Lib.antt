@@ -9,3 +9,4 @@ pub mod LawsContent
 pub mod LawsKeys
 pub mod LawsFree
 pub mod LawsDistinct
+pub mod LawsListed

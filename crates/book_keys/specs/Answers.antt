@@ -40,7 +40,7 @@ abbrev pub chainAnswer : ChainEnd → Answer ChainEndOf
 chainAnswer (Chain first length pages) = accepted (record { first = first; length = length; pages = pages })
 chainAnswer (NoChain number) = refused number
 
--- The answer of `key_counts`.
+-- The answer of `read_key`.
 abbrev pub countsAnswer : KeyCounts → Answer Counts
 countsAnswer (CountsAre length pages) = accepted (record { length = length; pages = pages })
 countsAnswer (NoCounts number) = refused number

@@ -1,18 +1,19 @@
 -- A key's blocks by their bytes alone: what is asked of a slab or page once it is known to lie below the mark, and what the steps of the
 -- code tell each other.
 use Prim.Native.Nat.{ℕ, _+_, _^_, _≤_}
-use mathlib.Core.Bool.{Bool, _&&_}
+use mathlib.Core.Bool.{Bool, true, false, _&&_}
 use mathlib.Core.List.{List, []}
 use mathlib.Core.Path.{_≡_}
 use lib.Dec.{leb, ltb, eqb}
 use lib.ListN.{length, getD}
-use Rattle.error.specs.Refusal.{Answer, accepted, andThen}
+use Rattle.error.specs.Refusal.{Answer, accepted, refused, refuseIf, andThen, answered, listTooShort}
 use Rattle.buffer.specs.Bytes.{overwrite}
 use Rattle.scripthash_layout.specs.Sizes.{maxSlabCount, pageClass}
 use Rattle.scripthash_stream.specs.Stream.{Scan, lastFrom}
 use Rattle.scripthash_slabs.specs.Slab.{slabUsed, decodeSlab}
 use Rattle.scripthash_fields.specs.Page.{linkOf, createsFieldOf, namesExtent, isLastLink, linkOffset}
-use Rattle.scripthash_pages.specs.Entries.{pageScan, pageEntries}
+use Rattle.scripthash_pages.specs.EntryAnswers.{PageRead}
+use Rattle.scripthash_pages.specs.Entries.{pageScan, pageEntries, pageReadOf}
 use Rattle.scripthash_free.specs.FreeList.{isBlock}
 use Rattle.book_space.specs.Space.{Space, space}
 use Rattle.book_keys.specs.Keys.{sure, goOn, goodExtent, pageAt, createsGood, Last, Chain, Content, Tail}
@@ -109,6 +110,32 @@ countsOf c = record { length = length (c .numbers); pages = c .pages }
 unfoldable pub pageInto : ℕ → Space → ℕ → Answer Scan
 pageInto room s off = sure (isBlock pageClass off (s .mark)) (pageEntries room (pageAt s off))
 
+-- What filling a list from a page does, whose reading would be `a`: where that is accepted, it tells as much and the list holds the numbers; it
+-- never tells more numbers than fit.
+pub record PageFilled (told : Answer PageRead) (before after page : List ℕ) (a : Answer Scan) : Type 0 where
+  pub reads : (c : Scan) → a ≡ accepted c → (told ≡ accepted (pageReadOf page c)) × (after ≡ overwrite before 0 (c .numbers))
+  pub within : (t : PageRead) → told ≡ accepted t → t .count ≤ length before
+
 -- A lent list afterwards has some numbers at its start, where it has room for them.
 abbrev pub Written : List ℕ → List ℕ → List ℕ → Type 0
 Written before after ns = length ns ≤ length before → after ≡ overwrite before 0 ns
+
+-- A try at reading a block's numbers, whose scan as a sound one would be `a`, into the start of a list: it leaves the list, or the block is sound
+-- and its numbers fit, and the list holds them.
+pub data ShortList (did : Bool) (before after : List ℕ) (a : Answer Scan) : Type 0 where
+  unread : did ≡ false → after ≡ before → ShortList did before after a
+  short : (c : Scan) → did ≡ true → a ≡ accepted c → length (c .numbers) ≤ length before → after ≡ overwrite before 0 (c .numbers)
+      → ShortList did before after a
+
+-- What a key holds, to be read into a list with room for some numbers: 34 where its own don't fit.
+unfoldable pub fitting : ℕ → Answer Content → Answer Content
+fitting room a = andThen a (λ c. refuseIf (ltb room (length (c .numbers))) listTooShort (accepted c))
+
+-- What a lent list holds after a read: the numbers at its start, or what it held where the read is refused.
+unfoldable pub afterRead : List ℕ → Answer Content → List ℕ
+afterRead out (accepted c) = overwrite out 0 (c .numbers)
+afterRead out (refused number) = out
+
+-- What a read of a key does, which holds `a`: what it tells, and the lent list afterwards.
+abbrev pub KeyRead : Answer Counts → List ℕ → List ℕ → Answer Content → Type 0
+KeyRead told before after a = (told ≡ answered countsOf (fitting (length before) a)) × (after ≡ afterRead before (fitting (length before) a))

@@ -4,14 +4,15 @@ ghost use Prim.Native.Nat.{_/_, _≤_};
 ghost use lib.ListN.{length, getD};
 ghost use Rattle.error.specs.Refusal.{accepted, answered, refusalOf};
 ghost use Rattle.scripthash_layout.specs.Sizes.{pageSize};
-ghost use Rattle.scripthash_stream.specs.Stream.{afterDecode};
+ghost use Rattle.scripthash_layout.specs.declared.head.ShHeadValue.the-variants.{Extent};
 ghost use Rattle.scripthash_pages.specs.EntryAnswers.{sliceAnswer};
-ghost use Rattle.scripthash_pages.specs.Entries.{pageReadOf};
+ghost use Rattle.scripthash_pages.specs.Entries.{pageEntries};
 ghost use Rattle.book_keys.specs.Keys.{soundly, pageAt, linkScan, lastAt, walk, Chain as ChainIs, totalGood, chainAt};
-ghost use Rattle.book_keys.specs.Keys.{tailAt};
+ghost use Rattle.book_keys.specs.Keys.{tailAt, contentAt};
 ghost use Rattle.book_keys.specs.Steps.{keySpace, linkRead, lastRead, tailRead, tailEndOf, linkEndOf, walkedFrom, chainEndOf};
-ghost use Rattle.book_keys.specs.Steps.{pageInto, Written};
-ghost use Rattle.book_keys.specs.Answers.{lastPageAnswer, tailAnswer, linkEndAnswer, walkAnswer, chainAnswer};
+ghost use Rattle.book_keys.specs.Steps.{pageInto, PageFilled, Written, KeyRead};
+ghost use Rattle.book_keys.specs.Answers.{lastPageAnswer, tailAnswer, linkEndAnswer, walkAnswer, chainAnswer, countsAnswer};
+use crate::key::KeyCounts;
 use crate::slab::sound_last;
 use compact::ReadUleb128;
 use error::Refusal;
@@ -187,7 +188,7 @@ fn read_link(page: &[u8], prev: u64) -> LinkEnd
 }
 
 // The header of a key's last page, at an offset.
-pub fn last_page(body: &[u8], mark: u64, last: u64) -> LastPage
+fn last_page(body: &[u8], mark: u64, last: u64) -> LastPage
     requires { ⌜ mark ≤ length (now body) ⌝ }
     ensures { λ r. ⌜ lastPageAnswer r ≡ soundly (lastAt (keySpace (now (body .entry)) mark) last) ⌝ }
 {
@@ -293,24 +294,39 @@ pub fn chain_end(body: &[u8], mark: u64, last: u64) -> ChainEnd
     }
 }
 
-// Writes the numbers of the page at an offset to the start of out, and tells how many they are and where the next page is.
+// Writes the numbers of a page that reads, by its bytes, to the start of out, and tells how many they are and where the next page is.
+fn fill_page(page: &[u8], out: &mut [u64]) -> PageSlice
+    requires { ⌜ length (now page) ≡ pageSize ⌝ }
+    ensures { λ r. ⌜ PageFilled (sliceAnswer r) (now (out .entry)) (now (out .exit)) (now (page .entry))
+        (pageEntries (length (now (out .entry))) (now (page .entry))) ⌝ }
+{
+    let count = buffer::get_u16(page, SH_PAGE_OFF_N_FKS) as usize;
+    if out.len() < count {
+        return PageSlice::Refused(error::LIST_TOO_SHORT);
+    }
+    let start = scripthash_fields::stream_off(page);
+    scripthash_scan::fill_fk_delta_stream(&page[start..], count, out);
+    PageSlice::Decoded {
+        count,
+        next: scripthash_fields::next_off(page),
+    }
+}
+
+// The same for the page at an offset.
 fn page_into(body: &[u8], mark: u64, off: u64, out: &mut [u64]) -> PageSlice
     requires { ⌜ mark ≤ length (now body) ⌝ }
-    ensures answer { λ r. ⌜ sliceAnswer r
-        ≡ answered (pageReadOf (pageAt (keySpace (now (body .entry)) mark) off))
+    ensures { λ r. ⌜ PageFilled (sliceAnswer r) (now (out .entry)) (now (out .exit)) (pageAt (keySpace (now (body .entry)) mark) off)
         (pageInto (length (now (out .entry))) (keySpace (now (body .entry)) mark) off) ⌝ }
-    ensures list { λ r. ⌜ now (out .exit)
-        ≡ afterDecode (now (out .entry)) (pageInto (length (now (out .entry))) (keySpace (now (body .entry)) mark) off) ⌝ }
 {
     if !is_page(off, mark) {
         return PageSlice::Refused(error::KEY_UNSOUND);
     }
     let start = off as usize;
-    scripthash_pages::sh_page_decode_slice_into(&body[start..start + SH_PAGE_SIZE], out)
+    fill_page(&body[start..start + SH_PAGE_SIZE], out)
 }
 
 // Writes the numbers of a sound chain to the start of out, page by page.
-pub fn chain_into(body: &[u8], mark: u64, first: u64, last: u64, out: &mut [u64])
+fn chain_into(body: &[u8], mark: u64, first: u64, last: u64, out: &mut [u64])
     requires { ⌜ mark ≤ length (now body) ⌝ }
     ensures { λ _. ⌜ ((c : ChainIs) → soundly (chainAt (keySpace (now (body .entry)) mark) last) ≡ accepted c → first ≡ getD (c .offs) 0 0
         → Written (now (out .entry)) (now (out .exit)) (c .numbers)) ⌝ }
@@ -331,4 +347,26 @@ pub fn chain_into(body: &[u8], mark: u64, first: u64, last: u64, out: &mut [u64]
         pages += 1;
         off = next;
     }
+}
+
+// Reads a key's pages into the start of out: all are judged, and then read.
+pub fn read_chain(body: &[u8], mark: u64, last: u64, out: &mut [u64]) -> KeyCounts
+    requires { ⌜ mark ≤ length (now body) ⌝ }
+    ensures { λ r. ⌜ KeyRead (countsAnswer r) (now (out .entry)) (now (out .exit))
+        (soundly (contentAt (keySpace (now (body .entry)) mark) (Extent last))) ⌝ }
+{
+    let got = chain_end(body, mark, last);
+    let ChainEnd::Chain {
+        first,
+        length,
+        pages,
+    } = got
+    else {
+        return KeyCounts::Refused(error::KEY_UNSOUND);
+    };
+    if (out.len() as u64) < length {
+        return KeyCounts::Refused(error::LIST_TOO_SHORT);
+    }
+    chain_into(body, mark, first, last, out);
+    KeyCounts::Counts { length, pages }
 }

@@ -9,8 +9,12 @@ ghost use Rattle.scripthash_layout.specs.Sizes.{slabBytes, maxSlabClass};
 ghost use Rattle.scripthash_stream.specs.Stream.{Scan, endFrom};
 ghost use Rattle.scripthash_stream.specs.Answers.{scanAnswer};
 ghost use Rattle.scripthash_free.specs.FreeList.{isBlock};
-ghost use Rattle.book_keys.specs.Keys.{soundly, slabScan};
-ghost use Rattle.book_keys.specs.Steps.{keySpace, soundLast, slabRead, Written};
+ghost use Rattle.scripthash_layout.specs.declared.head.ShHeadValue.the-variants.{Slab};
+ghost use Rattle.book_space.specs.Space.{Space};
+ghost use Rattle.book_keys.specs.Keys.{soundly, slabScan, contentAt};
+ghost use Rattle.book_keys.specs.Steps.{keySpace, soundLast, slabRead, Written, ShortList, KeyRead};
+ghost use Rattle.book_keys.specs.Answers.{countsAnswer};
+use crate::key::KeyCounts;
 use scripthash_free::is_slab;
 use scripthash_layout::SH_MAX_SLAB_CLASS;
 use scripthash_layout::slab_bytes;
@@ -75,6 +79,77 @@ pub fn slab_end(body: &[u8], mark: u64, class: u8, used: u16, off: u64) -> ScanS
     read_slab(&body[start..end], used)
 }
 
+// Writes the numbers of a slab that reads, by its bytes, to the start of out.
+fn fill_slab(slab: &[u8], out: &mut [u64])
+    requires { ⌜ 2 ≤ length (now slab) ⌝ }
+    ensures { λ _. ⌜ ((used : ℕ) (c : Scan) → slabRead (now (slab .entry)) used ≡ accepted c
+        → Written (now (out .entry)) (now (out .exit)) (c .numbers)) ⌝ }
+{
+    let used = buffer::get_u16(slab, 0) as usize;
+    scripthash_scan::fill_fk_delta_stream(&slab[2..], used, out);
+}
+
+// Reads a slab, by its bytes, in one pass where it is short: tells whether it did, and leaves out where it didn't.
+fn short_slab(slab: &[u8], used: u16, out: &mut [u64]) -> bool
+    requires { ⌜ 2 ≤ length (now slab) ⌝ }
+    ensures { λ r. ⌜ ShortList r (now (out .entry)) (now (out .exit)) (slabRead (now (slab .entry)) used) ⌝ }
+{
+    if SLAB_MOST < used {
+        return false;
+    }
+    if buffer::get_u16(slab, 0) != used {
+        return false;
+    }
+    0 < scripthash_scan::read_short_stream(&slab[2..], used as usize, NUMBER_RANGE, out)
+}
+
+// Reads a slab, by its bytes, into the start of out: in one pass where it is short, else it is judged and then read.
+fn slab_list(slab: &[u8], used: u16, out: &mut [u64]) -> KeyCounts
+    requires { ⌜ 2 ≤ length (now slab) ⌝ }
+    ensures { λ r. ⌜ ((s : Space) (class off : ℕ) → slabScan s class used off ≡ slabRead (now (slab .entry)) used
+        → KeyRead (countsAnswer r) (now (out .entry)) (now (out .exit)) (soundly (contentAt s (Slab class used off)))) ⌝ }
+{
+    if short_slab(slab, used, out) {
+        return KeyCounts::Counts {
+            length: used as u64,
+            pages: 0,
+        };
+    }
+    let got = read_slab(slab, used);
+    let ScanStream::Scanned { taken: _, last: _ } = got else {
+        return KeyCounts::Refused(error::KEY_UNSOUND);
+    };
+    if out.len() < used as usize {
+        return KeyCounts::Refused(error::LIST_TOO_SHORT);
+    }
+    fill_slab(slab, out);
+    KeyCounts::Counts {
+        length: used as u64,
+        pages: 0,
+    }
+}
+
+// Reads a key's slab into the start of out.
+pub fn read_stored(
+    body: &[u8],
+    mark: u64,
+    class: u8,
+    used: u16,
+    off: u64,
+    out: &mut [u64],
+) -> KeyCounts
+    requires { ⌜ mark ≤ length (now body) ⌝ }
+    ensures { λ r. ⌜ KeyRead (countsAnswer r) (now (out .entry)) (now (out .exit))
+        (soundly (contentAt (keySpace (now (body .entry)) mark) (Slab class used off))) ⌝ }
+{
+    if !slab_stands(class, off, mark) {
+        return KeyCounts::Refused(error::KEY_UNSOUND);
+    }
+    let start = off as usize;
+    let end = start + slab_bytes(class) as usize;
+    slab_list(&body[start..end], used, out)
+}
+
 // Writes the numbers of a sound slab to the start of out.
 pub fn slab_into(body: &[u8], class: u8, off: u64, out: &mut [u64])
     requires { ⌜ (class ≤ maxSlabClass) × (off + slabBytes class ≤ length (now body)) ⌝ }
@@ -83,5 +158,5 @@ pub fn slab_into(body: &[u8], class: u8, off: u64, out: &mut [u64])
 {
     let start = off as usize;
     let end = start + slab_bytes(class) as usize;
-    scripthash_slabs::decode_slab_payload_into(&body[start..end], out);
+    fill_slab(&body[start..end], out);
 }

@@ -1,19 +1,17 @@
 -- A read: what its definition says of a key, and what a call tells and leaves that does so. Assumes nothing.
 use Prim.Native.Nat.{ℕ, _≤_, _<_}
-use mathlib.Core.Bool.{true, false}
+use mathlib.Core.Bool.{Bool, true, false}
 use mathlib.Core.List.{List}
-use mathlib.Core.Path.{_≡_, ap, _∙_}
-use borrow.Author.Tests.{lt-ltb, le-ltb}
+use mathlib.Core.Path.{_≡_, refl, sym, _∙_}
 use lib.Dec.{ltb}
 use lib.ListN.{length}
-use Rattle.error.specs.Refusal.{Answer, accepted, refused, answered, shapeBad, keyBeyond, keyUnsound, listTooShort}
-use Rattle.error.proofs.LawsAnswer.{refuse-yes, refuse-no, then-yes, then-no}
+use Rattle.error.specs.Refusal.{Answer, accepted, refused, refuseIf, andThen, answered, shapeBad, keyBeyond, listTooShort}
+use Rattle.error.proofs.LawsAnswer.{was-accepted, was-refused, answered-yes, answered-no}
 use Rattle.buffer.specs.Bytes.{overwrite}
 use Rattle.book_rules.specs.Calls.{listed, answerOf}
 use Rattle.book_space.specs.Space.{shapeBroken}
 use Rattle.book_keys.specs.Keys.{Content, content}
-use Rattle.book_keys.specs.Steps.{Counts, countsOf}
-use Rattle.book_keys.proofs.LawsSound.{unsound-is}
+use Rattle.book_keys.specs.Steps.{Counts, countsOf, fitting, afterRead, KeyRead}
 use Rattle.book.specs.Book.{Book, Outcome, wordOf}
 use Rattle.book.specs.Reads.{reads, listAfter}
 use Rattle.book.specs.Answers.{Counted, countedOf}
@@ -22,6 +20,18 @@ use Rattle.book.proofs.LawsKey.{key-broken, key-beyond, key-there}
 -- What a read of a key that holds some content leaves.
 abbrev pub reading : Content → Book → Outcome
 reading c b = record { told = listed (record { numbers = c .numbers; pages = c .pages }); book = b }
+
+-- What a read tells of what a key holds.
+read-fitting : (b : Book) (room : ℕ) (a : Answer Content)
+    → andThen a (λ c. refuseIf (ltb room (length (c .numbers))) listTooShort (accepted (reading c b))) ≡ answered (λ c. reading c b) (fitting room a)
+unfolding fitting answered andThen refuseIf
+read-fitting b room (refused number) = refl
+read-fitting b room (accepted c) = by-room (ltb room (length (c .numbers)))
+  where
+    by-room : (short : Bool)
+        → refuseIf short listTooShort (accepted (reading c b)) ≡ answered (λ k. reading k b) (refuseIf short listTooShort (accepted c))
+    by-room true = refl
+    by-room false = refl
 
 -- A read of a key of a book, into a list with some room.
 module _ (b : Book) (key room : ℕ) where
@@ -36,27 +46,11 @@ module _ (b : Book) (key room : ℕ) where
     unfolding reads
     read-beyond h = key-beyond b key _ whole h
 
-    module _ (h : key < length (b .heads)) where
-      -- The key isn't sound.
-      pub read-unsound : {number : ℕ} → content (b .space) (wordOf key b) ≡ refused number → reads b key room ≡ refused keyUnsound
-      unfolding reads content
-      read-unsound e =
-          key-there b key _ whole h ∙ then-no (content (b .space) (wordOf key b)) _ (e ∙ ap refused (unsound-is _ e))
-
-      module _ (c : Content) (is : content (b .space) (wordOf key b) ≡ accepted c) where
-        -- The list has no room for its numbers.
-        pub read-short : room < length (c .numbers) → reads b key room ≡ refused listTooShort
-        unfolding reads
-        read-short k =
-            key-there b key _ whole h ∙ then-yes (content (b .space) (wordOf key b)) _ is
-            ∙ refuse-yes (ltb room (length (c .numbers))) _ _ (lt-ltb room (length (c .numbers)) k)
-
-        -- It has.
-        pub read-there : length (c .numbers) ≤ room → reads b key room ≡ accepted (reading c b)
-        unfolding reads
-        read-there k =
-            key-there b key _ whole h ∙ then-yes (content (b .space) (wordOf key b)) _ is
-            ∙ refuse-no (ltb room (length (c .numbers))) _ _ (le-ltb room (length (c .numbers)) k)
+    -- It isn't: what the key holds decides, and the room.
+    pub read-key : key < length (b .heads)
+        → reads b key room ≡ answered (λ c. reading c b) (fitting room (content (b .space) (wordOf key b)))
+    unfolding reads
+    read-key h = key-there b key _ whole h ∙ read-fitting b room (content (b .space) (wordOf key b))
 
 -- A read tells what an answer of its definition says, and its list is left as that says.
 abbrev pub ReadDoes : Answer Outcome → List ℕ → List ℕ → Answer Counted → Type 0
@@ -74,3 +68,21 @@ pub read-yes : (a : Answer Outcome) (b : Book) (c : Content) (counts : Counts) (
     → ReadDoes a before after (accepted (record { length = counts .length; pages = counts .pages }))
 unfolding answered listAfter
 read-yes a b c counts before after e n w = (rw (e, ← n), rw e w)
+
+-- A read of a key that is there, by what was told of the key and done to the list.
+module _ (a : Answer Outcome) (b : Book) (held : Answer Content) (told : Answer Counts) (before after : List ℕ)
+    (is : a ≡ answered (λ c. reading c b) (fitting (length before) held)) (does : KeyRead told before after held) where
+  pub read-refused : {number : ℕ} → told ≡ refused number → ReadDoes a before after (refused number)
+  unfolding afterRead
+  read-refused {number} e =
+      let stop : fitting (length before) held ≡ refused number = was-refused countsOf (fitting (length before) held) (sym (does .0) ∙ e) in
+      let left : after ≡ before = rw stop at (does .1) in
+      rw left (read-no a before (is ∙ answered-no (λ c. reading c b) _ stop))
+
+  pub read-accepted : (counts : Counts) → told ≡ accepted counts
+      → ReadDoes a before after (accepted (record { length = counts .length; pages = counts .pages }))
+  unfolding afterRead
+  read-accepted counts e =
+      let got = was-accepted countsOf (fitting (length before) held) (sym (does .0) ∙ e) in
+      let wrote : after ≡ overwrite before 0 (got .0 .numbers) = rw (got .1) at (does .1) in
+      read-yes a b (got .0) counts before after (is ∙ answered-yes (λ c. reading c b) _ (got .1)) (got .2) wrote

@@ -25,13 +25,9 @@ pub fn read(body: &[u8], heads: &[u64], state: State, key: u64, out: &mut [u64])
     }
     let word = heads[key as usize];
     let mark = state.mark;
-    let counts = book_keys::key_counts(body, mark, word);
+    let counts = book_keys::read_key(body, mark, word, out);
     let KeyCounts::Counts { length, pages } = counts else {
-        return BookRead::Refused(error::KEY_UNSOUND);
+        return BookRead::Refused(counts.refusal());
     };
-    if (out.len() as u64) < length {
-        return BookRead::Refused(error::LIST_TOO_SHORT);
-    }
-    book_keys::key_into(body, mark, word, out);
     BookRead::Listed { length, pages }
 }

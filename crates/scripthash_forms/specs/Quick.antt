@@ -7,7 +7,7 @@ use lib.ListN.{length, getD, take, drop}
 use Rattle.error.specs.Refusal.{Answer, accepted, answered}
 use Rattle.buffer.specs.Bytes.{overwrite}
 use Rattle.compact.specs.Uleb128.{readUleb}
-use Rattle.scripthash_stream.specs.Stream.{maxOffered, Scan, scanFrom, End, endsFrom, afterDecode}
+use Rattle.scripthash_stream.specs.Stream.{maxOffered, lastFrom, Scan, scanFrom, End, endsFrom, afterDecode}
 
 -- The first n bytes, of some but no more than are ever offered, are forms of one byte each, and none is 0.
 pub record OneByteForms (bs : List ℕ) (n : ℕ) : Type 0 where
@@ -52,3 +52,10 @@ pub data QuickPart (told : ℕ) (before after : List ℕ) (at : ℕ) (a : Answer
   left : told ≡ 0 → after ≡ before → QuickPart told before after at a
   read : (ns : List ℕ) → 0 < told → a ≡ accepted (record { numbers = ns; taken = told }) → after ≡ overwrite before at ns
       → QuickPart told before after at a
+
+-- A try at judging and reading a stream, whose scan would be `a`, into the start of a list: it tells 0 and leaves the list, or the bytes of a
+-- stream that fits and whose last number is below a limit, and the list holds the numbers.
+pub data ShortRead (told top : ℕ) (before after : List ℕ) (a : Answer Scan) : Type 0 where
+  unread : told ≡ 0 → after ≡ before → ShortRead told top before after a
+  short : (s : Scan) → 0 < told → a ≡ accepted s → s .taken ≡ told → length (s .numbers) ≤ length before → lastFrom 0 (s .numbers) < top
+      → after ≡ overwrite before 0 (s .numbers) → ShortRead told top before after a

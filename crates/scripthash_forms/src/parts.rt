@@ -7,7 +7,7 @@ ghost use Rattle.scripthash_forms.specs.Quick.{QuickPart, scanAt};
 use crate::forms::sum_forms;
 
 // Copies the first n numbers of a list to a place of another.
-fn copy_fks(from: &[u64], n: usize, out: &mut [u64], at: usize)
+pub fn copy_fks(from: &[u64], n: usize, out: &mut [u64], at: usize)
     requires { ⌜ (n ≤ length (now from)) × (at + n ≤ length (now out)) ⌝ }
     ensures { λ _. ⌜ now (out .exit) ≡ overwrite (now (out .entry)) at (take n (now (from .entry))) ⌝ }
 {

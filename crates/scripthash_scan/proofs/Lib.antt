@@ -1,3 +1,4 @@
 pub mod LawsTotals
 pub mod LawsWeigh
 pub mod LawsLongest
+pub mod LawsFill

@@ -45,7 +45,7 @@ pub fn smaller(a: u8, b: u8) -> u8
 
 // Each of the first n bytes is a form by itself, and none is 0: their least and their greatest tell it, whatever comes first, so that many
 // bytes are looked at at a time.
-fn one_byte_forms(buf: &[u8], n: usize) -> bool
+pub fn one_byte_forms(buf: &[u8], n: usize) -> bool
     ensures { λ r. ⌜ (r ≡ true → OneByteForms (now (buf .entry)) n) ⌝ }
 {
     if n == 0 {
@@ -76,9 +76,9 @@ fn one_byte_forms(buf: &[u8], n: usize) -> bool
 }
 
 // Writes the sums of n forms of one byte each to the start of out, and tells their bytes.
-fn sum_bytes(buf: &[u8], n: usize, out: &mut [u64]) -> usize
+pub fn sum_bytes(buf: &[u8], n: usize, out: &mut [u64]) -> usize
     requires { ⌜ OneByteForms (now buf) n × (n ≤ length (now out)) ⌝ }
-    ensures { λ r. ⌜ Quick r (now (out .entry)) (now (out .exit)) (decodeStream (length (now (out .entry))) n (now (buf .entry))) ⌝ }
+    ensures { λ r. ⌜ (r ≡ n) × Quick r (now (out .entry)) (now (out .exit)) (decodeStream (length (now (out .entry))) n (now (buf .entry))) ⌝ }
 {
     let mut sum: u64 = 0;
     let mut k: usize = 0;
@@ -112,7 +112,7 @@ pub fn decode_quickly(buf: &[u8], n: usize, out: &mut [u64]) -> usize
 }
 
 // The sum of n forms of one byte each: the last number of their stream.
-fn sum_of_bytes(buf: &[u8], n: usize) -> u64
+pub fn sum_of_bytes(buf: &[u8], n: usize) -> u64
     requires { ⌜ OneByteForms (now buf) n ⌝ }
     ensures { λ r. ⌜ QuickEnd n r (answered (endFrom 0) (scan n (now (buf .entry)))) ⌝ }
 {

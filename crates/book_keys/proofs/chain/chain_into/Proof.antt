@@ -6,21 +6,21 @@ use mathlib.Core.Path.{_≡_, refl, sym, ap, _∙_, subst}
 use native.Mathlib.Omega.{arith}
 use borrow.Author.Needs.{needs}
 use lib.ListN.{length}
-use Rattle.error.specs.Refusal.{Answer, accepted, refused, answered}
-use Rattle.error.proofs.LawsAnswer.{was-accepted, was-refused, accepted-inj, refused≢accepted}
+use Rattle.error.specs.Refusal.{accepted}
+use Rattle.error.proofs.LawsAnswer.{accepted-inj, refused≢accepted}
 use Rattle.buffer.specs.Bytes.{overwrite}
-use Rattle.buffer.proofs.LawsBytes.{length-overwrite}
 use Rattle.scripthash_layout.specs.Sizes.{pageSize}
-use Rattle.scripthash_stream.specs.Stream.{Scan, afterDecode}
+use Rattle.scripthash_stream.specs.Stream.{Scan}
 use Rattle.scripthash_stream.proofs.LawsLent.{lent, putBack, length-lent}
 use Rattle.scripthash_pages.specs.EntryAnswers.{PageRead, sliceAnswer}
+use Rattle.scripthash_fields.specs.Page.{nextOff}
 use Rattle.scripthash_pages.specs.Entries.{pageReadOf}
 use Rattle.book_space.specs.Space.{Space}
 use Rattle.book_keys.specs.Keys.{pageAt, Chain, walk}
 use Rattle.book_keys.specs.Steps.{keySpace, pageInto}
 use Rattle.book_keys.proofs.LawsSound.{was-sound}
 use Rattle.book_keys.proofs.LawsChain.{chain-walks}
-use Rattle.book_keys.proofs.LawsFill.{read-told, into-fits, page-written, Filling, filling-as, fill-start, fill-some, Turn}
+use Rattle.book_keys.proofs.LawsFill.{read-told, page-written, length-put, Filling, filling-as, fill-start, fill-some, Turn}
 use Rattle.book_keys.proofs.LawsFill.{fill-turn}
 use Rattle.book_keys.proofs.chain.chain_into.Statement.{statement}
 use Rattle.book_keys.proofs.chain.chain_into.Tie as tie
@@ -60,17 +60,16 @@ module _ (c : tie.After-page-into Inv-loop μ-loop) where
   abbrev part : List ℕ
   part = c .page-into .last .1 .1 .1 .0
 
-  abbrev read : Answer Scan
-  read = pageInto (length out - at) s off
-
   room : length (lent out at) ≡ length out - at
   room = length-lent out at (turn .before .loop .inv .1)
 
-  answer : sliceAnswer (c .page-into .result) ≡ answered (pageReadOf (pageAt s off)) read
-  answer = c .page-into .ensures .0 ∙ ap (λ (n : ℕ). answered (pageReadOf (pageAt s off)) (pageInto n s off)) room
+  size : length part ≡ length (lent out at)
+  size = search needs
 
-  list : part ≡ afterDecode (lent out at) read
-  list = c .page-into .ensures .1 ∙ ap (λ (n : ℕ). afterDecode (lent out at) (pageInto n s off)) room
+  -- what the page tells and leaves where it reads
+  reads : (p : Scan) → pageInto (length out - at) s off ≡ accepted p
+      → (sliceAnswer (c .page-into .result) ≡ accepted (pageReadOf (pageAt s off) p)) × (part ≡ overwrite (lent out at) 0 (p .numbers))
+  reads p e = c .page-into .ensures .reads p (ap (λ (n : ℕ). pageInto n s off) room ∙ e)
 
   left : most - turn .before .loop .pages ≡ suc (most - (turn .before .loop .pages + 1))
   left = omega (arith, turn .loop-test .taken)
@@ -90,20 +89,8 @@ module _ (c : tie.After-got Inv-loop μ-loop) where
   abbrev told : PageRead
   told = record { count = c .got .given .0 .0; next = c .got .given .0 .1 .0 }
 
-  page : (p : Scan) × (read back ≡ accepted p) × (pageReadOf (pageAt (s back) (off back)) p ≡ told)
-  page = was-accepted (pageReadOf (pageAt (s back) (off back))) _ (sym (answer back) ∙ ap sliceAnswer (c .got .given .1))
-
   fits : at back + c .got .given .0 .0 ≤ length (out back)
-  fits =
-      let room = into-fits (length (out back) - at back) (s back) (off back) (page .0) (page .1) in
-      let count = read-told (pageAt (s back) (off back)) (page .0) told (page .2) .0 in
-      omega (arith, turn back .before .loop .inv .1)
-
-  wrote : putBack (out back) (at back) (part back) ≡ overwrite (out back) (at back) (page .0 .numbers)
-  wrote =
-      let count = read-told (pageAt (s back) (off back)) (page .0) told (page .2) .0 in
-      let h = fits in
-      page-written (out back) (at back) (part back) (read back) (page .0) (omega arith) (list back) (page .1)
+  fits = omega (arith, back .page-into .ensures .within told (ap sliceAnswer (c .got .given .1)), room back, turn back .before .loop .inv .1)
 
   -- what is left of the chain that the whole walk gives begins with that page
   module _ (w : Chain) (e : walk (most back) (s back) (start back .args .last) 0 (start back .args .first) ≡ accepted w)
@@ -113,8 +100,16 @@ module _ (c : tie.After-got Inv-loop μ-loop) where
     next = fill-turn (s back) (start back .args .last) (start back .args .out .now) w (out back) (at back) (off back)
         (most back - (turn back .before .loop .pages + 1)) (filling back w e h)
 
-    same : next .page ≡ page .0
-    same = accepted-inj (sym (next .read) ∙ page .1)
+    told-is : (length (next .page .numbers) ≡ told .count) × (nextOff (pageAt (s back) (off back)) ≡ told .next)
+    told-is =
+        read-told (pageAt (s back) (off back)) (next .page) told
+        (accepted-inj (sym (reads back (next .page) (next .read) .0) ∙ ap sliceAnswer (c .got .given .1)))
+
+    wrote : putBack (out back) (at back) (part back) ≡ overwrite (out back) (at back) (next .page .numbers)
+    wrote =
+        let count = told-is .0 in
+        let room = fits in
+        page-written (out back) (at back) (part back) (next .page) (omega arith) (reads back (next .page) (next .read) .1)
 
 loop-holds : tie.Need-loop-holds Inv-loop μ-loop
 loop-holds c =
@@ -148,12 +143,12 @@ same-length c = search needs
 returns : tie.Need-returns Inv-loop μ-loop
 returns c k e first h =
     let b = c .before .before .before .before in
-    let stop = was-refused (pageReadOf (pageAt (s b) (off b))) (read b) (sym (answer b) ∙ ap sliceAnswer (c .enum-told .given .1)) in
+    let stop = ap sliceAnswer (c .enum-told .given .1) in
     let walks = chain-walks (s b) (start b .args .last) (start b .args .first) k (was-sound _ e) first in
     let next =
     fill-turn (s b) (start b .args .last) (start b .args .out .now) k (out b) (at b) (off b) (most b - (turn b .before .loop .pages + 1))
     (filling b k walks h) in
-    absurd (refused≢accepted (sym stop ∙ next .read))
+    absurd (refused≢accepted (sym stop ∙ reads b (next .page) (next .read) .0))
 
 same-length-2 : tie.Need-same-length-2 Inv-loop μ-loop
 same-length-2 c = search needs
@@ -163,7 +158,7 @@ returns-2 c k e first h =
     let d = c .before .before in
     let b = back d in
     let walks = chain-walks (s b) (start b .args .last) (start b .args .first) k (was-sound _ e) first in
-    wrote d ∙ ap (λ (p : Scan). overwrite (out b) (at b) (p .numbers)) (sym (same d k walks h)) ∙ next d k walks h .ends (c .if1 .taken)
+    wrote d k walks h ∙ next d k walks h .ends (c .if1 .taken)
 
 add-at : tie.Need-add-at Inv-loop μ-loop
 add-at c = let h = fits (c .before .before) in omega arith
@@ -178,18 +173,14 @@ loop-again : tie.Need-loop-again Inv-loop μ-loop
 loop-again c =
     let d = c .before .before in
     let b = back d in
-    let told-is = read-told (pageAt (s b) (off b)) (page d .0) (told d) (page d .2) in
     let h = fits d in
-    let length-same : length (putBack (out b) (at b) (part b)) ≡ length (out b) =
-    ap length (wrote d) ∙ length-overwrite (out b) (at b) (page d .0 .numbers) (omega (arith, told-is .0)) in (
+    let length-same : length (putBack (out b) (at b) (part b)) ≡ length (out b) = length-put (out b) (at b) (part b) (turn b .before .loop .inv .1) (size b) in (
       omega arith,
       subst (λ (n : ℕ). at b + told d .count ≤ n) (sym length-same) h,
       length-same ∙ turn b .before .loop .inv .2,
       λ w e k.
-          let p = same d w e k in
           filling-as (most b - (turn b .before .loop .pages + 1)) (s b) (start b .args .last) (start b .args .out .now) w
-          (ap (λ (x : Scan). overwrite (out b) (at b) (x .numbers)) p ∙ sym (wrote d))
-          (ap (λ (x : Scan). at b + length (x .numbers)) p ∙ ap (λ (n : ℕ). at b + n) (told-is .0)) (told-is .1) (next d w e k .goes (c .if1 .left)),
+          (sym (wrote d w e k)) (ap (λ (n : ℕ). at b + n) (told-is d w e k .0)) (told-is d w e k .1) (next d w e k .goes (c .if1 .left)),
     )
 
 same-length-3 : tie.Need-same-length-3 Inv-loop μ-loop

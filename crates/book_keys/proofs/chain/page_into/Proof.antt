@@ -6,19 +6,16 @@ use mathlib.Core.Path.{_≡_, refl, sym, ap, _∙_}
 use native.Mathlib.Omega.{arith}
 use borrow.Author.Needs.{needs}
 use borrow.Author.Tests.{not-true, not-false}
-use lib.ListN.{length}
-use Rattle.error.specs.Refusal.{answered}
-use Rattle.error.proofs.LawsAnswer.{answered-no}
+use lib.ListN.{length, length-take, length-drop}
 use Rattle.scripthash_layout.specs.Sizes.{pageClass, pageSize}
-use Rattle.scripthash_stream.specs.Stream.{afterDecode}
-use Rattle.scripthash_stream.proofs.LawsDecode.{after-refused}
-use Rattle.scripthash_pages.specs.Entries.{pageEntries, pageReadOf}
+use Rattle.scripthash_pages.specs.Entries.{pageEntries}
 use Rattle.scripthash_free.specs.FreeList.{isBlock}
 use Rattle.book_space.specs.Space.{Space}
 use Rattle.book_keys.specs.Keys.{pageAt}
 use Rattle.book_keys.specs.Steps.{keySpace}
 use Rattle.book_keys.proofs.LawsBlocks.{span}
 use Rattle.book_keys.proofs.LawsPages.{page-inside, into-off, into-on}
+use Rattle.book_keys.proofs.LawsFill.{page-nowhere, filled-as}
 use Rattle.book_keys.proofs.chain.page_into.Statement.{statement}
 use Rattle.book_keys.proofs.chain.page_into.Tie as tie
 
@@ -46,38 +43,34 @@ returns : tie.Need-returns
 returns c =
     let a = c .before .before .before .before .args in
     let s = keySpace (a .body .now) (a .mark) in
-    let stop = into-off (length (a .out .now)) s (a .off) (sym (c .before .is-page .ensures) ∙ not-true _ (c .if1 .taken)) in
-    (sym (answered-no (pageReadOf (pageAt s (a .off))) _ stop), sym (after-refused (a .out .now) _ stop))
+    page-nowhere (pageAt s (a .off)) (a .out .now) _
+    (into-off (length (a .out .now)) s (a .off) (sym (c .before .is-page .ensures) ∙ not-true _ (c .if1 .taken)))
 
-add-sh-page-decode-slice-into : tie.Need-add-sh-page-decode-slice-into
-add-sh-page-decode-slice-into c = let h = inside c in omega arith
+add-fill-page : tie.Need-add-fill-page
+add-fill-page c = let h = inside c in omega arith
 
-sub-sh-page-decode-slice-into : tie.Need-sub-sh-page-decode-slice-into
-sub-sh-page-decode-slice-into c = search needs
+sub-fill-page : tie.Need-sub-fill-page
+sub-fill-page c = search needs
 
-part-sh-page-decode-slice-into-start : tie.Need-part-sh-page-decode-slice-into-start
-part-sh-page-decode-slice-into-start c = search needs
+part-fill-page-start : tie.Need-part-fill-page-start
+part-fill-page-start c = search needs
 
-part-sh-page-decode-slice-into-end : tie.Need-part-sh-page-decode-slice-into-end
-part-sh-page-decode-slice-into-end c = inside c
+part-fill-page-end : tie.Need-part-fill-page-end
+part-fill-page-end c = inside c
 
-sh-page-decode-slice-into-requires : tie.Need-sh-page-decode-slice-into-requires
-sh-page-decode-slice-into-requires c κs = search needs
+fill-page-requires : tie.Need-fill-page-requires
+fill-page-requires c κs = let h = inside (c .before .before) in simp (length-take, length-drop) (omega arith)
 
 same-length : tie.Need-same-length
 same-length c = search needs
 
 returns-2 : tie.Need-returns-2
 returns-2 c =
-    let k = c .before .before .sh-page-decode-slice-into in
     let d = c .before .before .before .before .before in
     let out = at d .args .out .now in
     let room = length out in
     let bytes = span (at d .args .body .now) (off d) pageSize pageSize refl in
-    let same = sym (into-on room (s d) (off d) (stands d)) in (
-      k .ensures .0 ∙ ap (λ (bs : List ℕ). answered (pageReadOf bs) (pageEntries room bs)) bytes ∙ ap (answered (pageReadOf (pageAt (s d) (off d)))) same,
-      k .ensures .1 ∙ ap (λ (bs : List ℕ). afterDecode out (pageEntries room bs)) bytes ∙ ap (afterDecode out) same,
-    )
+    filled-as _ out _ bytes (ap (λ (bs : List ℕ). pageEntries room bs) bytes ∙ sym (into-on room (s d) (off d) (stands d))) (c .before .before .fill-page .ensures)
 
 pub page-into-spec : {M : Type 1} → statement M
 page-into-spec =
@@ -85,10 +78,10 @@ page-into-spec =
     (tie.spec
     is-page-requires
     returns
-    add-sh-page-decode-slice-into
-    sub-sh-page-decode-slice-into
-    part-sh-page-decode-slice-into-start
-    part-sh-page-decode-slice-into-end
-    sh-page-decode-slice-into-requires
+    add-fill-page
+    sub-fill-page
+    part-fill-page-start
+    part-fill-page-end
+    fill-page-requires
     same-length
     returns-2)

@@ -1,18 +1,16 @@
--- `slab_into` meets its contract: the payload of a sound slab reads into a list that has room for it. Assumes nothing.
+-- `slab_into` meets its contract: a sound slab's bytes read. Assumes nothing.
 use Prim.Native.Nat.{ℕ, _+_, _≤_}
 use mathlib.Core.List.{List}
 use mathlib.Core.Path.{_≡_, ap, _∙_}
 use native.Mathlib.Omega.{arith}
 use borrow.Author.Needs.{needs}
-use lib.ListN.{length}
+use lib.ListN.{length, length-take, length-drop}
 use Rattle.scripthash_layout.specs.Sizes.{slabBytes}
-use Rattle.scripthash_stream.specs.Stream.{afterDecode}
-use Rattle.scripthash_stream.proofs.LawsDecode.{after-accepted}
-use Rattle.scripthash_slabs.specs.Slab.{decodeSlab}
-use Rattle.book_keys.specs.Steps.{keySpace}
+use Rattle.scripthash_free.proofs.LawsBlock.{bytes-from-16}
+use Rattle.book_keys.specs.Steps.{keySpace, slabRead}
 use Rattle.book_keys.proofs.LawsSound.{was-sound}
 use Rattle.book_keys.proofs.LawsBlocks.{slab-size, span}
-use Rattle.book_keys.proofs.LawsSlab.{slab-sound}
+use Rattle.book_keys.proofs.LawsSlab.{slab-there}
 use Rattle.book_keys.proofs.slab.slab_into.Statement.{statement}
 use Rattle.book_keys.proofs.slab.slab_into.Tie as tie
 
@@ -33,17 +31,21 @@ slab-bytes-requires c κs = search needs
 add-end : tie.Need-add-end
 add-end c = let h = inside c in omega arith
 
-sub-decode-slab-payload-into : tie.Need-sub-decode-slab-payload-into
-sub-decode-slab-payload-into c = search needs
+sub-fill-slab : tie.Need-sub-fill-slab
+sub-fill-slab c = search needs
 
-part-decode-slab-payload-into-start : tie.Need-part-decode-slab-payload-into-start
-part-decode-slab-payload-into-start c = search needs
+part-fill-slab-start : tie.Need-part-fill-slab-start
+part-fill-slab-start c = search needs
 
-part-decode-slab-payload-into-end : tie.Need-part-decode-slab-payload-into-end
-part-decode-slab-payload-into-end c = inside c
+part-fill-slab-end : tie.Need-part-fill-slab-end
+part-fill-slab-end c = inside c
 
-decode-slab-payload-into-requires : tie.Need-decode-slab-payload-into-requires
-decode-slab-payload-into-requires c κs = search needs
+fill-slab-requires : tie.Need-fill-slab-requires
+fill-slab-requires c κs =
+    let d = c .before .before in
+    let h = inside d in
+    let e = size d in
+    simp (length-take, length-drop) (omega (arith, bytes-from-16 (at d .args .class)))
 
 same-length : tie.Need-same-length
 same-length c = search needs
@@ -52,11 +54,9 @@ returns : tie.Need-returns
 returns c mark used read e h =
     let d = c .before .before .before .before .before in
     let a = at d .args in
-    let out = a .out .now in
-    let sound = slab-sound (keySpace (a .body .now) mark) (a .class) used (a .off) read (was-sound _ e) in
-    c .before .before .decode-slab-payload-into .ensures .1
-    ∙ ap (λ (bs : List ℕ). afterDecode out (decodeSlab (length out) bs)) (span (a .body .now) (a .off) (d .slab-bytes .result) (slabBytes (a .class)) (size d))
-    ∙ after-accepted out _ (sound .payload .into (length out) h)
+    let there = slab-there (keySpace (a .body .now) mark) (a .class) used (a .off) (was-sound _ e) in
+    c .before .before .fill-slab .ensures used read
+    (ap (λ (bs : List ℕ). slabRead bs used) (span (a .body .now) (a .off) (d .slab-bytes .result) (slabBytes (a .class)) (size d)) ∙ there .1) h
 
 pub slab-into-spec : {M : Type 1} → statement M
 slab-into-spec =
@@ -64,9 +64,9 @@ slab-into-spec =
     (tie.spec
     slab-bytes-requires
     add-end
-    sub-decode-slab-payload-into
-    part-decode-slab-payload-into-start
-    part-decode-slab-payload-into-end
-    decode-slab-payload-into-requires
+    sub-fill-slab
+    part-fill-slab-start
+    part-fill-slab-end
+    fill-slab-requires
     same-length
     returns)

@@ -1,21 +1,21 @@
--- `read` meets its contract: the tests of the shape and of the key, then all of the key, then the lent list. Assumes nothing.
+-- `read` meets its contract: the tests of the shape and of the key, and then the key is read. Assumes nothing.
 use Prim.Native.Nat.{ℕ, _≤_}
 use mathlib.Core.Bool.{false}
 use mathlib.Core.Path.{_≡_, sym, ap, _∙_}
-use native.Mathlib.Omega.{arith}
 use borrow.Author.Needs.{needs}
 use lib.ListN.{length}
-use Rattle.error.specs.Refusal.{accepted}
-use Rattle.error.proofs.LawsAnswer.{was-accepted, was-refused}
+use Rattle.error.specs.Refusal.{Answer, answered}
 use Rattle.book_space.specs.Space.{shapeBroken}
 use Rattle.book_space.proofs.LawsShape.{shape-holds}
 use Rattle.book_keys.specs.Keys.{Content, content}
-use Rattle.book_keys.specs.Steps.{keySpace, Counts, countsOf}
+use Rattle.book_keys.specs.Steps.{keySpace, fitting}
 use Rattle.book_keys.specs.Answers.{countsAnswer}
 use Rattle.book_keys.proofs.LawsFree.{content-free}
 use Rattle.book.specs.Book.{Book, wordOf}
+use Rattle.book.specs.Reads.{reads}
 use Rattle.book.specs.Answers.{bookOf}
-use Rattle.book_lists.proofs.LawsRead.{read-broken, read-beyond, read-unsound, read-short, read-there, read-no, read-yes}
+use Rattle.book.proofs.LawsPlace.{refused-as}
+use Rattle.book_lists.proofs.LawsRead.{reading, read-broken, read-beyond, read-key, read-no, read-refused, read-accepted}
 use Rattle.book_lists.proofs.reading.read.Statement.{statement}
 use Rattle.book_lists.proofs.reading.read.Tie as tie
 
@@ -31,8 +31,11 @@ module _ (t : tie.Start) where
   abbrev room : ℕ
   room = length (t .args .out .now)
 
-  -- the free heads don't matter
-  bare : content (book .space) word ≡ content (keySpace (t .args .body .now) (t .args .state .mark)) word
+  -- what the key holds: the free heads don't matter
+  abbrev held : Answer Content
+  held = content (keySpace (t .args .body .now) (t .args .state .mark)) word
+
+  bare : content (book .space) word ≡ held
   bare = content-free (t .args .body .now) (t .args .state .mark) (t .args .state .free) word
 
 -- the shape passed its test
@@ -46,23 +49,18 @@ module _ (c : tie.Else1) where
   within : at .args .state .mark ≤ length (at .args .body .now)
   within = shape-holds (book at .space) (length (book at .heads)) whole .0 .within
 
--- the key is sound
-module _ (c : tie.After-counts) where
+-- the key was read
+module _ (c : tie.After-read-key) where
   abbrev there : tie.Else2
-  there = c .before .before .before .before
+  there = c .before .before .before
 
   abbrev call : tie.Start
   call = at (there .before)
 
-  abbrev counts : Counts
-  counts = record { length = c .counts .given .0 .0; pages = c .counts .given .0 .1 .0 }
-
-  held : (k : Content) × (content (keySpace (call .args .body .now) (call .args .state .mark)) (word call) ≡ accepted k)
-      × (countsOf k ≡ counts)
-  held = was-accepted countsOf _ (sym (c .before .before .key-counts .ensures) ∙ ap countsAnswer (c .counts .given .1))
-
-  size : length (held .0 .numbers) ≡ counts .length
-  size = ap (λ (x : Counts). x .length) (held .2)
+  is : reads (book call) (call .args .key) (room call) ≡ answered (λ k. reading k (book call)) (fitting (room call) (held call))
+  is =
+      read-key (book call) (call .args .key) (room call) (whole (there .before)) (there .if2 .left)
+      ∙ ap (λ (a : Answer Content). answered (λ k. reading k (book call)) (fitting (room call) a)) (bare call)
 
 shape-broken-requires : tie.Need-shape-broken-requires
 shape-broken-requires c κs = search needs
@@ -84,8 +82,8 @@ mul-word c = search needs
 shared-slice-read-word : tie.Need-shared-slice-read-word
 shared-slice-read-word c = search needs
 
-key-counts-requires : tie.Need-key-counts-requires
-key-counts-requires c κs = within (c .before .before)
+read-key-requires : tie.Need-read-key-requires
+read-key-requires c κs = within (c .before .before .before)
 
 enum-known-counts : tie.Need-enum-known-counts
 enum-known-counts c = search needs
@@ -93,45 +91,29 @@ enum-known-counts c = search needs
 enum-told : tie.Need-enum-told
 enum-told c = search needs
 
-returns-3 : tie.Need-returns-3
-returns-3 c =
-    let u = c .before .before in
-    let k = u .before .before in
-    let e = k .before in
-    let t = at e in
-    read-no _ (t .args .out .now)
-    (read-unsound (book t) (t .args .key) (room t) (whole e) (k .if2 .left)
-    (bare t ∙ was-refused countsOf _ (sym (u .key-counts .ensures) ∙ ap countsAnswer (c .enum-told .given .1))))
-
-returns-4 : tie.Need-returns-4
-returns-4 c =
-    let d = c .before .before in
-    let k = there d in
-    let e = k .before in
-    let t = at e in
-    let n = size d in
-    read-no _ (t .args .out .now)
-    (read-short (book t) (t .args .key) (room t) (whole e) (k .if2 .left) (held d .0) (bare t ∙ held d .1) (omega (arith, c .if3 .taken)))
-
-key-into-requires : tie.Need-key-into-requires
-key-into-requires c κs = within (there (c .before .before .before) .before)
+refusal-requires : tie.Need-refusal-requires
+refusal-requires c κs = search needs
 
 same-length : tie.Need-same-length
 same-length c = search needs
 
-returns-5 : tie.Need-returns-5
-returns-5 c =
-    let w = c .before .before in
-    let f = w .before .before in
-    let d = f .before .before in
-    let k = there d in
-    let e = k .before in
-    let t = at e in
-    let n = size d in
-    let fits : length (held d .0 .numbers) ≤ room t = omega (arith, f .if3 .left) in
-    read-yes _ (book t) (held d .0) (counts d) (t .args .out .now) _
-    (read-there (book t) (t .args .key) (room t) (whole e) (k .if2 .left) (held d .0) (bare t ∙ held d .1) fits) (held d .2)
-    (w .key-into .ensures (held d .0) (held d .1) fits)
+returns-3 : tie.Need-returns-3
+returns-3 c =
+    let r = c .before .before .before .before .before in
+    let t = call r in
+    let number = refused-as _ _ (ap countsAnswer (c .before .enum-told .given .1)) (c .refusal .ensures) in
+    read-refused _ (book t) (held t) (countsAnswer (r .read-key .result)) (t .args .out .now) _ (is r) (r .read-key .ensures) number
+
+same-length-2 : tie.Need-same-length-2
+same-length-2 c = search needs
+
+returns-4 : tie.Need-returns-4
+returns-4 c =
+    let d = c .before in
+    let r = d .before .before .before .before in
+    let t = call r in
+    read-accepted _ (book t) (held t) (countsAnswer (r .read-key .result)) (t .args .out .now) _ (is r) (r .read-key .ensures)
+    (record { length = d .counts .given .0 .0; pages = d .counts .given .0 .1 .0 }) (ap countsAnswer (d .counts .given .1))
 
 pub read-spec : {M : Type 1} → statement M
 read-spec =
@@ -142,11 +124,11 @@ read-spec =
     returns-2
     mul-word
     shared-slice-read-word
-    key-counts-requires
+    read-key-requires
     enum-known-counts
     enum-told
-    returns-3
-    returns-4
-    key-into-requires
+    refusal-requires
     same-length
-    returns-5)
+    returns-3
+    same-length-2
+    returns-4)

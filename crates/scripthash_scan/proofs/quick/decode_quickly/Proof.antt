@@ -15,7 +15,7 @@ same-length : tie.Need-same-length
 same-length c = search needs
 
 returns : tie.Need-returns
-returns c = search needs
+returns c = c .before .before .sum-bytes .ensures .1
 
 decode-few-requires : tie.Need-decode-few-requires
 decode-few-requires c κs = search needs

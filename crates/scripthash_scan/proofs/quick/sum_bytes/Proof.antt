@@ -83,9 +83,11 @@ returns c =
     let l = c .before .loop in
     let a = c .before .before .before .before .args in
     let done : l .k ≡ a .n = omega arith in
-    let sums = rw done at (summed-end (a .buf .now) 0 0 (a .n) (l .out) (l .sum) (l .k) (l .k) (l .inv .6) (sym done) (omega (arith, l .inv .1 .within)) (omega (arith, l .inv .1 .few))) in
-    rw (written (a .out .now) (l .out) (a .n) (omega arith) (rw done at (l .inv .5)))
-    (quick-all (a .n) (a .buf .now) (a .out .now) _ (sym (scan-at-start (a .n) (a .buf .now)) ∙ sums .numbers (omega arith) (l .inv .1 .some)) (omega arith) (l .inv .1 .some))
+    let sums = rw done at (summed-end (a .buf .now) 0 0 (a .n) (l .out) (l .sum) (l .k) (l .k) (l .inv .6) (sym done) (omega (arith, l .inv .1 .within)) (omega (arith, l .inv .1 .few))) in (
+      refl,
+      rw (written (a .out .now) (l .out) (a .n) (omega arith) (rw done at (l .inv .5)))
+          (quick-all (a .n) (a .buf .now) (a .out .now) _ (sym (scan-at-start (a .n) (a .buf .now)) ∙ sums .numbers (omega arith) (l .inv .1 .some)) (omega arith) (l .inv .1 .some)),
+    )
 
 pub sum-bytes-spec : {M : Type 1} → statement M
 sum-bytes-spec =
