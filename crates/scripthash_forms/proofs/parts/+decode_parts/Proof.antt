@@ -60,9 +60,12 @@ pub +decode-parts-spec : {M : Type 1} → statement M
     (λ c. search needs)
     (λ c.
     let more = c .before .before .before .before .before .before .before .before .decode-parts in
-    let f = c .before .before .before .before .before .before .before .before .before .before .before .before in
+    let g = c .before .before .before .before .before in
+    let e = g .before .before .before .before .before in
+    let f = e .before .before in
     let s = f .sum-forms in
     let start = f .before .before .before .before .before in
     let a = start .args in
     part-more 256 (s .result .taken) (s .result .last) (more .result) (a .from) (a .prev) (a .n) (a .at) (a .buf .now) _ (a .out .now) _ _
-    (s .ensures) (omega arith) (search needs) (omega arith) (start .pre .1 .2) (omega arith) (c .before .before .copy-fks .ensures) (more .ensures))
+    (s .ensures) (omega (arith, e .if2 .left)) (search needs) (omega arith) (start .pre .1 .2) (omega (arith, g .if3 .left))
+    (c .before .before .copy-fks .ensures) (more .ensures))
