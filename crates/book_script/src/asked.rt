@@ -151,7 +151,7 @@ fn number_at(list: &[u64], count: usize, at: usize, other: u64) -> u64 {
 }
 
 // What a line with so many numbers asks for, by its form and the limits.
-fn asked(number: u64, command: Command, list: &[u64], count: usize) -> Asked {
+fn formed(number: u64, command: Command, list: &[u64], count: usize) -> Asked {
     if count < fewest(command) {
         report_form(number, command);
         return nothing();
@@ -210,7 +210,7 @@ fn ask_words(number: u64, line: &[u8], first: usize, list: &mut [u64]) -> Asked
         report_words(number, line, numbers);
         return nothing();
     };
-    asked(number, command, list, count)
+    formed(number, command, list, count)
 }
 
 // Writes some words, and ends the line.

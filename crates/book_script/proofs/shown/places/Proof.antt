@@ -1,42 +1,28 @@
--- `places` is safe and ends: the keys that are left shrink with each turn. Assumes nothing.
-use Prim.Native.Nat.{_≤_, _<_, _-_}
-use borrow.Author.Needs.{needs}
+-- `places` stays within the heads. Assumes nothing.
+use Prim.Native.Nat.{_≤_, _-_}
 use lib.ListN.{length}
+use borrow.Author.Needs.{needs}
 use Rattle.book_script.proofs.shown.places.Statement.{statement}
 use Rattle.book_script.proofs.shown.places.Tie as tie
+use Rattle.book_script.proofs.shown.show_key.Reads as show-key-reads
 
 abbrev Inv-loop : tie.InvT-loop
-Inv-loop heads key₀ t3 t4 key = Unit
+Inv-loop heads key₀ key = (key ≤ length heads)
 
 abbrev μ-loop : tie.MeasureT-loop
-μ-loop heads key₀ t3 t4 key = length heads - key
+μ-loop heads key₀ key = length heads - key
 
 loop-holds : tie.Need-loop-holds Inv-loop μ-loop
 loop-holds c = search needs
 
-slice-aggregate-named : tie.Need-slice-aggregate-named Inv-loop μ-loop
-slice-aggregate-named c = search needs
+mul-show-key : tie.Need-mul-show-key Inv-loop μ-loop
+mul-show-key c = search needs
 
-named-requires : tie.Need-named-requires Inv-loop μ-loop
-named-requires c κs = search needs
+shared-slice-read-show-key : tie.Need-shared-slice-read-show-key Inv-loop μ-loop
+shared-slice-read-show-key c = search needs
 
-slice-aggregate-words : tie.Need-slice-aggregate-words Inv-loop μ-loop
-slice-aggregate-words c = search needs
-
-words-requires : tie.Need-words-requires Inv-loop μ-loop
-words-requires c κs = search needs
-
-mul-show-word : tie.Need-mul-show-word Inv-loop μ-loop
-mul-show-word c = search needs
-
-shared-slice-read-show-word : tie.Need-shared-slice-read-show-word Inv-loop μ-loop
-shared-slice-read-show-word c = search needs
-
-show-word-requires : tie.Need-show-word-requires Inv-loop μ-loop
-show-word-requires c κs = search needs
-
-end-requires : tie.Need-end-requires Inv-loop μ-loop
-end-requires c κs = search needs
+show-key-requires : tie.Need-show-key-requires Inv-loop μ-loop
+show-key-requires c κs = search needs
 
 add-key : tie.Need-add-key Inv-loop μ-loop
 add-key c = search needs
@@ -57,14 +43,9 @@ places-spec =
     Inv-loop
     μ-loop
     loop-holds
-    slice-aggregate-named
-    named-requires
-    slice-aggregate-words
-    words-requires
-    mul-show-word
-    shared-slice-read-show-word
-    show-word-requires
-    end-requires
+    mul-show-key
+    shared-slice-read-show-key
+    show-key-requires
     add-key
     loop-less
     loop-again
