@@ -9,9 +9,9 @@ use lib.ListN.{length}
 use Rattle.buffer.specs.Bytes.{part, overwrite}
 use Rattle.buffer.proofs.LawsOverwrite.{part-written, part-before, part-after}
 use Rattle.scripthash_layout.specs.Sizes.{slabBytes}
-use Rattle.scripthash_free.specs.FreeList.{Block, isBlock}
+use Rattle.scripthash_free.specs.FreeList.{Disjoint, Block, isBlock}
 use Rattle.scripthash_free.proofs.LawsBlock.{block-stands}
-use Rattle.plain_book.specs.Owners.{Owner, Disjoint, Apart}
+use Rattle.plain_book.specs.Owners.{Owner, Apart}
 use Rattle.book_history.specs.Agrees.{Stored}
 
 -- A block of a size at an offset of a body.

@@ -17,7 +17,7 @@ use Rattle.buffer.proofs.LawsOrder.{lt-or-ge}
 use Rattle.scripthash_layout.specs.Sizes.{slabBytes, pageClass}
 use Rattle.scripthash_layout.specs.Head.{unpackHead}
 use Rattle.scripthash_layout.specs.declared.head.ShHeadValue.{ShHeadValue}
-use Rattle.scripthash_free.specs.FreeList.{Block, nextOf, Names}
+use Rattle.scripthash_free.specs.FreeList.{Disjoint, Block, nextOf, Names}
 use Rattle.scripthash_free.proofs.LawsBlock.{bytes-from-16}
 use Rattle.book_limits.specs.Limits.{outOfShape}
 use Rattle.plain_book.specs.Space.{stackOf}
@@ -32,7 +32,7 @@ use Rattle.book_space.specs.Space.{Space, shapeBroken}
 use Rattle.book_space.proofs.LawsShape.{shape-holds}
 use Rattle.book_keys.specs.Keys.{soundly, Content, contentAt, content}
 use Rattle.book.specs.Book.{Book, wordOf, headWord}
-use Rattle.book_start.specs.Start.{Disjoint, Stands, blocksAt, blocksIn, namedFrom, freedOf, GoodStart}
+use Rattle.book_start.specs.Start.{Stands, blocksAt, blocksIn, namedFrom, freedOf, GoodStart}
 use Rattle.book_start.proofs.LawsClaims.{disjoint-sym}
 use Rattle.book_start.proofs.LawsFreed.{named-end}
 use Rattle.book_start.proofs.LawsPairs.{each-in, cross-in, heldOf, listOf, key-apart, keys-apart, list-apart, lists-apart, key-list-apart}

@@ -4,9 +4,9 @@ use mathlib.Core.List.{List, [], _∷_}
 use mathlib.Core.Logic.{inl, inr, _≢_}
 use mathlib.Core.Option.{Option, none, some}
 use mathlib.Core.Path.{_≡_, refl, sym, ap, subst}
-use Rattle.scripthash_free.specs.FreeList.{Block, Each}
+use Rattle.scripthash_free.specs.FreeList.{Disjoint, Block, Each}
 use Rattle.plain_book.proofs.LawsOwners.{some-inj, none-some}
-use Rattle.book_start.specs.Start.{Disjoint, AllApart}
+use Rattle.book_start.specs.Start.{AllApart}
 use Rattle.book_start.proofs.LawsClaims.{disjoint-sym}
 use Rattle.book_start.proofs.LawsPairs.{In, each-in}
 

@@ -11,7 +11,7 @@ use native.Mathlib.Omega.{arith}
 use lib.Dec.{eqb}
 use lib.ListN.{length, getD}
 use borrow.Author.Tests.{eqb-true, eqb-false}
-use Rattle.scripthash_free.specs.FreeList.{Block, Each, nextOf, Names}
+use Rattle.scripthash_free.specs.FreeList.{Disjoint, Block, Each, nextOf, Names}
 use Rattle.scripthash_free.proofs.LawsBlock.{bytes-from-16, block-stands}
 use Rattle.book_rules.specs.Calls.{Call}
 use Rattle.book_limits.specs.Limits.{outOfShape}
@@ -27,7 +27,7 @@ use Rattle.book_space.specs.Space.{shapeBroken}
 use Rattle.book_keys.specs.Keys.{pageBlocks}
 use Rattle.book.specs.Book.{Book}
 use Rattle.book.specs.Calls.{after}
-use Rattle.book_start.specs.Start.{Disjoint, AllApart, Stands, blocksAt, blocksIn, named, namedFrom, freedOf, freedBy, GoodStart}
+use Rattle.book_start.specs.Start.{AllApart, Stands, blocksAt, blocksIn, named, namedFrom, freedOf, freedBy, GoodStart}
 use Rattle.book_start.proofs.LawsClaims.{Cross}
 use Rattle.book_start.proofs.LawsFreed.{named-end, named-more}
 use Rattle.book_start.proofs.LawsPairs.{gather, gather-same, held-gathered, freed-gathered, heldOf, listOf}

@@ -9,9 +9,9 @@ use borrow.Author.Tests.{ltb-false, lt-ltb, le-ltb}
 use lib.Dec.{ltb}
 use Rattle.error.proofs.LawsAnswer.{neither}
 use Rattle.scripthash_layout.specs.Sizes.{slabBytes}
-use Rattle.scripthash_free.specs.FreeList.{Block, Each}
+use Rattle.scripthash_free.specs.FreeList.{Disjoint, Block, Each}
 use Rattle.scripthash_free.proofs.LawsGap.{each-map}
-use Rattle.book_start.specs.Start.{Disjoint, AllApart, shares, sharesOne, Claim, claimed, unfit, shared, claimAll}
+use Rattle.book_start.specs.Start.{AllApart, shares, sharesOne, Claim, claimed, unfit, shared, claimAll}
 
 -- ---- two blocks
 

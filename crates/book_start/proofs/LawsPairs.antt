@@ -12,7 +12,7 @@ use Rattle.buffer.proofs.LawsOrder.{lt-or-ge}
 use Rattle.scripthash_layout.specs.Sizes.{pageClass}
 use Rattle.scripthash_layout.specs.declared.head.ShHeadValue.{ShHeadValue}
 use Rattle.scripthash_layout.specs.declared.head.ShHeadValue.the-variants.{Empty, Inline, Slab, Extent}
-use Rattle.scripthash_free.specs.FreeList.{Block, Each, isBlock}
+use Rattle.scripthash_free.specs.FreeList.{Disjoint, Block, Each, isBlock}
 use Rattle.scripthash_free.proofs.LawsGap.{each-map}
 use Rattle.book_space.specs.Space.{Space}
 use Rattle.book_keys.specs.Keys.{Content, pageBlocks, contentAt, content}
@@ -21,7 +21,7 @@ use Rattle.book_keys.proofs.LawsContent.{content-empty, content-inline, was-sla
 use Rattle.book_keys.proofs.LawsKeys.{Every, chain-known}
 use Rattle.book.specs.Book.{Book, wordOf}
 use Rattle.error.proofs.LawsAnswer.{accepted-inj}
-use Rattle.book_start.specs.Start.{Disjoint, AllApart, Stands, blocksAt, blocksIn, heldBy, namedFrom, freedOf, freedBy, blocksOf, GoodStart}
+use Rattle.book_start.specs.Start.{AllApart, Stands, blocksAt, blocksIn, heldBy, namedFrom, freedOf, freedBy, blocksOf, GoodStart}
 use Rattle.book_start.proofs.LawsClaims.{Cross, disjoint-sym}
 
 -- ---- blocks of several lists

@@ -15,9 +15,9 @@ use Rattle.buffer.proofs.LawsFields.{part-add}
 use Rattle.buffer.proofs.LawsOrder.{lt-or-ge}
 use Rattle.buffer.proofs.LawsOverwrite.{part-none, part-step, part-within, part-before, part-after}
 use Rattle.scripthash_layout.specs.Sizes.{slabBytes, pageClass}
-use Rattle.scripthash_free.specs.FreeList.{Block, Each, isBlock, unitOf}
+use Rattle.scripthash_free.specs.FreeList.{Disjoint, Block, Each, isBlock, unitOf}
 use Rattle.scripthash_free.proofs.LawsBlock.{both, block-stands}
-use Rattle.book_start.specs.Start.{Disjoint, Stands, block, shares, sharesOne}
+use Rattle.book_start.specs.Start.{Stands, block, shares, sharesOne}
 use Rattle.book_start.specs.Units.{allFree, unitsFree, marked, claimUnits, markAll, cleared}
 use Rattle.book_start.proofs.LawsClaims.{shares-no}
 

@@ -3,22 +3,17 @@
 use Prim.Native.Nat.{ℕ, zero, suc, _+_, _/_, _<_, _≤_}
 use mathlib.Core.Bool.{Bool, true, false, cond, not, _&&_, _||_}
 use mathlib.Core.List.{List, [], _∷_, _++_}
-use mathlib.Core.Logic.{_⊎_}
 use mathlib.Core.Path.{_≡_}
 use lib.Dec.{ltb, eqb}
 use lib.ListN.{length, getD}
 use Rattle.error.specs.Refusal.{Answer, accepted, refused, refuseIf, shapeBad, listTooShort}
 use Rattle.scripthash_layout.specs.Sizes.{slabBytes, pageClass}
-use Rattle.scripthash_free.specs.FreeList.{Block, isBlock, nextOf, Names, Each}
+use Rattle.scripthash_free.specs.FreeList.{Block, Disjoint, isBlock, nextOf, Names, Each}
 use Rattle.book_space.specs.Space.{Space, shapeBroken}
 use Rattle.book_keys.specs.Keys.{Content, content}
 use Rattle.book.specs.Book.{Book, wordOf}
 
 -- ---- blocks
-
--- Two blocks share no byte: one ends at or below the other's beginning.
-abbrev pub Disjoint : Block → Block → Type 0
-Disjoint x y = (x .off + slabBytes (x .class) ≤ y .off) ⊎ (y .off + slabBytes (y .class) ≤ x .off)
 
 -- No two of some blocks share a byte; a block that stands there twice shares its bytes.
 unfoldable pub AllApart : List Block → Type 0

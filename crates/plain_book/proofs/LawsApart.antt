@@ -10,9 +10,9 @@ use native.Mathlib.Numerals.{lt-of-le-of-ne}
 use native.Mathlib.Omega.{arith}
 use Rattle.buffer.proofs.LawsOrder.{lt-or-ge}
 use Rattle.scripthash_layout.specs.Sizes.{slabBytes}
-use Rattle.scripthash_free.specs.FreeList.{Block, isBlock}
+use Rattle.scripthash_free.specs.FreeList.{Disjoint, Block, isBlock}
 use Rattle.scripthash_free.proofs.LawsBlock.{block-stands, stands-block}
-use Rattle.plain_book.specs.Owners.{Owner, Disjoint, Apart}
+use Rattle.plain_book.specs.Owners.{Owner, Apart}
 
 -- A block that stands below a mark stands below a higher one.
 raised : (mark higher : ℕ) (x : Block) → mark ≤ higher → isBlock (x .class) (x .off) mark ≡ true → isBlock (x .class) (x .off) higher ≡ true

@@ -1,14 +1,14 @@
 -- Who has which block of the body: freed blocks, slabs and pages share no byte.
-use Prim.Native.Nat.{ℕ, zero, suc, _+_, _≤_}
+use Prim.Native.Nat.{ℕ, zero, suc}
 use mathlib.Core.Bool.{true, cond}
 use mathlib.Core.List.{List, [], _∷_}
-use mathlib.Core.Logic.{_⊎_, _≢_}
+use mathlib.Core.Logic.{_≢_}
 use mathlib.Core.Option.{Option, none, some}
 use mathlib.Core.Path.{_≡_}
 use lib.Dec.{eqb}
 use lib.ListN.{length}
-use Rattle.scripthash_layout.specs.Sizes.{slabBytes, pageClass}
-use Rattle.scripthash_free.specs.FreeList.{Block, isBlock}
+use Rattle.scripthash_layout.specs.Sizes.{pageClass}
+use Rattle.scripthash_free.specs.FreeList.{Block, Disjoint, isBlock}
 use Rattle.plain_book.specs.Space.{Space, stackOf}
 use Rattle.plain_book.specs.Key.{Page, Place, empty, inline, slab, pages}
 use Rattle.plain_book.specs.Book.{Book, keyOf}
@@ -52,10 +52,6 @@ has s at held hand = held
 has s at held (stack class depth) = atDepth class depth (stackOf class s)
 has s at held (slabOf key) = slabAt (at key)
 has s at held (pageOf key i) = pageIn i (at key)
-
--- Two blocks that share no byte.
-abbrev pub Disjoint : Block → Block → Type 0
-Disjoint x y = (x .off + slabBytes (x .class) ≤ y .off) ⊎ (y .off + slabBytes (y .class) ≤ x .off)
 
 -- Blocks by their owners: each can stand where it does, below the mark, and those of two owners share no byte.
 pub record Apart (mark : ℕ) (f : Owner → Option Block) : Type 0 where

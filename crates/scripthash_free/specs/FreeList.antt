@@ -75,6 +75,10 @@ pub record Block : Type 0 where
   pub class : ℕ
   pub off : ℕ
 
+-- Two blocks share no byte: one ends at or below the other's beginning.
+abbrev pub Disjoint : Block → Block → Type 0
+Disjoint x y = (x .off + slabBytes (x .class) ≤ y .off) ⊎ (y .off + slabBytes (y .class) ≤ x .off)
+
 -- A block of the class that was found, if one was, at an offset, and then what comes after a block of that class.
 unfoldable pub blockThen : Option ℕ → ℕ → (ℕ → List Block) → List Block
 blockThen none off rest = []
