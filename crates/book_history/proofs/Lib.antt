@@ -16,6 +16,7 @@ pub mod LawsEach
 pub mod Demand3
 pub mod Licence
 pub mod Ceilings
+pub mod Totals
 pub mod LawsOnly
 pub mod LawsWritesSpace
 pub mod LawsWritesLoad
