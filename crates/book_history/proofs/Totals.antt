@@ -12,7 +12,7 @@ use Rattle.scripthash_layout.specs.Head.{unpackHead}
 use Rattle.scripthash_layout.specs.declared.head.ShHeadValue.the-variants.{Extent}
 use Rattle.scripthash_fields.specs.Page.{createsFieldOf}
 use Rattle.book_rules.specs.Calls.{Call}
-use Rattle.book_rules.specs.Limits.{outOfShape}
+use Rattle.book_limits.specs.Limits.{outOfShape}
 use Rattle.plain_book.specs.Key.{Key, Page, Place, empty, inline, slab, pages, lastPage, noPage, totalOf, headOf}
 use Rattle.plain_book.specs.Book.{Book as PlainBook, fresh as plainFresh, after as plainAfter, keyOf, NeverDropped}
 use Rattle.plain_book.specs.Good.{GoodPlain}
