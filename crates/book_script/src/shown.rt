@@ -1,6 +1,5 @@
 // What a book holds: the place of each key, the mark and the freed blocks.
 use crate::said;
-use book_space::State;
 use scripthash_layout::Unpacked;
 
 // Writes the place that a head word stores.
@@ -66,14 +65,18 @@ fn show_class(body: &[u8], class: usize, head: u64) {
     text::end();
 }
 
-// Writes the mark, and a line for each class that has freed blocks.
-pub fn space(body: &[u8], state: State) {
-    text::named(b"mark ", state.mark);
-    text::end();
-    let free = state.free;
+// Writes a line for each class that has freed blocks.
+fn show_free(body: &[u8], free: [u64; 9]) {
     let mut class: usize = 0;
     while class < 9 {
         show_class(body, class, free[class]);
         class += 1;
     }
+}
+
+// Writes the mark, and the freed blocks of each class.
+pub fn space(body: &[u8], mark: u64, free: [u64; 9]) {
+    text::named(b"mark ", mark);
+    text::end();
+    show_free(body, free);
 }

@@ -6,6 +6,7 @@ mod memory;
 
 use book_script::Asked;
 use book_script::Command;
+use book_script::Reading;
 use book_space::State;
 
 // The book of the script: how many bytes and keys were asked for, and the state. A book has no keys until they are asked for.
@@ -13,6 +14,16 @@ struct Book {
     size: usize,
     keys: usize,
     state: State,
+}
+
+// Before a script asks for a book.
+fn none() -> Book {
+    let state = memory::no_state();
+    Book {
+        size: 0,
+        keys: 0,
+        state,
+    }
 }
 
 // A body was asked for, which has no keys yet.
@@ -50,7 +61,10 @@ fn look(asked: Asked, list: &mut [u64], body: &[u8], heads: &[u64], state: State
     match what {
         Command::Read => calls::read(body, heads, state, asked.first, list, asked.second),
         Command::Places => book_script::places(heads),
-        _ => book_script::space(body, state),
+        _ => {
+            let free = state.free;
+            book_script::space(body, state.mark, free)
+        }
     }
 }
 
@@ -110,29 +124,31 @@ fn line(
     answer(asked, list, body, heads, book)
 }
 
+// Does the line that came, where one did.
+fn step(
+    at: Reading,
+    text: &[u8],
+    list: &mut [u64],
+    body: &mut [u8],
+    heads: &mut [u64],
+    book: Book,
+) -> Book {
+    if at.has_line {
+        let came = book_script::line_of(text, at);
+        return line(at.lines, came, list, body, heads, book);
+    }
+    book
+}
+
 // Does a line after the other until no more text comes. A loop that is proved has to end, so its turns are counted, from a number that no
 // run uses up.
 fn run(text: &mut [u8], list: &mut [u64], body: &mut [u8], heads: &mut [u64]) {
     let mut at = book_script::begin();
-    let state = memory::no_state();
-    let mut book = Book {
-        size: 0,
-        keys: 0,
-        state,
-    };
+    let mut book = none();
     let mut turns = u64::MAX;
     while 0 < turns {
         at = book_script::turn(text, at);
-        if at.has_line {
-            book = line(
-                at.lines,
-                book_script::line_of(text, at),
-                list,
-                body,
-                heads,
-                book,
-            );
-        }
+        book = step(at, text, list, body, heads, book);
         if at.ended {
             return;
         }

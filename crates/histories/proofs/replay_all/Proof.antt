@@ -7,7 +7,8 @@ use Rattle.histories.proofs.replay_all.Statement.{statement}
 use Rattle.histories.proofs.replay_all.Tie as tie
 
 abbrev Inv-loop : tie.InvT-loop
-Inv-loop text body₀ wanted₀ words₀ count₀ at₀ body wanted words count at = (length body ≡ length body₀) × (length wanted ≡ length wanted₀) × (length words ≡ length words₀) × (at ≤ length text)
+Inv-loop text body₀ wanted₀ words₀ count₀ at₀ body wanted words count at =
+    (length body ≡ length body₀) × (length wanted ≡ length wanted₀) × (length words ≡ length words₀) × (at ≤ length text)
 
 abbrev μ-loop : tie.MeasureT-loop
 μ-loop text body₀ wanted₀ words₀ count₀ at₀ body wanted words count at = length text - at

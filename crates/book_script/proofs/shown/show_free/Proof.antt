@@ -1,24 +1,15 @@
--- `space` is safe and ends: the classes that are left shrink with each turn. Assumes nothing.
+-- `show_free` is safe and ends: the classes that are left shrink with each turn. Assumes nothing.
 use Prim.Native.Nat.{_≤_, _<_, _-_}
 use borrow.Author.Needs.{needs}
 use lib.ListN.{length}
-use Rattle.book_script.proofs.shown.space.Statement.{statement}
-use Rattle.book_script.proofs.shown.space.Tie as tie
+use Rattle.book_script.proofs.shown.show_free.Statement.{statement}
+use Rattle.book_script.proofs.shown.show_free.Tie as tie
 
 abbrev Inv-loop : tie.InvT-loop
 Inv-loop body free class₀ class = class ≤ 9
 
 abbrev μ-loop : tie.MeasureT-loop
 μ-loop body free class₀ class = 9 - class
-
-slice-aggregate-named : tie.Need-slice-aggregate-named Inv-loop μ-loop
-slice-aggregate-named c = search needs
-
-named-requires : tie.Need-named-requires Inv-loop μ-loop
-named-requires c κs = search needs
-
-end-requires : tie.Need-end-requires Inv-loop μ-loop
-end-requires c κs = search needs
 
 loop-holds : tie.Need-loop-holds Inv-loop μ-loop
 loop-holds c = search needs
@@ -44,15 +35,12 @@ loop-again c = search needs
 returns : tie.Need-returns Inv-loop μ-loop
 returns c = search needs
 
-pub space-spec : {M : Type 1} → statement M
-space-spec =
+pub show-free-spec : {M : Type 1} → statement M
+show-free-spec =
     tie.close
     (tie.spec
     Inv-loop
     μ-loop
-    slice-aggregate-named
-    named-requires
-    end-requires
     loop-holds
     mul-show-class
     array-read-show-class
