@@ -59,10 +59,10 @@ pub +decode-parts-spec : {M : Type 1} → statement M
     (λ c κs. search needs)
     (λ c. search needs)
     (λ c.
+    let a = c .before .before .before .before .before .before .before .before .before .before .before .before .before .before .before .before .before .args in
     let more = c .before .before .before .before .before .before .before .before .decode-parts in
-    let f = c .before .before .before .before .before .before .before .before .before .before .before .before in
-    let s = f .sum-forms in
-    let start = f .before .before .before .before .before in
-    let a = start .args in
+    let s = c .before .before .before .before .before .before .before .before .before .before .before .before .sum-forms in
     part-more 256 (s .result .taken) (s .result .last) (more .result) (a .from) (a .prev) (a .n) (a .at) (a .buf .now) _ (a .out .now) _ _
-    (s .ensures) (omega arith) (search needs) (omega arith) (start .pre .1 .2) (omega arith) (c .before .before .copy-fks .ensures) (more .ensures))
+    (s .ensures) (omega arith) (search needs) (omega arith)
+    (c .before .before .before .before .before .before .before .before .before .before .before .before .before .before .before .before .before .pre .1 .2)
+    (omega arith) (c .before .before .copy-fks .ensures) (more .ensures))
