@@ -13,7 +13,7 @@ use Rattle.buffer.specs.Bytes.{overwrite}
 use Rattle.scripthash_layout.specs.Sizes.{maxSlabCount}
 use Rattle.scripthash_layout.specs.declared.head.ShHeadValue.the-variants.{Slab}
 use Rattle.scripthash_stream.specs.Stream.{Scan, scan}
-use Rattle.scripthash_scan.specs.Quick.{ShortRead, unread as unread-stream, short as short-stream}
+use Rattle.scripthash_forms.specs.Quick.{ShortRead, unread as unread-stream, short as short-stream}
 use Rattle.scripthash_slabs.specs.Slab.{slabUsed}
 use Rattle.book_space.specs.Space.{Space}
 use Rattle.book_keys.specs.Keys.{soundly, slabScan, Content, contentAt}

@@ -5,7 +5,7 @@ use mathlib.Core.Path.{refl, sym, _∙_, subst}
 use borrow.Author.Needs.{needs}
 use Rattle.buffer.proofs.LawsBytes.{part-to-end}
 use Rattle.scripthash_stream.specs.Stream.{scan}
-use Rattle.scripthash_scan.specs.Quick.{ShortRead}
+use Rattle.scripthash_forms.specs.Quick.{ShortRead}
 use Rattle.book_keys.specs.Steps.{unread}
 use Rattle.book_keys.proofs.LawsListed.{short-slab}
 use Rattle.book_keys.proofs.slab.short_slab.Statement.{statement}
