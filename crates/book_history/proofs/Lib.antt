@@ -24,6 +24,7 @@ pub mod ExamplesStart
 pub mod Demand3
 pub mod Licence
 pub mod Ceilings
+pub mod Totals
 pub mod LawsOnly
 pub mod LawsWritesSpace
 pub mod LawsWritesLoad
