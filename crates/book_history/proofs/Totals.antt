@@ -24,9 +24,10 @@ use Rattle.book_keys.specs.Keys.{pageAt}
 use Rattle.book.specs.Book.{Book, fresh, wordOf}
 use Rattle.book.specs.Calls.{after}
 use Rattle.book_history.specs.Agrees.{firstOff, AgreesInside, Agrees}
-use Rattle.book_history.proofs.LawsCalls.{books-agree, fresh-agrees}
+use Rattle.book_history.proofs.LawsCalls.{books-agree}
 use Rattle.book_history.proofs.LawsEach.{each-alike}
 use Rattle.book_history.proofs.LawsContent.{some-pages, last-page-at, last-reads, head-agrees, chain-page}
+use Rattle.book_history.proofs.LawsStartFresh.{fresh-agrees}
 
 -- The last page that a key's head word names tells the key's total.
 told : (plain : PlainBook) (b : Book) → GoodPlain plain → outOfShape (plain .size) (length (plain .keys)) ≡ false → AgreesInside plain b
