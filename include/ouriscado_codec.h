@@ -197,8 +197,8 @@ uint64_t ouriscado_payload_start(size_t file_header_len);
    LAST, and a page's offset. The pages of a key are a chain: in each page but the last, the link names the
    next page; the last page has LAST, and its link names the first page of the chain. A page of version 2 also
    names an extent, which is pages side by side (the offset of the first, its base, and how many there are),
-   and has creates: in a chain's last page how many numbers the whole list has, else 0. Version 1 has no
-   extent; version 0 is a page that was never written. */
+   and has creates: in a chain's last page how many numbers the whole list has, or 0 where they were never
+   counted, else 0. Version 1 has no extent; version 0 is a page that was never written. */
 
 /* Passes a page that can be read. Refuses 4, 15, 16. */
 uint32_t ouriscado_sh_page_require_delta(const uint8_t *page, size_t page_len);
