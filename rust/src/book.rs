@@ -1,5 +1,7 @@
 //! The account book.
-use crate::limits::{PAGE_BYTES, START_FREE_SHARES, START_FREE_STRAYS, START_GOOD, START_KEY_SHARES, START_KEY_UNSOUND, STATE_WORDS, WORK_UNIT};
+use crate::limits::{
+    PAGE_BYTES, START_FREE_SHARES, START_FREE_STRAYS, START_GOOD, START_KEY_SHARES, START_KEY_UNSOUND, STATE_WORDS, WORK_UNIT,
+};
 use crate::{answer, codec, sys, Refusal};
 use std::fmt;
 

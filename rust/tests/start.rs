@@ -47,7 +47,7 @@ fn judge(book: &Owned) -> Result<(), StartError> {
         let mut offset = book.state().free_heads()[usize::from(class)];
         let unit = if class == PAGE_CLASS { PAGE_BYTES as u64 } else { 16 };
         while offset != 0 {
-            if offset % unit != 0 || offset < 4096 || book.state().mark().saturating_sub(16 << class) < offset {
+            if offset & (unit - 1) != 0 || offset < 4096 || book.state().mark().saturating_sub(16 << class) < offset {
                 return Err(StartError::FreeStrays { class });
             }
             if !claim((class, offset as usize)) {
@@ -156,7 +156,7 @@ impl Random {
 
     /// Some damage: a head word or a free head that another has, or one near an offset in use, a link or a byte written over, the mark lower.
     fn damage(&mut self, body: &mut [u8], heads: &mut [u64], state: &mut State) {
-        let keys = heads.len() as u64;
+        let (keys, length) = (heads.len() as u64, body.len());
         let offset = 4096 + 16 * self.below((state.0[0] - 4096) / 16 + 2);
         match self.below(8) {
             0 => heads[self.below(keys) as usize] = heads[self.below(keys) as usize],
@@ -164,8 +164,8 @@ impl Random {
             2 => state.0[1 + self.below(9) as usize] = offset,
             3 => state.0[1 + self.below(9) as usize] = state.0[1 + self.below(9) as usize],
             4 => state.0[1 + self.below(9) as usize] = offset / 4096 * 4096,
-            5 => body[(offset as usize).min(body.len() - 8)..][..8].copy_from_slice(&state.0[1 + self.below(9) as usize].to_le_bytes()),
-            6 => body[offset as usize % body.len()] ^= 1 << self.below(8),
+            5 => body[(offset as usize).min(length - 8)..][..8].copy_from_slice(&state.0[1 + self.below(9) as usize].to_le_bytes()),
+            6 => body[offset as usize % length] ^= 1 << self.below(8),
             _ => state.0[0] -= 16 * self.below((state.0[0] - 4096) / 16 + 1).min(self.below(40)),
         }
     }
