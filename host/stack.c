@@ -17,7 +17,7 @@ enum numbers { ONES, WIDE, MIXED, HIGH, NUMBERS };
 static const uint8_t PAINT = 0xa5;
 
 /* What the cases work on. A case's list has `count` numbers and one more, which an append offers. */
-static uint8_t body[BODY], bytes[10 * MOST], *page;
+static uint8_t body[BODY], work[BODY / OURISCADO_WORK_UNIT], bytes[10 * MOST], *page;
 static uint64_t heads[KEYS], state[OURISCADO_STATE_WORDS], list[MOST + 1], out[MOST + 1], words[9];
 static size_t count, byte_count, ranges[256][2];
 static uint32_t result;
@@ -41,6 +41,7 @@ static void append(void) { CALL(ouriscado_book_append(BOOK, 0, list[count], &kin
 static void read_all(void) { CALL(ouriscado_book_read(BOOK, 0, out, MOST + 1, &a, &b)); }
 static void read_short(void) { CALL(ouriscado_book_read(BOOK, 0, out, count - 1, &a, &b)); }
 static void drop(void) { CALL(ouriscado_book_drop(BOOK, 0, &a)); }
+static void check(void) { CALL(ouriscado_book_check(BOOK, work, sizeof work, &n, &a)); }
 static void uleb(void) { CALL(ouriscado_read_uleb128(bytes, byte_count, &a, &s)); }
 static void put_uleb(void) { CALL(ouriscado_write_uleb128_into(bytes, sizeof bytes, list[0], &s)); }
 static void encode(void) { CALL(ouriscado_encode_fk_delta_stream_into(bytes, sizeof bytes, list, count, &s)); }
@@ -134,6 +135,10 @@ static const struct test TESTS[] = {
     { "book_drop", "an empty account", 0, nothing, drop, SHORT },
     { "book_drop", "200 numbers in a slab", 200, loaded, drop, SHORT },
     { "book_drop", "65,535 numbers in pages", MOST, loaded, drop, SHORT },
+    { "book_check", "an empty account", 0, nothing, check, SHORT },
+    { "book_check", "200 numbers in a slab", 200, loaded, check, SHORT },
+    { "book_check", "65,535 numbers in pages", MOST, loaded, check, SHORT },
+    { "book_check", "damaged pages", MOST, damaged, check, SHORT },
     { "read_uleb128", "a form", 1, stream, uleb, SHORT },
     { "write_uleb128_into", "a form", 1, nothing, put_uleb, SHORT },
     { "encode_fk_delta_stream_into", "65,535 numbers", MOST, nothing, encode, SHORT },

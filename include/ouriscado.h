@@ -23,13 +23,14 @@
    book. A call that is interrupted for good, because its process ends, may have written some of them and not
    others: go on from a copy of an earlier moment then.
 
-   There are five calls:
+   There are six calls:
 
        ouriscado_book_fresh     makes a book in which nothing is recorded
        ouriscado_book_load      records a whole list for an account that has none
        ouriscado_book_append    records one more number for an account
        ouriscado_book_read      gives an account's list
        ouriscado_book_drop      takes an account's list out of the book
+       ouriscado_book_check     tells whether a body, heads and state from elsewhere are a good book to go on with
 
    A whole program is in examples/c/shop.c of the repository, and installed beside NOTICE.
 
@@ -42,6 +43,11 @@
    recorded. Each call ends on every input, reads and writes only what it is lent, and checks for itself that
    the book is sound as far as it looks at it. Not proved: the compiler's back end and the linker, and your
    side of the boundary, that pointers and lengths are what you say.
+
+   A book may also come from elsewhere, as from a file, written by this library or by other software of the
+   same format. Where ouriscado_book_check tells that it is a good start, the same holds of any calls from
+   then on, with the lists that a read gives at that moment as already recorded. Of other books only what
+   each call tells of itself holds: they end, and stay within what they are lent.
 
    RESULTS
 
@@ -107,36 +113,49 @@ extern "C" {
 #define OURISCADO_VERSION "0.1.0"
 
 /* Sizes and limits. */
-#define OURISCADO_STATE_WORDS              10 /* words of a state: the mark, then nine free heads */
-#define OURISCADO_PAGE_BYTES             4096 /* bytes of a page, and the unit of a body's length */
-#define OURISCADO_LEAST_BODY_BYTES       8192 /* the least bytes of a body */
-#define OURISCADO_MOST_BODY_BYTES  1073741824 /* the most bytes of a body */
-#define OURISCADO_MOST_HEADS            65536 /* the most head words, one for each account */
-#define OURISCADO_MOST_NUMBER      UINT64_C(4611686018427387903) /* the largest record number */
-#define OURISCADO_MOST_LOADED           65535 /* the most numbers in one load */
-#define OURISCADO_MOST_IN_SLAB            256 /* the most numbers in a slab; a longer list stands in pages */
-#define OURISCADO_MOST_IN_PAGE           4088 /* the most numbers in a page */
-#define OURISCADO_PAGE_CLASS                8 /* the class of a page; slabs have the classes 0 to 7 */
+#define OURISCADO_STATE_WORDS               10 /* words of a state: the mark, then nine free heads */
+#define OURISCADO_PAGE_BYTES              4096 /* bytes of a page, and the unit of a body's length */
+#define OURISCADO_LEAST_BODY_BYTES        8192 /* the least bytes of a body */
+#define OURISCADO_MOST_BODY_BYTES   1073741824 /* the most bytes of a body */
+#define OURISCADO_MOST_HEADS             65536 /* the most head words, one for each account */
+#define OURISCADO_MOST_NUMBER       UINT64_C(4611686018427387903) /* the largest record number */
+#define OURISCADO_MOST_LOADED            65535 /* the most numbers in one load */
+#define OURISCADO_MOST_IN_SLAB             256 /* the most numbers in a slab; a longer list stands in pages */
+#define OURISCADO_MOST_IN_PAGE            4088 /* the most numbers in a page */
+#define OURISCADO_PAGE_CLASS                 8 /* the class of a page; slabs have the classes 0 to 7 */
+#define OURISCADO_WORK_UNIT                 16 /* bytes of a body for each byte of the work list that a check
+                                                  is lent */
 
 /* Where a list stands: the kinds of place that an append tells. A list is inline with one number, then in a
    slab, which is a block of 16 to 2,048 bytes for up to OURISCADO_MOST_IN_SLAB numbers, then in pages, which
    are blocks of OURISCADO_PAGE_BYTES. */
-#define OURISCADO_KIND_EMPTY                0 /* the list is empty */
-#define OURISCADO_KIND_INLINE               1 /* one number, which stands in the head word itself */
-#define OURISCADO_KIND_SLAB                 2 /* 2 to 256 numbers, in a slab of the body */
-#define OURISCADO_KIND_PAGES                3 /* in a chain of pages of the body */
+#define OURISCADO_KIND_EMPTY                 0 /* the list is empty */
+#define OURISCADO_KIND_INLINE                1 /* one number, which stands in the head word itself */
+#define OURISCADO_KIND_SLAB                  2 /* 2 to 256 numbers, in a slab of the body */
+#define OURISCADO_KIND_PAGES                 3 /* in a chain of pages of the body */
+
+/* Why a book from elsewhere isn't a good start: the ground that a check tells. */
+#define OURISCADO_START_GOOD                 0 /* the start is good */
+#define OURISCADO_START_KEY_UNSOUND          1 /* the key isn't sound: calls on it are refused with 31 */
+#define OURISCADO_START_KEY_SHARES           2 /* a block of the key shares bytes with another of its own, or
+                                                  with one of a key before it */
+#define OURISCADO_START_FREE_STRAYS          3 /* the free list names an offset where no such block can stand:
+                                                  taking it is refused with 35 */
+#define OURISCADO_START_FREE_SHARES          4 /* a block of the free list shares bytes with one in use, or
+                                                  with one that this list or one of a smaller class named
+                                                  before; a list that doesn't end comes to such a block */
 
 /* The bytes of stack that a call needs. */
-#define OURISCADO_STACK_SHORT            4096 /* bytes of stack of fresh, load and drop, and of a read of at
-                                                 most 256 numbers */
-#define OURISCADO_STACK_APPEND           8192 /* bytes of stack of an append */
-#define OURISCADO_STACK_ANY             40960 /* bytes of stack of any call */
+#define OURISCADO_STACK_SHORT             4096 /* bytes of stack of fresh, load and drop, and of a read of at
+                                                  most 256 numbers */
+#define OURISCADO_STACK_APPEND            8192 /* bytes of stack of an append */
+#define OURISCADO_STACK_ANY              40960 /* bytes of stack of any call */
 
 /* Why a call is refused, and what an operator does then. Where several apply, the smallest number is given;
    but a list that is offered is judged number by number, and its first bad number decides. A key is sound
    where its head word, its slab or pages and the numbers in them are as the format has them. In a book that
-   began with ouriscado_book_fresh and that nobody else wrote, no call is refused with OURISCADO_KEY_UNSOUND
-   or OURISCADO_FREE_HEAD_BAD. */
+   began with ouriscado_book_fresh or as a good start (ouriscado_book_check), and that nobody else wrote, no
+   call is refused with OURISCADO_KEY_UNSOUND or OURISCADO_FREE_HEAD_BAD. */
 enum ouriscado_refusal {
     /* No refusal: the call was accepted. */
     OURISCADO_ACCEPTED = 0,
@@ -257,6 +276,36 @@ uint32_t ouriscado_book_read(
 uint32_t ouriscado_book_drop(
     uint8_t *body, size_t body_len, uint64_t *heads, size_t heads_len, uint64_t state[OURISCADO_STATE_WORDS],
     uint64_t key, uint64_t *length);
+
+/* Tells whether a body, heads and state that come from elsewhere, as from a file, are a good start, with
+   which the other calls may go on as with a book that began fresh: every key is sound; for each of the nine
+   sizes of block the list of freed ones ends, and names only offsets where such a block can stand; and no two
+   blocks, in use or freed, share a byte. work is for the call's own use: a byte for each 16 bytes of the
+   body, which may hold anything, and are 0 afterwards; what stands behind them stays. Nothing else is
+   written. Hands out ground: 0 for a good start, else why it isn't one; and which: the key where the first
+   fault was met, or the class of the free list, since keys are judged first, from 0 on, and then free lists,
+   from class 0 on; 0 for a good start. Refuses 1, 34.
+
+   Call it once, before the first other call, on a book that you didn't make with ouriscado_book_fresh in this
+   process. A result of 0 says that the book was judged: it is good only where ground is OURISCADO_START_GOOD
+   too. The work list needs body_len / OURISCADO_WORK_UNIT bytes; a longer one is taken as well, a shorter one
+   is refused with 34. The time it takes is that of reading the body once or twice.
+
+   Of a last page whose total is 0 the total is unknown, which is sound: the node's own files have such pages.
+
+   What an operator does where ground isn't 0: nothing is to be written to this book, by any call. Restore
+   body, heads and state together, as of one moment, and check again. Where the fault is in the original,
+   OURISCADO_START_KEY_UNSOUND names the one account whose list can't be read; the lists of other accounts can
+   still be read one by one, and loaded into a fresh book. With OURISCADO_START_KEY_SHARES two accounts, or
+   two parts of one, claim the same bytes, and one of the two lists is wrong: which of them is told by no
+   call. With the other two grounds the lists read well, and only freed blocks are at fault: load all lists
+   that read into a fresh book, and go on with that.
+
+   Refusals: OURISCADO_SHAPE_BAD (1), OURISCADO_LIST_TOO_SHORT (34). */
+uint32_t ouriscado_book_check(
+    const uint8_t *body, size_t body_len, const uint64_t *heads, size_t heads_len,
+    const uint64_t state[OURISCADO_STATE_WORDS], uint8_t *work, size_t work_len, uint32_t *ground,
+    uint64_t *which);
 
 #ifdef __cplusplus
 }

@@ -71,7 +71,7 @@ def refusal(r):
 
 def constant(name, value, kind, text):
     shown = f"UINT64_C({value})" if kind == "u64" else str(value)
-    return filled(f"#define OURISCADO_{name:16} {shown:>10} /* ", f"{text} */")
+    return filled(f"#define OURISCADO_{name:17} {shown:>10} /* ", f"{text} */")
 
 
 def version_macros():

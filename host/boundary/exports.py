@@ -30,6 +30,14 @@ CONSTANTS = {
         ("MOST_IN_SLAB", 256, "usize", "the most numbers in a slab; a longer list stands in pages"),
         ("MOST_IN_PAGE", 4088, "usize", "the most numbers in a page"),
         ("PAGE_CLASS", 8, "u8", "the class of a page; slabs have the classes 0 to 7"),
+        ("WORK_UNIT", 16, "usize", "bytes of a body for each byte of the work list that a check is lent"),
+    ],
+    "grounds": [
+        ("START_GOOD", 0, "u32", "the start is good"),
+        ("START_KEY_UNSOUND", 1, "u32", "the key isn't sound: calls on it are refused with 31"),
+        ("START_KEY_SHARES", 2, "u32", "a block of the key shares bytes with another of its own, or with one of a key before it"),
+        ("START_FREE_STRAYS", 3, "u32", "the free list names an offset where no such block can stand: taking it is refused with 35"),
+        ("START_FREE_SHARES", 4, "u32", "a block of the free list shares bytes with one in use, or with one that this list or one of a smaller class named before; a list that doesn't end comes to such a block"),
     ],
     "stacks": [
         ("STACK_SHORT", 4096, "usize", "bytes of stack of fresh, load and drop, and of a read of at most 256 numbers"),

@@ -1,5 +1,7 @@
 //! The account book.
-use crate::limits::{PAGE_BYTES, STATE_WORDS};
+use crate::limits::{
+    PAGE_BYTES, START_FREE_SHARES, START_FREE_STRAYS, START_GOOD, START_KEY_SHARES, START_KEY_UNSOUND, STATE_WORDS, WORK_UNIT,
+};
 use crate::{answer, codec, sys, Refusal};
 use std::fmt;
 
@@ -76,6 +78,63 @@ pub struct Listed {
     pub pages: u64,
 }
 
+/// Why a body, head words and a state are no good start of a book: the first fault that [`Book::check`] meets. Accounts are judged first,
+/// keys rising, then the lists of freed blocks, classes rising.
+#[derive(Clone, Copy, Debug, PartialEq, Eq, Hash)]
+#[non_exhaustive]
+pub enum StartError {
+    /// They weren't judged: [`Refusal::ShapeBad`], where the body's length, the count of head words or the mark is outside the
+    /// [limits](crate::limits).
+    Refused(Refusal),
+    /// The account isn't sound: calls on it are refused with [`Refusal::KeyUnsound`].
+    KeyUnsound {
+        /// The account's key.
+        key: u64,
+    },
+    /// A block of the account shares bytes with another of its own, or with one of an account before it.
+    KeyShares {
+        /// The account's key.
+        key: u64,
+    },
+    /// A list of freed blocks names an offset where no block of its class can stand: taking it is refused with [`Refusal::FreeHeadBad`].
+    FreeStrays {
+        /// The class, 0 to 8.
+        class: u8,
+    },
+    /// A block of a list of freed ones shares bytes with one in use, or with one that was freed and named before. A list that doesn't end
+    /// comes to such a block.
+    FreeShares {
+        /// The class, 0 to 8.
+        class: u8,
+    },
+}
+
+/// What is wrong, and where.
+///
+/// ```
+/// assert_eq!(ouriscado::StartError::KeyUnsound { key: 3 }.to_string(), "account 3 isn't sound");
+/// ```
+impl fmt::Display for StartError {
+    fn fmt(&self, f: &mut fmt::Formatter<'_>) -> fmt::Result {
+        match self {
+            StartError::Refused(refusal) => refusal.fmt(f),
+            StartError::KeyUnsound { key } => write!(f, "account {key} isn't sound"),
+            StartError::KeyShares { key } => write!(f, "a block of account {key} shares bytes with another in use"),
+            StartError::FreeStrays { class } => write!(f, "the freed blocks of class {class} name an offset where none can stand"),
+            StartError::FreeShares { class } => write!(f, "a freed block of class {class} shares bytes with another, in use or freed"),
+        }
+    }
+}
+
+impl std::error::Error for StartError {
+    fn source(&self) -> Option<&(dyn std::error::Error + 'static)> {
+        match self {
+            StartError::Refused(refusal) => Some(refusal),
+            _ => None,
+        }
+    }
+}
+
 /// An account book over a body of bytes and one head word for each account, which it owns or borrows.
 ///
 /// An account is named by its key, the index of its head word. `B` and `H` may be vectors, boxes, arrays, mapped files or mutable borrows;
@@ -111,7 +170,8 @@ impl<B: AsRef<[u8]>, H: AsRef<[u64]>> fmt::Debug for Book<B, H> {
 impl<B, H> Book<B, H> {
     /// A book of a body, head words and a state that belong together: those that [`Book::into_parts`] gave, or copies of them.
     ///
-    /// Nothing is checked here. Each call checks the book's shape, and of its account all that it reads.
+    /// Nothing is checked here. Each call checks the book's shape, and of its account all that it reads. [`Book::open`] checks all of it
+    /// once.
     pub fn from_parts(body: B, heads: H, state: State) -> Self {
         Book { body, heads, state }
     }
@@ -142,6 +202,56 @@ impl<B: AsRef<[u8]>, H: AsRef<[u64]>> Book<B, H> {
         let mut state = State::default();
         let number = sys::book_fresh(body.as_ref(), heads.as_mut(), &mut state.0);
         answer(number, ()).map(|()| Book { body, heads, state })
+    }
+
+    /// A book of a body, head words and a state from elsewhere, as from a file: it is judged as [`Book::check`] does, and opened only where
+    /// it is a good start. From then on each read gives exactly what was recorded, with the lists that stand in it now as already recorded.
+    ///
+    /// ```
+    /// use ouriscado::{Book, StartError};
+    ///
+    /// let mut book = Book::fresh(vec![0; 8192], vec![0; 2])?;
+    /// book.load(0, &[7, 9])?;
+    /// let (body, heads, state) = book.into_parts();
+    ///
+    /// let mut again = Book::open(body.clone(), heads.clone(), state)?;
+    /// again.append(0, 11)?;
+    /// assert_eq!(again.read(0)?, [7, 9, 11]);
+    ///
+    /// let both = vec![heads[0], heads[0]]; // two accounts in one slab
+    /// assert_eq!(Book::open(body, both, state).unwrap_err(), StartError::KeyShares { key: 1 });
+    /// # Ok::<(), Box<dyn std::error::Error>>(())
+    /// ```
+    ///
+    /// # Errors
+    ///
+    /// [`StartError`], with the reason. What was handed over by value is dropped then: hand over borrows, or judge first, by
+    /// [`Book::from_parts`] and [`Book::check`], to keep it.
+    pub fn open(body: B, heads: H, state: State) -> Result<Self, StartError> {
+        let book = Book { body, heads, state };
+        book.check().map(|()| book)
+    }
+
+    /// Judges whether the book is a good start: every account is sound, every list of freed blocks ends and names only offsets where its
+    /// blocks can stand, and no two blocks, in use or freed, share a byte. Nothing is changed; a sixteenth of the body's length is allocated
+    /// for the time of the call.
+    ///
+    /// # Errors
+    ///
+    /// [`StartError`], with the first fault.
+    pub fn check(&self) -> Result<(), StartError> {
+        let mut work = vec![0; self.body().len() / WORK_UNIT];
+        let (mut ground, mut which) = (0, 0);
+        let number = sys::book_check(self.body(), self.heads(), &self.state.0, &mut work, &mut ground, &mut which);
+        answer(number, ()).map_err(StartError::Refused)?;
+        match ground {
+            START_GOOD => Ok(()),
+            START_KEY_UNSOUND => Err(StartError::KeyUnsound { key: which }),
+            START_KEY_SHARES => Err(StartError::KeyShares { key: which }),
+            START_FREE_STRAYS => Err(StartError::FreeStrays { class: which as u8 }),
+            START_FREE_SHARES => Err(StartError::FreeShares { class: which as u8 }),
+            _ => unreachable!("the library tells no other ground"),
+        }
     }
 
     /// The body.

@@ -34,7 +34,7 @@ mod refusal;
 #[rustfmt::skip] // made
 pub mod sys;
 
-pub use book::{Appended, Book, Listed, Place, Places, State};
+pub use book::{Appended, Book, Listed, Place, Places, StartError, State};
 pub use refusal::Refusal;
 
 impl Refusal {

@@ -43,6 +43,24 @@ pub const MOST_IN_PAGE: usize = 4088;
 /// The class of a page; slabs have the classes 0 to 7.
 pub const PAGE_CLASS: u8 = 8;
 
+/// Bytes of a body for each byte of the work list that a check is lent.
+pub const WORK_UNIT: usize = 16;
+
+/// The start is good.
+pub const START_GOOD: u32 = 0;
+
+/// The key isn't sound: calls on it are refused with 31.
+pub const START_KEY_UNSOUND: u32 = 1;
+
+/// A block of the key shares bytes with another of its own, or with one of a key before it.
+pub const START_KEY_SHARES: u32 = 2;
+
+/// The free list names an offset where no such block can stand: taking it is refused with 35.
+pub const START_FREE_STRAYS: u32 = 3;
+
+/// A block of the free list shares bytes with one in use, or with one that this list or one of a smaller class named before; a list that doesn't end comes to such a block.
+pub const START_FREE_SHARES: u32 = 4;
+
 /// Bytes of stack of fresh, load and drop, and of a read of at most 256 numbers.
 pub const STACK_SHORT: usize = 4096;
 

@@ -71,6 +71,24 @@ pub mod raw {
             key: u64,
             length: &mut u64,
         ) -> u32;
+        /// Tells whether a body, heads and state that come from elsewhere, as from a file, are a good start, with which the other calls may
+        /// go on as with a book that began fresh: every key is sound; for each of the nine sizes of block the list of freed ones ends, and
+        /// names only offsets where such a block can stand; and no two blocks, in use or freed, share a byte. work is for the call's own
+        /// use: a byte for each 16 bytes of the body, which may hold anything, and are 0 afterwards; what stands behind them stays. Nothing
+        /// else is written. Hands out ground: 0 for a good start, else why it isn't one; and which: the key where the first fault was met,
+        /// or the class of the free list, since keys are judged first, from 0 on, and then free lists, from class 0 on; 0 for a good start.
+        /// Refuses 1, 34.
+        pub fn ouriscado_book_check(
+            body: *const u8,
+            body_len: usize,
+            heads: *const u64,
+            heads_len: usize,
+            state: &[u64; 10],
+            work: *mut u8,
+            work_len: usize,
+            ground: &mut u32,
+            which: &mut u64,
+        ) -> u32;
         /// The smallest class whose bytes hold len bytes: none for 0 or above 2,048.
         pub fn ouriscado_slab_class_for_packed_len(len: usize, class: &mut u8) -> bool;
         /// The smallest class whose slots hold n numbers: none for 0, 1 or from 257 on.
@@ -318,6 +336,30 @@ pub fn book_read(body: &[u8], heads: &[u64], state: &[u64; 10], key: u64, out: &
 #[must_use]
 pub fn book_drop(body: &mut [u8], heads: &mut [u64], state: &mut [u64; 10], key: u64, length: &mut u64) -> u32 {
     unsafe { raw::ouriscado_book_drop(body.as_mut_ptr(), body.len(), heads.as_mut_ptr(), heads.len(), state, key, length) }
+}
+
+/// Tells whether a body, heads and state that come from elsewhere, as from a file, are a good start, with which the other calls may go on
+/// as with a book that began fresh: every key is sound; for each of the nine sizes of block the list of freed ones ends, and names only
+/// offsets where such a block can stand; and no two blocks, in use or freed, share a byte. work is for the call's own use: a byte for each
+/// 16 bytes of the body, which may hold anything, and are 0 afterwards; what stands behind them stays. Nothing else is written. Hands out
+/// ground: 0 for a good start, else why it isn't one; and which: the key where the first fault was met, or the class of the free list,
+/// since keys are judged first, from 0 on, and then free lists, from class 0 on; 0 for a good start. Refuses 1, 34.
+#[inline]
+#[must_use]
+pub fn book_check(body: &[u8], heads: &[u64], state: &[u64; 10], work: &mut [u8], ground: &mut u32, which: &mut u64) -> u32 {
+    unsafe {
+        raw::ouriscado_book_check(
+            body.as_ptr(),
+            body.len(),
+            heads.as_ptr(),
+            heads.len(),
+            state,
+            work.as_mut_ptr(),
+            work.len(),
+            ground,
+            which,
+        )
+    }
 }
 
 /// The smallest class whose bytes hold len bytes: none for 0 or above 2,048.

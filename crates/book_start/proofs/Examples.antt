@@ -17,7 +17,7 @@ use Rattle.scripthash_free.specs.FreeList.{isBlock}
 use Rattle.book_limits.specs.Limits.{outOfShape}
 use Rattle.book_space.specs.Space.{markBad, shapeBroken}
 use Rattle.book_keys.specs.Keys.{soundly, sure, goOn, slabScan, linkScan, goodExtent, lastAt, linked, walk, totalGood, chainAt, pageBlocks, contentAt}
-use Rattle.book_keys.specs.Keys.{content}
+use Rattle.book_keys.specs.Keys.{totalGood, content}
 use Rattle.book_blocks.specs.Blocks.{lastPageOf}
 use Rattle.book.specs.Book.{Book, book, fresh, headWord}
 use Rattle.book_start.specs.Start.{Verdict, good, keyUnsound, keyShares, freeStrays, freeShares, shares, sharesOne, claimAll}
@@ -48,13 +48,14 @@ freed first second = overwrite (overwrite blank 4096 (bytesOf 8 first)) 4112 (by
 abbrev none-freed : List ℕ
 none-freed = replicate 9 0
 
--- Good starts: a fresh book, a slab beside two freed ones, and a page.
+-- Good starts: a fresh book, a slab beside a freed one, two freed slabs, and a page, whose total is exact or unknown.
 pub good-starts : (told (fresh blank 2) ≡ accepted good)
     × (told (book (overwrite slabbed 4128 (bytesOf 8 0)) (5 ∷ slabWord 0 2 4096 ∷ 0 ∷ []) 4160 (0 ∷ 4128 ∷ replicate 7 0)) ≡ accepted good)
     × (told (book (freed 4112 0) (7 ∷ []) 4128 (4096 ∷ replicate 8 0)) ≡ accepted good)
     × (told (book (paged 2) (headWord (Extent 4096) ∷ []) 8192 none-freed) ≡ accepted good)
+    × (told (book (paged 0) (headWord (Extent 4096) ∷ []) 8192 none-freed) ≡ accepted good)
 unfolding told
-good-starts = (refl, refl, refl, refl)
+good-starts = (refl, refl, refl, refl, refl)
 
 -- Keys: a word that tells no place, a slab with another count, a page whose creates lies, and a slab that two keys hold.
 pub bad-keys : (told (book blank (0 ∷ 2 ^ 63 ∷ []) 4096 none-freed) ≡ accepted (keyUnsound 1))

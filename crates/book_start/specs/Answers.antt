@@ -13,3 +13,19 @@ startAnswer (KeyShares key) = accepted (keyShares key)
 startAnswer (FreeStrays class) = accepted (freeStrays class)
 startAnswer (FreeShares class) = accepted (freeShares class)
 startAnswer (Refused number) = refused number
+
+-- The number of a verdict's ground, as it goes out.
+abbrev pub groundOf : Verdict → ℕ
+groundOf good = 0
+groundOf (keyUnsound key) = 1
+groundOf (keyShares key) = 2
+groundOf (freeStrays class) = 3
+groundOf (freeShares class) = 4
+
+-- The key or the class that a verdict names, 0 where it is good.
+abbrev pub whichOf : Verdict → ℕ
+whichOf good = 0
+whichOf (keyUnsound key) = key
+whichOf (keyShares key) = key
+whichOf (freeStrays class) = class
+whichOf (freeShares class) = class

@@ -3,11 +3,12 @@ ghost use mathlib.Core.List.{List};
 ghost use mathlib.Core.Path.{_≡_};
 ghost use Prim.Native.Nat.{ℕ, _*_, _/_, _≤_};
 ghost use lib.ListN.{length};
+ghost use Rattle.error.specs.Refusal.{refusalOf, told};
 ghost use Rattle.scripthash_free.specs.FreeList.{Block};
 ghost use Rattle.book_space.specs.Space.{space};
 ghost use Rattle.book.specs.Answers.{bookOf};
 ghost use Rattle.book_start.specs.Start.{judgeLists, judgeKeys, judges};
-ghost use Rattle.book_start.specs.Answers.{startAnswer};
+ghost use Rattle.book_start.specs.Answers.{startAnswer, groundOf, whichOf};
 ghost use Rattle.book_start.specs.Units.{Marked, JudgesAs, workAfter};
 use crate::claiming::Claiming;
 use crate::claiming::claim_freed;
@@ -25,6 +26,50 @@ pub enum JudgeStart {
     FreeStrays(u64),
     FreeShares(u64),
     Refused(Refusal),
+}
+
+impl JudgeStart {
+    // The refusal's number, and 0 of another answer.
+    pub fn refusal(self) -> Refusal
+        ensures { λ r. ⌜ r ≡ refusalOf (startAnswer self) ⌝ }
+    {
+        match self {
+            JudgeStart::Good => 0,
+            JudgeStart::KeyUnsound(_) => 0,
+            JudgeStart::KeyShares(_) => 0,
+            JudgeStart::FreeStrays(_) => 0,
+            JudgeStart::FreeShares(_) => 0,
+            JudgeStart::Refused(number) => number,
+        }
+    }
+
+    // The number of the fault's ground, 0 where there is none.
+    pub fn ground(self) -> u32
+        ensures { λ r. ⌜ r ≡ told groundOf (startAnswer self) 0 ⌝ }
+    {
+        match self {
+            JudgeStart::Good => 0,
+            JudgeStart::KeyUnsound(_) => 1,
+            JudgeStart::KeyShares(_) => 2,
+            JudgeStart::FreeStrays(_) => 3,
+            JudgeStart::FreeShares(_) => 4,
+            JudgeStart::Refused(_) => 0,
+        }
+    }
+
+    // The key of a fault, or the class of its free list, 0 where there is none.
+    pub fn which(self) -> u64
+        ensures { λ r. ⌜ r ≡ told whichOf (startAnswer self) 0 ⌝ }
+    {
+        match self {
+            JudgeStart::Good => 0,
+            JudgeStart::KeyUnsound(key) => key,
+            JudgeStart::KeyShares(key) => key,
+            JudgeStart::FreeStrays(class) => class,
+            JudgeStart::FreeShares(class) => class,
+            JudgeStart::Refused(_) => 0,
+        }
+    }
 }
 
 // Claims the blocks of all free lists, classes rising, behind those that the work list shows: good where all are claimed, else the first

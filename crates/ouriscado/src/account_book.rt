@@ -1,6 +1,7 @@
 // The account book, as it is lent from outside: a body of bytes, a head word for each key, and the state in ten words, which are the mark
 // and then the nine free heads.
 ghost use mathlib.Core.Path.{_≡_};
+ghost use Prim.Native.Nat.{_/_};
 ghost use lib.ListN.{length as lengthOfList};
 ghost use Rattle.error.specs.Refusal.{refusalOf, told};
 ghost use Rattle.book_rules.specs.Calls.{answerOf, bookAfter};
@@ -9,6 +10,9 @@ ghost use Rattle.book.specs.Loads.{loads};
 ghost use Rattle.book.specs.Appends.{appends};
 ghost use Rattle.book.specs.Reads.{reads, drops, listAfter};
 ghost use Rattle.book.specs.Answers.{loadAnswer, appendAnswer, readAnswer, dropAnswer, countedOf};
+ghost use Rattle.book_start.specs.Start.{judges};
+ghost use Rattle.book_start.specs.Units.{workAfter};
+ghost use Rattle.book_start.specs.Answers.{groundOf, whichOf};
 ghost use Rattle.ouriscado.specs.OutHead.{kindOut, classOut, usedOut, placeOut};
 ghost use Rattle.ouriscado.specs.OutBook.{bookIn, wordsOf, pagesLoaded, newPlace, recordsRewritten, lengthDropped};
 use crate::head::put_head;
@@ -289,4 +293,36 @@ pub extern "C" fn ouriscado_book_drop(
     let answer = after.answer;
     put_state(state, left);
     put_dropped(answer, length)
+}
+
+// Tells whether a body, heads and state that come from elsewhere, as from a file, are a good start, with which the other calls may go on as
+// with a book that began fresh: every key is sound; for each of the nine sizes of block the list of freed ones ends, and names only offsets
+// where such a block can stand; and no two blocks, in use or freed, share a byte. work is for the call's own use: a byte for each 16 bytes
+// of the body, which may hold anything, and are 0 afterwards; what stands behind them stays. Nothing else is written. Hands out ground: 0 for a
+// good start, else why it isn't one; and which: the key where the first fault was met, or the class of the free list, since keys are judged
+// first, from 0 on, and then free lists, from class 0 on; 0 for a good start. Refuses 1, 34.
+#[no_mangle]
+pub extern "C" fn ouriscado_book_check(
+    body: &[u8],
+    heads: &[u64],
+    state: &[u64; 10],
+    work: &mut [u8],
+    ground: &mut u32,
+    which: &mut u64,
+) -> u32
+    ensures number { λ r. ⌜ r
+        ≡ refusalOf (judges (bookIn (now (body .entry)) (now (heads .entry)) (now (state .entry))) (lengthOfList (now (work .entry)))) ⌝ }
+    ensures list { λ r. ⌜ now (work .exit)
+        ≡ workAfter (lengthOfList (now (body .entry)) / 16) (now (work .entry))
+        (judges (bookIn (now (body .entry)) (now (heads .entry)) (now (state .entry))) (lengthOfList (now (work .entry)))) ⌝ }
+    ensures ground { λ r. ⌜ now (ground .exit)
+        ≡ told groundOf (judges (bookIn (now (body .entry)) (now (heads .entry)) (now (state .entry))) (lengthOfList (now (work .entry)))) 0 ⌝ }
+    ensures which { λ r. ⌜ now (which .exit)
+        ≡ told whichOf (judges (bookIn (now (body .entry)) (now (heads .entry)) (now (state .entry))) (lengthOfList (now (work .entry)))) 0 ⌝ }
+{
+    let words = *state;
+    let answer = book_start::judge_start(body, heads, state_of(words), work);
+    *ground = answer.ground();
+    *which = answer.which();
+    answer.refusal()
 }

@@ -15,6 +15,7 @@ mod stream;
 mod uleb128;
 
 pub use account_book::ouriscado_book_append;
+pub use account_book::ouriscado_book_check;
 pub use account_book::ouriscado_book_drop;
 pub use account_book::ouriscado_book_fresh;
 pub use account_book::ouriscado_book_load;

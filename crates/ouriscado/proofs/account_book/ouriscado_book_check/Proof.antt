@@ -1,0 +1,59 @@
+-- `ouriscado_book_check` hands out what `judge_start` answers, on the state that the words hold. Assumes nothing.
+use Prim.Native.Nat.{_/_}
+use mathlib.Core.Path.{_∙_, ap}
+use borrow.Author.Needs.{needs}
+use lib.ListN.{length}
+use Rattle.error.specs.Refusal.{refusalOf}
+use Rattle.error.proofs.LawsOut.{told-same}
+use Rattle.book.specs.Book.{Book}
+use Rattle.book_start.specs.Start.{judges}
+use Rattle.book_start.specs.Units.{workAfter}
+use Rattle.book_start.specs.Answers.{groundOf, whichOf}
+use Rattle.ouriscado.proofs.LawsBook.{book-words}
+use Rattle.ouriscado.proofs.account_book.ouriscado_book_check.Statement.{statement}
+use Rattle.ouriscado.proofs.account_book.ouriscado_book_check.Tie as tie
+
+state-of-requires : tie.Need-state-of-requires
+state-of-requires c κs = search needs
+
+judge-start-requires : tie.Need-judge-start-requires
+judge-start-requires c κs = search needs
+
+ground-requires : tie.Need-ground-requires
+ground-requires c κs = search needs
+
+which-requires : tie.Need-which-requires
+which-requires c κs = search needs
+
+refusal-requires : tie.Need-refusal-requires
+refusal-requires c κs = search needs
+
+same-length : tie.Need-same-length
+same-length c = search needs
+
+returns : tie.Need-returns
+returns c =
+    let j = c .before .before .before .before .before in
+    let s = j .before .before in
+    let a = s .before .before .before .before .before .args in
+    let room = length (a .work .now) in
+    let same = book-words (s .state-of .ensures) in
+    let e = j .judge-start .ensures .0 ∙ ap (λ (b : Book). judges b room) same in (
+      c .refusal .ensures ∙ ap refusalOf e,
+      (
+        j .judge-start .ensures .1 ∙ ap (λ (b : Book). workAfter (length (a .body .now) / 16) (a .work .now) (judges b room)) same,
+        (c .before .before .ground .ensures ∙ told-same groundOf _ e, c .before .which .ensures ∙ told-same whichOf _ e),
+      ),
+    )
+
+pub ouriscado-book-check-spec : {M : Type 1} → statement M
+ouriscado-book-check-spec =
+    tie.close
+    (tie.spec
+    state-of-requires
+    judge-start-requires
+    ground-requires
+    which-requires
+    refusal-requires
+    same-length
+    returns)

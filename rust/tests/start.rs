@@ -1,0 +1,206 @@
+//! Books that are judged before they are opened: fresh ones, after calls, damaged ones for each ground, and many random ones beside a
+//! second judge, which claims byte by byte.
+use ouriscado::limits::*;
+use ouriscado::{sys, Book, Place, Refusal, StartError, State};
+
+type Owned = Book<Vec<u8>, Vec<u64>>;
+
+/// The blocks of a sound account: class and offset of each.
+fn blocks(book: &Owned, key: u64) -> Vec<(u8, usize)> {
+    let link = |page: usize| {
+        let mut bytes = [0; 8];
+        bytes[..5].copy_from_slice(&book.body()[page + 3..page + 8]);
+        (u64::from_le_bytes(bytes) / 2) as usize * PAGE_BYTES
+    };
+    match book.place(key).unwrap() {
+        Place::Empty | Place::Inline(_) => vec![],
+        Place::Slab { class, offset, .. } => vec![(class, offset as usize)],
+        Place::Pages { last } => {
+            let last = last as usize;
+            let mut pages = vec![link(last)]; // the last page names the first
+            while pages[pages.len() - 1] != last {
+                pages.push(link(pages[pages.len() - 1]));
+            }
+            pages.into_iter().map(|page| (PAGE_CLASS, page)).collect()
+        }
+    }
+}
+
+/// The second judge, on a book in shape.
+fn judge(book: &Owned) -> Result<(), StartError> {
+    let mut taken = vec![false; book.body().len()];
+    let mut claim = |(class, offset): (u8, usize)| {
+        let bytes = &mut taken[offset..offset + (16 << class)];
+        let free = !bytes.contains(&true);
+        bytes.fill(true);
+        free
+    };
+    for key in 0..book.heads().len() as u64 {
+        if book.read(key).is_err() {
+            return Err(StartError::KeyUnsound { key });
+        }
+        if !blocks(book, key).into_iter().all(&mut claim) {
+            return Err(StartError::KeyShares { key });
+        }
+    }
+    for class in 0..=PAGE_CLASS {
+        let mut offset = book.state().free_heads()[usize::from(class)];
+        let unit = if class == PAGE_CLASS { PAGE_BYTES as u64 } else { 16 };
+        while offset != 0 {
+            if offset & (unit - 1) != 0 || offset < 4096 || book.state().mark().saturating_sub(16 << class) < offset {
+                return Err(StartError::FreeStrays { class });
+            }
+            if !claim((class, offset as usize)) {
+                return Err(StartError::FreeShares { class });
+            }
+            offset = u64::from_le_bytes(book.body()[offset as usize..][..8].try_into().unwrap());
+        }
+    }
+    Ok(())
+}
+
+/// A book after some calls: slabs of two classes, pages, and freed blocks of several classes.
+fn used() -> Owned {
+    let mut book = Book::fresh(vec![0x77; 24 * PAGE_BYTES], vec![0; 8]).unwrap();
+    for n in 1..=40 {
+        book.append(0, n * 3).unwrap();
+    }
+    book.load(1, &(1..=9_000).collect::<Vec<u64>>()).unwrap();
+    book.load(2, &(1..=200).collect::<Vec<u64>>()).unwrap();
+    book.load(3, &(1..=9_000).collect::<Vec<u64>>()).unwrap();
+    book.load(4, &[5, 300]).unwrap();
+    book.load(5, &[9, 10]).unwrap();
+    book.append(6, 77).unwrap();
+    book.drop_key(1).unwrap();
+    book.drop_key(4).unwrap();
+    book
+}
+
+/// What a damaged copy of the used book is refused for.
+fn fault(what: impl Fn(&mut [u8], &mut [u64], &mut State)) -> StartError {
+    let (mut body, mut heads, mut state) = used().into_parts();
+    what(&mut body, &mut heads, &mut state);
+    let kept = Book::from_parts(body.clone(), heads.clone(), state);
+    let told = Book::open(body, heads, state).unwrap_err();
+    assert_eq!(kept.check(), Err(told));
+    if !matches!(told, StartError::Refused(_)) {
+        assert_eq!(judge(&kept), Err(told), "the second judge");
+    }
+    told
+}
+
+#[test]
+fn good_starts() {
+    let fresh = Book::fresh(vec![0xff; LEAST_BODY_BYTES], vec![1; 1]).unwrap();
+    assert_eq!(fresh.check(), Ok(()));
+    let (body, heads, state) = used().into_parts();
+    let (length, before) = (heads.len(), (body.clone(), heads.clone()));
+    let mut book = Book::open(body, heads, state).unwrap();
+    assert_eq!((book.body(), book.heads()), (&before.0[..], &before.1[..]), "opening has changed something");
+    assert_eq!((0..length as u64).map(|key| book.read(key).unwrap().len()).collect::<Vec<_>>(), [40, 0, 200, 9_000, 0, 2, 1, 0]);
+    book.append(5, 11).unwrap();
+    assert_eq!(book.check(), Ok(()));
+}
+
+#[test]
+fn each_ground() {
+    let last = (used().heads()[3] & 0xffff_ffff) as usize;
+    assert_eq!(fault(|_, heads, _| heads[7] = 2 << 62), StartError::KeyUnsound { key: 7 });
+    assert_eq!(fault(|body, _, _| body[last + 20] ^= 1), StartError::KeyUnsound { key: 3 }); // creates lies
+    assert_eq!(fault(|_, heads, _| heads[7] = heads[2]), StartError::KeyShares { key: 7 }); // a slab of two accounts
+    assert_eq!(fault(|_, heads, _| heads[0] = heads[3]), StartError::KeyShares { key: 3 }); // pages of two accounts
+    assert_eq!(fault(|_, _, state| state.0[3] = 4104), StartError::FreeStrays { class: 2 }); // unaligned
+    assert_eq!(fault(|_, _, state| state.0[1] = state.0[0]), StartError::FreeStrays { class: 0 }); // behind the mark
+    assert_eq!(fault(|_, _, state| state.0[9] = last as u64), StartError::FreeShares { class: 8 }); // a page held and free
+    assert_eq!(fault(|_, _, state| state.0[2] = state.0[9]), StartError::FreeShares { class: 8 }); // two sizes in one place
+    let page = used().state().free_heads()[8];
+    let looping = fault(|body, _, _| body[page as usize..][..8].copy_from_slice(&page.to_le_bytes()));
+    assert_eq!(looping, StartError::FreeShares { class: 8 });
+    assert_eq!(fault(|_, _, state| state.0[0] = 4100), StartError::Refused(Refusal::ShapeBad));
+}
+
+#[test]
+fn an_unknown_total_is_good() {
+    let (mut body, heads, state) = used().into_parts();
+    let last = (heads[3] & 0xffff_ffff) as usize;
+    body[last + 20..last + 24].fill(0);
+    let mut book = Book::open(body, heads, state).unwrap();
+    assert_eq!(book.append(3, 9_001).unwrap().rewritten, 0);
+    assert_eq!((book.read(3).unwrap().len(), book.check()), (9_001, Ok(())));
+}
+
+#[test]
+fn the_work_list() {
+    let book = used();
+    let room = book.body().len() / WORK_UNIT;
+    for (length, refusal) in [(room - 1, 34), (room, 0), (room + 3, 0)] {
+        let mut work = vec![0xee; length];
+        let (mut ground, mut which) = (9, 9);
+        let number = sys::book_check(book.body(), book.heads(), &book.state().0, &mut work, &mut ground, &mut which);
+        assert_eq!((number, ground, which), (refusal, 0, 0));
+        let cleared = if refusal == 0 { room } else { 0 };
+        assert!(work[..cleared].iter().all(|&b| b == 0) && work[cleared..].iter().all(|&b| b == 0xee));
+    }
+}
+
+/// Random numbers, always the same ones (xorshift).
+struct Random(u64);
+
+impl Random {
+    fn below(&mut self, n: u64) -> u64 {
+        self.0 ^= self.0 << 13;
+        self.0 ^= self.0 >> 7;
+        self.0 ^= self.0 << 17;
+        self.0 % n
+    }
+
+    /// Some damage: a head word or a free head that another has, or one near an offset in use, a link or a byte written over, the mark lower.
+    fn damage(&mut self, body: &mut [u8], heads: &mut [u64], state: &mut State) {
+        let (keys, length) = (heads.len() as u64, body.len());
+        let offset = 4096 + 16 * self.below((state.0[0] - 4096) / 16 + 2);
+        match self.below(8) {
+            0 => heads[self.below(keys) as usize] = heads[self.below(keys) as usize],
+            1 => heads[self.below(keys) as usize] ^= 16 << self.below(10),
+            2 => state.0[1 + self.below(9) as usize] = offset,
+            3 => state.0[1 + self.below(9) as usize] = state.0[1 + self.below(9) as usize],
+            4 => state.0[1 + self.below(9) as usize] = offset / 4096 * 4096,
+            5 => body[(offset as usize).min(length - 8)..][..8].copy_from_slice(&state.0[1 + self.below(9) as usize].to_le_bytes()),
+            6 => body[offset as usize % length] ^= 1 << self.below(8),
+            _ => state.0[0] -= 16 * self.below((state.0[0] - 4096) / 16 + 1).min(self.below(40)),
+        }
+    }
+}
+
+#[test]
+fn random_books() {
+    let mut random = Random(0x2545_f491_4f6c_dd1d);
+    let mut met = [0; 5];
+    let mut book = Book::fresh(vec![0xa5; 32 * PAGE_BYTES], vec![0; 12]).unwrap();
+    for _ in 0..4_000 {
+        for _ in 0..random.below(6) {
+            let (key, n) = (random.below(12), random.below(1 << 20));
+            let len = [2, 5, 40, 200, 300, 5_000][random.below(6) as usize];
+            let _ = match random.below(8) {
+                0..=2 => book.load(key, &(n + 1..=n + len).collect::<Vec<u64>>()),
+                3 => book.drop_key(key).map(|length| length as u64),
+                _ => book.append(key, (1 << 21) + n).map(|to| to.rewritten),
+            };
+        }
+        assert_eq!(book.check(), Ok(()), "a book after calls");
+        let (mut body, mut heads, mut state) = book.clone().into_parts();
+        for _ in 0..1 + random.below(3) {
+            random.damage(&mut body, &mut heads, &mut state);
+        }
+        let damaged = Book::from_parts(body, heads, state);
+        let told = damaged.check();
+        assert_eq!(told, judge(&damaged));
+        met[match told {
+            Ok(()) => 0,
+            Err(StartError::KeyUnsound { .. }) => 1,
+            Err(StartError::KeyShares { .. }) => 2,
+            Err(StartError::FreeStrays { .. }) => 3,
+            _ => 4,
+        }] += 1;
+    }
+    assert!(met.iter().all(|&n| n > 50), "not all grounds were met often: {met:?}");
+}
