@@ -5,6 +5,4 @@ mod parts;
 pub use forms::StreamEnd;
 pub use forms::sum_forms;
 pub use parts::copy_fks;
-pub use parts::decode_few;
 pub use parts::decode_parts;
-pub use parts::decode_some;

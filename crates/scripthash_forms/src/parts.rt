@@ -40,24 +40,6 @@ fn decode_through(
     end.taken
 }
 
-// The same for 16 forms at most, from the start.
-pub fn decode_few(buf: &[u8], n: usize, out: &mut [u64]) -> usize
-    requires { ⌜ (n ≤ 16) × (n ≤ length (now out)) ⌝ }
-    ensures { λ r. ⌜ QuickPart r (now (out .entry)) (now (out .exit)) 0 (scanAt 0 0 n (now (buf .entry))) ⌝ }
-{
-    let mut space = [0u64; 16];
-    decode_through(buf, 0, 0, n, &mut space, out, 0)
-}
-
-// The same for 64 forms at most.
-pub fn decode_some(buf: &[u8], n: usize, out: &mut [u64]) -> usize
-    requires { ⌜ (n ≤ 64) × (n ≤ length (now out)) ⌝ }
-    ensures { λ r. ⌜ QuickPart r (now (out .entry)) (now (out .exit)) 0 (scanAt 0 0 n (now (buf .entry))) ⌝ }
-{
-    let mut space = [0u64; 64];
-    decode_through(buf, 0, 0, n, &mut space, out, 0)
-}
-
 // The same from any place and for any count, in parts of 256: each part is held on the stack until those behind it are read.
 pub fn decode_parts(
     buf: &[u8],

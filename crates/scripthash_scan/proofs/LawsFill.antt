@@ -1,7 +1,7 @@
 -- Streams read straight into a list, and short ones in one pass: what the tries tell. Assumes nothing.
 use Prim.Native.Nat.{ℕ, _+_, _-_, _≤_, _<_}
 use mathlib.Core.List.{List, _++_}
-use mathlib.Core.Logic.{⊎-elim}
+use mathlib.Core.Logic.{inl, inr}
 use mathlib.Core.Path.{_≡_, refl, sym, ap, _∙_}
 use native.Mathlib.Nat.{sub-zero, zero-add, add-zero}
 use native.Mathlib.Omega.{arith}
@@ -34,6 +34,15 @@ module _ (taken last n : ℕ) (bs space : List ℕ) (q : QuickSum taken last 0 0
 -- a try that does nothing
 pub short-none : (top : ℕ) (out : List ℕ) (a : Answer Scan) → ShortRead 0 top out out a
 short-none top out a = unread refl refl
+
+-- a try with a limit is one at a reading of all
+pub short-quick : (told top n : ℕ) (bs out after : List ℕ) → n ≤ length out → ShortRead told top out after (scan n bs)
+    → Quick told out after (decodeStream (length out) n bs)
+unfolding Quick
+short-quick told top n bs out after fits (unread none same) = inl (none, same)
+short-quick told top n bs out after fits (short s some is size room low wrote) =
+    let read = decode-fits (length out) n bs is fits in
+    inr (some, answered-yes (λ t. t .taken) _ read ∙ ap accepted size, wrote ∙ sym (after-accepted out _ read))
 
 -- a stream whose last number was told first
 pub short-told : (taken last told n top : ℕ) (bs out after : List ℕ) → QuickEnd taken last (answered (endFrom 0) (scan n bs)) → 0 < taken → last < top

@@ -74,6 +74,20 @@ fn read_many(buf: &[u8], n: usize, top: u64, out: &mut [u64]) -> usize
     read_through(buf, n, top, &mut space, out)
 }
 
+// The same for 256 forms at most, by the least list that holds them: a list is cleared before it is used.
+pub fn read_forms(buf: &[u8], n: usize, top: u64, out: &mut [u64]) -> usize
+    requires { ⌜ (n ≤ 256) × (n ≤ length (now out)) ⌝ }
+    ensures { λ r. ⌜ ShortRead r top (now (out .entry)) (now (out .exit)) (scan n (now (buf .entry))) ⌝ }
+{
+    if n <= 16 {
+        return read_few(buf, n, top, out);
+    }
+    if n <= 64 {
+        return read_some(buf, n, top, out);
+    }
+    read_many(buf, n, top, out)
+}
+
 // The same for forms of one byte each: they are judged, so that no list holds them.
 fn read_bytes(buf: &[u8], n: usize, top: u64, out: &mut [u64]) -> usize
     requires { ⌜ OneByteForms (now buf) n × (n ≤ length (now out)) ⌝ }
@@ -94,14 +108,8 @@ pub fn read_short_stream(buf: &[u8], n: usize, top: u64, out: &mut [u64]) -> usi
         if one_byte_forms(buf, n) {
             return read_bytes(buf, n, top, out);
         }
-        if n <= 16 {
-            return read_few(buf, n, top, out);
-        }
-        if n <= 64 {
-            return read_some(buf, n, top, out);
-        }
         if n <= 256 {
-            return read_many(buf, n, top, out);
+            return read_forms(buf, n, top, out);
         }
     }
     0

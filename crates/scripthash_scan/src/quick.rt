@@ -7,20 +7,21 @@ ghost use Rattle.error.specs.Refusal.{answered};
 ghost use Rattle.compact.specs.Uleb128.{goesOn};
 ghost use Rattle.scripthash_stream.specs.Stream.{scan, endFrom, decodeStream};
 ghost use Rattle.scripthash_forms.specs.Quick.{OneByteForms, Quick, QuickEnd};
+use crate::fill::read_forms;
 use scripthash_forms::StreamEnd;
-use scripthash_forms::decode_few;
 use scripthash_forms::decode_parts;
-use scripthash_forms::decode_some;
 use scripthash_forms::sum_forms;
+use scripthash_stream::BIT_63;
 use scripthash_stream::MAX_OFFERED;
 use scripthash_stream::wide;
 
 // From how many numbers on a scan weighs forms together.
 const MANY: usize = 64;
 
-// From how many numbers on it does so where forms are short, and where they are shorter.
+// From how many numbers on it does so where forms are short.
 const MORE: usize = 40;
 
+// From how many numbers on it does so where forms are shorter.
 const SOME: usize = 30;
 
 // The larger of two bytes.
@@ -98,11 +99,8 @@ pub fn decode_quickly(buf: &[u8], n: usize, out: &mut [u64]) -> usize
         if one_byte_forms(buf, n) {
             return sum_bytes(buf, n, out);
         }
-        if n <= 16 {
-            return decode_few(buf, n, out);
-        }
-        if n <= 64 {
-            return decode_some(buf, n, out);
+        if n <= 256 {
+            return read_forms(buf, n, BIT_63, out);
         }
         if n <= 4096 {
             return decode_parts(buf, 0, 0, n, out, 0);

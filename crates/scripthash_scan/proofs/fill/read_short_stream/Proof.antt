@@ -17,8 +17,8 @@ same-length c = search needs
 returns : tie.Need-returns
 returns c = search needs
 
-read-few-requires : tie.Need-read-few-requires
-read-few-requires c κs = search needs
+read-forms-requires : tie.Need-read-forms-requires
+read-forms-requires c κs = search needs
 
 same-length-2 : tie.Need-same-length-2
 same-length-2 c = search needs
@@ -26,29 +26,11 @@ same-length-2 c = search needs
 returns-2 : tie.Need-returns-2
 returns-2 c = search needs
 
-read-some-requires : tie.Need-read-some-requires
-read-some-requires c κs = search needs
-
-same-length-3 : tie.Need-same-length-3
-same-length-3 c = search needs
-
 returns-3 : tie.Need-returns-3
-returns-3 c = search needs
-
-read-many-requires : tie.Need-read-many-requires
-read-many-requires c κs = search needs
-
-same-length-4 : tie.Need-same-length-4
-same-length-4 c = search needs
+returns-3 c = short-none _ _ _
 
 returns-4 : tie.Need-returns-4
-returns-4 c = search needs
-
-returns-5 : tie.Need-returns-5
-returns-5 c = short-none _ _ _
-
-returns-6 : tie.Need-returns-6
-returns-6 c = short-none _ _ _
+returns-4 c = short-none _ _ _
 
 pub read-short-stream-spec : {M : Type 1} → statement M
 read-short-stream-spec =
@@ -58,14 +40,8 @@ read-short-stream-spec =
     read-bytes-requires
     same-length
     returns
-    read-few-requires
+    read-forms-requires
     same-length-2
     returns-2
-    read-some-requires
-    same-length-3
     returns-3
-    read-many-requires
-    same-length-4
-    returns-4
-    returns-5
-    returns-6)
+    returns-4)

@@ -2,6 +2,7 @@
 use native.Mathlib.Omega.{arith}
 use borrow.Author.Needs.{needs}
 use Rattle.scripthash_forms.proofs.LawsTries.{quick-none, part-whole}
+use Rattle.scripthash_scan.proofs.LawsFill.{short-quick}
 use Rattle.scripthash_scan.proofs.quick.decode_quickly.Statement.{statement}
 use Rattle.scripthash_scan.proofs.quick.decode_quickly.Tie as tie
 
@@ -17,38 +18,29 @@ same-length c = search needs
 returns : tie.Need-returns
 returns c = c .before .before .sum-bytes .ensures .1
 
-decode-few-requires : tie.Need-decode-few-requires
-decode-few-requires c κs = search needs
+read-forms-requires : tie.Need-read-forms-requires
+read-forms-requires c κs = search needs
 
 same-length-2 : tie.Need-same-length-2
 same-length-2 c = search needs
 
 returns-2 : tie.Need-returns-2
-returns-2 c = part-whole _ _ _ _ _ (omega arith) (c .before .before .decode-few .ensures)
+returns-2 c = short-quick _ _ _ _ _ _ (omega arith) (c .before .before .read-forms .ensures)
 
-decode-some-requires : tie.Need-decode-some-requires
-decode-some-requires c κs = search needs
+decode-parts-requires : tie.Need-decode-parts-requires
+decode-parts-requires c κs = search needs
 
 same-length-3 : tie.Need-same-length-3
 same-length-3 c = search needs
 
 returns-3 : tie.Need-returns-3
-returns-3 c = part-whole _ _ _ _ _ (omega arith) (c .before .before .decode-some .ensures)
-
-decode-parts-requires : tie.Need-decode-parts-requires
-decode-parts-requires c κs = search needs
-
-same-length-4 : tie.Need-same-length-4
-same-length-4 c = search needs
+returns-3 c = part-whole _ _ _ _ _ (omega arith) (c .before .before .decode-parts .ensures)
 
 returns-4 : tie.Need-returns-4
-returns-4 c = part-whole _ _ _ _ _ (omega arith) (c .before .before .decode-parts .ensures)
+returns-4 c = quick-none _ _
 
 returns-5 : tie.Need-returns-5
 returns-5 c = quick-none _ _
-
-returns-6 : tie.Need-returns-6
-returns-6 c = quick-none _ _
 
 pub decode-quickly-spec : {M : Type 1} → statement M
 decode-quickly-spec =
@@ -58,14 +50,11 @@ decode-quickly-spec =
     sum-bytes-requires
     same-length
     returns
-    decode-few-requires
+    read-forms-requires
     same-length-2
     returns-2
-    decode-some-requires
+    decode-parts-requires
     same-length-3
     returns-3
-    decode-parts-requires
-    same-length-4
     returns-4
-    returns-5
-    returns-6)
+    returns-5)
