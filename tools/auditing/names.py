@@ -77,7 +77,10 @@ def fits(name, known):
 
 
 def is_there(name):
-    """A name of any kind."""
+    """A name of any kind; TYPE::METHOD stands in one file with its type."""
+    owner, colons, method = name.partition("::")
+    if colons:
+        return any({owner, method} <= declared_in(path) for path in files())
     return name in WORDS or bool(called(name)) or stands_in(name, files()) or any(fits(name, folder) for folder in folders())
 
 
@@ -101,7 +104,7 @@ def missing_in_cell(cell):
             yield name
         elif colon:
             inside = called(name)
-        elif not (is_there(name) if inside is None or "/" in name or "." in name or name in WORDS else stands_in(name, inside)):
+        elif not (is_there(name) if inside is None or re.search("[/.]|::", name) or name in WORDS else stands_in(name, inside)):
             yield name
 
 
