@@ -23,10 +23,13 @@ use Rattle.plain_book.proofs.LawsTotals.{counted-from, total-exact, uncounted-f
 use Rattle.book_keys.specs.Keys.{pageAt}
 use Rattle.book.specs.Book.{Book, fresh, wordOf}
 use Rattle.book.specs.Calls.{after}
+use Rattle.book_start.specs.Start.{GoodStart}
 use Rattle.book_history.specs.Agrees.{firstOff, AgreesInside, Agrees}
+use Rattle.book_history.specs.PlainOf.{plainOf}
 use Rattle.book_history.proofs.LawsCalls.{books-agree}
 use Rattle.book_history.proofs.LawsEach.{each-alike}
 use Rattle.book_history.proofs.LawsContent.{some-pages, last-page-at, last-reads, head-agrees, chain-page}
+use Rattle.book_history.proofs.LawsStart.{start-shape, start-good, start-agrees}
 use Rattle.book_history.proofs.LawsStartFresh.{fresh-agrees}
 
 -- The last page that a key's head word names tells the key's total.
@@ -66,6 +69,18 @@ module _ (plain : PlainBook) (b : Book) (cs : List Call) (g : GoodPlain plain) (
   -- One that was never counted is unknown after any calls without a drop of the key.
   pub unknown-kept : keyOf key plain .counted ≡ false → NeverDropped key cs → createsFieldOf (pageAt (after b cs .space) last) ≡ 0
   unknown-kept counted never = tells ∙ uncounted-from plain key cs (g .keys key) counted never
+
+-- So it is from every good start: of a key whose last page tells its total then, and of one whose last page doesn't.
+module _ (b : Book) (cs : List Call) (g : GoodStart b) (key last : ℕ)
+    (word : unpackHead (wordOf key (after b cs)) ≡ accepted (Extent last)) where
+  pub total-from : keyOf key (plainOf b) .counted ≡ true
+      → createsFieldOf (pageAt (after b cs .space) last) ≡ length (keyOf key (plainAfter (plainOf b) cs) .list)
+  total-from counted = total-kept (plainOf b) b cs (start-good b g) (start-agrees b g) (start-shape b g) key last word counted
+
+  pub unknown-from : keyOf key (plainOf b) .counted ≡ false → NeverDropped key cs
+      → createsFieldOf (pageAt (after b cs .space) last) ≡ 0
+  unknown-from counted never =
+      unknown-kept (plainOf b) b cs (start-good b g) (start-agrees b g) (start-shape b g) key last word counted never
 
 -- After any calls on a fresh book, in shape, every total is exact.
 pub total-fresh-book : (body : List ℕ) (heads : ℕ) (cs : List Call)
