@@ -2,7 +2,7 @@
 use Prim.Native.Nat.{ℕ, _^_}
 use mathlib.Core.List.{List, [], _∷_, _++_}
 use mathlib.Core.Path.{_≡_, refl}
-use lib.ListN.{length, replicate}
+use lib.ListN.{replicate}
 use Rattle.error.specs.Refusal.{Answer, accepted, refused, refuseIf, andThen}
 use Rattle.buffer.specs.Bytes.{part, overwrite}
 use Rattle.buffer.specs.LittleEndian.{bytesOf}

@@ -1,17 +1,17 @@
 -- Blocks that are claimed one after the other: they are claimed exactly where no two share a byte. Assumes nothing.
-use Prim.Native.Nat.{ℕ, _+_, _≤_}
-use mathlib.Core.Bool.{Bool, true, false, cond, _&&_, _||_}
+use Prim.Native.Nat.{ℕ, _+_}
+use mathlib.Core.Bool.{Bool, true, false, cond, _&&_}
 use mathlib.Core.List.{List, [], _∷_, _++_}
 use mathlib.Core.Logic.{_⊎_, inl, inr, ⊎-elim}
 use mathlib.Core.Path.{_≡_, refl, sym, _∙_}
 use native.Mathlib.Omega.{arith}
-use borrow.Author.Tests.{ltb-false, lt-ltb, le-ltb}
+use borrow.Author.Tests.{ltb-false, le-ltb}
 use lib.Dec.{ltb}
 use Rattle.error.proofs.LawsAnswer.{neither}
 use Rattle.scripthash_layout.specs.Sizes.{slabBytes}
 use Rattle.scripthash_free.specs.FreeList.{Disjoint, Block, Each}
 use Rattle.scripthash_free.proofs.LawsGap.{each-map}
-use Rattle.book_start.specs.Start.{AllApart, shares, sharesOne, Claim, claimed, unfit, shared, claimAll}
+use Rattle.book_start.specs.Start.{AllApart, shares, sharesOne, claimed, unfit, shared, claimAll}
 
 -- ---- two blocks
 

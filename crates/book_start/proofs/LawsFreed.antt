@@ -1,5 +1,5 @@
 -- The free list of a class: its blocks are claimed exactly where it ends, they stand, and no two blocks share a byte. Assumes nothing.
-use Prim.Native.Nat.{ℕ, zero, suc, _+_, _≤_, _<_}
+use Prim.Native.Nat.{ℕ, zero, suc, _≤_}
 use mathlib.Core.Bool.{Bool, true, false, cond}
 use mathlib.Core.List.{List, [], _∷_}
 use mathlib.Core.Logic.{_⊎_, inl, inr, ⊎-elim}
@@ -11,8 +11,8 @@ use lib.ListN.{length}
 use Rattle.scripthash_free.specs.FreeList.{Block, isBlock, nextOf, Names, Each}
 use Rattle.scripthash_free.proofs.LawsBlock.{block-stands, bytes-from-16}
 use Rattle.book_space.specs.Space.{Space}
-use Rattle.book_start.specs.Start.{Stands, block, blocksAt, named, sharesOne, Claim, claimed, unfit, shared, claimAll, claimFreed}
-use Rattle.book_start.proofs.LawsClaims.{shared≢claimed, unfit≢claimed, claim-none, claim-step, claims-first, Claims}
+use Rattle.book_start.specs.Start.{Stands, block, blocksAt, named, sharesOne, claimed, unfit, shared, claimAll, claimFreed}
+use Rattle.book_start.proofs.LawsClaims.{shared≢claimed, unfit≢claimed, claim-none, claim-step, claims-first}
 
 -- A free list that ends, each of its blocks one that 35 would pass.
 pub record Ending (s : Space) (class off : ℕ) (os : List ℕ) : Type 0 where
@@ -87,7 +87,8 @@ freed-was k s class before off {after} e = by-end (eqb off 0) refl e
     by-share false q more stands e = record { more = more; stands = stands; alone = q; rest = e }
 
     by-block : (t : Bool) → isBlock class off (s .mark) ≡ t → (off ≡ 0 → ⊥)
-        → cond t (cond (sharesOne (block class off) before) shared (claimFreed k s class (block class off ∷ before) (nextOf (s .body) off))) unfit
+        → cond t (cond (sharesOne (block class off) before) shared (claimFreed k s class (block class off ∷ before) (nextOf
+        (s .body) off))) unfit
         ≡ claimed after
         → Goes k s class before off after
     by-block true q more e = by-share (sharesOne (block class off) before) refl more q e

@@ -1,7 +1,7 @@
 -- The judgement of a book: it is good exactly where the book is a good start. Assumes nothing.
 use Prim.Native.Nat.{ℕ, zero, suc, _+_, _/_, _≤_, _<_}
-use mathlib.Core.Bool.{Bool, true, false}
-use mathlib.Core.List.{List, [], _∷_, _++_}
+use mathlib.Core.Bool.{false}
+use mathlib.Core.List.{List, [], _∷_}
 use mathlib.Core.Path.{_≡_, refl, sym, ap, _∙_}
 use native.Mathlib.Nat.{zero-add}
 use native.Mathlib.Omega.{arith}
@@ -9,17 +9,17 @@ use lib.Dec.{ltb}
 use lib.ListN.{length, getD}
 use borrow.Author.Tests.{le-ltb}
 use Rattle.error.specs.Refusal.{Answer, accepted, refused, shapeBad, listTooShort}
-use Rattle.error.proofs.LawsAnswer.{accepted-inj, refused≢accepted, refuse-no, passed}
-use Rattle.scripthash_free.specs.FreeList.{Block, Each, Names}
+use Rattle.error.proofs.LawsAnswer.{accepted-inj, refuse-no, passed}
+use Rattle.scripthash_free.specs.FreeList.{Block, Each}
 use Rattle.book_space.specs.Space.{Space, shapeBroken}
 use Rattle.book_space.proofs.LawsShape.{shape-holds}
 use Rattle.book_keys.specs.Keys.{Content, content}
-use Rattle.book.specs.Book.{Book, wordOf}
-use Rattle.book_start.specs.Start.{AllApart, Stands, blocksAt, blocksIn, heldBy, named, namedFrom, freedOf, freedBy, blocksOf, GoodStart}
+use Rattle.book.specs.Book.{Book}
+use Rattle.book_start.specs.Start.{blocksAt, blocksIn, heldBy, namedFrom, freedBy, blocksOf, GoodStart}
 use Rattle.book_start.specs.Start.{Verdict, good, keyUnsound, keyShares, freeStrays, freeShares, Claim, claimed, unfit, shared}
 use Rattle.book_start.specs.Start.{claimAll, claimContent, claimFreed, onward, judgeLists, judgeKeys, judged, judges}
 use Rattle.book_start.proofs.LawsClaims.{Claims, Cross, claim-none, claim-both, claims-left, claims-apart, apart-claims}
-use Rattle.book_start.proofs.LawsFreed.{Ending, FreedClaims, freed-claimed, claimed-freed, named-few}
+use Rattle.book_start.proofs.LawsFreed.{Ending, freed-claimed, claimed-freed, named-few}
 
 -- ---- going on
 
@@ -53,7 +53,8 @@ abbrev pub ListsEnd : Space → ℕ → List ℕ → Type 0
 ListsEnd s class hs = (i : ℕ) → i < length hs → Ending s (class + i) (getD hs i 0) (namedFrom s (getD hs i 0))
 
 -- The first of some free lists, and the others.
-lists-more : (s : Space) (class h : ℕ) (hs : List ℕ) → Ending s class h (namedFrom s h) → ListsEnd s (class + 1) hs → ListsEnd s class (h ∷ hs)
+lists-more : (s : Space) (class h : ℕ) (hs : List ℕ) → Ending s class h (namedFrom s h) → ListsEnd s (class + 1) hs
+    → ListsEnd s class (h ∷ hs)
 lists-more s class h hs one more zero l = let same : class + 0 ≡ class = omega arith in rw same one
 lists-more s class h hs one more (suc i) l = let same : class + suc i ≡ class + 1 + i = omega arith in rw same (more i (omega arith))
 
@@ -74,7 +75,11 @@ lists-good s class (h ∷ hs) before within e =
     let one = freed-claimed (s .mark / 16) s class before h within (w .1) in
     let rest = lists-good s (class + 1) hs (w .0) within (w .2) in (
       lists-more s class h hs (one .ends) (rest .0),
-      record { after = rest .1 .after; is = claim-both before (blocksAt class (namedFrom s h)) (freedBy s (class + 1) hs) (one .is) ∙ rest .1 .is },
+      record {
+        after = rest .1 .after;
+        is = claim-both before (blocksAt class (namedFrom s h)) (freedBy s (class + 1) hs) (one .is)
+            ∙ rest .1 .is;
+      },
     )
 
 -- Free lists that end, with blocks that are claimed, are judged good.
@@ -84,10 +89,15 @@ unfolding judgeLists freedBy
 good-lists s class [] before ends c = refl
 good-lists s class (h ∷ hs) before ends c =
     let one = claims-left before (blocksAt class (namedFrom s h)) (freedBy s (class + 1) hs) c in
-    let is = claimed-freed (s .mark / 16) s class before h (namedFrom s h) (named-few (s .mark / 16) (s .body) h) (lists-first s class h hs ends) (one .is) in
+    let is = claimed-freed (s .mark / 16) s class before h (namedFrom s h) (named-few (s .mark / 16) (s .body) h)
+    (lists-first s class h hs ends) (one .is) in
     onward-yes (claimFreed (s .mark / 16) s class before h) _ _ _ is
     ∙ good-lists s (class + 1) hs (one .after) (lists-rest s class h hs ends)
-    (record { after = c .after; is = sym (claim-both before (blocksAt class (namedFrom s h)) (freedBy s (class + 1) hs) (one .is)) ∙ c .is })
+    (record {
+      after = c .after;
+      is = sym (claim-both before (blocksAt class (namedFrom s h)) (freedBy s (class + 1) hs) (one .is))
+          ∙ c .is;
+    })
 
 -- ---- keys
 
@@ -171,7 +181,11 @@ module _ (b : Book) (nine : length (b .space .free) ≡ 9) where
         ends = λ class h. l .0 class (omega arith) .names;
         stand = λ class h. rw (zero-add class) at (l .0 class (omega arith) .stand);
         apart = claims-apart [] (blocksOf b)
-            (record { after = l .1 .after; is = claim-both [] (heldBy (b .space) (b .heads)) (freedBy (b .space) 0 (b .space .free)) (k .held .is) ∙ l .1 .is }) .1;
+            (record {
+              after = l .1 .after;
+              is = claim-both [] (heldBy (b .space) (b .heads)) (freedBy (b .space) 0 (b .space .free))
+                  (k .held .is) ∙ l .1 .is;
+            }) .1;
       }
 
 -- A good start is judged good.
@@ -184,7 +198,11 @@ start-judged b g =
     let keys = claims-left [] held freed all in
     good-keys (b .space) 0 (b .heads) [] (g .sound) keys
     ∙ good-lists (b .space) 0 (b .space .free) (keys .after)
-    (λ class h. record { names = g .ends class (omega (arith, g .nine)); stand = rw (zero-add class) (g .stand class (omega (arith, g .nine))) })
+    (λ class h. record {
+      names = g .ends class (omega (arith, g .nine));
+      stand = rw (zero-add class) (g .stand class (omega
+          (arith, g .nine)));
+    })
     (record { after = all .after; is = sym (claim-both [] held freed (keys .is)) ∙ all .is })
 
 -- With a work list that is long enough, the call accepts a book as good exactly where it is a good start.

@@ -19,10 +19,9 @@ use Rattle.book_keys.specs.Keys.{soundly, pageAt, linkScan, Chain, linked, walk
 use Rattle.book_keys.proofs.LawsPages.{link-sound}
 use Rattle.book_keys.proofs.LawsWalk.{Ends, GoesOn, walk-step}
 use Rattle.book.specs.Steps.{PagesLeft}
-use Rattle.book_start.specs.Start.{Stands, block, sharesOne, Claim, claimed, shared, unfit, claimAll, claimContent}
+use Rattle.book_start.specs.Start.{Stands, block, sharesOne, Claim, claimed, unfit, claimAll, claimContent}
 use Rattle.book_start.specs.Start.{claimFreed}
-use Rattle.book_start.specs.Units.{unitsFree, marked, claimUnits, markAll, cleared, Marked, claimOf, ClaimsAs}
-use Rattle.book_start.specs.declared.claiming.Claiming.{Claiming}
+use Rattle.book_start.specs.Units.{unitsFree, marked, claimUnits, markAll, cleared, Marked, ClaimsAs}
 use Rattle.book_start.specs.declared.claiming.Claiming.the-variants.{Done, Unfit, Shared}
 use Rattle.book_start.proofs.LawsClaims.{claim-none, claim-step, claim-shared}
 use Rattle.book_start.proofs.LawsFreed.{freed-end, freed-unfit, freed-shared, freed-step, freed-none-left}
@@ -35,14 +34,16 @@ module _ (units mark : ℕ) (lent : List ℕ) (claims : List Block) (work : List
   pub shown-length : length work ≡ length lent
   shown-length =
       let n = length-cleared units lent (m .long) in
-      ap length (m .is) ∙ length-mark-all units claims (cleared units lent) (placed-all units mark claims (m .fits) (m .stand)) (omega (arith, m .long)) ∙ n
+      ap length (m .is) ∙ length-mark-all units claims (cleared units lent) (placed-all units mark claims (m .fits) (m .stand)) (omega
+      (arith, m .long)) ∙ n
 
   module _ (x : Block) (stands : Stands mark x) where
     -- Units that are free tell that no byte is shared.
     free-told : unitsFree x work ≡ not (sharesOne x claims)
     free-told =
         ap (unitsFree x) (m .is)
-        ∙ free-exactly units x claims lent (placed units mark x (m .fits) stands) (placed-all units mark claims (m .fits) (m .stand)) (m .long)
+        ∙ free-exactly units x claims lent (placed units mark x (m .fits) stands) (placed-all units mark claims (m .fits) (m .stand))
+        (m .long)
 
     -- A block whose units are free shares no byte, and the work list then shows it too.
     pub claim-yes : (after : List ℕ) → unitsFree x work ≡ true → after ≡ claimUnits x work
@@ -90,13 +91,15 @@ unfolding claimContent
 word-unfit claims a e = rw e
 
 -- A key without blocks is claimed as it is.
-pub claims-nothing : (units mark : ℕ) (lent : List ℕ) (want : Claim) (claims : List Block) (work : List ℕ) → Marked units mark lent claims work
+pub claims-nothing : (units mark : ℕ) (lent : List ℕ) (want : Claim) (claims : List Block) (work : List ℕ)
+    → Marked units mark lent claims work
     → want ≡ claimAll claims []
     → ClaimsAs units mark lent want Done work
 claims-nothing units mark lent want claims work m e = record { claims = claims; shows = m; told = e ∙ claim-none claims }
 
 -- A key that isn't sound is unfit.
-pub claims-unfit : (units mark : ℕ) (lent : List ℕ) (want : Claim) (claims : List Block) (work : List ℕ) → Marked units mark lent claims work
+pub claims-unfit : (units mark : ℕ) (lent : List ℕ) (want : Claim) (claims : List Block) (work : List ℕ)
+    → Marked units mark lent claims work
     → want ≡ unfit
     → ClaimsAs units mark lent want Unfit work
 claims-unfit units mark lent want claims work m e = record { claims = claims; shows = m; told = e }
@@ -179,7 +182,8 @@ pub record PagesGo (units mark : ℕ) (lent : List ℕ) (want : Claim) (s : Spac
   pub shows : Marked units mark lent claims work
   pub gives : claimAll claims (pageBlocks offs) ≡ want
 
-module _ (units : ℕ) (lent : List ℕ) (want : Claim) (s : Space) (off left : ℕ) (work : List ℕ) (g : PagesGo units (s .mark) lent want s off left work) where
+module _ (units : ℕ) (lent : List ℕ) (want : Claim) (s : Space) (off left : ℕ) (work : List ℕ) (g : PagesGo units
+    (s .mark) lent want s off left work) where
   module _ (more : 0 < left) (after : List ℕ) where
     -- The first of them is claimed.
     pub pages-turn : (next : ℕ) → next ≡ linkOffset (linkOf (pageAt s off)) → unitsFree (block pageClass off) work ≡ true
@@ -230,7 +234,8 @@ pub record FreedGo (units : ℕ) (lent : List ℕ) (want : Claim) (s : Space) (c
   pub shows : Marked units (s .mark) lent claims work
   pub gives : claimFreed left s class claims off ≡ want
 
-module _ (units : ℕ) (lent : List ℕ) (want : Claim) (s : Space) (class off left : ℕ) (work : List ℕ) (g : FreedGo units lent want s class off left work) where
+module _ (units : ℕ) (lent : List ℕ) (want : Claim) (s : Space) (class off left : ℕ) (work : List ℕ)
+    (g : FreedGo units lent want s class off left work) where
   -- It ends.
   pub list-end : off ≡ 0 → ClaimsAs units (s .mark) lent want Done work
   list-end z = record { claims = g .claims; shows = g .shows; told = sym (g .gives) ∙ freed-end left s class (g .claims) off z }
@@ -255,7 +260,8 @@ module _ (units : ℕ) (lent : List ℕ) (want : Claim) (s : Space) (class off l
           record {
             claims = g .claims;
             shows = g .shows;
-            told = sym (g .gives) ∙ ap (λ (k : ℕ). claimFreed k s class (g .claims) off) fuel ∙ freed-unfit (left - 1) s class (g .claims) off more e;
+            told = sym (g .gives) ∙ ap (λ (k : ℕ). claimFreed k s class (g .claims) off) fuel
+                ∙ freed-unfit (left - 1) s class (g .claims) off more e;
           }
 
       module _ (stands : isBlock class off (s .mark) ≡ true) (after : List ℕ) (e : after ≡ claimUnits (block class off) work) where

@@ -1,11 +1,11 @@
 -- The work list: the units of a block are free exactly where it shares no byte with a claimed one. Assumes nothing.
-use Prim.Native.Nat.{ℕ, zero, suc, _+_, _-_, _*_, _/_, _%_, _^_, _≤_, _<_}
+use Prim.Native.Nat.{ℕ, zero, suc, _+_, _-_, _*_, _/_, _%_, _≤_, _<_}
 use mathlib.Core.Bool.{Bool, true, false, cond, not, _&&_, _||_}
 use mathlib.Core.List.{List, [], _∷_, _++_}
 use mathlib.Core.Logic.{⊎-elim}
 use mathlib.Core.Path.{_≡_, refl, sym, ap, _∙_}
 use native.Mathlib.Omega.{arith}
-use borrow.Author.Tests.{ltb-true, eq-eqb, ne-eqb, eqb-true}
+use borrow.Author.Tests.{ltb-true, eq-eqb, ne-eqb}
 use lib.Dec.{ltb, eqb}
 use lib.ListN.{length, getD, take, drop, set, replicate, length-replicate}
 use lib.Pow.{pow-pos}
@@ -15,7 +15,7 @@ use Rattle.buffer.proofs.LawsFields.{part-add}
 use Rattle.buffer.proofs.LawsOrder.{lt-or-ge}
 use Rattle.buffer.proofs.LawsOverwrite.{part-none, part-step, part-within, part-before, part-after}
 use Rattle.scripthash_layout.specs.Sizes.{slabBytes, pageClass}
-use Rattle.scripthash_free.specs.FreeList.{Disjoint, Block, Each, isBlock, unitOf}
+use Rattle.scripthash_free.specs.FreeList.{Disjoint, Block, Each, unitOf}
 use Rattle.scripthash_free.proofs.LawsBlock.{both, block-stands}
 use Rattle.book_start.specs.Start.{Stands, block, shares, sharesOne}
 use Rattle.book_start.specs.Units.{allFree, unitsFree, marked, claimUnits, markAll, cleared}
@@ -51,7 +51,8 @@ module _ (work : List ℕ) (i end : ℕ) where
     left = omega arith
 
     -- A unit is given the value, and then those behind it.
-    pub fill-turn : (value : ℕ) → overwrite (set work i value) (i + 1) (replicate (end - (i + 1)) value) ≡ overwrite work i (replicate (end - i) value)
+    pub fill-turn : (value : ℕ) → overwrite (set work i value) (i + 1) (replicate (end - (i + 1)) value)
+        ≡ overwrite work i (replicate (end - i) value)
     fill-turn value = rw left (sym (overwrite-step work i value (replicate (end - (i + 1)) value) within))
 
     first : part work i (end - i) ≡ getD work i 0 ∷ part work (i + 1) (end - (i + 1))
@@ -226,7 +227,8 @@ module _ (x : Block) (work : List ℕ) where
   length-claim mark fits stands = by-free (unitsFree x work) refl
     where
       by-free : (t : Bool) → unitsFree x work ≡ t → length (claimUnits x work) ≡ length work
-      by-free true e = ap length (claim-marks e) ∙ length-marked (length work) x work (placed (length work) mark x fits stands) (omega arith)
+      by-free true e = ap length (claim-marks e)
+          ∙ length-marked (length work) x work (placed (length work) mark x fits stands) (omega arith)
       by-free false e = ap length (claim-kept e)
 
 -- Blocks below the mark lie within the work list.
@@ -260,7 +262,8 @@ cleared-free units x lent p long =
     ∙ zeros-free units from (slabBytes (x .class) / 16)
 
 -- The units of a block are free exactly where it shares no byte with a marked one.
-pub free-exactly : (units : ℕ) (x : Block) (claims : List Block) (lent : List ℕ) → Placed units x → Each (Placed units) claims → units ≤ length lent
+pub free-exactly : (units : ℕ) (x : Block) (claims : List Block) (lent : List ℕ) → Placed units x → Each (Placed units) claims
+    → units ≤ length lent
     → unitsFree x (markAll claims (cleared units lent)) ≡ not (sharesOne x claims)
 unfolding Each markAll sharesOne
 free-exactly units x [] lent p e long = cleared-free units x lent p long

@@ -1,10 +1,9 @@
 -- Judging by a work list: a turn of the loop over free lists and of that over keys, and their ends. Assumes nothing.
 use Prim.Native.Nat.{ℕ, _+_, _*_, _/_, _≤_, _<_}
 use mathlib.Core.Bool.{true, false}
-use mathlib.Core.List.{List, [], _∷_}
+use mathlib.Core.List.{List, []}
 use mathlib.Core.Path.{_≡_, refl, sym, ap, _∙_}
 use native.Mathlib.Numerals.{add-one}
-use native.Mathlib.Omega.{arith}
 use borrow.Author.Tests.{lt-ltb, le-ltb}
 use lib.Dec.{ltb}
 use lib.ListN.{length, getD, drop, replicate, drop-of-length-le}
@@ -18,12 +17,11 @@ use Rattle.book_keys.specs.Keys.{content}
 use Rattle.book_keys.specs.Steps.{keySpace}
 use Rattle.book_keys.proofs.LawsFree.{content-free}
 use Rattle.book.specs.Book.{Book}
-use Rattle.book_start.specs.Start.{Verdict, good, keyUnsound, keyShares, freeStrays, freeShares, Claim, claimed, unfit, shared}
+use Rattle.book_start.specs.Start.{Verdict, keyUnsound, keyShares, freeStrays, freeShares, Claim, claimed, unfit, shared}
 use Rattle.book_start.specs.Start.{claimContent, claimFreed, onward, judgeLists, judgeKeys, judged, judges}
 use Rattle.book_start.specs.Units.{cleared, markAll, workAfter, Marked, claimOf, ClaimsAs, JudgesAs}
 use Rattle.book_start.specs.declared.claiming.Claiming.{Claiming}
 use Rattle.book_start.specs.declared.claiming.Claiming.the-variants.{Done, Unfit, Shared}
-use Rattle.book_start.specs.declared.judging.JudgeStart.{JudgeStart}
 use Rattle.book_start.specs.declared.judging.JudgeStart.the-variants.{Good, KeyUnsound, KeyShares, FreeStrays, FreeShares}
 use Rattle.book_start.proofs.LawsUnits.{placed-all, cleared-again}
 
@@ -32,7 +30,8 @@ pub onward-is : (c d : Claim) (ifUnfit ifShared : Verdict) (after : List Block �
     → onward c ifUnfit ifShared after ≡ onward d ifUnfit ifShared after
 onward-is c d ifUnfit ifShared after e = rw e
 
-pub onward-claimed : (bs : List Block) (ifUnfit ifShared : Verdict) (after : List Block → Verdict) → onward (claimed bs) ifUnfit ifShared after ≡ after bs
+pub onward-claimed : (bs : List Block) (ifUnfit ifShared : Verdict) (after : List Block → Verdict)
+    → onward (claimed bs) ifUnfit ifShared after ≡ after bs
 unfolding onward
 onward-claimed bs ifUnfit ifShared after = refl
 
@@ -52,7 +51,8 @@ pub record ListsGo (units : ℕ) (lent : List ℕ) (want : Verdict) (s : Space) 
   pub shows : Marked units (s .mark) lent claims work
   pub gives : judgeLists s class (drop class (s .free)) claims ≡ want
 
-module _ (units : ℕ) (lent : List ℕ) (want : Verdict) (s : Space) (class : ℕ) (work : List ℕ) (g : ListsGo units lent want s class work) where
+module _ (units : ℕ) (lent : List ℕ) (want : Verdict) (s : Space) (class : ℕ) (work : List ℕ)
+    (g : ListsGo units lent want s class work) where
   module _ (more : class < length (s .free)) where
     first : want ≡ onward (claimFreed (s .mark / 16) s class (g .claims) (getD (s .free) class 0)) (freeStrays class) (freeShares class)
         (λ bs. judgeLists s (class + 1) (drop (class + 1) (s .free)) bs)
@@ -61,7 +61,8 @@ module _ (units : ℕ) (lent : List ℕ) (want : Verdict) (s : Space) (class : �
 
     module _ (after : List ℕ) (tells : Claiming)
         (c : ClaimsAs units (s .mark) lent (claimFreed (s .mark / 16) s class (g .claims) (getD (s .free) class 0)) tells after) where
-      told : want ≡ onward (claimOf tells (c .claims)) (freeStrays class) (freeShares class) (λ bs. judgeLists s (class + 1) (drop (class + 1) (s .free)) bs)
+      told : want ≡ onward (claimOf tells (c .claims)) (freeStrays class) (freeShares class) (λ bs. judgeLists s (class + 1) (drop
+          (class + 1) (s .free)) bs)
       told = first ∙ onward-is _ _ (freeStrays class) (freeShares class) _ (c .told)
 
       -- The list is claimed.
@@ -103,7 +104,8 @@ module _ (units : ℕ) (lent : List ℕ) (want : Verdict) (s : Space) (class : �
       record {
         claims = g .claims;
         shows = g .shows;
-        told = ap accepted (ap (λ (hs : List ℕ). judgeLists s class hs (g .claims)) (sym (drop-of-length-le (s .free) {i = class} h)) ∙ g .gives);
+        told = ap accepted (ap (λ (hs : List ℕ). judgeLists s class hs (g .claims)) (sym (drop-of-length-le (s .free) {i = class} h))
+            ∙ g .gives);
       }
 
 -- ---- keys
@@ -114,9 +116,11 @@ pub record KeysGo (units : ℕ) (lent : List ℕ) (want : Verdict) (s : Space) (
   pub shows : Marked units (s .mark) lent claims work
   pub gives : judgeKeys s key (drop key heads) claims ≡ want
 
-module _ (units : ℕ) (lent : List ℕ) (want : Verdict) (s : Space) (heads : List ℕ) (key : ℕ) (work : List ℕ) (g : KeysGo units lent want s heads key work) where
+module _ (units : ℕ) (lent : List ℕ) (want : Verdict) (s : Space) (heads : List ℕ) (key : ℕ) (work : List ℕ)
+    (g : KeysGo units lent want s heads key work) where
   module _ (more : key < length heads) where
-    first-key : want ≡ onward (claimContent (g .claims) (content (keySpace (s .body) (s .mark)) (getD heads key 0))) (keyUnsound key) (keyShares key)
+    first-key : want ≡ onward (claimContent (g .claims) (content (keySpace (s .body) (s .mark)) (getD heads key 0))) (keyUnsound key)
+        (keyShares key)
         (λ bs. judgeKeys s (key + 1) (drop (key + 1) heads) bs)
     unfolding judgeKeys
     first-key =
@@ -124,8 +128,10 @@ module _ (units : ℕ) (lent : List ℕ) (want : Verdict) (s : Space) (heads : L
         ∙ rw (add-one key, content-free (s .body) (s .mark) (s .free) (getD heads key 0))
 
     module _ (after : List ℕ) (tells : Claiming)
-        (c : ClaimsAs units (s .mark) lent (claimContent (g .claims) (content (keySpace (s .body) (s .mark)) (getD heads key 0))) tells after) where
-      told-key : want ≡ onward (claimOf tells (c .claims)) (keyUnsound key) (keyShares key) (λ bs. judgeKeys s (key + 1) (drop (key + 1) heads) bs)
+        (c : ClaimsAs units (s .mark) lent (claimContent (g .claims) (content (keySpace (s .body) (s .mark))
+        (getD heads key 0))) tells after) where
+      told-key : want ≡ onward (claimOf tells (c .claims)) (keyUnsound key) (keyShares key) (λ bs. judgeKeys s (key + 1) (drop
+          (key + 1) heads) bs)
       told-key = first-key ∙ onward-is _ _ (keyUnsound key) (keyShares key) _ (c .told)
 
       -- The key is claimed.
@@ -184,21 +190,24 @@ module _ (b : Book) (work : List ℕ) where
     unfolding judges
     judges-short h =
         refuse-no (shapeBroken (b .space) (length (b .heads))) shapeBad _ shape
-        ∙ refuse-yes (ltb (length work) (length (b .space .body) / 16)) listTooShort _ (lt-ltb (length work) (length (b .space .body) / 16) h)
+        ∙ refuse-yes (ltb (length work) (length (b .space .body) / 16)) listTooShort _ (lt-ltb (length work) (length
+        (b .space .body) / 16) h)
 
     -- It is judged.
     pub judges-all : length (b .space .body) / 16 ≤ length work → judges b (length work) ≡ accepted (judged b)
     unfolding judges
     judges-all h =
         refuse-no (shapeBroken (b .space) (length (b .heads))) shapeBad _ shape
-        ∙ refuse-no (ltb (length work) (length (b .space .body) / 16)) listTooShort _ (le-ltb (length work) (length (b .space .body) / 16) h)
+        ∙ refuse-no (ltb (length work) (length (b .space .body) / 16)) listTooShort _ (le-ltb (length work) (length
+        (b .space .body) / 16) h)
 
 -- The work list after the call.
 pub after-refused : (units : ℕ) (work : List ℕ) (a : Answer Verdict) {number : ℕ} → a ≡ refused number → work ≡ workAfter units work a
 unfolding workAfter
 after-refused units work a e = rw e
 
-pub after-judged : (units : ℕ) (work : List ℕ) (a : Answer Verdict) {v : Verdict} → a ≡ accepted v → cleared units work ≡ workAfter units work a
+pub after-judged : (units : ℕ) (work : List ℕ) (a : Answer Verdict) {v : Verdict} → a ≡ accepted v
+    → cleared units work ≡ workAfter units work a
 unfolding workAfter
 after-judged units work a e = rw e
 
@@ -212,7 +221,8 @@ unfolding judged
 judged-is b = refl
 
 -- A cleared work list shows no claims.
-pub shows-none : (units mark : ℕ) (work after : List ℕ) → mark ≤ 16 * units → units ≤ length work → after ≡ cleared units work → Marked units mark work [] after
+pub shows-none : (units mark : ℕ) (work after : List ℕ) → mark ≤ 16 * units → units ≤ length work → after ≡ cleared units work
+    → Marked units mark work [] after
 unfolding markAll Each
 shows-none units mark work after fits long e = record { fits = fits; long = long; stand = tt; is = e }
 

@@ -1,7 +1,7 @@
 -- A book that starts from bytes written elsewhere: what a good start is, said of its bytes, head words, mark and free heads alone, and a
 -- judgement that finds the first fault of one that isn't good.
 use Prim.Native.Nat.{ℕ, zero, suc, _+_, _/_, _<_, _≤_}
-use mathlib.Core.Bool.{Bool, true, false, cond, not, _&&_, _||_}
+use mathlib.Core.Bool.{Bool, true, false, cond, _&&_, _||_}
 use mathlib.Core.List.{List, [], _∷_, _++_}
 use mathlib.Core.Path.{_≡_}
 use lib.Dec.{ltb, eqb}

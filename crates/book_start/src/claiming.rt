@@ -1,6 +1,5 @@
 // Claiming the blocks of a key or of a free list in a work list.
 ghost use mathlib.Core.List.{List};
-ghost use mathlib.Core.Path.{_≡_};
 ghost use Prim.Native.Nat.{ℕ, _*_, _/_, _≤_};
 ghost use lib.ListN.{length};
 ghost use Rattle.scripthash_layout.specs.Sizes.{pageClass};

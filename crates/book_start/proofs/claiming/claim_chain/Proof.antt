@@ -1,5 +1,5 @@
 -- `claim_chain` meets its contract: the chain is walked, then its pages are claimed. Assumes nothing.
-use mathlib.Core.Path.{_≡_, refl, sym, ap, subst, _∙_}
+use mathlib.Core.Path.{_≡_, sym, ap, _∙_}
 use mathlib.Core.List.{List}
 use borrow.Author.Needs.{needs}
 use Rattle.error.specs.Refusal.{accepted}
@@ -14,8 +14,7 @@ use Rattle.book_keys.proofs.LawsSound.{was-sound, was-unsound}
 use Rattle.book_keys.proofs.LawsContent.{content-pages, content-no-pages}
 use Rattle.book.specs.Steps.{PagesLeft}
 use Rattle.book_lists.proofs.LawsDrop.{chain-left}
-use Rattle.book_start.specs.Start.{Claim, claimAll, claimContent}
-use Rattle.book_start.specs.Units.{ClaimsAs}
+use Rattle.book_start.specs.Start.{claimAll, claimContent}
 use Rattle.book_start.proofs.LawsShown.{content-unfit, content-fit, claims-unfit}
 use Rattle.book_start.proofs.claiming.claim_chain.Statement.{statement}
 use Rattle.book_start.proofs.claiming.claim_chain.Tie as tie
@@ -39,7 +38,8 @@ module _ (c : tie.After-end) where
   left : PagesLeft s (end .first) (end .pages) (walked .0 .offs)
   left = chain-left s (at .args .last) (walked .0) end (at .pre .0) (walked .1) (walked .2)
 
-  gives : (claims : List Block) → claimContent claims (soundly (contentAt s (Extent (at .args .last)))) ≡ claimAll claims (pageBlocks (walked .0 .offs))
+  gives : (claims : List Block) → claimContent claims (soundly (contentAt s (Extent (at .args .last))))
+      ≡ claimAll claims (pageBlocks (walked .0 .offs))
   gives claims = content-fit claims (contentAt s (Extent (at .args .last))) (content-pages s (at .args .last) (walked .0) (walked .1))
 
 chain-end-requires : tie.Need-chain-end-requires
@@ -56,7 +56,8 @@ returns c units lent claims m =
     let a = c .before .before .before .before .before .args in
     let s = keySpace (a .body .now) (a .mark) in
     let stop = was-refused chainEndOf _ (sym (c .before .before .chain-end .ensures) ∙ ap chainAnswer (c .enum-told .given .1)) in
-    claims-unfit units (a .mark) lent _ claims _ m (content-unfit claims (contentAt s (Extent (a .last))) (content-no-pages s (a .last) (was-unsound _ stop .1)))
+    claims-unfit units (a .mark) lent _ claims _ m (content-unfit claims (contentAt s (Extent (a .last))) (content-no-pages s (a .last)
+    (was-unsound _ stop .1)))
 
 claim-pages-requires : tie.Need-claim-pages-requires
 claim-pages-requires c κs = let d = c .before .before in (at d .pre .1, (walked d .0 .offs, left d))

@@ -1,9 +1,9 @@
 -- `claim_freed` meets its contract. Invariant: what is left of the list, claimed behind what the work list shows, gives what all of it gives.
 -- Assumes nothing.
-use Prim.Native.Nat.{ℕ, _+_, _-_, _*_, _/_, _≤_, _<_}
+use Prim.Native.Nat.{ℕ, _-_, _*_, _/_, _≤_, _<_}
 use mathlib.Core.Bool.{true}
 use mathlib.Core.List.{List}
-use mathlib.Core.Path.{_≡_, refl, sym, ap, subst, _∙_}
+use mathlib.Core.Path.{_≡_, refl, sym, ap, _∙_}
 use native.Mathlib.Omega.{arith}
 use borrow.Author.Needs.{needs}
 use borrow.Author.Tests.{not-true, not-false}
@@ -69,7 +69,8 @@ same-length c = search needs
 returns : tie.Need-returns Inv-loop μ-loop
 returns c free units lent claims m =
     let t = c .before in
-    list-long units lent _ (s t free) (at t .args .class) (off t) (left t) (work t) (t .before .loop .inv .1 free units lent claims m) (more t) (omega arith)
+    list-long units lent _ (s t free) (at t .args .class) (off t) (left t) (work t) (t .before .loop .inv .1 free units lent claims m)
+    (more t) (omega arith)
 
 is-block-requires : tie.Need-is-block-requires Inv-loop μ-loop
 is-block-requires c κs = search needs
@@ -80,7 +81,8 @@ same-length-2 c = search needs
 returns-2 : tie.Need-returns-2 Inv-loop μ-loop
 returns-2 c free units lent claims m =
     let t = c .before .before .before in
-    list-strays units lent _ (s t free) (at t .args .class) (off t) (left t) (work t) (t .before .loop .inv .1 free units lent claims m) (more t)
+    list-strays units lent _ (s t free) (at t .args .class) (off t) (left t) (work t) (t .before .loop .inv .1 free units lent claims m)
+    (more t)
     (let n = c .before .before .if1 .left in omega arith) (sym (c .before .is-block .ensures) ∙ not-true _ (c .if2 .taken))
 
 claim-block-requires : tie.Need-claim-block-requires Inv-loop μ-loop
@@ -96,7 +98,8 @@ returns-3 c free units lent claims m =
     let d = c .before .before .before .before .before in
     let t = turn d in
     let b = c .before .before .before .claim-block in
-    list-shared units lent _ (s t free) (at t .args .class) (off t) (left t) (work t) (t .before .loop .inv .1 free units lent claims m) (more t) (some d) (stands d) _
+    list-shared units lent _ (s t free) (at t .args .class) (off t) (left t) (work t) (t .before .loop .inv .1 free units lent claims m)
+    (more t) (some d) (stands d) _
     (b .ensures .1) (sym (b .ensures .0) ∙ not-true _ (c .if3 .taken))
 
 get-u64-requires : tie.Need-get-u64-requires Inv-loop μ-loop
@@ -117,9 +120,11 @@ loop-again c =
     let t = turn d in
     let b = c .before .before .before .before .claim-block in
     let class = at t .args .class in (
-      ap length (b .ensures .1) ∙ length-claim (block class (off t)) (work t) (at t .args .mark) (long t) (stands d) ∙ t .before .loop .inv .0,
+      ap length (b .ensures .1) ∙ length-claim (block class (off t)) (work t) (at t .args .mark) (long t) (stands d)
+          ∙ t .before .loop .inv .0,
       λ free units lent claims m.
-          list-turn units lent _ (s t free) class (off t) (left t) (work t) (t .before .loop .inv .1 free units lent claims m) (more t) (some d) (stands d) _
+          list-turn units lent _ (s t free) class (off t) (left t) (work t) (t .before .loop .inv .1 free units lent claims m) (more t)
+          (some d) (stands d) _
           (b .ensures .1) (c .get-u64 .result) (c .get-u64 .ensures) (sym (b .ensures .0) ∙ not-false _ (c .before .if3 .left)),
     )
 
@@ -130,7 +135,8 @@ returns-4 : tie.Need-returns-4 Inv-loop μ-loop
 returns-4 c free units lent claims m =
     let l = c .before .loop in
     let a = c .before .before .before .before .args in
-    list-end units lent _ (space (a .body .now) (a .mark) free) (a .class) (l .off) (l .left) (l .work) (l .inv .1 free units lent claims m) (omega arith)
+    list-end units lent _ (space (a .body .now) (a .mark) free) (a .class) (l .off) (l .left) (l .work)
+    (l .inv .1 free units lent claims m) (omega arith)
 
 pub claim-freed-spec : {M : Type 1} → statement M
 claim-freed-spec =

@@ -1,6 +1,5 @@
 -- `claim_key` meets its contract: its word tells a place, or nothing. Assumes nothing.
-use mathlib.Core.List.{List}
-use mathlib.Core.Path.{_≡_, refl, sym, ap, _∙_}
+use mathlib.Core.Path.{sym, ap, _∙_}
 use borrow.Author.Needs.{needs}
 use Rattle.error.specs.Refusal.{Answer}
 use Rattle.scripthash_layout.specs.AnswersHead.{unpackAnswer}
@@ -26,7 +25,8 @@ returns c units lent claims m =
     let a = c .before .before .before .before .before .args in
     claims-unfit units (a .mark) lent _ claims _ m
     (word-unfit claims (content (keySpace (a .body .now) (a .mark)) (a .word))
-    (content-nowhere (keySpace (a .body .now) (a .mark)) (a .word) (sym (c .before .before .unpack8 .ensures) ∙ ap unpackAnswer (c .enum-told .given .1))))
+    (content-nowhere (keySpace (a .body .now) (a .mark)) (a .word) (sym (c .before .before .unpack8 .ensures)
+    ∙ ap unpackAnswer (c .enum-told .given .1))))
 
 claim-place-requires : tie.Need-claim-place-requires
 claim-place-requires c κs = search needs
@@ -43,7 +43,8 @@ returns-2 c units lent claims m =
       claims = r .claims;
       shows = r .shows;
       told = ap (λ (x : Answer Content). claimContent claims x)
-          (content-at (keySpace (a .body .now) (a .mark)) (a .word) (g .head .given .0 .0) (sym (g .before .before .unpack8 .ensures) ∙ ap unpackAnswer (g .head .given .1)))
+          (content-at (keySpace (a .body .now) (a .mark)) (a .word) (g .head .given .0 .0) (sym (g .before .before .unpack8 .ensures)
+          ∙ ap unpackAnswer (g .head .given .1)))
           ∙ r .told;
     }
 

@@ -1,7 +1,6 @@
 -- `claim_pages` meets its contract. Invariant: the pages that are left, claimed behind what the work list shows, give what all of them give.
 -- Assumes nothing.
-use Prim.Native.Nat.{ℕ, _+_, _-_, _*_, _≤_}
-use mathlib.Core.Bool.{true}
+use Prim.Native.Nat.{ℕ, _-_, _*_, _≤_, _<_}
 use mathlib.Core.List.{List}
 use mathlib.Core.Path.{_≡_, refl, sym, ap, subst, _∙_}
 use native.Mathlib.Omega.{arith}
@@ -9,7 +8,7 @@ use borrow.Author.Needs.{needs}
 use borrow.Author.Tests.{not-true, not-false}
 use lib.ListN.{length}
 use Rattle.scripthash_layout.specs.Sizes.{pageClass}
-use Rattle.scripthash_free.specs.FreeList.{Block, isBlock}
+use Rattle.scripthash_free.specs.FreeList.{Block}
 use Rattle.scripthash_free.proofs.LawsBlock.{block-stands}
 use Rattle.book_space.specs.Space.{Space}
 use Rattle.book_keys.specs.Keys.{pageBlocks}
@@ -45,15 +44,28 @@ module _ (t : tie.In-loop Inv-loop μ-loop) where
   abbrev work : List ℕ
   work = t .before .loop .work
 
+  more : 0 < t .before .loop .left
+  more = let h = t .loop-test .taken in omega arith
+
   turn : PageTurn s off (t .before .loop .left) (t .before .loop .inv .1 .0)
-  turn = page-turn s off (t .before .loop .left) (t .before .loop .inv .1 .0) (t .loop-test .taken) (t .before .loop .inv .1 .1)
+  turn = page-turn s off (t .before .loop .left) (t .before .loop .inv .1 .0) more (t .before .loop .inv .1 .1)
 
   long : at .args .mark ≤ 16 * length work
   long = let e = t .before .loop .inv .0 in let p = at .pre .0 in omega arith
 
 loop-holds : tie.Need-loop-holds Inv-loop μ-loop
-loop-holds c =
-    (refl, c .before .before .pre .1, λ whole p units lent claims m. record { offs = whole; pages = p; claims = claims; shows = m; gives = refl })
+loop-holds c = (
+  refl,
+  c .before .before .pre .1,
+  λ whole p units lent claims m. record {
+    offs = whole;
+    pages = p;
+    claims = claims;
+    shows = m;
+    gives =
+        refl;
+  },
+)
 
 claim-block-requires : tie.Need-claim-block-requires Inv-loop μ-loop
 claim-block-requires c κs =
@@ -66,7 +78,8 @@ returns : tie.Need-returns Inv-loop μ-loop
 returns c whole p units lent claims m =
     let t = c .before .before .before .before .before in
     let b = c .before .before .before .claim-block in
-    pages-shared units lent _ (s t) (off t) (t .before .loop .left) (work t) (t .before .loop .inv .2 whole p units lent claims m) (t .loop-test .taken) _
+    pages-shared units lent _ (s t) (off t) (t .before .loop .left) (work t) (t .before .loop .inv .2 whole p units lent claims m)
+    (more t) _
     (sym (b .ensures .0) ∙ not-true _ (c .if1 .taken)) (b .ensures .1)
 
 next-page-requires : tie.Need-next-page-requires Inv-loop μ-loop
@@ -89,10 +102,11 @@ loop-again c =
     let next = c .next-page .result in
     let left = t .before .loop .left in
     let free = sym (b .ensures .0) ∙ not-false _ (c .before .if1 .left) in (
-      ap length (b .ensures .1) ∙ length-claim (block pageClass (off t)) (work t) (at t .args .mark) (long t) (turn t .stands) ∙ t .before .loop .inv .0,
+      ap length (b .ensures .1) ∙ length-claim (block pageClass (off t)) (work t) (at t .args .mark) (long t) (turn t .stands)
+          ∙ t .before .loop .inv .0,
       (turn t .behind, subst (λ (n : ℕ). PagesLeft (s t) n (left - 1) (turn t .behind)) (sym (c .next-page .ensures)) (turn t .rest)),
       λ whole p units lent claims m.
-          pages-turn units lent _ (s t) (off t) left (work t) (t .before .loop .inv .2 whole p units lent claims m) (t .loop-test .taken) _ next
+          pages-turn units lent _ (s t) (off t) left (work t) (t .before .loop .inv .2 whole p units lent claims m) (more t) _ next
           (c .next-page .ensures) free (b .ensures .1),
     )
 
@@ -103,7 +117,8 @@ returns-2 : tie.Need-returns-2 Inv-loop μ-loop
 returns-2 c whole p units lent claims m =
     let l = c .before .loop in
     let a = c .before .before .before .before .args in
-    pages-end units lent _ (keySpace (a .body .now) (a .mark)) (l .off) (l .left) (l .work) (l .inv .2 whole p units lent claims m) (omega arith)
+    pages-end units lent _ (keySpace (a .body .now) (a .mark)) (l .off) (l .left) (l .work) (l .inv .2 whole p units lent claims m)
+    (omega arith)
 
 pub claim-pages-spec : {M : Type 1} → statement M
 claim-pages-spec =

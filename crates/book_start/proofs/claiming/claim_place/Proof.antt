@@ -1,6 +1,6 @@
 -- `claim_place` meets its contract: by the place. Assumes nothing.
-use mathlib.Core.List.{List, [], _∷_}
-use mathlib.Core.Path.{_≡_, refl, sym, ap, _∙_}
+use mathlib.Core.List.{List}
+use mathlib.Core.Path.{_≡_, ap, _∙_}
 use borrow.Author.Needs.{needs}
 use Rattle.scripthash_layout.specs.declared.head.ShHeadValue.{ShHeadValue}
 use Rattle.scripthash_layout.specs.declared.head.ShHeadValue.the-variants.{Empty, Inline}
@@ -53,7 +53,8 @@ returns-2 c units lent claims m =
     let entry = c .enum-told2 .given .0 .0 in
     let used = c .enum-told2 .given .0 .1 .0 in
     claims-nothing units (t .args .mark) lent _ claims _ m
-    (at-place t claims (Inline entry used) (c .enum-told2 .given .1) ∙ content-fit claims (contentAt (s t) (Inline entry used)) (content-inline (s t) entry used))
+    (at-place t claims (Inline entry used) (c .enum-told2 .given .1)
+    ∙ content-fit claims (contentAt (s t) (Inline entry used)) (content-inline (s t) entry used))
 
 same-length : tie.Need-same-length
 same-length c = search needs

@@ -1,7 +1,6 @@
 -- `claim_slab` meets its contract: the slab is scanned, then claimed. Assumes nothing.
-use Prim.Native.Nat.{ℕ}
 use mathlib.Core.List.{List, [], _∷_}
-use mathlib.Core.Path.{_≡_, refl, sym, ap, _∙_}
+use mathlib.Core.Path.{_≡_, sym, ap, _∙_}
 use native.Mathlib.Omega.{arith}
 use borrow.Author.Needs.{needs}
 use borrow.Author.Tests.{not-true, not-false}
@@ -64,13 +63,17 @@ returns c units lent claims m =
     let s = keySpace (a .body .now) (a .mark) in
     let stop = was-refused (endFrom 0) _ (sym (c .before .before .slab-end .ensures) ∙ ap scanAnswer (c .enum-told2 .given .1)) in
     claims-unfit units (a .mark) lent _ claims _ m
-    (content-unfit claims (contentAt s (Slab (a .class) (a .used) (a .off))) (content-no-slab s (a .class) (a .used) (a .off) (was-unsound _ stop .1)))
+    (content-unfit claims (contentAt s (Slab (a .class) (a .used) (a .off))) (content-no-slab s (a .class) (a .used) (a .off)
+    (was-unsound _ stop .1)))
 
 claim-block-requires : tie.Need-claim-block-requires
 claim-block-requires c κs =
     let d = c .before in
-    let k = sound d .class-to-7 in
-    (omega arith, block-fits (at d .args .mark) (at d .args .class) (at d .args .off) (length (at d .args .work .now)) (at d .pre .1) (sound d .stands))
+    let k = sound d .class-to-7 in (
+      omega arith,
+      block-fits (at d .args .mark) (at d .args .class) (at d .args .off) (length (at d .args .work .now)) (at d .pre .1)
+          (sound d .stands),
+    )
 
 same-length : tie.Need-same-length
 same-length c = search needs
@@ -79,7 +82,8 @@ returns-2 : tie.Need-returns-2
 returns-2 c units lent claims m =
     let d = c .before .before .before .before .before in
     let b = c .before .before .before .claim-block in
-    one-shared units (at d .args .mark) lent _ claims (at d .args .work .now) m (slab d) (sound d .stands) (gives d claims) _ (b .ensures .1)
+    one-shared units (at d .args .mark) lent _ claims (at d .args .work .now) m (slab d) (sound d .stands) (gives d claims) _
+    (b .ensures .1)
     (sym (b .ensures .0) ∙ not-true _ (c .if1 .taken))
 
 same-length-2 : tie.Need-same-length-2
@@ -89,7 +93,8 @@ returns-3 : tie.Need-returns-3
 returns-3 c units lent claims m =
     let d = c .before .before .before .before .before in
     let b = c .before .before .before .claim-block in
-    one-claimed units (at d .args .mark) lent _ claims (at d .args .work .now) m (slab d) (sound d .stands) (gives d claims) _ (b .ensures .1)
+    one-claimed units (at d .args .mark) lent _ claims (at d .args .work .now) m (slab d) (sound d .stands) (gives d claims) _
+    (b .ensures .1)
     (sym (b .ensures .0) ∙ not-false _ (c .if1 .left))
 
 pub claim-slab-spec : {M : Type 1} → statement M

@@ -2,7 +2,7 @@
 -- Assumes nothing.
 use Prim.Native.Nat.{ℕ, _-_, _*_, _≤_}
 use mathlib.Core.List.{List}
-use mathlib.Core.Path.{_≡_, refl, sym, ap, _∙_}
+use mathlib.Core.Path.{_≡_, refl, ap, _∙_}
 use native.Mathlib.Omega.{arith}
 use borrow.Author.Needs.{needs}
 use lib.ListN.{length}
@@ -71,7 +71,8 @@ returns c units lent claims m =
     let t = c .before .before .before .before .before .before .before in
     let l = t .before in
     let g = l .loop .inv .2 units lent claims m in
-    keys-unsound units lent _ (s l) (heads l) (key l) (work l) g (t .loop-test .taken) _ (r .result) (r .ensures units lent (g .claims) (g .shows))
+    keys-unsound units lent _ (s l) (heads l) (key l) (work l) g (t .loop-test .taken) _ (r .result) (r .ensures units lent (g .claims)
+    (g .shows))
     (c .enum-told2 .given .1)
 
 enum-told-3 : tie.Need-enum-told-3 Inv-loop μ-loop
@@ -86,7 +87,8 @@ returns-2 c units lent claims m =
     let t = c .before .before .before .before .before .before .before in
     let l = t .before in
     let g = l .loop .inv .2 units lent claims m in
-    keys-shared units lent _ (s l) (heads l) (key l) (work l) g (t .loop-test .taken) _ (r .result) (r .ensures units lent (g .claims) (g .shows))
+    keys-shared units lent _ (s l) (heads l) (key l) (work l) g (t .loop-test .taken) _ (r .result) (r .ensures units lent (g .claims)
+    (g .shows))
     (c .enum-told3 .given .1)
 
 add-key : tie.Need-add-key Inv-loop μ-loop
@@ -104,7 +106,8 @@ loop-again c =
       omega arith,
       λ units lent claims m.
           let g = l .loop .inv .2 units lent claims m in
-          keys-turn units lent _ (s l) (heads l) (key l) (work l) g (t .loop-test .taken) _ (r .result) (r .ensures units lent (g .claims) (g .shows))
+          keys-turn units lent _ (s l) (heads l) (key l) (work l) g (t .loop-test .taken) _ (r .result) (r .ensures units lent (g .claims)
+          (g .shows))
           (c .enum-told .given .1),
     )
 

@@ -2,7 +2,7 @@
 -- Assumes nothing.
 use Prim.Native.Nat.{ℕ, _-_, _*_, _≤_}
 use mathlib.Core.List.{List}
-use mathlib.Core.Path.{_≡_, refl, sym, ap, _∙_}
+use mathlib.Core.Path.{_≡_, refl, _∙_}
 use native.Mathlib.Omega.{arith}
 use borrow.Author.Needs.{needs}
 use lib.ListN.{length}
@@ -75,7 +75,8 @@ returns c units lent claims m =
     let r = c .before .before .before .before .claim-freed in
     let t = c .before .before .before .before .before .before .before in
     let g = t .before .loop .inv .2 units lent claims m in
-    lists-strays units lent _ (s t) (class t) (work t) g (t .loop-test .taken) _ (r .result) (r .ensures (free t) units lent (g .claims) (g .shows))
+    lists-strays units lent _ (s t) (class t) (work t) g (t .loop-test .taken) _ (r .result) (r .ensures (free t) units lent (g .claims)
+    (g .shows))
     (c .enum-told2 .given .1)
 
 enum-told-3 : tie.Need-enum-told-3 Inv-loop μ-loop
@@ -89,7 +90,8 @@ returns-2 c units lent claims m =
     let r = c .before .before .before .before .claim-freed in
     let t = c .before .before .before .before .before .before .before in
     let g = t .before .loop .inv .2 units lent claims m in
-    lists-shared units lent _ (s t) (class t) (work t) g (t .loop-test .taken) _ (r .result) (r .ensures (free t) units lent (g .claims) (g .shows))
+    lists-shared units lent _ (s t) (class t) (work t) g (t .loop-test .taken) _ (r .result) (r .ensures (free t) units lent (g .claims)
+    (g .shows))
     (c .enum-told3 .given .1)
 
 add-class : tie.Need-add-class Inv-loop μ-loop
@@ -106,7 +108,8 @@ loop-again c =
       omega arith,
       λ units lent claims m.
           let g = t .before .loop .inv .2 units lent claims m in
-          lists-turn units lent _ (s t) (class t) (work t) g (t .loop-test .taken) _ (r .result) (r .ensures (free t) units lent (g .claims) (g .shows))
+          lists-turn units lent _ (s t) (class t) (work t) g (t .loop-test .taken) _ (r .result) (r .ensures (free t) units lent
+          (g .claims) (g .shows))
           (c .enum-told .given .1),
     )
 
@@ -117,7 +120,8 @@ returns-3 : tie.Need-returns-3 Inv-loop μ-loop
 returns-3 c units lent claims m =
     let l = c .before .loop in
     let a = c .before .before .before .before .before .args in
-    lists-end units lent _ (space (a .body .now) (a .mark) (a .free .now)) (l .class) (l .work) (l .inv .2 units lent claims m) (omega arith)
+    lists-end units lent _ (space (a .body .now) (a .mark) (a .free .now)) (l .class) (l .work) (l .inv .2 units lent claims m)
+    (omega arith)
 
 pub judge-lists-spec : {M : Type 1} → statement M
 judge-lists-spec =

@@ -2,7 +2,7 @@
 use Prim.Native.Nat.{ℕ, _*_, _/_, _≤_}
 use mathlib.Core.Bool.{false}
 use mathlib.Core.List.{List, []}
-use mathlib.Core.Path.{_≡_, refl, sym, ap, _∙_}
+use mathlib.Core.Path.{_≡_, sym, ap, _∙_}
 use native.Mathlib.Omega.{arith}
 use borrow.Author.Needs.{needs}
 use lib.ListN.{length}
@@ -11,8 +11,8 @@ use Rattle.book_space.specs.Space.{InShape, shapeBroken}
 use Rattle.book_space.proofs.LawsShape.{shape-holds}
 use Rattle.book.specs.Book.{Book}
 use Rattle.book.specs.Answers.{bookOf}
-use Rattle.book_start.specs.Start.{judged, judges}
-use Rattle.book_start.specs.Units.{cleared, Marked}
+use Rattle.book_start.specs.Start.{judges}
+use Rattle.book_start.specs.Units.{Marked}
 use Rattle.book_start.proofs.LawsVerdict.{judges-broken, judges-short, judges-all, after-refused, after-judged, cleared-is, judged-is}
 use Rattle.book_start.proofs.LawsVerdict.{shows-none, shown-cleared}
 use Rattle.book_start.proofs.judging.judge_start.Statement.{statement}

@@ -1,9 +1,7 @@
 -- `units_free` meets its contract. Invariant: whether those left are free tells it of all. Assumes nothing.
 use Prim.Native.Nat.{_+_, _-_, _≤_}
-use mathlib.Core.Path.{_≡_, refl, sym, ap, _∙_}
+use mathlib.Core.Path.{_≡_, sym, _∙_}
 use native.Mathlib.Omega.{arith}
-use borrow.Author.Needs.{needs}
-use lib.ListN.{length}
 use Rattle.buffer.specs.Bytes.{part}
 use Rattle.book_start.specs.Units.{allFree}
 use Rattle.book_start.proofs.LawsUnits.{free-end, free-turn, free-taken}
