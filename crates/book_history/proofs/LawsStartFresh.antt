@@ -8,7 +8,7 @@ use lib.ListN.{length, replicate, length-replicate}
 use borrow.Author.Tests.{le-ltb}
 use Rattle.scripthash_free.specs.FreeList.{Each, Names}
 use Rattle.book_limits.specs.Limits.{outOfShape}
-use Rattle.book_rules.proofs.LawsLimits.{in-shape}
+use Rattle.book_limits.proofs.LawsLimits.{in-shape}
 use Rattle.plain_book.specs.Key.{Key, emptyKey}
 use Rattle.plain_book.specs.Book.{Book as PlainBook, fresh as plainFresh}
 use Rattle.plain_book.proofs.LawsHistory.{all-same}
