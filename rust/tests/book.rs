@@ -141,6 +141,20 @@ fn damaged_books() {
 }
 
 #[test]
+fn totals_that_were_never_counted() {
+    let mut sound = book(8, 1);
+    sound.load(0, &numbers(5_000)).unwrap();
+    let creates = |book: &Book<Vec<u8>, Vec<u64>>| book.heads()[0] as u32 as usize + 20; // of the last page
+    let at = creates(&sound);
+    let mut unknown = damaged(&sound, |body, _, _| body[at..at + 4].fill(0));
+    assert_eq!(unknown.read(0), Ok(numbers(5_000)));
+    unknown.append(0, 5_001).unwrap();
+    let at = creates(&unknown);
+    assert_eq!((unknown.read(0), &unknown.body()[at..at + 4]), (Ok(numbers(5_001)), &[0; 4][..]));
+    assert_eq!((unknown.drop_key(0), unknown.read(0)), (Ok(5_001), Ok(vec![])));
+}
+
+#[test]
 fn owned_or_borrowed() {
     let mut array = Book::fresh([0; 8192], [0; 1]).unwrap();
     array.append(0, 1).unwrap();

@@ -96,7 +96,8 @@ damaged = (refl, refl, refl, refl)
 
 -- A body whose second page is a key's last, with a total, and that key's head word.
 abbrev pub pageBook : ℕ → List ℕ → Book
-pageBook creates ns = book (overwrite (bodyOf 8192) 4096 (lastPageOf 4096 4096 1 creates ns)) ((3 * 2 ^ 62 + 4096) ∷ []) 8192 (replicate 9 0)
+pageBook creates ns =
+    book (overwrite (bodyOf 8192) 4096 (lastPageOf 4096 4096 1 creates ns)) ((3 * 2 ^ 62 + 4096) ∷ []) 8192 (replicate 9 0)
 
 -- The total that it tells after some calls.
 unfoldable pub totalAfter : Book → List Call → ℕ
@@ -106,8 +107,8 @@ totalAfter b cs = createsFieldOf (part (after b cs .space .body) 4096 4096)
 -- A total of 0 says that it was never counted: such a key is read, appended to, which leaves it 0, and dropped. One that is the length
 -- counts on, and another is no sound key's for a read or a drop, while an append looks at the last page only.
 pub never-counted :
-    (runs (pageBook 0 (5 ∷ 9 ∷ [])) (read 0 2 ∷ append 0 300 ∷ read 0 3 ∷ drop 0 ∷ []) ≡ lists-as (5 ∷ 9 ∷ []) 1 ∷ at (Extent 4096) 0 ∷ lists-as (5 ∷ 9 ∷ 300 ∷ []) 1
-    ∷ accepted (dropped (record { length = 3 })) ∷ [])
+    (runs (pageBook 0 (5 ∷ 9 ∷ [])) (read 0 2 ∷ append 0 300 ∷ read 0 3 ∷ drop 0 ∷ [])
+    ≡ lists-as (5 ∷ 9 ∷ []) 1 ∷ at (Extent 4096) 0 ∷ lists-as (5 ∷ 9 ∷ 300 ∷ []) 1 ∷ accepted (dropped (record { length = 3 })) ∷ [])
     × (totalAfter (pageBook 0 (5 ∷ 9 ∷ [])) (append 0 300 ∷ []) ≡ 0)
     × (totalAfter (pageBook 2 (5 ∷ 9 ∷ [])) (append 0 300 ∷ []) ≡ 3)
     × (runs (pageBook 1 (5 ∷ 9 ∷ [])) (read 0 2 ∷ drop 0 ∷ append 0 300 ∷ []) ≡ refused 31 ∷ refused 31 ∷ at (Extent 4096) 0 ∷ [])
@@ -116,8 +117,9 @@ never-counted = (refl, refl, refl, refl)
 
 -- Two numbers in padded forms, 13 bytes in a slab of 16: a third fits, and a fourth moves the list, which shortest forms would leave there;
 -- its class is by shortest forms.
-pub padded : runs (book (overwrite (bodyOf 8192) 4096 (2 ∷ 0 ∷ 133 ∷ 128 ∷ 128 ∷ 128 ∷ 128 ∷ 128 ∷ 0 ∷ 129 ∷ 128 ∷ 128 ∷ 128 ∷ 128 ∷ 0 ∷ [])) (slabWord 0 2 4096 ∷ []) 4112 (replicate 9 0))
-    (append 0 7 ∷ append 0 8 ∷ read 0 4 ∷ [])
+pub padded :
+    let slab : List ℕ = 2 ∷ 0 ∷ 133 ∷ 128 ∷ 128 ∷ 128 ∷ 128 ∷ 128 ∷ 0 ∷ 129 ∷ 128 ∷ 128 ∷ 128 ∷ 128 ∷ 0 ∷ [] in
+    runs (book (overwrite (bodyOf 8192) 4096 slab) (slabWord 0 2 4096 ∷ []) 4112 (replicate 9 0)) (append 0 7 ∷ append 0 8 ∷ read 0 4 ∷ [])
     ≡ at (Slab 0 3 4096) 0 ∷ at (Slab 1 4 4112) 3 ∷ lists-as (5 ∷ 6 ∷ 7 ∷ 8 ∷ []) 0 ∷ []
 unfolding runs
 padded = refl

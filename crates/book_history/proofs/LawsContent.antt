@@ -293,7 +293,8 @@ module _ (plain : PlainBook) (b : Book) (g : GoodPlain plain) (shape : outOfShap
       let r = last-reads (firstOff ps) (totalOf (keyOf key plain)) (length ps - 1) noPage ps _ (omega arith) (k .reads) .0 in
       soundly-yes _
       (then-yes _ _ (last-told ps is)
-      ∙ sure-yes _ _ (lt-ltb (totalOf (keyOf key plain)) (2 ^ 32 - 1) (omega (arith, total-most (keyOf key plain), list-few key g (mark-most g shape))))
+      ∙ sure-yes _ _
+      (lt-ltb (totalOf (keyOf key plain)) (2 ^ 32 - 1) (omega (arith, total-most (keyOf key plain), list-few key g (mark-most g shape))))
       ∙ then-yes _ _ (link-scans (b .space) 0 (lastPage noPage ps .off) (lastPage noPage ps) (k .block) r (last-rises 0 noPage ps (c .fit) (c .rises)) (fit .0)))
 
   -- A key's chain gives its list, and its pages' offsets.
@@ -399,7 +400,6 @@ pub append-ends : (plain : PlainBook) (b : Book) (key : ℕ) (list : List ℕ) (
     → Alike (accepted (record { told = appended (record { place = headOf list place; rewritten = rewritten }); book = withKey key list place counted inside plain }))
     (accepted (appending key value rewritten s b))
 append-ends plain b key list place counted total value rewritten inside s a shape low is told long h =
-    subst
-    (λ (v : ShHeadValue). Alike (accepted (record { told = appended (record { place = headOf list place; rewritten = rewritten }); book = withKey key list place counted inside plain }))
-    (accepted (appending key v rewritten s b))) is
-    (told-alike refl (agrees-placed plain key list place counted inside low b s a shape long (subst (λ (t : ℕ). AgreesSpace inside s (atKey key place (places plain)) none (placedContents plain key t place)) (sym told) h)))
+    let placed : AgreesSpace inside s (atKey key place (places plain)) none
+    (placedContents plain key (totalOf (record { list = list; place = place; counted = counted })) place) = rw told h in
+    rw (← is) (told-alike refl (agrees-placed plain key list place counted inside low b s a shape long placed))

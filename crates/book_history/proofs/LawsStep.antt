@@ -62,7 +62,7 @@ alike-cond false false a a' b b' e yes' no' = no' refl
 -- ---- the tests that a call begins with
 
 -- A mark of a good book in shape.
-mark-good : (plain : PlainBook) (b : Book) → GoodPlain plain → outOfShape (plain .size) (length (plain .keys)) ≡ false
+pub mark-good : (plain : PlainBook) (b : Book) → GoodPlain plain → outOfShape (plain .size) (length (plain .keys)) ≡ false
     → length (b .space .body) ≡ plain .size
     → AgreesInside plain b → markBad (length (b .space .body)) (b .space .mark) ≡ false
 unfolding markBad
@@ -137,7 +137,8 @@ placedContents plain key total place =
       pages = λ j i block. PageIn (cond (eqb j key) total (totalOf (keyOf j plain))) i (atKey key place (places plain) j) block;
     }
 
-module _ (plain : PlainBook) (key : ℕ) (list : List ℕ) (place : Place) (counted : Bool) (space : PlainSpace) (l : key < length (plain .keys)) where
+module _ (plain : PlainBook) (key : ℕ) (list : List ℕ) (place : Place) (counted : Bool) (space : PlainSpace)
+    (l : key < length (plain .keys)) where
   -- the key as it becomes, and the book with it
   abbrev new : Key
   new = record { list = list; place = place; counted = counted }

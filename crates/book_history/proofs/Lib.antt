@@ -19,10 +19,12 @@ pub mod LawsStartApart
 pub mod LawsStartKeys
 pub mod LawsStart
 pub mod LawsStartFresh
+pub mod LawsStartKept
 pub mod ExamplesStart
 pub mod Demand3
 pub mod Licence
 pub mod Ceilings
+pub mod Totals
 pub mod LawsOnly
 pub mod LawsWritesSpace
 pub mod LawsWritesLoad

@@ -24,7 +24,8 @@ use Rattle.book_history.proofs.LawsStartFresh.{fresh-agrees}
 -- From any pair: what the keys hold at first counts as recorded.
 pub licence-good : (plain : PlainBook) (b : Book) (cs : List Call) → GoodPlain plain → Agrees plain b
     → Licensed (λ key. keyOf key plain .list) cs (answers b cs)
-licence-good plain b cs g a = rw (answers-alike each-alike plain b cs g a) (licensed-from plain (λ key. keyOf key plain .list) cs (g .keys) (λ key. refl))
+licence-good plain b cs g a =
+    rw (answers-alike each-alike plain b cs g a) (licensed-from plain (λ key. keyOf key plain .list) cs (g .keys) (λ key. refl))
 
 -- From a good start: what its keys are read as then counts as recorded.
 pub licence-from : (b : Book) (cs : List Call) → GoodStart b → Licensed (startList b) cs (answers b cs)

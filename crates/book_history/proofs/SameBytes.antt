@@ -72,7 +72,8 @@ module _ (p q : PlainBook) (b d : Book) (g : GoodPlain p) (h : GoodPlain q) (agr
   records-good shape key =
       let (size, keys) = shapes-kept p cs in
       told p b cs key g agrees
-      ∙ lists-fixed (plainAfter p cs) (plainAfter q ds) (after b cs) (calls-good cs g) (calls-good ds h) stands other-stands (rw (size, keys) shape) key
+      ∙ lists-fixed (plainAfter p cs) (plainAfter q ds) (after b cs) (calls-good cs g) (calls-good ds h) stands other-stands
+      (rw (size, keys) shape) key
       ∙ sym (told q d ds key h other)
 
   -- Out of shape, calls are turned back on both, so that each key has what it had.
@@ -114,14 +115,16 @@ module _ (body other : List ℕ) (heads count : ℕ) (cs ds : List Call)
   nothing size keys key = ap (λ (k : Key). k .list) (fresh-key size keys key)
 
   by-shape : (shape : Bool) → out p ≡ shape → (key : ℕ)
-      → recorded key cs (answers (fresh body heads) cs) (keyOf key p .list) ≡ recorded key ds (answers (fresh other count) ds) (keyOf key q .list)
+      → recorded key cs (answers (fresh body heads) cs) (keyOf key p .list)
+      ≡ recorded key ds (answers (fresh other count) ds) (keyOf key q .list)
   by-shape true e key =
-      let (left, right) = records-still p q (fresh body heads) (fresh other count) (fresh-good (length body) heads) (fresh-good (length other) count)
+      let (left, right) =
+      records-still p q (fresh body heads) (fresh other count) (fresh-good (length body) heads) (fresh-good (length other) count)
       (fresh-agrees body heads) (fresh-agrees other count) cs ds same e key in
       left ∙ nothing (length body) heads key ∙ sym (nothing (length other) count key) ∙ sym right
   by-shape false e key =
-      records-good p q (fresh body heads) (fresh other count) (fresh-good (length body) heads) (fresh-good (length other) count) (fresh-agrees body heads)
-      (fresh-agrees other count) cs ds same e key
+      records-good p q (fresh body heads) (fresh other count) (fresh-good (length body) heads) (fresh-good (length other) count)
+      (fresh-agrees body heads) (fresh-agrees other count) cs ds same e key
 
   -- The same is recorded for each key, by the calls and answers that led there.
   pub records-fixed : (key : ℕ) → recorded key cs (answers (fresh body heads) cs) [] ≡ recorded key ds (answers (fresh other count) ds) []

@@ -81,11 +81,11 @@ cross-in x y xs ys c i j = each-in (Disjoint x) y ys (each-in (λ z. Each (Disjo
 -- ---- lists of blocks by a number
 
 -- The blocks of the lists that belong to the numbers below one, one list after the other.
-unfoldable gather : ℕ → (ℕ → List Block) → List Block
+unfoldable pub gather : ℕ → (ℕ → List Block) → List Block
 gather zero f = []
 gather (suc n) f = f 0 ++ gather n (λ i. f (suc i))
 
-gather-same : (n : ℕ) (f g : ℕ → List Block) → ((i : ℕ) → f i ≡ g i) → gather n f ≡ gather n g
+pub gather-same : (n : ℕ) (f g : ℕ → List Block) → ((i : ℕ) → f i ≡ g i) → gather n f ≡ gather n g
 unfolding gather
 gather-same zero f g e = refl
 gather-same (suc n) f g e = rw (e 0) (ap (λ (l : List Block). g 0 ++ l) (gather-same n (λ i. f (suc i)) (λ i. g (suc i)) (λ i. e (suc i))))
@@ -132,12 +132,12 @@ heldOf b key = blocksIn (content (b .space) (wordOf key b))
 abbrev pub listOf : Book → ℕ → List Block
 listOf b class = blocksAt class (freedOf (b .space) class)
 
-held-gathered : (s : Space) (ws : List ℕ) → heldBy s ws ≡ gather (length ws) (λ i. blocksIn (content s (getD ws i 0)))
+pub held-gathered : (s : Space) (ws : List ℕ) → heldBy s ws ≡ gather (length ws) (λ i. blocksIn (content s (getD ws i 0)))
 unfolding heldBy gather
 held-gathered s [] = refl
 held-gathered s (w ∷ ws) = rw (held-gathered s ws)
 
-freed-gathered : (s : Space) (class : ℕ) (hs : List ℕ)
+pub freed-gathered : (s : Space) (class : ℕ) (hs : List ℕ)
     → freedBy s class hs ≡ gather (length hs) (λ i. blocksAt (class + i) (namedFrom s (getD hs i 0)))
 unfolding freedBy gather
 freed-gathered s class [] = refl

@@ -1,7 +1,9 @@
 -- Small histories on the plain book, with the run case of document 01: each answer is computed. Assumes nothing.
 use Prim.Native.Nat.{ℕ, zero, suc, _+_, _^_}
+use mathlib.Core.Bool.{true}
 use mathlib.Core.List.{List, [], _∷_, _++_}
 use mathlib.Core.Path.{_≡_, refl}
+use lib.ListN.{replicate}
 use Rattle.error.specs.Refusal.{Answer, accepted, refused, refuseIf, andThen, answered}
 use Rattle.compact.specs.Uleb128.{divided, shortest, ulebLen}
 use Rattle.scripthash_layout.specs.declared.head.ShHeadValue.{ShHeadValue}
@@ -12,8 +14,8 @@ use Rattle.scripthash_cutting.specs.Cutting.{fitting, firstPart, greedyParts, r
 use Rattle.scripthash_free.specs.FreeList.{largestUpTo, blockThen, carve}
 use Rattle.plain_book.specs.Space.{freedAll, takeMark, rounded, takeRun, takeFresh, takeFrom}
 use Rattle.book_rules.specs.Places.{stays, larger, movesTo, loadsTo}
-use Rattle.plain_book.specs.Key.{written, longer, lastPage, headOf, freedPages, freedPlace, moved, joins, beginPage, appendPages}
-use Rattle.plain_book.specs.Key.{appendPlace, runPages, loadInto, loadPlace}
+use Rattle.plain_book.specs.Key.{Key, slab, written, longer, lastPage, headOf, freedPages, freedPlace, moved, joins, beginPage}
+use Rattle.plain_book.specs.Key.{appendPages, appendPlace, runPages, loadInto, loadPlace}
 use Rattle.book_rules.specs.Moves.{Tally, noMoves, counted, talliedBy, tallied, tallyOf}
 use Rattle.book_rules.specs.Calls.{Call, load, append, read, drop, Told, loaded, appended, listed, dropped, bookAfter, answersTo}
 use Rattle.book_rules.specs.Limits.{outOfShape, offeredNumber, offeredList}
@@ -91,3 +93,13 @@ records-reached = refl
 pub moves-reached : tallyAfter (appendSteps 1 1 146 ++ appendSteps (146 + 2 ^ 50) (2 ^ 50) 111) ≡ record { moves = 9; rewritten = 764 }
 unfolding refuseIf andThen divided shortest ulebLen lastFrom streamLenFrom firstClass classFor classWithSlack fitting firstPart greedyParts replaceLast largestUpTo blockThen carve freedAll takeMark rounded takeRun takeFresh takeFrom lastPage headOf freedPages freedPlace stays larger movesTo loadsTo moved joins beginPage appendPages written longer appendPlace runPages loadInto loadPlace outOfShape onKey offeredNumber offeredList loads appends reads drops does bookAfter answered answersTo inARow appendSteps counted talliedBy tallied tallyOf tallyAfter
 moves-reached = refl
+
+-- A list found in padded forms, 13 bytes in a slab of 16: a third number fits, and a fourth moves it, where shortest forms would let it
+-- stay; its class is by shortest forms.
+pub padded :
+    let found : Key = record { list = 5 ∷ 6 ∷ []; place = slab 0 4096 (record { numbers = 5 ∷ 6 ∷ []; bytes = 13 }); counted = true } in
+    answers (record { size = 8192; keys = found ∷ []; space = record { mark = 4112; stacks = replicate 9 [] } })
+    (append 0 7 ∷ append 0 8 ∷ read 0 4 ∷ [])
+    ≡ at (Slab 0 3 4096) 0 ∷ at (Slab 1 4 4112) 3 ∷ accepted (listed (record { numbers = 5 ∷ 6 ∷ 7 ∷ 8 ∷ []; pages = 0 })) ∷ []
+unfolding refuseIf andThen divided shortest ulebLen lastFrom streamLenFrom firstClass classFor classWithSlack takeMark takeFresh takeFrom headOf freedPlace stays larger movesTo moved written longer appendPlace outOfShape onKey offeredNumber appends reads does bookAfter answered answersTo
+padded = refl

@@ -27,7 +27,7 @@ use Rattle.plain_book.proofs.LawsOwners.{depthOf}
 -- ---- how many pages
 
 -- Numbers below m, no two of them equal, are at most m.
-few-below : (m n : ℕ) (f : ℕ → ℕ) → ((i : ℕ) → i < n → f i < m) → ((i j : ℕ) → i < n → j < n → f i ≡ f j → i ≡ j) → n ≤ m
+pub few-below : (m n : ℕ) (f : ℕ → ℕ) → ((i : ℕ) → i < n → f i < m) → ((i j : ℕ) → i < n → j < n → f i ≡ f j → i ≡ j) → n ≤ m
 few-below m zero f low one = zero-le
 few-below zero (suc n) f low one = let z = low 0 (omega arith) in absurd (omega arith)
 few-below (suc m) (suc n) f low one = let fewer = few-below m n g g-low g-one in omega arith

@@ -1,4 +1,4 @@
--- From empty to drop no key is moved more than 9 times, nor has more than 765 records rewritten by moves. Assumes nothing.
+-- From the start or the last drop no key is moved more than 9 times, nor has more than 765 records rewritten by moves. Assumes nothing.
 use Prim.Native.Nat.{ℕ, zero, suc, _+_, _≤_, _<_}
 use mathlib.Core.Bool.{Bool, true, false, cond}
 use mathlib.Core.List.{List, [], _∷_}

@@ -107,7 +107,8 @@ shortest-kept =
     }
 
 -- Take any book and any list of calls: a key whose lengths are those of shortest forms keeps them so.
-pub shortest-from : (b : Book) (key : ℕ) (cs : List Call) → ShortestPlace (keyOf key b .place) → ShortestPlace (keyOf key (after b cs) .place)
+pub shortest-from : (b : Book) (key : ℕ) (cs : List Call) → ShortestPlace (keyOf key b .place)
+    → ShortestPlace (keyOf key (after b cs) .place)
 shortest-from b key cs h = kept-calls _ shortest-kept key b cs noMoves h
 
 -- After any list of calls on a fresh book all lengths are those of shortest forms.

@@ -22,8 +22,8 @@ use Rattle.scripthash_cutting.proofs.LawsRising.{rising-words}
 use Rattle.plain_book.specs.Space.{Space, takeBlock, takeRun}
 use Rattle.book_rules.specs.Places.{movesTo, stays, loadsTo}
 use Rattle.plain_book.specs.Key.{Kept, written, longer, Page, Place, empty, inline, slab, pages, Key, emptyKey, lastPage, noPage}
-use Rattle.plain_book.specs.Key.{countedAfter, onePage, longerPage, joins, joinedTo, beginPage, Placed, moved, appendPages, appendPlace, runPages}
-use Rattle.plain_book.specs.Key.{loadInto, loadPlace}
+use Rattle.plain_book.specs.Key.{countedAfter, onePage, longerPage, joins, joinedTo, beginPage, Placed, moved, appendPages}
+use Rattle.plain_book.specs.Key.{appendPlace, runPages, loadInto, loadPlace}
 use Rattle.book_rules.proofs.LawsRules.{stays-holds, moves-to, loads-to}
 use Rattle.plain_book.proofs.LawsKept.{len-snoc, longer-numbers, written-each, longer-each}
 use Rattle.plain_book.proofs.LawsMoves.{placed, which, moved-slab, moved-page, pages-spent}
@@ -106,7 +106,8 @@ nine-each prev [] r = omega arith
 nine-each prev (n ∷ ns) (a, b, r) = omega (arith, len-below n prev b, nine-each n ns r)
 
 -- So a list that a slab may hold fits a last page, written anew, with one number more.
-pub moved-small : (ns : List ℕ) (n : ℕ) → Rising (2 ^ 62) 0 ns → n < 2 ^ 62 → length ns ≤ maxSlabCount → streamLen (ns ++ (n ∷ [])) ≤ lastPageRoom
+pub moved-small : (ns : List ℕ) (n : ℕ) → Rising (2 ^ 62) 0 ns → n < 2 ^ 62 → length ns ≤ maxSlabCount
+    → streamLen (ns ++ (n ∷ [])) ≤ lastPageRoom
 moved-small ns n r l few = omega (arith, len-snoc 0 ns n, len-below n (lastFrom 0 ns) l, nine-each 0 ns r)
 
 -- a list that moves fits the slab or the page that it moves to

@@ -7,11 +7,11 @@ use Rattle.error.specs.Refusal.{Answer, accepted, refused}
 use Rattle.scripthash_cutting.specs.Cutting.{AllowedCutting}
 use Rattle.book_rules.specs.Calls.{Call, load, append, read, drop, Told, loaded}
 
--- The most moves of a key, from empty to drop.
+-- The most moves of a key, from the start or the last drop.
 abbrev pub mostMoves : ℕ
 mostMoves = 9
 
--- The most records of a key that moves rewrite, from empty to drop.
+-- The most records of a key that moves rewrite, from the start or the last drop.
 abbrev pub mostRewritten : ℕ
 mostRewritten = 765
 

@@ -107,7 +107,7 @@ pub fn spoil_slab(book: &mut Damaged, rng: &mut Rng) -> bool {
     true
 }
 
-/// Fills a page with padded forms, save for some bytes. Creates stays what it was, or is made good.
+/// Fills a page with padded forms, save for some bytes. Creates stays what it was, is made good, or becomes 0, unknown.
 pub fn fill_page(page: &mut [u8; PAGE], rng: &mut Rng, left: usize) {
     let start = pages::sh_page_stream_off(page);
     let bytes = PAGE - start - left;
@@ -116,8 +116,10 @@ pub fn fill_page(page: &mut [u8; PAGE], rng: &mut Rng, left: usize) {
     let stream = padded(rng, count, bytes);
     page[start..start + stream.len()].copy_from_slice(&stream);
     pages::sh_page_set_n_fks(page, count as u16);
-    if rng.below(2) == 0 {
-        pages::sh_page_set_extent_creates(page, count as u32);
+    match rng.below(3) {
+        0 => pages::sh_page_set_extent_creates(page, count as u32),
+        1 => pages::sh_page_set_extent_creates(page, 0),
+        _ => {}
     }
 }
 

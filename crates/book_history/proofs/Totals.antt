@@ -1,0 +1,77 @@
+-- What last pages tell after any calls, from any book that stands for a good plain book: a total that was told stays exact, and one that was
+-- never counted stays unknown until its key is dropped. Assumes nothing.
+use Prim.Native.Nat.{ℕ, _-_}
+use mathlib.Core.Bool.{true, false}
+use mathlib.Core.List.{List}
+use mathlib.Core.Path.{_≡_, refl, sym, ap, _∙_}
+use native.Mathlib.Omega.{arith}
+use lib.ListN.{length}
+use Rattle.error.specs.Refusal.{accepted}
+use Rattle.error.proofs.LawsAnswer.{accepted-inj}
+use Rattle.scripthash_layout.specs.Head.{unpackHead}
+use Rattle.scripthash_layout.specs.declared.head.ShHeadValue.the-variants.{Extent}
+use Rattle.scripthash_fields.specs.Page.{createsFieldOf}
+use Rattle.book_rules.specs.Calls.{Call}
+use Rattle.book_rules.specs.Limits.{outOfShape}
+use Rattle.plain_book.specs.Key.{Key, Page, Place, empty, inline, slab, pages, lastPage, noPage, totalOf, headOf}
+use Rattle.plain_book.specs.Book.{Book as PlainBook, fresh as plainFresh, after as plainAfter, keyOf, NeverDropped}
+use Rattle.plain_book.specs.Good.{GoodPlain}
+use Rattle.plain_book.proofs.LawsHistory.{fresh-key}
+use Rattle.plain_book.proofs.LawsGood.{fresh-good, calls-good, shapes-kept}
+use Rattle.plain_book.proofs.LawsChain.{chain}
+use Rattle.plain_book.proofs.LawsTotals.{counted-from, total-exact, uncounted-from}
+use Rattle.book_keys.specs.Keys.{pageAt}
+use Rattle.book.specs.Book.{Book, fresh, wordOf}
+use Rattle.book.specs.Calls.{after}
+use Rattle.book_history.specs.Agrees.{firstOff, AgreesInside, Agrees}
+use Rattle.book_history.proofs.LawsCalls.{books-agree}
+use Rattle.book_history.proofs.LawsEach.{each-alike}
+use Rattle.book_history.proofs.LawsContent.{some-pages, last-page-at, last-reads, head-agrees, chain-page}
+use Rattle.book_history.proofs.LawsStartFresh.{fresh-agrees}
+
+-- The last page that a key's head word names tells the key's total.
+told : (plain : PlainBook) (b : Book) → GoodPlain plain → outOfShape (plain .size) (length (plain .keys)) ≡ false → AgreesInside plain b
+    → (key last : ℕ) → unpackHead (wordOf key b) ≡ accepted (Extent last) → createsFieldOf (pageAt (b .space) last) ≡ totalOf (keyOf key plain)
+unfolding headOf
+told plain b g shape h key last word =
+    go (keyOf key plain .place) refl (accepted-inj (sym (head-agrees plain b g shape h key) ∙ word))
+  where
+    go : (place : Place) → keyOf key plain .place ≡ place → headOf (keyOf key plain .list) place ≡ Extent last
+        → createsFieldOf (pageAt (b .space) last) ≡ totalOf (keyOf key plain)
+    go empty is e = let z : _≡_ {A = ℕ} 0 1 = cc in absurd (omega arith)
+    go inline is e = let z : _≡_ {A = ℕ} 0 1 = cc in absurd (omega arith)
+    go (slab class off kept) is e = let z : _≡_ {A = ℕ} 0 1 = cc in absurd (omega arith)
+    go (pages ps) is e =
+        let same : lastPage noPage ps .off ≡ last = cc in
+        let one = some-pages ps (chain key ps g is .fit) in
+        let k = chain-page plain b g shape h key ps is (length ps - 1) (lastPage noPage ps .off) (last-page-at (length ps - 1) noPage ps (omega arith)) in
+        ap (λ (o : ℕ). createsFieldOf (pageAt (b .space) o)) (sym same)
+        ∙ last-reads (firstOff ps) (totalOf (keyOf key plain)) (length ps - 1) noPage ps _ (omega arith) (k .reads) .1 .creates
+
+module _ (plain : PlainBook) (b : Book) (cs : List Call) (g : GoodPlain plain) (a : Agrees plain b)
+    (shape : outOfShape (plain .size) (length (plain .keys)) ≡ false) (key last : ℕ)
+    (word : unpackHead (wordOf key (after b cs)) ≡ accepted (Extent last)) where
+  -- What it tells after the calls.
+  tells : createsFieldOf (pageAt (after b cs .space) last) ≡ totalOf (keyOf key (plainAfter plain cs))
+  tells =
+      let (size, keys) = shapes-kept plain cs in
+      let out : outOfShape (plainAfter plain cs .size) (length (plainAfter plain cs .keys)) ≡ false = rw (size, keys) shape in
+      told (plainAfter plain cs) (after b cs) (calls-good cs g) out (books-agree each-alike plain b cs g a .inside out) key last word
+
+  -- A total that was told is exact after any calls: the length of the list that the key then reads as.
+  pub total-kept : keyOf key plain .counted ≡ true
+      → createsFieldOf (pageAt (after b cs .space) last) ≡ length (keyOf key (plainAfter plain cs) .list)
+  total-kept counted = tells ∙ total-exact (keyOf key (plainAfter plain cs)) (counted-from plain key cs counted)
+
+  -- One that was never counted is unknown after any calls without a drop of the key.
+  pub unknown-kept : keyOf key plain .counted ≡ false → NeverDropped key cs → createsFieldOf (pageAt (after b cs .space) last) ≡ 0
+  unknown-kept counted never = tells ∙ uncounted-from plain key cs (g .keys key) counted never
+
+-- After any calls on a fresh book, in shape, every total is exact.
+pub total-fresh-book : (body : List ℕ) (heads : ℕ) (cs : List Call)
+    → outOfShape (length body) (length (plainFresh (length body) heads .keys)) ≡ false → (key last : ℕ)
+    → unpackHead (wordOf key (after (fresh body heads) cs)) ≡ accepted (Extent last)
+    → createsFieldOf (pageAt (after (fresh body heads) cs .space) last) ≡ length (keyOf key (plainAfter (plainFresh (length body) heads) cs) .list)
+total-fresh-book body heads cs shape key last word =
+    total-kept (plainFresh (length body) heads) (fresh body heads) cs (fresh-good (length body) heads) (fresh-agrees body heads) shape key last word
+    (ap (λ (k : Key). k .counted) (fresh-key (length body) heads key))
