@@ -2,7 +2,8 @@
 //!
 //! A [`Book`] keeps, for each account, a rising list of record numbers in one body of bytes. What is proved: in a book that began with
 //! [`Book::fresh`], and that nobody writes but its calls, each read gives exactly what was recorded for its account since it was last
-//! dropped, or is refused. So an empty list says that nothing is recorded, and a refusal never does.
+//! dropped, or is refused. So an empty list says that nothing is recorded, and a refusal never does. A book from elsewhere, as from a file,
+//! is judged whole by [`Book::open`]; opened, the same holds of it, with the lists that it then has as already recorded.
 //!
 //! ```
 //! use ouriscado::{Book, Place, Refusal};

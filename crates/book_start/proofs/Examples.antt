@@ -16,8 +16,9 @@ use Rattle.scripthash_pages.specs.Entries.{streamPlace, pageScan}
 use Rattle.scripthash_free.specs.FreeList.{isBlock}
 use Rattle.book_limits.specs.Limits.{outOfShape}
 use Rattle.book_space.specs.Space.{markBad, shapeBroken}
-use Rattle.book_keys.specs.Keys.{soundly, sure, goOn, slabScan, linkScan, goodExtent, lastAt, linked, walk, totalGood, chainAt, pageBlocks, contentAt}
-use Rattle.book_keys.specs.Keys.{totalGood, content}
+use Rattle.book_keys.specs.Keys.{soundly, sure, goOn, slabScan, linkScan, goodExtent, lastAt, linked}
+use Rattle.book_keys.specs.Keys.{walk, totalGood, chainAt, pageBlocks, contentAt}
+use Rattle.book_keys.specs.Keys.{content}
 use Rattle.book_blocks.specs.Blocks.{lastPageOf}
 use Rattle.book.specs.Book.{Book, book, fresh, headWord}
 use Rattle.book_start.specs.Start.{Verdict, good, keyUnsound, keyShares, freeStrays, freeShares, shares, sharesOne, claimAll}
@@ -65,8 +66,8 @@ pub bad-keys : (told (book blank (0 ∷ 2 ^ 63 ∷ []) 4096 none-freed) ≡ acce
 unfolding told
 bad-keys = (refl, refl, refl, refl)
 
--- Free lists: a head that isn't aligned, one at the mark, a list that names its only block again, one of two blocks that doesn't end, a slab
--- that is held and free, a page that is held and free, and a freed slab within a held page.
+-- Free lists: a head that isn't aligned, one at the mark, a list that names its only block again, one of two blocks that doesn't end, a
+-- slab that is held and free, a page that is held and free, and a freed slab within a held page.
 pub bad-lists : (told (book blank (0 ∷ []) 8192 (0 ∷ 0 ∷ 4104 ∷ replicate 6 0)) ≡ accepted (freeStrays 2))
     × (told (book blank (0 ∷ []) 4096 (4096 ∷ replicate 8 0)) ≡ accepted (freeStrays 0))
     × (told (book (freed 4096 0) (0 ∷ []) 4128 (4096 ∷ replicate 8 0)) ≡ accepted (freeShares 0))

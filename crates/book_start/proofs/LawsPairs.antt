@@ -7,7 +7,7 @@ use mathlib.Core.Path.{_≡_, refl, sym, ap, _∙_}
 use native.Mathlib.Nat.{zero-add}
 use native.Mathlib.Omega.{arith}
 use lib.ListN.{length, getD}
-use Rattle.error.specs.Refusal.{Answer, accepted}
+use Rattle.error.specs.Refusal.{accepted}
 use Rattle.buffer.proofs.LawsOrder.{lt-or-ge}
 use Rattle.scripthash_layout.specs.Sizes.{pageClass}
 use Rattle.scripthash_layout.specs.declared.head.ShHeadValue.{ShHeadValue}
@@ -21,7 +21,8 @@ use Rattle.book_keys.proofs.LawsContent.{content-empty, content-inline, was-sla
 use Rattle.book_keys.proofs.LawsKeys.{Every, chain-known}
 use Rattle.book.specs.Book.{Book, wordOf}
 use Rattle.error.proofs.LawsAnswer.{accepted-inj}
-use Rattle.book_start.specs.Start.{AllApart, Stands, blocksAt, blocksIn, heldBy, namedFrom, freedOf, freedBy, blocksOf, GoodStart}
+use Rattle.book_start.specs.Start.{AllApart, Stands, blocksAt, blocksIn, heldBy, namedFrom, freedOf, freedBy}
+use Rattle.book_start.specs.Start.{GoodStart}
 use Rattle.book_start.proofs.LawsClaims.{Cross, disjoint-sym}
 
 -- ---- blocks of several lists
@@ -149,12 +150,14 @@ freed-gathered s class (h ∷ hs) =
 
 module _ (b : Book) (g : GoodStart b) where
   held-all : AllApart (gather (length (b .heads)) (heldOf b))
-  held-all = rw (held-gathered (b .space) (b .heads)) at (apart-left (heldBy (b .space) (b .heads)) (freedBy (b .space) 0 (b .space .free)) (g .apart))
+  held-all = rw (held-gathered (b .space) (b .heads)) at (apart-left (heldBy (b .space) (b .heads)) (freedBy (b .space) 0
+      (b .space .free)) (g .apart))
 
   lists-all : gather 9 (λ class. listOf b class) ≡ freedBy (b .space) 0 (b .space .free)
   lists-all =
       sym (freed-gathered (b .space) 0 (b .space .free)
-      ∙ gather-same (length (b .space .free)) (λ i. blocksAt (0 + i) (namedFrom (b .space) (getD (b .space .free) i 0))) (listOf b) (λ i. rw (zero-add i))
+      ∙ gather-same (length (b .space .free)) (λ i. blocksAt (0 + i) (namedFrom (b .space) (getD (b .space .free) i 0))) (listOf b)
+      (λ i. rw (zero-add i))
       ∙ ap (λ (n : ℕ). gather n (listOf b)) (g .nine))
 
   freed-all : AllApart (gather 9 (listOf b))
@@ -180,7 +183,8 @@ module _ (b : Book) (g : GoodStart b) where
   pub key-list-apart : (key class : ℕ) → key < length (b .heads) → class ≤ pageClass → Cross (heldOf b key) (listOf b class)
   key-list-apart key class l k =
       let all = apart-cross (heldBy (b .space) (b .heads)) (freedBy (b .space) 0 (b .space .free)) (g .apart) in
-      let mine = gather-each (λ x. Each (Disjoint x) (freedBy (b .space) 0 (b .space .free))) (length (b .heads)) (heldOf b) (rw (held-gathered (b .space) (b .heads)) at all) key l in
+      let mine = gather-each (λ x. Each (Disjoint x) (freedBy (b .space) 0 (b .space .free))) (length (b .heads)) (heldOf b) (rw
+      (held-gathered (b .space) (b .heads)) at all) key l in
       each-map (λ x. Each (Disjoint x) (freedBy (b .space) 0 (b .space .free))) (λ x. Each (Disjoint x) (listOf b class))
       (λ x d. gather-each (Disjoint x) 9 (listOf b) (rw lists-all d) class (omega arith)) (heldOf b key) mine
 
@@ -197,7 +201,11 @@ pub place-stands : (s : Space) (place : ShHeadValue) (c : Content) → contentAt
 unfolding Each
 place-stands s Empty c e = let same = accepted-inj (sym (content-empty s) ∙ e) in rw (← same) tt
 place-stands s (Inline entry used) c e = let same = accepted-inj (sym (content-inline s entry used) ∙ e) in rw (← same) tt
-place-stands s (Slab class used off) c e = let w = was-slab s class used off c e in rw (← w .2) (slab-sound s class used off (w .0) (w .1) .stands, tt)
+place-stands s (Slab class used off) c e = let w = was-slab s class used off c e in rw (← w .2) (
+  slab-sound s class used off (w .0)
+      (w .1) .stands,
+  tt,
+)
 place-stands s (Extent last) c e =
     let w = was-pages s last c e in rw (← w .2) (pages-stand (s .mark) (w .0 .offs) (chain-known s last (w .0) (w .1) .stands))
 

@@ -298,9 +298,9 @@ pub extern "C" fn ouriscado_book_drop(
 // Tells whether a body, heads and state that come from elsewhere, as from a file, are a good start, with which the other calls may go on as
 // with a book that began fresh: every key is sound; for each of the nine sizes of block the list of freed ones ends, and names only offsets
 // where such a block can stand; and no two blocks, in use or freed, share a byte. work is for the call's own use: a byte for each 16 bytes
-// of the body, which may hold anything, and are 0 afterwards; what stands behind them stays. Nothing else is written. Hands out ground: 0 for a
-// good start, else why it isn't one; and which: the key where the first fault was met, or the class of the free list, since keys are judged
-// first, from 0 on, and then free lists, from class 0 on; 0 for a good start. Refuses 1, 34.
+// of the body, which may hold anything, and are 0 afterwards; what stands behind them stays. Nothing else is written. Hands out ground: 0
+// for a good start, else why it isn't one; and which: the key where the first fault was met, or the class of the free list, since keys are
+// judged first, from 0 on, and then free lists, from class 0 on; 0 for a good start. Refuses 1, 34.
 #[no_mangle]
 pub extern "C" fn ouriscado_book_check(
     body: &[u8],
@@ -316,9 +316,11 @@ pub extern "C" fn ouriscado_book_check(
         ≡ workAfter (lengthOfList (now (body .entry)) / 16) (now (work .entry))
         (judges (bookIn (now (body .entry)) (now (heads .entry)) (now (state .entry))) (lengthOfList (now (work .entry)))) ⌝ }
     ensures ground { λ r. ⌜ now (ground .exit)
-        ≡ told groundOf (judges (bookIn (now (body .entry)) (now (heads .entry)) (now (state .entry))) (lengthOfList (now (work .entry)))) 0 ⌝ }
+        ≡ told groundOf
+        (judges (bookIn (now (body .entry)) (now (heads .entry)) (now (state .entry))) (lengthOfList (now (work .entry)))) 0 ⌝ }
     ensures which { λ r. ⌜ now (which .exit)
-        ≡ told whichOf (judges (bookIn (now (body .entry)) (now (heads .entry)) (now (state .entry))) (lengthOfList (now (work .entry)))) 0 ⌝ }
+        ≡ told whichOf
+        (judges (bookIn (now (body .entry)) (now (heads .entry)) (now (state .entry))) (lengthOfList (now (work .entry)))) 0 ⌝ }
 {
     let words = *state;
     let answer = book_start::judge_start(body, heads, state_of(words), work);

@@ -1,5 +1,5 @@
--- `claim_freed` meets its contract. Invariant: what is left of the list, claimed behind what the work list shows, gives what all of it gives.
--- Assumes nothing.
+-- `claim_freed` meets its contract. Invariant: what is left of the list, claimed behind what the work list shows, gives what all of it
+-- gives. Assumes nothing.
 use Prim.Native.Nat.{ℕ, _-_, _*_, _/_, _≤_, _<_}
 use mathlib.Core.Bool.{true}
 use mathlib.Core.List.{List}

@@ -1,5 +1,5 @@
--- `claim_pages` meets its contract. Invariant: the pages that are left, claimed behind what the work list shows, give what all of them give.
--- Assumes nothing.
+-- `claim_pages` meets its contract. Invariant: the pages that are left, claimed behind what the work list shows, give what all of them
+-- give. Assumes nothing.
 use Prim.Native.Nat.{ℕ, _-_, _*_, _≤_, _<_}
 use mathlib.Core.List.{List}
 use mathlib.Core.Path.{_≡_, refl, sym, ap, subst, _∙_}

@@ -13,8 +13,8 @@ use Rattle.book.specs.Book.{Book}
 use Rattle.book.specs.Answers.{bookOf}
 use Rattle.book_start.specs.Start.{judges}
 use Rattle.book_start.specs.Units.{Marked}
-use Rattle.book_start.proofs.LawsVerdict.{judges-broken, judges-short, judges-all, after-refused, after-judged, cleared-is, judged-is}
-use Rattle.book_start.proofs.LawsVerdict.{shows-none, shown-cleared}
+use Rattle.book_start.proofs.LawsVerdict.{judges-broken, judges-short, judges-all, after-refused, after-judged}
+use Rattle.book_start.proofs.LawsVerdict.{cleared-is, judged-is, shows-none, shown-cleared}
 use Rattle.book_start.proofs.judging.judge_start.Statement.{statement}
 use Rattle.book_start.proofs.judging.judge_start.Tie as tie
 
