@@ -17,6 +17,7 @@ FORMS = {
     "drop": "drop KEY",
     "places": "places alone",
     "space": "space alone",
+    "check": "check alone",
 }
 REFUSALS = {
     1: "the book's shape breaks its limits",
@@ -47,6 +48,17 @@ def place(book, key):
         "slab": lambda: f"slab class {at[1]}, used {len(ns)}, offset {at[2]}",
         "pages": lambda: f"pages, the last at offset {at[1][-1][0]}",
     }[at[0]]()
+
+
+def claims(book):
+    """The blocks of keys, then those of stacks from the top: whose, how many bytes, and where."""
+    for key, at in enumerate(book.places):
+        if at[0] == "slab":
+            yield f"key {key}", 16 * 2 ** at[1], at[2]
+        if at[0] == "pages":
+            yield from ((f"key {key}", 4096, page[0]) for page in at[1])
+    for c, stack in enumerate(book.stacks):
+        yield from ((f"the free list of class {c}", 16 * 2**c, off) for off in reversed(stack))
 
 
 def numbers(words):
@@ -105,13 +117,26 @@ class Shell:
         mark = self.book.mark if not self.book.out_of_shape() else 0
         return [f"mark {mark}"] + freed
 
+    def check(self):
+        """The plain book's keys are sound and its stacks end; that no two blocks share a byte is counted."""
+        if self.book.out_of_shape():
+            raise Refused(1)
+        claimed = set()
+        for what, size, off in claims(self.book):
+            units = set(range(off, off + size, 16))
+            if claimed & units:
+                return f"not a good start: {what} has a block that shares bytes with another"
+            claimed |= units
+        return "a good start"
+
 
 def answer(shell, words):
     """The lines of the answer to a line."""
     ns = numbers(words[1:])
     if words[0] not in FORMS:
-        raise Unread("expected body, keys, load, append, read, drop, places or space")
-    least, most = {"load": (1, NUMBERS), "append": (2, 2), "read": (1, 2), "places": (0, 0), "space": (0, 0)}.get(words[0], (1, 1))
+        raise Unread("expected body, keys, load, append, read, drop, places, space or check")
+    alone = dict.fromkeys(("places", "space", "check"), (0, 0))
+    least, most = {"load": (1, NUMBERS), "append": (2, 2), "read": (1, 2), **alone}.get(words[0], (1, 1))
     if not least <= len(ns) <= most:
         raise Unread(f"expected {FORMS[words[0]]}")
     told = getattr(shell, words[0])(*ns)

@@ -1,4 +1,5 @@
-/* A day of a shop, kept in an account book: deposits, enquiries and one that is refused, the closing total, and the book in a file.
+/* A day of a shop, kept in an account book: deposits, enquiries and one that is refused, the closing total, and the book in a file, which
+   is checked before it is gone on with.
 
    cc shop.c $(pkg-config --cflags --libs ouriscado) -o shop && ./shop FILE
 
@@ -117,6 +118,39 @@ static void read_book(struct book *b, const char *path)
         stop("the file can't be read");
 }
 
+/* Says why a book isn't opened: the ground, and which account or class of blocks it is about. */
+static void say_why(uint32_t ground, uint64_t which)
+{
+    printf("the book isn't opened: ");
+    if (ground == OURISCADO_START_KEY_UNSOUND)
+        printf("account %" PRIu64 " isn't sound\n", which);
+    else if (ground == OURISCADO_START_KEY_SHARES)
+        printf("a block of account %" PRIu64 " shares bytes with another in use\n", which);
+    else if (ground == OURISCADO_START_FREE_STRAYS)
+        printf("the freed blocks of class %" PRIu64 " name an offset where none can stand\n", which);
+    else
+        printf("a freed block of class %" PRIu64 " shares bytes with another, in use or freed\n", which);
+}
+
+/* Goes on with a book from elsewhere, and tells whether it did: it is enquired only where it is a good start. */
+static int go_on(const struct book *b)
+{
+    static uint8_t work[BODY_BYTES / OURISCADO_WORK_UNIT];
+    uint32_t ground;
+    uint64_t which;
+    if (ouriscado_book_check(b->body, BODY_BYTES, b->heads, ACCOUNTS, b->state, work, sizeof work, &ground, &which) != OURISCADO_ACCEPTED)
+        stop("the book can't be judged");
+    if (ground != OURISCADO_START_GOOD) {
+        say_why(ground, which);
+        return 0;
+    }
+    printf("the book is a good start\n");
+    ask(b, FLORIST, 512);
+    ask(b, BAKERY, 512);
+    closing(b);
+    return 1;
+}
+
 int main(int argc, char **argv)
 {
     static struct book today, later;
@@ -146,8 +180,13 @@ int main(int argc, char **argv)
 
     write_book(&today, argv[1]);
     read_book(&later, argv[1]);
-    ask(&later, FLORIST, 512);
-    ask(&later, BAKERY, 512);
-    closing(&later);
+    if (!go_on(&later))
+        stop("the book that was written is no good start");
+
+    read_book(&later, argv[1]);
+    later.heads[KIOSK] = later.heads[FLORIST];
+    printf("the florist's head word is copied over the kiosk's\n");
+    if (go_on(&later))
+        stop("a damaged book is a good start");
     return 0;
 }

@@ -1,8 +1,9 @@
-//! A day of a shop, kept in an account book: deposits, enquiries and one that is refused, the closing total, and the book in a file.
+//! A day of a shop, kept in an account book: deposits, enquiries and one that is refused, the closing total, and the book in a file, which
+//! is checked before it is gone on with.
 //!
 //! `cargo run --example shop FILE`: FILE is written and read back. examples/c/shop.c tells the same story and prints the same lines.
 use ouriscado::limits::STATE_WORDS;
-use ouriscado::{Appended, Book, Listed, Place, Refusal, State};
+use ouriscado::{Appended, Book, Listed, Place, Refusal, StartError, State};
 use std::error::Error;
 use std::fs;
 
@@ -13,6 +14,8 @@ const FLORIST: usize = 1;
 const KIOSK: usize = 2;
 
 type ShopBook = Book<Vec<u8>, Vec<u64>>;
+/// Body, head words and state: a book, where they belong together.
+type Parts = (Vec<u8>, Vec<u64>, State);
 
 /// The amount of a record in cents: a stand-in for the table of records, which the firm keeps elsewhere.
 fn cents(record: u64) -> u64 {
@@ -80,8 +83,8 @@ fn write(book: &ShopBook, path: &str) -> std::io::Result<usize> {
     Ok(whole.len())
 }
 
-/// Reads a book from such a file.
-fn read_back(path: &str) -> Result<ShopBook, Box<dyn Error>> {
+/// Body, head words and state from such a file.
+fn read_back(path: &str) -> Result<Parts, Box<dyn Error>> {
     let whole = fs::read(path)?;
     if whole.len() != 8 * (STATE_WORDS + NAMES.len()) + BODY_BYTES {
         return Err("the file has another length than the book".into());
@@ -89,7 +92,24 @@ fn read_back(path: &str) -> Result<ShopBook, Box<dyn Error>> {
     let (state, rest) = whole.split_at(8 * STATE_WORDS);
     let (heads, body) = rest.split_at(8 * NAMES.len());
     let state = State(words(state).try_into().expect("ten words"));
-    Ok(Book::from_parts(body.to_vec(), words(heads), state))
+    Ok((body.to_vec(), words(heads), state))
+}
+
+/// Goes on with a book from elsewhere, and tells whether it did: it is enquired only where it is a good start.
+fn go_on((body, heads, state): Parts) -> Result<bool, Refusal> {
+    let book = match Book::open(body, heads, state) {
+        Err(StartError::Refused(refusal)) => return Err(refusal),
+        Err(why) => {
+            println!("the book isn't opened: {why}");
+            return Ok(false);
+        }
+        Ok(book) => book,
+    };
+    println!("the book is a good start");
+    ask(&book, FLORIST, 512);
+    ask(&book, BAKERY, 512);
+    closing(&book)?;
+    Ok(true)
 }
 
 fn main() -> Result<(), Box<dyn Error>> {
@@ -108,9 +128,15 @@ fn main() -> Result<(), Box<dyn Error>> {
     closing(&today)?;
 
     println!("the book is written: {} bytes", write(&today, &path)?);
-    let later = read_back(&path)?;
-    ask(&later, FLORIST, 512);
-    ask(&later, BAKERY, 512);
-    closing(&later)?;
+    if !go_on(read_back(&path)?)? {
+        return Err("the book that was written is no good start".into());
+    }
+
+    let (body, mut heads, state) = read_back(&path)?;
+    heads[KIOSK] = heads[FLORIST];
+    println!("the florist's head word is copied over the kiosk's");
+    if go_on((body, heads, state))? {
+        return Err("a damaged book is a good start".into());
+    }
     Ok(())
 }

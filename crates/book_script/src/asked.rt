@@ -14,6 +14,7 @@ pub enum Command {
     Drop,
     Places,
     Space,
+    Check,
     // A word that the shell doesn't know, or nothing to do.
     Nothing,
 }
@@ -45,6 +46,9 @@ fn question(word: &[u8]) -> Command {
     if check::same(word, b"space") {
         return Command::Space;
     }
+    if check::same(word, b"check") {
+        return Command::Check;
+    }
     if check::same(word, b"body") {
         return Command::Body;
     }
@@ -74,7 +78,7 @@ fn command_of(word: &[u8]) -> Command {
 // The fewest numbers that a line has.
 fn fewest(command: Command) -> usize {
     match command {
-        Command::Places | Command::Space => 0,
+        Command::Places | Command::Space | Command::Check => 0,
         Command::Append => 2,
         Command::Nothing => usize::MAX,
         _ => 1,
@@ -84,7 +88,7 @@ fn fewest(command: Command) -> usize {
 // The most numbers that a line has.
 fn most(command: Command) -> usize {
     match command {
-        Command::Places | Command::Space => 0,
+        Command::Places | Command::Space | Command::Check => 0,
         Command::Append | Command::Read => 2,
         Command::Load => usize::MAX,
         _ => 1,
@@ -98,7 +102,8 @@ fn form_of_book(command: Command) {
         Command::Keys => text::words(b"keys COUNT"),
         Command::Places => text::words(b"places alone"),
         Command::Space => text::words(b"space alone"),
-        _ => text::words(b"body, keys, load, append, read, drop, places or space"),
+        Command::Check => text::words(b"check alone"),
+        _ => text::words(b"body, keys, load, append, read, drop, places, space or check"),
     }
 }
 

@@ -1,5 +1,6 @@
 // What the account book's shell reads and says: the lines of a script, what each asks for, and answers in words. Nothing here has a book.
 mod asked;
+mod judged;
 mod reading;
 mod refusals;
 mod reports;
@@ -10,6 +11,11 @@ pub use asked::Asked;
 pub use asked::Command;
 pub use asked::ask;
 pub use asked::offered;
+pub use judged::free_shares;
+pub use judged::free_strays;
+pub use judged::good_start;
+pub use judged::key_shares;
+pub use judged::key_unsound;
 pub use reading::Reading;
 pub use reading::begin;
 pub use reading::line_of;
@@ -19,6 +25,7 @@ pub use reports::BODY_BYTES;
 pub use reports::KEYS;
 pub use reports::LINE_BYTES;
 pub use reports::NUMBERS;
+pub use reports::WORK_BYTES;
 pub use said::appended;
 pub use said::body_made;
 pub use said::dropped;

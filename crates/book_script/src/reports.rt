@@ -8,6 +8,8 @@ pub const NUMBERS: usize = 4096;
 pub const KEYS: usize = 4096;
 // The bytes of a body.
 pub const BODY_BYTES: usize = 262144;
+// The work list of a check: a byte for each 16 bytes of the largest body.
+pub const WORK_BYTES: usize = 16384;
 
 // Begins the report of a line.
 fn report(number: u64) {

@@ -6,6 +6,7 @@ use book::BookFresh;
 use book::BookLoad;
 use book::BookRead;
 use book_space::State;
+use book_start::JudgeStart;
 
 // Says what making a book fresh answered.
 fn say_fresh(answer: BookFresh, keys: usize, size: usize) {
@@ -89,4 +90,23 @@ pub fn drop(body: &mut [u8], heads: &mut [u64], state: State, key: u64) -> State
     let answer = after.answer;
     say_drop(answer);
     after.state
+}
+
+// Says what a check answered.
+fn say_check(answer: JudgeStart) {
+    match answer {
+        JudgeStart::Good => book_script::good_start(),
+        JudgeStart::KeyUnsound(key) => book_script::key_unsound(key),
+        JudgeStart::KeyShares(key) => book_script::key_shares(key),
+        JudgeStart::FreeStrays(class) => book_script::free_strays(class),
+        JudgeStart::FreeShares(class) => book_script::free_shares(class),
+        JudgeStart::Refused(number) => book_script::refused(number),
+    }
+}
+
+// Checks whether the book is a good start.
+pub fn check(body: &[u8], heads: &[u64], state: State) {
+    let mut work = memory::work_bytes();
+    let answer = book_start::judge_start(body, heads, state, &mut work);
+    say_check(answer);
 }

@@ -1,6 +1,6 @@
 // A shell for the account book: reads a script from standard input, a call a line, and writes each answer in words. `body BYTES` and then
 // `keys COUNT` make a fresh book; `load KEY NUMBER ...`, `append KEY NUMBER`, `read KEY` and `drop KEY` are its calls; `places` and `space`
-// show what it holds; `#` begins a comment. A line that can't be read is reported with its number, and nothing is done for it.
+// show what it holds, and `check` tells whether it is a good start; `#` begins a comment. A line that can't be read is reported with its number, and nothing is done for it.
 mod calls;
 mod memory;
 
@@ -55,12 +55,13 @@ fn keyed(keys: u64, body: &[u8], heads: &mut [u64], book: Book) -> Book {
     }
 }
 
-// Shows what a book holds: a key's list, places, or the space.
+// Shows what a book holds: a key's list, places, or the space; or tells whether it is a good start.
 fn look(asked: Asked, list: &mut [u64], body: &[u8], heads: &[u64], state: State) {
     let what = asked.what;
     match what {
         Command::Read => calls::read(body, heads, state, asked.first, list, asked.second),
         Command::Places => book_script::places(heads),
+        Command::Check => calls::check(body, heads, state),
         _ => {
             let free = state.free;
             book_script::space(body, state.mark, free)

@@ -5,6 +5,7 @@ use book_script::BODY_BYTES;
 use book_script::KEYS;
 use book_script::LINE_BYTES;
 use book_script::NUMBERS;
+use book_script::WORK_BYTES;
 use book_space::State;
 
 // The state of no book.
@@ -41,4 +42,11 @@ pub fn body_bytes() -> [u8; BODY_BYTES]
     ensures { λ r. ⌜ 262144 ≡ length r ⌝ }
 {
     [0; BODY_BYTES]
+}
+
+// The work list of a check.
+pub fn work_bytes() -> [u8; WORK_BYTES]
+    ensures { λ r. ⌜ 16384 ≡ length r ⌝ }
+{
+    [0; WORK_BYTES]
 }
