@@ -88,16 +88,9 @@
 
    STACK
 
-   A call takes at most so many bytes of stack below its caller's frame (measured, and held by a test):
-
-       ouriscado_book_fresh, ouriscado_book_load                 OURISCADO_STACK_SHORT
-       and ouriscado_book_drop
-       ouriscado_book_read of at most 256 numbers                OURISCADO_STACK_SHORT
-       ouriscado_book_append                                     OURISCADO_STACK_APPEND
-       any call                                                  OURISCADO_STACK_ANY
-
-   A read holds the numbers of a slab or a page on the stack until all of them are read, and an append a list
-   that moves from one slab to another. */
+   A call takes at most OURISCADO_STACK_BOOK bytes of stack below its caller's frame (measured, and held by a
+   test), where the C library's functions are bound before it. Numbers of a slab that is read, and a list that
+   moves from one slab to another, are held there; pages are read straight into the lent list. */
 #ifndef OURISCADO_H
 #define OURISCADO_H
 #include <stddef.h>
@@ -146,10 +139,9 @@ extern "C" {
                                                   before; a list that doesn't end comes to such a block */
 
 /* The bytes of stack that a call needs. */
-#define OURISCADO_STACK_SHORT             4096 /* bytes of stack of fresh, load and drop, and of a read of at
-                                                  most 256 numbers */
-#define OURISCADO_STACK_APPEND            8192 /* bytes of stack of an append */
-#define OURISCADO_STACK_ANY              40960 /* bytes of stack of any call */
+#define OURISCADO_STACK_BOOK              4096 /* bytes of stack of any call of the book */
+#define OURISCADO_STACK_LONG             40960 /* bytes of stack of a ported function that reads out more than
+                                                  256 numbers */
 
 /* Why a call is refused, and what an operator does then. Where several apply, the smallest number is given;
    but a list that is offered is judged number by number, and its first bad number decides. A key is sound

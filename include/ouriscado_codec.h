@@ -10,8 +10,8 @@
    no global variables. Where the comment names refusals, the result is 0 or the number of one, and after a
    refusal every buffer holds what it held and every number that goes out is 0.
 
-   STACK: functions that read out the numbers of a stream, a slab or a page need at most OURISCADO_STACK_ANY
-   bytes, and OURISCADO_STACK_SHORT where there are at most 256; all others OURISCADO_STACK_SHORT. */
+   STACK: functions that read out more than 256 numbers of a stream, a slab or a page need at most
+   OURISCADO_STACK_LONG bytes; all others OURISCADO_STACK_BOOK. */
 #ifndef OURISCADO_CODEC_H
 #define OURISCADO_CODEC_H
 #include <stdbool.h>

@@ -40,9 +40,8 @@ CONSTANTS = {
         ("START_FREE_SHARES", 4, "u32", "a block of the free list shares bytes with one in use, or with one that this list or one of a smaller class named before; a list that doesn't end comes to such a block"),
     ],
     "stacks": [
-        ("STACK_SHORT", 4096, "usize", "bytes of stack of fresh, load and drop, and of a read of at most 256 numbers"),
-        ("STACK_APPEND", 8192, "usize", "bytes of stack of an append"),
-        ("STACK_ANY", 40960, "usize", "bytes of stack of any call"),
+        ("STACK_BOOK", 4096, "usize", "bytes of stack of any call of the book"),
+        ("STACK_LONG", 40960, "usize", "bytes of stack of a ported function that reads out more than 256 numbers"),
     ],
 }
 

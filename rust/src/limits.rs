@@ -61,11 +61,8 @@ pub const START_FREE_STRAYS: u32 = 3;
 /// A block of the free list shares bytes with one in use, or with one that this list or one of a smaller class named before; a list that doesn't end comes to such a block.
 pub const START_FREE_SHARES: u32 = 4;
 
-/// Bytes of stack of fresh, load and drop, and of a read of at most 256 numbers.
-pub const STACK_SHORT: usize = 4096;
+/// Bytes of stack of any call of the book.
+pub const STACK_BOOK: usize = 4096;
 
-/// Bytes of stack of an append.
-pub const STACK_APPEND: usize = 8192;
-
-/// Bytes of stack of any call.
-pub const STACK_ANY: usize = 40_960;
+/// Bytes of stack of a ported function that reads out more than 256 numbers.
+pub const STACK_LONG: usize = 40_960;
