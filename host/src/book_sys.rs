@@ -49,4 +49,15 @@ extern "C" {
         key: u64,
         length: &mut u64,
     ) -> u32;
+    pub fn ouriscado_book_check(
+        body: *const u8,
+        body_len: usize,
+        heads: *const u64,
+        heads_len: usize,
+        state: &State,
+        work: *mut u8,
+        work_len: usize,
+        ground: &mut u32,
+        which: &mut u64,
+    ) -> u32;
 }

@@ -1,23 +1,28 @@
-//! Our book in lockstep with the second one, on random histories and damaged ones.
+//! Our book in lockstep with the second one, on random histories and damaged ones, and on starts that were written elsewhere.
 mod cases;
 mod damage;
 mod history;
+mod judging;
 mod lists;
 mod pair;
 mod record;
 mod spoil;
+mod spoiled;
+mod starts;
 mod tally;
 
 use crate::compare::{Found, Smallest};
-use crate::lockstep::history::History;
+use crate::lockstep::history::{Ended, History};
 use crate::lockstep::pair::Pair;
 use crate::lockstep::tally::Tally;
 use crate::rng::Rng;
 use std::collections::BTreeSet;
 
-/// Histories in the first round, and in each other.
+/// Histories in the first round, and in each other; and starts that were written elsewhere.
 const FIRST: u64 = 1500;
 const ROUND: u64 = 20;
+const FIRST_STARTS: u64 = 600;
+const ROUND_STARTS: u64 = 20;
 
 /// Histories among which those that are written down are chosen.
 const CANDIDATES: u64 = 16_000;
@@ -74,6 +79,16 @@ pub fn written_histories() -> Vec<Vec<String>> {
     files
 }
 
+/// Notes how a history ended.
+fn note(ended: Ended, round: u64, name: String, found: &mut Found) {
+    let calls = *ended.as_ref().unwrap_or_else(|(calls, _)| calls);
+    found.inputs += calls;
+    found.calls += calls;
+    if let Err((calls, what)) = ended {
+        found.differs(Smallest { size: (calls as usize, 0), what, round, input: format!("{name}, call {calls}") });
+    }
+}
+
 /// Both books, and what their histories met.
 #[derive(Default)]
 pub struct Lockstep {
@@ -89,12 +104,13 @@ impl Lockstep {
             let rng = Rng(if round == 0 { number << 8 } else { seed ^ 0xb00c << 48 ^ round << 24 ^ number << 8 });
             let name = format!("round {round}, history {number}");
             let ended = History::new(rng, &mut self.pair, &mut self.tally, name.clone()).run();
-            let calls = *ended.as_ref().unwrap_or_else(|(calls, _)| calls);
-            found.inputs += calls;
-            found.calls += calls;
-            if let Err((calls, what)) = ended {
-                found.differs(Smallest { size: (calls as usize, 0), what, round, input: format!("{name}, call {calls}") });
-            }
+            note(ended, round, name, found);
+        }
+        for number in 0..if round == 0 { FIRST_STARTS } else { ROUND_STARTS } {
+            let rng = Rng(if round == 0 { number << 8 } else { seed ^ 0x57a7 << 48 ^ round << 24 ^ number << 8 });
+            let name = format!("round {round}, start {number}");
+            let ended = judging::run(rng, &mut self.pair, &mut self.tally, &name);
+            note(ended, round, name, found);
         }
     }
 
@@ -114,6 +130,16 @@ mod tests {
         let (mut pair, mut tally) = (Pair::default(), Tally::default());
         for number in 0..40 {
             let ended = History::new(Rng(number << 8), &mut pair, &mut tally, format!("history {number}")).run();
+            assert!(ended.is_ok(), "{ended:?}");
+        }
+    }
+
+    /// Some starts, on which both books agree.
+    #[test]
+    fn starts_agree() {
+        let (mut pair, mut tally) = (Pair::default(), Tally::default());
+        for number in 0..40 {
+            let ended = judging::run(Rng(number << 8), &mut pair, &mut tally, &format!("start {number}"));
             assert!(ended.is_ok(), "{ended:?}");
         }
     }

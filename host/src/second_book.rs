@@ -2,6 +2,7 @@
 //! pages, free lists and cutting. It judges everything before it writes anything, so that a refused call has changed nothing.
 pub mod keys;
 pub mod space;
+pub mod start;
 
 use crate::second_book::keys::{Ground, Held, Key};
 use crate::second_book::space::{release, take, take_run, State, PAGE, PAGE_CLASS};
@@ -71,13 +72,19 @@ fn lengths(body: &[u8], heads: &[u64]) -> Result<(), Refused> {
     }
 }
 
-/// 1 and 2: the shape of the book, and the key.
-fn shape(body: &[u8], heads: &[u64], state: &State, key: u64) -> Result<(), Refused> {
+/// 1: the shape of the book, which is its lengths and its mark.
+fn limits(body: &[u8], heads: &[u64], state: &State) -> Result<(), Refused> {
     lengths(body, heads)?;
     let mark = state[0];
     if !mark.is_multiple_of(16) || mark < 4096 || mark > body.len() as u64 {
         return Err(Refused::Number(1));
     }
+    Ok(())
+}
+
+/// 1 and 2: the shape of the book, and the key.
+fn shape(body: &[u8], heads: &[u64], state: &State, key: u64) -> Result<(), Refused> {
+    limits(body, heads, state)?;
     if key >= heads.len() as u64 {
         Err(Refused::Number(2))
     } else {

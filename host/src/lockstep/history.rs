@@ -1,10 +1,13 @@
-//! Random histories: a book of some shape, calls that grow, load, read and drop keys, odd calls between them, and damage.
+//! Random histories: a book of some shape, calls that grow, load, read and drop keys, odd calls between them, and damage. Now and then the book
+//! is judged as a start; one that is good stays good until somebody else writes it.
 use crate::lent::Placing;
 use crate::lockstep::damage::{damage, Damaged};
+use crate::lockstep::judging::lent;
 use crate::lockstep::lists;
 use crate::lockstep::pair::{Answer, Call, Pair, MOST_BODY, MOST_HEADS};
 use crate::lockstep::record::Record;
-use crate::lockstep::tally::{unknown_total, Before, Tally};
+use crate::lockstep::starts::Start;
+use crate::lockstep::tally::{unknown_total, Before, Tally, DAMAGED_BOOK, FOREIGN_BOOK, FRESH_BOOK, USED_BOOK};
 use crate::rng::Rng;
 use crate::second_book::space::State;
 use crate::second_book::LIMIT;
@@ -29,6 +32,10 @@ struct Plan {
 /// Lengths of differences in bits: any, and such that a page holds some hundred numbers.
 const ANY: &[u32] = &[0, 0, 3, 6, 7, 8, 13, 14, 20, 28, 35, 42, 49, 56];
 const LONG: &[u32] = &[42, 47];
+
+/// In how many calls the book is judged once, and of how many books that were just made fresh or damaged one is.
+const JUDGED: u64 = 40;
+const JUDGED_AT_ONCE: u64 = 3;
 
 /// Draws a plan of a history that is written down: a small one.
 fn short_plan(rng: &mut Rng) -> Plan {
@@ -66,12 +73,21 @@ fn plan(rng: &mut Rng) -> Plan {
     }
 }
 
+/// Draws a plan of a history that goes on from a start.
+fn start_plan(rng: &mut Rng, keys: usize, body: usize) -> Plan {
+    let (calls, run, bits) = (rng.pick(&[60, 200, 400]), rng.pick(&[3, 40, 300]), rng.pick(&[ANY, ANY, LONG]));
+    let (longest, damaged) = (rng.pick(&[300, 300, 5000]), rng.pick(&[0, 0, 4, 12]));
+    Plan { keys, body, calls, run, bits, loads: 12, drops: 8, longest, even: false, damaged }
+}
+
 /// What was before a damage, to be put back after some calls.
 struct Kept {
     body: Vec<u8>,
     heads: Vec<u64>,
     state: State,
     lasts: Vec<(u64, usize)>,
+    good: bool,
+    when: &'static str,
 }
 
 /// A history that runs. Of each key it has the last number and the length, as far as they are known.
@@ -92,6 +108,13 @@ pub struct History<'a> {
     left: usize,
     /// The lines of a history that is written down.
     record: Option<Record>,
+    /// Where the book comes from, and whether it is known to be a good start.
+    when: &'static str,
+    good: bool,
+    /// Chances of judgements, which are apart so that calls don't depend on them, and whether the book was just
+    /// made fresh or damaged.
+    checks: Rng,
+    due: bool,
 }
 
 /// What went wrong in a history: how many calls there were, and what.
@@ -119,7 +142,38 @@ impl<'a> History<'a> {
         let placing = rng.pick(&[Placing::End, Placing::Start]);
         pair.begin(vec![fill; plan.body], vec![rng.next(); plan.keys], [rng.next(); 10], placing);
         let lasts = vec![(0, 0); plan.keys];
-        History { rng, pair, tally, plan, name, lasts, bits: 7, run: (0, 0), aimed: (0, 0), kept: None, left: plan.calls, record: None }
+        History::begun(rng, plan, lasts, pair, tally, name)
+    }
+
+    /// A history of the book that a pair holds, of whose keys last numbers and lengths are known.
+    fn begun(rng: Rng, plan: Plan, lasts: Vec<(u64, usize)>, pair: &'a mut Pair, tally: &'a mut Tally, name: String) -> History<'a> {
+        let (left, checks) = (plan.calls, Rng(rng.0 ^ 0xc4ec << 32));
+        History {
+            rng,
+            pair,
+            tally,
+            plan,
+            name,
+            lasts,
+            bits: 7,
+            run: (0, 0),
+            aimed: (0, 0),
+            kept: None,
+            left,
+            record: None,
+            when: FRESH_BOOK,
+            good: false,
+            checks,
+            due: false,
+        }
+    }
+
+    /// A history that goes on from a good start.
+    pub fn of_start(mut rng: Rng, start: Start, placing: Placing, pair: &'a mut Pair, tally: &'a mut Tally, name: String) -> History<'a> {
+        let plan = start_plan(&mut rng, start.heads.len(), start.body.len());
+        let lasts = start.lists.iter().map(|list| (list.last().copied().unwrap_or(0), list.len())).collect();
+        pair.begin(start.body, start.heads, start.state, placing);
+        History { when: FOREIGN_BOOK, good: true, ..History::begun(rng, plan, lasts, pair, tally, name) }
     }
 
     /// Runs the history, and tells how many calls there were.
@@ -134,11 +188,18 @@ impl<'a> History<'a> {
     }
 
     fn run_on(&mut self) -> Ended {
-        let mut made = 1;
-        self.call(&Call::Fresh, self.plan.body, self.plan.keys).map_err(|what| (made, what))?;
+        let mut made = 0;
+        if self.when == FRESH_BOOK {
+            made += 1;
+            self.call(&Call::Fresh, self.plan.body, self.plan.keys).map_err(|what| (made, what))?;
+        }
         while self.left > 0 {
             self.left -= 1;
             self.damage_now_and_then();
+            if self.is_judged() {
+                made += 1;
+                self.judge().map_err(|what| (made, what))?;
+            }
             let call = self.next_call();
             let (body, heads) = self.shape(&call);
             made += 1;
@@ -156,9 +217,20 @@ impl<'a> History<'a> {
         if let Some(record) = &mut self.record {
             record.call(call, body, heads, &answer, self.pair);
         }
+        if self.good && matches!(answer.refusal, 31 | 35) {
+            return Err(format!("{call:?}: on a good book answers {}", answer.refusal));
+        }
         if answer.refusal == 0 {
+            if self.when == FRESH_BOOK {
+                self.when = USED_BOOK;
+            }
             match call {
-                Call::Fresh => self.lasts.fill((0, 0)),
+                Call::Fresh => {
+                    // Heads that it wasn't lent name blocks of the book before.
+                    self.good = heads == self.plan.keys;
+                    (self.when, self.due) = (FRESH_BOOK, true);
+                    self.lasts.fill((0, 0));
+                }
                 Call::Load { key, fks } => self.lasts[*key as usize] = (fks.last().copied().unwrap_or(0), fks.len()),
                 Call::Append { key, fk } => {
                     let last = &mut self.lasts[*key as usize];
@@ -168,6 +240,27 @@ impl<'a> History<'a> {
                 Call::Drop { key } => self.lasts[*key as usize] = (0, 0),
             }
         }
+        Ok(())
+    }
+
+    /// Whether the book is judged now. A history that is written down has no judgements.
+    fn is_judged(&mut self) -> bool {
+        let often = if self.due { JUDGED_AT_ONCE } else { JUDGED };
+        self.due = false;
+        self.record.is_none() && self.checks.below(often) == 0
+    }
+
+    /// Has both judge the book; one that was good, and that calls alone wrote since, is good.
+    fn judge(&mut self) -> Result<(), String> {
+        let check = lent(&mut self.checks, self.plan.body, self.plan.keys);
+        let judged = self.pair.check(check, &self.name)?;
+        self.tally.judged(self.when, &judged);
+        let whole = check.body == self.plan.body && check.heads == self.plan.keys && judged != Err(34);
+        let good = judged.is_ok_and(|v| v.ground == 0);
+        if whole && self.good && !good {
+            return Err(format!("{check:?}: a good book is judged {judged:?} after calls"));
+        }
+        self.good |= whole && good;
         Ok(())
     }
 
@@ -189,6 +282,7 @@ impl<'a> History<'a> {
         }
         if let Some(kept) = self.kept.take() {
             (self.pair.body, self.pair.heads, self.pair.state, self.lasts) = (kept.body, kept.heads, kept.state, kept.lasts);
+            (self.good, self.when) = (kept.good, kept.when);
             self.rewritten();
         }
         if self.plan.damaged == 0 || self.rng.below(self.plan.damaged) != 0 {
@@ -196,7 +290,8 @@ impl<'a> History<'a> {
         }
         if self.rng.below(8) != 0 {
             let (body, heads) = (self.pair.body.clone(), self.pair.heads.clone());
-            self.kept = Some(Kept { body, heads, state: self.pair.state, lasts: self.lasts.clone() });
+            let (good, when) = (self.good, self.when);
+            self.kept = Some(Kept { body, heads, state: self.pair.state, lasts: self.lasts.clone(), good, when });
         } else {
             // It stays damaged, and soon there isn't much to see.
             self.left = self.left.min(200);
@@ -216,6 +311,7 @@ impl<'a> History<'a> {
         }
         self.aimed = (key, 1 + self.rng.below(6));
         self.run.1 = 0;
+        (self.good, self.when, self.due) = (false, DAMAGED_BOOK, true);
     }
 
     /// Gives ours what was written into the second book's memory.

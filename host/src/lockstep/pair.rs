@@ -4,6 +4,7 @@ use crate::fault::{during, Saying};
 use crate::judge::place_of;
 use crate::lent::{Area, Placing};
 use crate::second_book::space::State;
+use crate::second_book::start::Verdict;
 use crate::second_book::{Refused, SecondBook};
 use crate::table::numbers_theirs;
 use std::fmt::{Debug, Formatter, Result as Written};
@@ -62,12 +63,22 @@ pub struct Answer {
     pub told: [u64; 5],
 }
 
+/// A judgement of a start, on the first bytes of the body and the first heads, with a work list of a length.
+#[derive(Clone, Copy, Debug)]
+pub struct Check {
+    pub body: usize,
+    pub heads: usize,
+    pub room: usize,
+}
+
 /// What a lent list holds before a call.
 const FILL: u64 = 0xa5a5_a5a5_a5a5_a5a5;
 /// The most bytes of a body, and the most words of heads and of lists.
 pub const MOST_BODY: usize = 1 << 20;
 pub const MOST_HEADS: usize = 65_536;
 const MOST_LIST: usize = 1 << 19;
+/// The most bytes that a work list has over those that the longest body needs.
+pub const MORE_WORK: usize = 4096;
 
 /// Our side: everything between pages that can't be touched.
 struct Ours {
@@ -75,6 +86,7 @@ struct Ours {
     heads: Area,
     state: Area,
     list: Area,
+    work: Area,
     outs: [Area; 5],
     placing: Placing,
 }
@@ -107,12 +119,14 @@ pub struct Pair {
     pub state: State,
     /// The list that the last call was offered or lent.
     pub list: Vec<u64>,
+    /// The work list that the last judgement was lent.
+    work: Vec<u8>,
     /// Why the second book turned the last call back.
     pub refused: Option<Refused>,
 }
 
 /// A call of ours with what it is called on, to be said if it faults.
-struct Running<'a>(&'a Call, &'a str);
+struct Running<'a>(&'a dyn Debug, &'a str);
 
 impl Saying for Running<'_> {
     fn say(&self) -> String {
@@ -127,11 +141,12 @@ impl Default for Pair {
             heads: Area::new(8 * (MOST_HEADS + 1)),
             state: Area::new(1),
             list: Area::new(8 * MOST_LIST),
+            work: Area::new(MOST_BODY / 16 + MORE_WORK),
             outs: std::array::from_fn(|_| Area::new(1)),
             placing: Placing::End,
         };
-        let (second, list) = (SecondBook::default(), Vec::new());
-        Pair { ours, second, body: Vec::new(), heads: Vec::new(), state: [0; 10], list, refused: None }
+        let (second, list, work) = (SecondBook::default(), Vec::new(), Vec::new());
+        Pair { ours, second, body: Vec::new(), heads: Vec::new(), state: [0; 10], list, work, refused: None }
     }
 }
 
@@ -175,6 +190,42 @@ impl Pair {
             Some(what) => Err(format!("{call:?}: answers {} and leaves another {what}", ours.refusal)),
             None => Ok(theirs),
         }
+    }
+
+    /// Has both judge a start, and tells the verdict or the refusal's number; or what differs. Body, heads and state stay.
+    pub fn check(&mut self, check: Check, where_: &str) -> Result<Result<Verdict, u32>, String> {
+        let placing = self.ours.placing;
+        self.work.clear();
+        self.work.extend((0..check.room).map(|k| (k * 7 + check.room) as u8));
+        self.ours.work.slice::<u8>(check.room, placing).copy_from_slice(&self.work);
+        self.ours.outs.iter().for_each(|out| out.slice(8, Placing::End).fill(0xa5u8));
+        let ours = during(&Running(&check, where_), || self.check_ours(check));
+        let judged = self.second.check(&self.body[..check.body], &self.heads[..check.heads], &self.state, &mut self.work);
+        let judged = judged.map_err(Refused::number);
+        let wanted = judged.map_or_else(|refusal| (refusal, 0, 0), |v| (0, v.ground as u64, v.which));
+        if ours != wanted {
+            return Err(format!("{check:?}: judges {ours:?} in place of {wanted:?} ({judged:?})"));
+        }
+        if let Some(what) = self.left(0) {
+            return Err(format!("{check:?}: judges {ours:?} and leaves another {what}"));
+        }
+        match place_of(self.ours.work.slice(check.room, placing), &self.work) {
+            Some(at) => Err(format!("{check:?}: judges {ours:?} and leaves another byte {at} of the work list")),
+            None => Ok(judged),
+        }
+    }
+
+    /// What ours judges: the refusal, the ground, and the key or class.
+    fn check_ours(&self, check: Check) -> (u32, u64, u64) {
+        let (ours, placing) = (&self.ours, self.ours.placing);
+        let (body, heads) = (ours.body.place::<u8>(self.body.len(), placing), ours.heads.place::<u64>(self.heads.len(), placing));
+        let state: &State = unsafe { &*ours.state.place::<State>(1, Placing::End) };
+        let null = if placing == Placing::End { Placing::Null } else { placing };
+        let work = ours.work.place::<u8>(check.room, null);
+        let (ground, which) = (ours.out(0), ours.out(1));
+        let refusal = unsafe { sys::ouriscado_book_check(body, check.body, heads, check.heads, state, work, check.room, ground, which) };
+        let told = ours.told(&[4, 8]);
+        (refusal, told[0], told[1])
     }
 
     /// What differs of all that the books hold.

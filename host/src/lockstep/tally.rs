@@ -1,11 +1,15 @@
-//! What the histories met, and how often: calls, refusals and their grounds, moves between classes, blocks taken and given back, chains.
+//! What the histories met, and how often: calls, refusals and their grounds, moves between classes, blocks taken and given back, chains; and
+//! of starts the verdicts, the faults, and what is foreign about them.
 use crate::lockstep::pair::{Answer, Call, Pair, KINDS};
+use crate::lockstep::spoiled::SPOILS;
+use crate::lockstep::starts::{Foreign, FOREIGN};
 use crate::second_book::keys::{Ground, GROUNDS};
 use crate::second_book::space::{State, PAGE};
+use crate::second_book::start::{Verdict, FAULTS};
 use crate::second_book::{goes_to_pages, Refused};
 use oracle::scripthash_layout::{unpack8, ShHeadValue};
 use oracle::scripthash_pages as pages;
-use std::collections::BTreeMap;
+use std::collections::{BTreeMap, BTreeSet};
 
 /// The refusals that each kind of call can give, and 0 for accepted.
 const REFUSALS: [&[u32]; 5] =
@@ -22,6 +26,18 @@ const CHAINS: [u64; 7] = [1, 2, 3, 5, 9, 17, 33];
 
 /// What is done to a key whose total was never counted.
 const UNKNOWN: [&str; 4] = ["an append that stays in its last page", "an append that begins a page", "a read", "a drop"];
+
+/// What is judged as a start.
+pub const FRESH_BOOK: &str = "a fresh book";
+pub const USED_BOOK: &str = "a book after calls";
+pub const DAMAGED_BOOK: &str = "a damaged book";
+pub const FOREIGN_START: &str = "a foreign start";
+pub const FOREIGN_BOOK: &str = "a foreign start after calls";
+pub const SPOILED_START: &str = "a spoiled start";
+
+/// What judgements must be met: of what, and the ground or the refusal.
+const GOOD: &[&str] = &[FRESH_BOOK, USED_BOOK, DAMAGED_BOOK, FOREIGN_START, FOREIGN_BOOK, SPOILED_START];
+const BAD: &[&str] = &[DAMAGED_BOOK, SPOILED_START];
 
 /// The name of a class.
 fn class_name(class: usize) -> String {
@@ -68,6 +84,20 @@ pub struct Tally {
     full: BTreeMap<&'static str, u64>,
     unknown: BTreeMap<&'static str, u64>,
     pub damages: BTreeMap<&'static str, u64>,
+    /// Verdicts by what was judged and by their words, faults and foreign things, and in what ways starts were spoiled.
+    judged: BTreeMap<(&'static str, String), u64>,
+    faults: BTreeMap<&'static str, u64>,
+    foreign: BTreeMap<Foreign, u64>,
+    pub spoils: BTreeMap<&'static str, u64>,
+}
+
+/// A verdict or refusal in words.
+fn verdict_name(judged: &Result<Verdict, u32>) -> String {
+    match judged {
+        Ok(v) if v.ground == 0 => "good".into(),
+        Ok(v) => format!("of ground {}", v.ground),
+        Err(refusal) => format!("refused by {refusal}"),
+    }
 }
 
 /// What a book was before a call: its state, the word of the key, and whether the key's last page tells no total.
@@ -201,12 +231,47 @@ impl Tally {
         }
     }
 
+    /// Counts a judgement of what was judged.
+    pub fn judged(&mut self, when: &'static str, judged: &Result<Verdict, u32>) {
+        *self.judged.entry((when, verdict_name(judged))).or_default() += 1;
+        if let Some(fault) = judged.ok().and_then(|v| v.fault) {
+            *self.faults.entry(fault).or_default() += 1;
+        }
+    }
+
+    /// Counts what is foreign about a good start.
+    pub fn foreign(&mut self, met: &BTreeSet<Foreign>) {
+        met.iter().for_each(|what| *self.foreign.entry(what).or_default() += 1);
+    }
+
+    /// All of judgements that must be met, with how often it was.
+    fn start_kinds(&self) -> Vec<(String, u64)> {
+        let of = |when: &'static str, name: String| {
+            let n = self.judged.get(&(when, name.clone())).copied().unwrap_or(0);
+            (format!("judged {name}: {when}"), n)
+        };
+        let mut out: Vec<(String, u64)> = GOOD.iter().map(|when| of(when, "good".into())).collect();
+        for when in BAD {
+            out.extend((1..=4).map(|ground| of(when, format!("of ground {ground}"))));
+        }
+        for when in GOOD {
+            out.extend([1, 34].map(|refusal| of(when, format!("refused by {refusal}"))));
+        }
+        let mut met = |name: &str, list: &[&'static str], counts: &BTreeMap<&'static str, u64>| {
+            out.extend(list.iter().map(|what| (format!("{name}: {what}"), counts.get(what).copied().unwrap_or(0))));
+        };
+        met("a start's fault", FAULTS, &self.faults);
+        met("a good start with", FOREIGN, &self.foreign);
+        met("a start spoiled by", &SPOILS.iter().map(|s| s.0).collect::<Vec<_>>(), &self.spoils);
+        out
+    }
+
     /// How often each kind of call met a ground.
     fn of_ground<'a>(&'a self, ground: &'a str) -> impl Iterator<Item = (&'static str, u64)> + 'a {
         self.grounds.iter().filter(move |((g, _), _)| *g == ground).map(|((_, kind), n)| (*kind, *n))
     }
 
-    /// All that must be met, with how often it was.
+    /// All of calls that must be met, with how often it was.
     pub fn kinds(&self) -> Vec<(String, u64)> {
         let mut out = Vec::new();
         for (kind, refusals) in REFUSALS.iter().enumerate() {
@@ -251,14 +316,20 @@ impl Tally {
 
     /// Prints how often each was met, and tells how many that must be weren't.
     pub fn print(&self) -> u64 {
-        let kinds = self.kinds();
+        let mut kinds = self.kinds();
+        kinds.extend(self.start_kinds());
         for (name, n) in &kinds {
             let by: Vec<String> = self.of_ground(name.trim_start_matches("31: ")).map(|(kind, n)| format!("{kind} {n}")).collect();
             println!("  {n:>10} {name}{}", if by.is_empty() { String::new() } else { format!(" ({})", by.join(", ")) });
         }
         for (from, to) in (0..9).flat_map(|from| (0..9).map(move |to| (from, to))) {
             if self.moves[from][to] > 0 && !MOVES[from].contains(&to) {
-                println!("  {:>10} moves from {} to {}, by a damaged word", self.moves[from][to], from_name(from), class_name(to));
+                println!(
+                    "  {:>10} moves from {} to {}, by a damaged or foreign word",
+                    self.moves[from][to],
+                    from_name(from),
+                    class_name(to)
+                );
             }
         }
         for (refusals, (known, name)) in self.refusals.iter().zip(REFUSALS.iter().zip(KINDS)) {

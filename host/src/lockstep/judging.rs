@@ -1,0 +1,101 @@
+//! Starts that were written elsewhere: both books judge them, good ones and spoiled ones, and a history goes on from the good ones.
+use crate::lent::Placing;
+use crate::lockstep::history::{Ended, History};
+use crate::lockstep::pair::{Call, Check, Pair, MORE_WORK};
+use crate::lockstep::spoiled::spoil;
+use crate::lockstep::starts::Start;
+use crate::lockstep::tally::{Tally, FOREIGN_START, SPOILED_START};
+use crate::rng::Rng;
+use crate::second_book::start::Verdict;
+
+/// How many spoiled variants of a start are judged.
+const VARIANTS: u64 = 6;
+
+/// How much of a book a judgement is lent: most often all of it, with a work list that is long enough.
+pub fn lent(rng: &mut Rng, body: usize, heads: usize) -> Check {
+    let full = body / 16;
+    let all = Check { body, heads, room: full + rng.pick(&[0, 0, 0, 1, 15, 16, MORE_WORK]) };
+    match rng.below(24) {
+        0 => Check { body: rng.pick(&[0, 1, 4095, 4096, 8191, body - 1, body - 16, body - 4096]), ..all },
+        1 => Check { heads: rng.pick(&[0, heads - 1, 1]), ..all },
+        2 => Check { room: rng.pick(&[0, 1, full / 2, full - 256, full - 1, full - 1]), ..all },
+        3 => Check { body: rng.pick(&[8191, body - 4096]), room: rng.pick(&[0, full - 256, full - 257]), ..all },
+        _ => all,
+    }
+}
+
+/// A start that both books judge, with how many calls there were.
+struct Judging<'a> {
+    rng: Rng,
+    pair: &'a mut Pair,
+    tally: &'a mut Tally,
+    name: &'a str,
+    calls: u64,
+}
+
+impl Judging<'_> {
+    /// Gives both books a start, and has them judge it as a whole.
+    fn whole(&mut self, start: &Start, when: &'static str, placing: Placing) -> Result<Result<Verdict, u32>, String> {
+        let (body, heads) = (start.body.len(), start.heads.len());
+        self.pair.begin(start.body.clone(), start.heads.clone(), start.state, placing);
+        self.judge(Check { body, heads, room: body / 16 }, when)
+    }
+
+    fn judge(&mut self, check: Check, when: &'static str) -> Result<Result<Verdict, u32>, String> {
+        self.calls += 1;
+        let judged = self.pair.check(check, self.name)?;
+        self.tally.judged(when, &judged);
+        Ok(judged)
+    }
+
+    /// A start that was built good: it is judged so, also by less than all of it, and each key reads as the list that was written.
+    fn good(&mut self, start: &Start, placing: Placing) -> Result<(), String> {
+        let judged = self.whole(start, FOREIGN_START, placing)?;
+        if judged.is_ok_and(|v| v.ground == 0) {
+            self.tally.foreign(&start.met);
+        } else {
+            return Err(format!("a start that was built good is judged {judged:?}"));
+        }
+        for _ in 0..3 {
+            let check = lent(&mut self.rng, start.body.len(), start.heads.len());
+            let _ = self.judge(check, FOREIGN_START)?;
+        }
+        for (key, list) in start.lists.iter().enumerate() {
+            self.calls += 1;
+            let call = Call::Read { key: key as u64, room: list.len() };
+            let answer = self.pair.call(&call, start.body.len(), start.heads.len(), self.name)?;
+            if answer.refusal != 0 || self.pair.list != *list {
+                return Err(format!("{call:?}: a good start answers {}, and another list than was written", answer.refusal));
+            }
+        }
+        Ok(())
+    }
+
+    /// Variants of a start that are spoiled in one way or two.
+    fn spoiled(&mut self, start: &Start, placing: Placing) -> Result<(), String> {
+        for _ in 0..VARIANTS {
+            let mut bad = start.clone();
+            let names: Vec<&str> = (0..self.rng.pick(&[1, 1, 1, 2])).map(|_| spoil(&mut bad, &mut self.rng)).collect();
+            let told = |what| format!("{what}, spoiled by {names:?}");
+            let _ = self.whole(&bad, SPOILED_START, placing).map_err(told)?;
+            let check = lent(&mut self.rng, bad.body.len(), bad.heads.len());
+            let _ = self.judge(check, SPOILED_START).map_err(told)?;
+            names.iter().for_each(|name| *self.tally.spoils.entry(name).or_default() += 1);
+        }
+        Ok(())
+    }
+}
+
+/// Builds a start, judges it and variants of it, and runs a history from it; tells how many calls there were.
+pub fn run(mut rng: Rng, pair: &mut Pair, tally: &mut Tally, name: &str) -> Ended {
+    let start = Start::build(&mut rng);
+    let placing = rng.pick(&[Placing::End, Placing::Start]);
+    let mut judging = Judging { rng: Rng(rng.next()), pair, tally, name, calls: 0 };
+    let judged = judging.good(&start, placing).and_then(|()| judging.spoiled(&start, placing));
+    let calls = judging.calls;
+    judged.map_err(|what| (calls, what))?;
+    match History::of_start(rng, start, placing, pair, tally, name.into()).run() {
+        Ok(more) => Ok(calls + more),
+        Err((more, what)) => Err((calls + more, what)),
+    }
+}

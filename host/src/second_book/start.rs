@@ -1,0 +1,217 @@
+//! The second book's judgement of a start, from docs/FORMAT.md: whether a body, heads and state that were written elsewhere are a book to go on
+//! with, and else the first fault. Blocks that are claimed are kept as intervals, sorted by where they begin.
+use crate::second_book::keys::{Held, Key};
+use crate::second_book::space::{State, PAGE_CLASS};
+use crate::second_book::{limits, Refused, SecondBook};
+use oracle::scripthash_layout::slab_bytes;
+use std::collections::BTreeMap;
+
+/// What is wrong with a start, in words.
+pub type Fault = &'static str;
+
+pub const UNSOUND: Fault = "a key isn't sound";
+pub const SLAB_SHARES: Fault = "a key's slab shares bytes with another key's block";
+pub const PAGE_SHARES: Fault = "a key's page shares bytes with another key's block";
+pub const HEAD_STRAYS: Fault = "a free head leads to no block";
+pub const LINK_STRAYS: Fault = "a freed block's link leads to no block";
+pub const HELD: Fault = "a freed block shares bytes with a key's";
+pub const COMES_BACK: Fault = "a free list comes back to itself";
+pub const TWO_LISTS: Fault = "a freed block shares bytes with one of another list";
+
+/// Every fault that a start can be met with. That a key shares with itself can't be met: a page that comes twice doesn't rise.
+pub const FAULTS: &[Fault] = &[UNSOUND, SLAB_SHARES, PAGE_SHARES, HEAD_STRAYS, LINK_STRAYS, HELD, COMES_BACK, TWO_LISTS];
+
+/// What a judgement tells: the ground's number, 0 for a good start, the key or class of the first fault, and the fault in words.
+#[derive(Clone, Copy, Debug, PartialEq, Eq)]
+pub struct Verdict {
+    pub ground: u32,
+    pub which: u64,
+    pub fault: Option<Fault>,
+}
+
+const GOOD: Verdict = Verdict { ground: 0, which: 0, fault: None };
+
+/// The number of a fault's ground.
+fn ground(fault: Fault) -> u32 {
+    match fault {
+        UNSOUND => 1,
+        SLAB_SHARES | PAGE_SHARES => 2,
+        HEAD_STRAYS | LINK_STRAYS => 3,
+        _ => 4,
+    }
+}
+
+/// Whose a claimed block is.
+#[derive(Clone, Copy, PartialEq, Eq)]
+enum Owner {
+    Key,
+    List(u8),
+}
+
+/// The blocks claimed so far: where each begins, with where it ends and whose it is. None of them shares a byte with another.
+#[derive(Default)]
+struct Claims(BTreeMap<u64, (u64, Owner)>);
+
+impl Claims {
+    /// Claims a block, or tells with whose it shares bytes.
+    fn claim(&mut self, class: u8, off: u64, owner: Owner) -> Result<(), Owner> {
+        let end = off + slab_bytes(class);
+        match self.0.range(..end).next_back() {
+            Some((_, &(before, other))) if before > off => Err(other),
+            _ => {
+                self.0.insert(off, (end, owner));
+                Ok(())
+            }
+        }
+    }
+
+    /// Claims what a key holds.
+    fn claim_key(&mut self, held: Held, pages: &[u64]) -> Result<(), Fault> {
+        match held {
+            Held::Empty | Held::Inline => Ok(()),
+            Held::Slab { class, off, .. } => self.claim(class, off, Owner::Key).map_err(|_| SLAB_SHARES),
+            Held::Pages { .. } => pages.iter().try_for_each(|&off| self.claim(PAGE_CLASS, off, Owner::Key)).map_err(|_| PAGE_SHARES),
+        }
+    }
+
+    /// Claims the blocks of a free list. It ends: where it comes back, it meets a block of its own.
+    fn claim_list(&mut self, body: &[u8], mark: u64, class: u8, head: u64) -> Result<(), Fault> {
+        let (mut off, mut strays) = (head, HEAD_STRAYS);
+        while off != 0 {
+            if !stands(class, off, mark) {
+                return Err(strays);
+            }
+            self.claim(class, off, Owner::List(class)).map_err(|owner| match owner {
+                Owner::Key => HELD,
+                Owner::List(other) if other == class => COMES_BACK,
+                Owner::List(_) => TWO_LISTS,
+            })?;
+            off = u64::from_le_bytes(body[off as usize..][..8].try_into().expect("eight bytes"));
+            strays = LINK_STRAYS;
+        }
+        Ok(())
+    }
+}
+
+/// Whether a block of a class can stand at an offset below the mark.
+fn stands(class: u8, off: u64, mark: u64) -> bool {
+    let unit = if class == PAGE_CLASS { 4096 } else { 16 };
+    off.is_multiple_of(unit) && off >= 4096 && off <= mark.saturating_sub(slab_bytes(class))
+}
+
+/// The first fault of a book that keeps the limits, with its key or class.
+fn first_fault(key: &mut Key, body: &[u8], heads: &[u64], state: &State) -> Result<(), (u64, Fault)> {
+    let mut claims = Claims::default();
+    for (which, &word) in heads.iter().enumerate() {
+        let at = |fault| (which as u64, fault);
+        let held = key.whole(body, state[0], word).map_err(|_| at(UNSOUND))?;
+        claims.claim_key(held, &key.pages).map_err(at)?;
+    }
+    for class in 0..=PAGE_CLASS {
+        claims.claim_list(body, state[0], class, state[1 + class as usize]).map_err(|fault| (class as u64, fault))?;
+    }
+    Ok(())
+}
+
+impl SecondBook {
+    /// Judges a start. The work list needs a byte for each 16 of the body; these are 0 afterwards.
+    pub fn check(&mut self, body: &[u8], heads: &[u64], state: &State, work: &mut [u8]) -> Result<Verdict, Refused> {
+        limits(body, heads, state)?;
+        let Some(used) = work.get_mut(..body.len() / 16) else {
+            return Err(Refused::Number(34));
+        };
+        used.fill(0);
+        let found = first_fault(&mut self.key, body, heads, state);
+        Ok(found.map_or_else(|(which, fault)| Verdict { ground: ground(fault), which, fault: Some(fault) }, |()| GOOD))
+    }
+}
+
+#[cfg(test)]
+mod tests {
+    use super::*;
+
+    /// A book that is judged.
+    struct Judged(SecondBook, Vec<u8>, Vec<u64>, State);
+
+    impl Judged {
+        /// A fresh book of three keys; the first two have slabs of class 0 at 4,096 and 4,112, and what the third had is freed.
+        fn new() -> Judged {
+            let mut b = Judged(SecondBook::default(), vec![0xa5; 16_384], vec![0; 3], [0; 10]);
+            b.0.fresh(&b.1, &mut b.2, &mut b.3).unwrap();
+            for key in 0..3 {
+                b.0.load(&mut b.1, &mut b.2, &mut b.3, key, &[5, 6 + key]).unwrap();
+            }
+            b.0.drop(&mut b.1, &mut b.2, &mut b.3, 2).unwrap();
+            b
+        }
+
+        fn verdict(&mut self) -> (u32, u64, Option<Fault>) {
+            let v = self.0.check(&self.1, &self.2, &self.3, &mut [7; 1024]).unwrap();
+            (v.ground, v.which, v.fault)
+        }
+
+        /// Writes the link of a freed block.
+        fn link(&mut self, off: usize, to: u64) {
+            self.1[off..off + 8].copy_from_slice(&to.to_le_bytes());
+        }
+    }
+
+    #[test]
+    fn own_books_are_good() {
+        let mut b = Judged::new();
+        assert_eq!((b.3[0], b.3[1]), (4144, 4128));
+        assert_eq!(b.verdict(), (0, 0, None));
+        b.0.load(&mut b.1, &mut b.2, &mut b.3, 2, &(1..=300).collect::<Vec<u64>>()).unwrap();
+        assert_eq!(b.verdict(), (0, 0, None));
+        b.0.drop(&mut b.1, &mut b.2, &mut b.3, 2).unwrap();
+        assert_eq!(b.verdict(), (0, 0, None));
+    }
+
+    #[test]
+    fn keys_come_first() {
+        let mut b = Judged::new();
+        b.3[1] = 8;
+        assert_eq!(b.verdict(), (3, 0, Some(HEAD_STRAYS)));
+        b.2[2] = b.2[1];
+        assert_eq!(b.verdict(), (2, 2, Some(SLAB_SHARES)));
+        b.1[4096] = 3;
+        assert_eq!(b.verdict(), (1, 0, Some(UNSOUND)));
+    }
+
+    #[test]
+    fn free_lists() {
+        let mut b = Judged::new();
+        for (to, wanted) in [
+            (0, (0, 0, None)),
+            (4128, (4, 0, Some(COMES_BACK))),
+            (4112, (4, 0, Some(HELD))),
+            (4144, (3, 0, Some(LINK_STRAYS))),
+            (4120, (3, 0, Some(LINK_STRAYS))),
+            (u64::MAX - 15, (3, 0, Some(LINK_STRAYS))),
+        ] {
+            b.link(4128, to);
+            assert_eq!(b.verdict(), wanted, "{to}");
+        }
+        b.link(4128, 0);
+        b.3[2] = 4112;
+        assert_eq!(b.verdict(), (4, 1, Some(HELD)));
+        b.3[0] = 4160;
+        b.3[2] = 4128;
+        assert_eq!(b.verdict(), (4, 1, Some(TWO_LISTS)));
+        b.3[2] = 4144;
+        assert_eq!(b.verdict(), (3, 1, Some(HEAD_STRAYS)));
+    }
+
+    #[test]
+    fn work_lists() {
+        let mut b = Judged::new();
+        let mut work = [7; 1030];
+        let short = b.0.check(&b.1, &b.2, &b.3, &mut work[..1023]);
+        assert_eq!((short, work), (Err(Refused::Number(34)), [7; 1030]));
+        b.3[0] += 8;
+        assert_eq!(b.0.check(&b.1, &b.2, &b.3, &mut work[..1023]), Err(Refused::Number(1)));
+        b.3[0] -= 8;
+        assert!(b.0.check(&b.1, &b.2, &b.3, &mut work).is_ok());
+        assert!(work[..1024].iter().all(|w| *w == 0) && work[1024..] == [7; 6]);
+    }
+}
