@@ -193,7 +193,7 @@ mod tests {
             assert_eq!(b.verdict(), wanted, "{to}");
         }
         b.link(4128, 0);
-        b.3[2] = 4112;
+        b.3[2] = 4096;
         assert_eq!(b.verdict(), (4, 1, Some(HELD)));
         b.3[0] = 4160;
         b.3[2] = 4128;
