@@ -131,7 +131,14 @@ fn stray(start: &Start, rng: &mut Rng, class: usize) -> u64 {
     let (mark, size, len) = (start.state[0], 16 << class, start.body.len() as u64);
     let any = 4096 + 16 * rng.below((len - 4096) / 16);
     let end = mark.saturating_sub(size) + if class == 8 { 4096 - mark % 4096 } else { 16 };
-    rng.pick(&[any + 1, any + 8, 16, 2048, 4080, end, mark, len, len - 8, u64::MAX, u64::MAX - 15, 1 << 63, any | 16 << 32])
+    let unaligned = if class == 8 { any | 16 } else { any + 8 };
+    let within = [unaligned, unaligned, unaligned, any + 1, 16, 2048, 4080, end, end];
+    let beyond = [mark, len, len - 8, u64::MAX, u64::MAX - 15, 1 << 63, any | 16 << 32];
+    if rng.below(3) != 0 {
+        rng.pick(&within)
+    } else {
+        rng.pick(&beyond)
+    }
 }
 
 fn stray_head(start: &mut Start, rng: &mut Rng) -> bool {
