@@ -1,5 +1,5 @@
-//! Random histories: a book of some shape, calls that grow, load, read and drop keys, odd calls between them, and damage. Now and then the book
-//! is judged as a start; one that is good stays good until somebody else writes it.
+//! Random histories: a book of some shape, calls that grow, load, read and drop keys, odd calls between them, and damage. Now and then the
+//! book is judged as a start; one that is good stays good until somebody else writes it.
 use crate::lent::Placing;
 use crate::lockstep::damage::{damage, Damaged};
 use crate::lockstep::judging::lent;

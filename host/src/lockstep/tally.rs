@@ -1,5 +1,5 @@
-//! What the histories met, and how often: calls, refusals and their grounds, moves between classes, blocks taken and given back, chains; and
-//! of starts the verdicts, the faults, and what is foreign about them.
+//! What the histories met, and how often: calls, refusals and their grounds, moves between classes, blocks taken and given back, chains;
+//! and of starts the verdicts, the faults, and what is foreign about them.
 use crate::lockstep::pair::{Answer, Call, Pair, KINDS};
 use crate::lockstep::spoiled::SPOILS;
 use crate::lockstep::starts::{Foreign, FOREIGN};

@@ -1,5 +1,5 @@
-//! The second book's judgement of a start, from docs/FORMAT.md: whether a body, heads and state that were written elsewhere are a book to go on
-//! with, and else the first fault. Blocks that are claimed are kept as intervals, sorted by where they begin.
+//! The second book's judgement of a start, from docs/FORMAT.md: whether a body, heads and state that were written elsewhere are a book to go
+//! on with, and else the first fault. Blocks that are claimed are kept as intervals, sorted by where they begin.
 use crate::second_book::keys::{Held, Key};
 use crate::second_book::space::{State, PAGE_CLASS};
 use crate::second_book::{limits, Refused, SecondBook};
