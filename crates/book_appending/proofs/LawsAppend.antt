@@ -198,7 +198,8 @@ unfolding spaceWith
 after-placed s a e = rw e
 
 -- What was told of a placing, its place or its refusal and the space afterwards.
-module _ (s after : Space) (a : Answer Placed) {told : Answer ShHeadValue} (told-is : told ≡ answered (λ (p : Placed). p .place) a) (space-is : after ≡ spaceWith s a) where
+module _ (s after : Space) (a : Answer Placed) {told : Answer ShHeadValue} (told-is : told ≡ answered (λ (p : Placed). p .place) a)
+    (space-is : after ≡ spaceWith s a) where
   -- A place was told: the list was placed there, which leaves that space.
   pub placed-at : {place : ShHeadValue} → told ≡ accepted place → a ≡ accepted (record { place = place; space = after })
   placed-at {place} e =
@@ -217,7 +218,8 @@ module _ (b : Book) (key : ℕ) (ns : List ℕ) (n : ℕ) (old : List Block) (li
   moves-yes : {p : Placed} → placesFor (b .space) list ≡ accepted p
       → moves b key ns n old ≡ accepted (appending key (p .place) (length ns) (release old (p .space)) b)
   unfolding moves
-  moves-yes e = moves-as-placed b key ns n old _ ∙ then-yes (placesFor (b .space) (ns ++ (n ∷ []))) _ (ap (placesFor (b .space)) (sym is) ∙ e)
+  moves-yes e = moves-as-placed b key ns n old _ ∙ then-yes (placesFor (b .space) (ns ++ (n ∷ []))) _
+      (ap (placesFor (b .space)) (sym is) ∙ e)
 
   -- A refusal to place it is the move's.
   moves-no : {number : ℕ} → placesFor (b .space) list ≡ refused number → moves b key ns n old ≡ refused number
@@ -232,7 +234,8 @@ list-behind out read ns n used counted fits is =
     let behind : set (overwrite out 0 ns) (0 + length ns) n ≡ overwrite out 0 (ns ++ (n ∷ [])) = overwrite-next out 0 ns n (omega arith) in
     let at : 0 + length ns ≡ used = omega arith in
     let long : used + 1 - 0 ≡ length (ns ++ (n ∷ [])) = simp length-append (omega arith) in
-    ap (λ (l : List ℕ). firsts (used + 1 - 0) (set l used n)) is ∙ ap (λ (i : ℕ). firsts (used + 1 - 0) (set (overwrite out 0 ns) i n)) (sym at)
+    ap (λ (l : List ℕ). firsts (used + 1 - 0) (set l used n)) is ∙ ap (λ (i : ℕ). firsts (used + 1 - 0) (set (overwrite out 0 ns) i n))
+    (sym at)
     ∙ ap (firsts (used + 1 - 0)) behind ∙ ap (λ (k : ℕ). firsts k (overwrite out 0 (ns ++ (n ∷ [])))) long
     ∙ part-written out 0 (ns ++ (n ∷ [])) (simp length-append (omega arith))
 
@@ -265,7 +268,8 @@ module _ (b : Book) (key n : ℕ) where
         → placesFor (b .space) (entry ∷ n ∷ []) ≡ accepted (record { place = place; space = after })
         → appendAt b key n (Inline entry used) ≡ accepted (appending key place 1 after b)
     inline-yes h {place} {after} e =
-        inline-moves h ∙ moves-yes b key (entry ∷ []) n [] (entry ∷ n ∷ []) refl e ∙ ap (λ (s : Space). accepted (appending key place 1 s b)) (release-none after)
+        inline-moves h ∙ moves-yes b key (entry ∷ []) n [] (entry ∷ n ∷ []) refl e
+        ∙ ap (λ (s : Space). accepted (appending key place 1 s b)) (release-none after)
 
     -- It is refused where both can't be placed.
     pub inline-no : entry < n → {number : ℕ} → placesFor (b .space) (entry ∷ n ∷ []) ≡ refused number
@@ -297,7 +301,8 @@ module _ (b : Book) (key n : ℕ) where
       -- It moves to where the list is placed, and the slab is given back.
       pub slab-moved : {place : ShHeadValue} {after : Space} (freed : Space)
           → placesFor (b .space) list ≡ accepted (record { place = place; space = after })
-          → freed ≡ release (record { class = class; off = off } ∷ []) after → appendAt b key n (Slab class used off) ≡ accepted (appending key place used freed b)
+          → freed ≡ release (record { class = class; off = off } ∷ []) after → appendAt b key n (Slab class used off)
+          ≡ accepted (appending key place used freed b)
       slab-moved freed e given =
           let counted = slab-sound (b .space) class used off (m .scan) (m .sound) .counted in
           slab-moves ∙ moves-yes b key (m .scan .numbers) n (record { class = class; off = off } ∷ []) list is e ∙ rw (counted, given)
@@ -317,8 +322,10 @@ module _ (b : Book) (key n : ℕ) where
       module _ (above : last < n) where
         -- One that stays in the slab is written there.
         pub slab-stays : stays class (used + 1) (taken + ulebLen (n - last)) ≡ true → (size : ℕ) → size ≡ slabBytes class
-            → (written : List ℕ) → written ≡ overwrite (b .space .body) off (slabWith (part (b .space .body) off size) used taken (n - last))
-            → appendAt b key n (Slab class used off) ≡ accepted (appending key (Slab class (used + 1) off) 0 (space written (b .space .mark) (b .space .free)) b)
+            → (written : List ℕ) → written ≡ overwrite (b .space .body) off
+            (slabWith (part (b .space .body) off size) used taken (n - last))
+            → appendAt b key n (Slab class used off) ≡ accepted
+            (appending key (Slab class (used + 1) off) 0 (space written (b .space .mark) (b .space .free)) b)
         unfolding appendSlab
         slab-stays e size is written w =
             let counted = slab-sound (b .space) class used off (t .scan) (t .sound) .counted in
@@ -326,7 +333,13 @@ module _ (b : Book) (key n : ℕ) where
 
         -- One that doesn't stay moves.
         pub slab-leaves : stays class (used + 1) (taken + ulebLen (n - last)) ≡ false → SlabMoves (b .space) n class used off
-        slab-leaves e = record { scan = t .scan; sound = t .sound; above = omega (arith, t .last-is); leaves = rw (t .taken-is, t .last-is) e }
+        slab-leaves e = record {
+          scan = t .scan;
+          sound = t .sound;
+          above = omega (arith, t .last-is);
+          leaves =
+              rw (t .taken-is, t .last-is) e;
+        }
 
   module _ (last : ℕ) where
     -- A last page that isn't sound.
@@ -355,7 +368,9 @@ module _ (b : Book) (key n : ℕ) where
       module _ (above : fk < n) where
         -- One that the page has room for is written there.
         pub page-stays : 24 + taken + ulebLen (n - fk) ≤ pageSize → (written : List ℕ)
-            → written ≡ overwrite (b .space .body) last (pageWith (part (b .space .body) last pageSize) (record { at = streamOff (part (b .space .body) last pageSize) + taken; difference = n - fk }) creates)
+            → written ≡ overwrite (b .space .body) last
+            (pageWith (part (b .space .body) last pageSize)
+            (record { at = streamOff (part (b .space .body) last pageSize) + taken; difference = n - fk }) creates)
             → appendAt b key n (Extent last) ≡ accepted (appending key (Extent last) 0 (space written (b .space .mark) (b .space .free)) b)
         unfolding appendPage
         page-stays fits written w =
@@ -391,7 +406,8 @@ module _ (b : Book) (key n : ℕ) where
         → written ≡ overwrite linked off (lastPageOf first off 1 (totalWith creates) (n ∷ []))
         → appendAt b key n (Extent last) ≡ accepted (appending key (Extent off) 0 (space written (after .mark) (after .free)) b)
     unfolding growChain
-    chain-yes linked written e links writes = growing ∙ then-yes (takeBlock pageClass (b .space)) _ e ∙ rw (writes, links, g .first-is, g .creates-is)
+    chain-yes linked written e links writes = growing ∙ then-yes (takeBlock pageClass (b .space)) _ e
+        ∙ rw (writes, links, g .first-is, g .creates-is)
 
 -- ---- a number by itself
 

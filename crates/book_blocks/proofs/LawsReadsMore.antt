@@ -34,7 +34,11 @@ use Rattle.book_blocks.proofs.LawsReadsPage.{link-told, LastReads, Link
 place-kept : (page : List ℕ) (o k n : ℕ) → 3 ≤ o → o + k ≤ length page → streamPlace (setField page o k n) ≡ streamPlace page
 unfolding streamPlace
 place-kept page o k n behind inside =
-    rw (length-setField page o k n inside, field-apart page o k n inside 0 1 (inl (omega arith)), field-apart page o k n inside 1 2 (inl (omega arith)))
+    rw (
+      length-setField page o k n inside,
+      field-apart page o k n inside 0 1 (inl (omega arith)),
+      field-apart page o k n inside 1 2 (inl (omega arith)),
+    )
 
 -- and the stream
 pub scan-kept : (page : List ℕ) (o k n : ℕ) (s : Scan) → 3 ≤ o → o + k ≤ streamOff page → pageScan page ≡ accepted s
@@ -74,8 +78,10 @@ module _ (page : List ℕ) (n : ℕ) (s : Scan) where
   pub spot-is : (w : Spot) → spotBehind page n s ≡ some w
       → (s .taken + ulebLen (n - lastOf s) ≤ streamCap page) × (w ≡ record { at = streamOff page + s .taken; difference = n - lastOf s })
   spot-is w e =
-      ⊎-elim (λ (h : streamCap page < s .taken + ulebLen d). let none-is = spot-none h in let z : _≡_ {A = ℕ} 0 1 = cc in absurd (omega arith))
-      (λ (h : s .taken + ulebLen d ≤ streamCap page). (h, Option·some-injective w (record { at = streamOff page + s .taken; difference = d }) (sym e ∙ spot-fits h)))
+      ⊎-elim (λ (h : streamCap page < s .taken + ulebLen d). let none-is = spot-none h in let z : _≡_ {A = ℕ} 0 1 = cc in
+      absurd (omega arith))
+      (λ (h : s .taken + ulebLen d ≤ streamCap page).
+      (h, Option·some-injective w (record { at = streamOff page + s .taken; difference = d }) (sym e ∙ spot-fits h)))
       (lt-or-ge (streamCap page) (s .taken + ulebLen d))
 
 -- What a last page reads as with a number more: its stream has that number too, the header is as it was, and creates counts it
@@ -135,7 +141,8 @@ module _ (page : List ℕ) (n creates : ℕ) (s : Scan) (w : Spot) (scans : page
       names-kept grown 20 4 (totalWith creates) (omega arith) inside ∙ grown-names in
       record {
         long = length-setField grown 20 4 (totalWith creates) inside ∙ grown-long;
-        scans = scan-kept grown 20 4 (totalWith creates) (withLast 0 s n) (omega arith) (omega (arith, extent-start grown grown-names)) (appended-scan page n w roomy);
+        scans = scan-kept grown 20 4 (totalWith creates) (withLast 0 s n) (omega arith) (omega (arith, extent-start grown grown-names))
+            (appended-scan page n w roomy);
         names = after-names;
         link = header 3 5 (omega arith) (omega arith);
         base = header 8 8 (omega arith) (omega arith);
@@ -157,7 +164,8 @@ last-more {page} {s} {first} {creates} r n w above below spot small =
       names = m .names;
       last = ap isLastLink (m .link) ∙ r .last;
       from = ap linkOffset (m .link) ∙ r .from;
-      extent = ap (λ (b : ℕ). extentNamed b (extentCountOf after)) (m .base) ∙ ap (extentNamed (extentBaseOf page)) (m .extents) ∙ r .extent;
+      extent = ap (λ (b : ℕ). extentNamed b (extentCountOf after)) (m .base) ∙ ap (extentNamed (extentBaseOf page)) (m .extents)
+          ∙ r .extent;
       counts = m .counts;
       room = m .room ∙ r .room;
     }
@@ -193,7 +201,8 @@ module _ (page : List ℕ) (next : ℕ) (s : Scan) (scans : pageScan page ≡ ac
       let creates-inside : 20 + 4 ≤ length tied = omega (arith, tied-long) in
       let told =
       link-told (pageBefore page next) false next aligned
-      (field-apart tied 20 4 0 creates-inside 3 5 (inl (omega arith)) ∙ field-set page 3 5 (linkTo false next) inside (link-fits false next named)) in
+      (field-apart tied 20 4 0 creates-inside 3 5 (inl (omega arith)) ∙ field-set page 3 5 (linkTo false next) inside
+      (link-fits false next named)) in
       record {
         long = length-setField tied 20 4 0 creates-inside ∙ tied-long;
         scans = scan-kept tied 20 4 0 s (omega arith) (omega (arith, extent-start tied tied-names))

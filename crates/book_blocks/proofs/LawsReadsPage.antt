@@ -53,11 +53,13 @@ pub last-page-reads : (first base extents creates : ℕ) (ns : List ℕ) → Ris
     → first % pageSize ≡ 0 → first / pageSize < 2 ^ 39 → base < 2 ^ 64 → base % pageSize ≡ 0 → (base ≡ 0 → ⊥)
     → 0 < extents → extents < 2 ^ 32 → creates < 2 ^ 32
     → LastReads (lastPageOf first base extents creates ns) (record { numbers = ns; taken = streamLen ns }) first creates
-last-page-reads first base extents creates ns rises fits aligned named base-fits base-aligned some-base some-extents extents-fit creates-fit =
+last-page-reads first base extents creates ns rises fits aligned named base-fits base-aligned some-base some-extents extents-fit
+    creates-fit =
     let link = linkTo true first in
     let page = lastPageOf first base extents creates ns in
     let version : versionOf page ≡ 2 = extent-version (length ns) link base extents creates (stream ns) in
-    let told = link-told page true first aligned (extent-link (length ns) link base extents creates (stream ns) (link-fits true first named)) in
+    let told = link-told page true first aligned
+    (extent-link (length ns) link base extents creates (stream ns) (link-fits true first named)) in
     let base-is : extentBaseOf page ≡ base = extent-base (length ns) link base extents creates (stream ns) base-fits in
     let extents-are : extentCountOf page ≡ extents = extent-pages (length ns) link base extents creates (stream ns) extents-fit in
     record {

@@ -48,7 +48,8 @@ pub slab-with-long : (block : List ℕ) (used taken difference : ℕ) → 2 + ta
 unfolding slabWith
 slab-with-long block used taken difference fits =
     let counted = length-overwrite block 0 (bytesOf 2 (used + 1)) (omega arith) in
-    length-overwrite (overwrite block 0 (bytesOf 2 (used + 1))) (2 + taken) (shortest difference) (omega (arith, length-shortest difference)) ∙ counted
+    length-overwrite (overwrite block 0 (bytesOf 2 (used + 1))) (2 + taken) (shortest difference)
+    (omega (arith, length-shortest difference)) ∙ counted
 
 -- what is known of a slab that reads: it has as many numbers as it counts, and they scan from its third byte on
 pub slab-scans : {block : List ℕ} {used : ℕ} {s : Scan} → SlabReads block used s → 2 ≤ length block

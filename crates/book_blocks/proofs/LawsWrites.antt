@@ -100,13 +100,15 @@ length-slabWith block used taken difference h =
 
 -- a page's link written again
 pub link-again : (count link base extents creates : ℕ) (stream : List ℕ) (other : ℕ)
-    → setField (pageOf (extentHeader count link base extents creates) stream) 3 5 other ≡ pageOf (extentHeader count other base extents creates) stream
+    → setField (pageOf (extentHeader count link base extents creates) stream) 3 5 other
+    ≡ pageOf (extentHeader count other base extents creates) stream
 unfolding setField overwrite pageOf extentHeader
 link-again count link base extents creates stream other = refl
 
 -- a page's creates written again
 pub creates-again : (count link base extents creates : ℕ) (stream : List ℕ) (other : ℕ)
-    → setField (pageOf (extentHeader count link base extents creates) stream) 20 4 other ≡ pageOf (extentHeader count link base extents other) stream
+    → setField (pageOf (extentHeader count link base extents creates) stream) 20 4 other
+    ≡ pageOf (extentHeader count link base extents other) stream
 unfolding setField overwrite pageOf extentHeader
 creates-again count link base extents creates stream other = refl
 
@@ -129,8 +131,10 @@ unfolding setField
 last-written page ns packed linked out first base extents creates link long l packs links writes ends =
     let named = l .base-named in
     let is =
-    extent-packed ns (rising-below (2 ^ 62) (2 ^ 63) 0 ns (omega arith) (l .numbers .rises)) page base extents 0 long (named .aligned) (named .small)
-    (λ (z : extents ≡ 0). omega (arith, l .some-extents)) (named .aligned) (λ (z : base ≡ 0). omega (arith, named .some)) (l .numbers .fits) in
+    extent-packed ns (rising-below (2 ^ 62) (2 ^ 63) 0 ns (omega arith) (l .numbers .rises)) page base extents 0 long (named .aligned)
+    (named .small)
+    (λ (z : extents ≡ 0). omega (arith, l .some-extents)) (named .aligned) (λ (z : base ≡ 0). omega (arith, named .some)) (l .numbers .fits)
+    in
     ends ∙ rw (writes, links, packs, is)
     (ap (λ (b : List ℕ). setField b 20 4 creates) (link-again (length ns) (linkTo true base) base extents 0 (stream ns) (linkTo true first))
     ∙ creates-again (length ns) (linkTo true first) base extents 0 (stream ns) creates)
@@ -141,8 +145,10 @@ pub page-written : (page ns : List ℕ) (next : ℕ) → length page ≡ pageSiz
 page-written page ns next long l =
     let named = l .next-named in
     ap (afterSet page)
-    (page-packed ns (rising-below (2 ^ 62) (2 ^ 63) 0 ns (omega arith) (l .numbers .rises)) page next long (named .aligned) (named .small) (l .numbers .fits))
-    ∙ ap (λ (last : Bool). pageOf (deltaHeader (length ns) (linkTo last next)) (stream ns)) (ne-eqb next 0 (λ (z : next ≡ 0). omega (arith, named .some)))
+    (page-packed ns (rising-below (2 ^ 62) (2 ^ 63) 0 ns (omega arith) (l .numbers .rises)) page next long (named .aligned) (named .small)
+    (l .numbers .fits))
+    ∙ ap (λ (last : Bool). pageOf (deltaHeader (length ns) (linkTo last next)) (stream ns))
+    (ne-eqb next 0 (λ (z : next ≡ 0). omega (arith, named .some)))
 
 -- a page that names an extent counts one number more without its version being written
 counted : (page : List ℕ) (n : ℕ) → 3 ≤ length page → versionOf page ≡ 2 → n ≡ littleEndian (part page 1 2)
@@ -169,7 +175,8 @@ length-pageWith page w creates long fits =
     let one = length-one-more page (omega arith) in
     let form = length-shortest (w .difference) in
     let appended = length-overwrite (oneMore page) (w .at) (shortest (w .difference)) (omega arith) in
-    length-setField (overwrite (oneMore page) (w .at) (shortest (w .difference))) 20 4 (totalWith creates) (omega arith) ∙ appended ∙ one ∙ long
+    length-setField (overwrite (oneMore page) (w .at) (shortest (w .difference))) 20 4 (totalWith creates) (omega arith) ∙ appended ∙ one
+    ∙ long
 
 -- and so is one that got a next page
 pub length-pageBefore : (page : List ℕ) (next : ℕ) → length page ≡ pageSize → length (pageBefore page next) ≡ pageSize
@@ -213,8 +220,12 @@ pub record RunEnd (fks : List ℕ) (from : ℕ) (parts : List (List ℕ)) : Type
 -- the numbers from an index on rise, as do those up to another
 rising-cut : (fks : List ℕ) (from to : ℕ) → Rising (2 ^ 62) 0 fks → Rising (2 ^ 62) 0 (drop from fks) × Rising (2 ^ 62) 0 (cut fks from to)
 rising-cut fks from to r =
-    let behind : Rising (2 ^ 62) 0 (drop from fks) = rising-right (2 ^ 62) 0 (take from fks) (drop from fks) (rw (take-append-drop from fks) r) in
-    (behind, rising-left (2 ^ 62) 0 (cut fks from to) (drop (to - from) (drop from fks)) (rw (take-append-drop (to - from) (drop from fks)) behind))
+    let behind : Rising (2 ^ 62) 0 (drop from fks) =
+    rising-right (2 ^ 62) 0 (take from fks) (drop from fks) (rw (take-append-drop from fks) r) in (
+      behind,
+      rising-left (2 ^ 62) 0 (cut fks from to) (drop (to - from) (drop from fks))
+          (rw (take-append-drop (to - from) (drop from fks)) behind),
+    )
 
 -- the next part of a run that isn't the last ends where its range says
 pub run-turn : (fks : List ℕ) (ranges : List (List ℕ)) (k from : ℕ) (parts : List (List ℕ)) → 1 < length parts
@@ -226,7 +237,8 @@ run-turn fks ranges k from (p ∷ []) h l = absurd (omega arith)
 run-turn fks ranges k from (p ∷ q ∷ ps) h l =
     let e = from + length p in
     let range : getD ranges k [] ≡ rangeOf from e =
-    ap (λ (i : ℕ). getD ranges i []) (sym (add-zero k)) ∙ sym (getD-drop k ranges 0 []) ∙ ap (λ (rs : List (List ℕ)). getD rs 0 []) (l .ranges-are) in
+    ap (λ (i : ℕ). getD ranges i []) (sym (add-zero k)) ∙ sym (getD-drop k ranges 0 []) ∙ ap (λ (rs : List (List ℕ)). getD rs 0 [])
+    (l .ranges-are) in
     let size : length p + length (joined (q ∷ ps)) ≡ length fks - from =
     sym (length-append p (joined (q ∷ ps))) ∙ ap length (l .numbers) ∙ length-drop from fks in
     let k-is : e - from ≡ length p = omega arith in
@@ -281,7 +293,8 @@ run-start size start fks ranges count r =
 ranges-first : (start : ℕ) (parts rest : List (List ℕ)) → take (length parts) (rangesFrom start parts ++ rest) ≡ rangesFrom start parts
 unfolding rangesFrom
 ranges-first start [] rest = refl
-ranges-first start (p ∷ ps) rest = ap (λ (rs : List (List ℕ)). rangeOf start (start + length p) ∷ rs) (ranges-first (start + length p) ps rest)
+ranges-first start (p ∷ ps) rest = ap (λ (rs : List (List ℕ)). rangeOf start (start + length p) ∷ rs)
+    (ranges-first (start + length p) ps rest)
 
 -- a list that was cut has as many parts as was told, and their ranges stand first in the lent list
 pub ranges-cut : (out : List (List ℕ)) (ns : List ℕ) (count : ℕ) → chunkRanges (length out) ns ≡ accepted count
@@ -302,4 +315,5 @@ length-writeRun start count creates body off (p ∷ []) f h =
 length-writeRun start count creates body off (p ∷ q ∷ ps) f h =
     let page = length-pageTo (off + pageSize) p (f .1) in
     let one = length-overwrite body off (pageTo (off + pageSize) p) (omega (arith, page)) in
-    length-writeRun start count creates (overwrite body off (pageTo (off + pageSize) p)) (off + pageSize) (q ∷ ps) (f .2) (omega (arith, one)) ∙ one
+    length-writeRun start count creates (overwrite body off (pageTo (off + pageSize) p)) (off + pageSize) (q ∷ ps) (f .2)
+    (omega (arith, one)) ∙ one

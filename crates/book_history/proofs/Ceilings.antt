@@ -48,7 +48,8 @@ book-fewest-from b cs g = fewest-good (plainOf b) b (start-good b g) (start-agre
 
 -- Moves, and the records that they rewrite.
 pub book-ceilings : (body : List ℕ) (heads key : ℕ) (cs : List Call)
-    → (tallyOf key cs (answers (fresh body heads) cs) noMoves .moves ≤ mostMoves) × (tallyOf key cs (answers (fresh body heads) cs) noMoves .rewritten ≤ mostRewritten)
+    → (tallyOf key cs (answers (fresh body heads) cs) noMoves .moves ≤ mostMoves)
+    × (tallyOf key cs (answers (fresh body heads) cs) noMoves .rewritten ≤ mostRewritten)
 book-ceilings body heads key cs =
     ceilings-good (plainFresh (length body) heads) (fresh body heads) (fresh-good (length body) heads) (fresh-agrees body heads) key cs
 

@@ -24,14 +24,17 @@ use Rattle.book_history.proofs.LawsShape.{bytes-still, plain-still, fre
 use Rattle.book_history.proofs.LawsStart.{start-shape, start-good, start-agrees}
 use Rattle.book_history.proofs.LawsStartFresh.{fresh-start, fresh-plain, fresh-agrees}
 
--- Demand 3 from any pair: a book over bytes that stands for a good plain book, in shape, answers every list of calls like it, and both stand
--- alike afterwards.
+-- Demand 3 from any pair: a book over bytes that stands for a good plain book, in shape, answers every list of calls like it, and both
+-- stand alike afterwards.
 pub demand-3-good : (plain : PlainBook) (b : Book) (cs : List Call) → GoodPlain plain → Agrees plain b
     → outOfShape (plain .size) (length (plain .keys)) ≡ false
     → (answers b cs ≡ plainAnswers plain cs) × Standing (plainAfter plain cs) (after b cs)
 demand-3-good plain b cs g a shape =
-    let (size, keys) = shapes-kept plain cs in
-    (answers-alike each-alike plain b cs g a, agrees-stands _ _ (calls-good cs g) (books-agree each-alike plain b cs g a) (rw (size, keys) shape))
+    let (size, keys) = shapes-kept plain cs in (
+      answers-alike each-alike plain b cs g a,
+      agrees-stands _ _ (calls-good cs g) (books-agree each-alike plain b cs g a)
+          (rw (size, keys) shape),
+    )
 
 -- Demand 3 from every good start: the whole list of answers is that of its plain book, and afterwards both stand alike.
 pub demand-3-from : (b : Book) (cs : List Call) → GoodStart b

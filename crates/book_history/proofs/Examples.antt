@@ -22,7 +22,20 @@ use Rattle.book_rules.specs.Offered.{offeredNumber, offeredList}
 use Rattle.book_limits.specs.Limits.{outOfShape}
 use Rattle.book_rules.specs.Places.{stays, larger, movesTo, loadsTo}
 use Rattle.book_space.specs.Space.{markBad, shapeBroken, takeMark, rounded, takeRun, takeFresh, takePopped, takeBlock, release}
-use Rattle.book_keys.specs.Keys.{soundly, sure, goOn, slabScan, linkScan, goodExtent, lastAt, linked, walk, totalGood, chainAt, pageBlocks}
+use Rattle.book_keys.specs.Keys.{
+  soundly,
+  sure,
+  goOn,
+  slabScan,
+  linkScan,
+  goodExtent,
+  lastAt,
+  pageThen,
+  walk,
+  totalGood,
+  chainAt,
+  pageBlocks,
+}
 use Rattle.book_keys.specs.Keys.{contentAt, content, createsGood, tailAt}
 use Rattle.book.specs.Book.{Book, book, fresh, headWord, onKey}
 use Rattle.book_blocks.specs.Blocks.{slabWith, lastPageOf, totalWith, pageWith, pageBefore, writeRun}
@@ -33,7 +46,16 @@ use Rattle.book.specs.Calls.{after, answers, does}
 
 -- The answers to some calls.
 unfoldable pub runs : Book → List Call → List (Answer Told)
-unfolding refuseIf andThen answered part overwrite isForm value formAt overflows readForm readUleb divided ulebLen shortest packHead unpackHead lastFrom streamFrom streamLenFrom storedNumber nextNumber scanFrom decodeStream firstClass classFor classWithSlack slabPayload decodeSlab fitting firstPart greedyParts replaceLast field setField nextOff deltaHeader extentHeader pageOf streamPlace pageScan spotBehind oneMore withAppended isBlock pushed popFree largestUpTo blockThen carve pushAll bookAfter answersTo outOfShape offeredNumber offeredList stays larger movesTo loadsTo markBad shapeBroken takeMark rounded takeRun takeFresh takePopped takeBlock release soundly sure goOn slabScan linkScan goodExtent lastAt linked walk totalGood chainAt pageBlocks contentAt content createsGood tailAt headWord onKey movesInto moves slabWith appendSlab totalWith pageWith pageBefore growChain appendPage appendAt appends writeRun loadInto loadAt loads reads drops does
+unfolding refuseIf andThen answered part overwrite isForm value formAt overflows readForm readUleb divided ulebLen shortest packHead
+    unpackHead lastFrom streamFrom streamLenFrom storedNumber nextNumber scanFrom decodeStream firstClass classFor classWithSlack
+    slabPayload
+    decodeSlab fitting firstPart greedyParts replaceLast field setField nextOff deltaHeader extentHeader pageOf streamPlace pageScan
+    spotBehind oneMore withAppended isBlock pushed popFree largestUpTo blockThen carve pushAll bookAfter answersTo outOfShape offeredNumber
+    offeredList stays larger movesTo loadsTo markBad shapeBroken takeMark rounded takeRun takeFresh takePopped takeBlock release soundly
+    sure
+    goOn slabScan linkScan goodExtent lastAt pageThen walk totalGood chainAt pageBlocks contentAt content createsGood tailAt headWord onKey
+    movesInto moves slabWith appendSlab totalWith pageWith pageBefore growChain appendPage appendAt appends writeRun loadInto loadAt loads
+    reads drops does
 runs b cs = answers b cs
 
 -- An append that is accepted: the key's new place, and the records rewritten.
@@ -58,36 +80,45 @@ abbrev pub bodyOf : ℕ → List ℕ
 bodyOf size = replicate size 165
 
 -- 5, 300, 301, 302, 303 to key 0 move at 300 and at 303; 9, 10 to key 1 take the block that was freed.
-pub run-case : runs (fresh (bodyOf 8192) 2) (append 0 5 ∷ append 0 300 ∷ append 0 301 ∷ append 0 302 ∷ append 0 303 ∷ append 1 9 ∷ append 1 10 ∷ read 0 5 ∷ read 1 2 ∷ [])
-    ≡ at (Inline 5 1) 0 ∷ at (Slab 0 2 4096) 1 ∷ at (Slab 0 3 4096) 0 ∷ at (Slab 0 4 4096) 0 ∷ at (Slab 1 5 4112) 4 ∷ at (Inline 9 1) 0 ∷ at (Slab 0 2 4096) 1
+pub run-case : runs (fresh (bodyOf 8192) 2)
+    (append 0 5 ∷ append 0 300 ∷ append 0 301 ∷ append 0 302 ∷ append 0 303 ∷ append 1 9 ∷ append 1 10 ∷ read 0 5 ∷ read 1 2 ∷ [])
+    ≡ at (Inline 5 1) 0 ∷ at (Slab 0 2 4096) 1 ∷ at (Slab 0 3 4096) 0 ∷ at (Slab 0 4 4096) 0 ∷ at (Slab 1 5 4112) 4 ∷ at (Inline 9 1)
+    0 ∷ at (Slab 0 2 4096) 1
     ∷ lists-as (5 ∷ 300 ∷ 301 ∷ 302 ∷ 303 ∷ []) 0 ∷ lists-as (9 ∷ 10 ∷ []) 0 ∷ []
 unfolding runs
 run-case = refl
 
 -- What is turned back.
 pub turned-back : (runs (fresh (bodyOf 4096) 1) (read 0 0 ∷ []) ≡ refused 1 ∷ [])
-    × (runs (fresh (bodyOf 8192) 1) (append 1 5 ∷ append 0 0 ∷ append 0 (2 ^ 63) ∷ append 0 (2 ^ 62) ∷ append 0 5 ∷ append 0 5 ∷ load 0 [] ∷ read 0 0 ∷ drop 0 ∷ read 0 0 ∷ [])
-    ≡ refused 2 ∷ refused 12 ∷ refused 13 ∷ refused 14 ∷ at (Inline 5 1) 0 ∷ refused 32 ∷ refused 3 ∷ refused 34 ∷ accepted (dropped (record { length = 1 })) ∷ lists-as [] 0 ∷ [])
+    × (runs (fresh (bodyOf 8192) 1) (append 1 5 ∷ append 0 0 ∷ append 0 (2 ^ 63) ∷ append 0 (2 ^ 62) ∷ append 0 5 ∷ append 0 5 ∷ load 0 []
+    ∷ read 0 0 ∷ drop 0 ∷ read 0 0 ∷ [])
+    ≡ refused 2 ∷ refused 12 ∷ refused 13 ∷ refused 14 ∷ at (Inline 5 1) 0 ∷ refused 32 ∷ refused 3 ∷ refused 34 ∷ accepted
+    (dropped (record { length = 1 })) ∷ lists-as [] 0 ∷ [])
 unfolding runs
 turned-back = (refl, refl)
 
 -- A page of 4,072 bytes is full, so that the next number begins another. A drop frees the first page first, so that the last one is taken
 -- again, here by a list that moves out of its slab.
-pub full-page : runs (fresh (bodyOf 16384) 2) (load 0 (inARow 1 4072) ∷ append 0 4073 ∷ append 0 4074 ∷ read 0 4074 ∷ drop 0 ∷ load 1 (inARow 1 256) ∷ append 1 257 ∷ read 1 257 ∷ [])
-    ≡ loads-in 1 ∷ at (Extent 8192) 0 ∷ at (Extent 8192) 0 ∷ lists-as (inARow 1 4074) 2 ∷ accepted (dropped (record { length = 4074 })) ∷ loads-in 0 ∷ at (Extent 8192) 256
+pub full-page : runs (fresh (bodyOf 16384) 2) (load 0 (inARow 1 4072) ∷ append 0 4073 ∷ append 0 4074 ∷ read 0 4074 ∷ drop 0 ∷ load 1
+    (inARow 1 256) ∷ append 1 257 ∷ read 1 257 ∷ [])
+    ≡ loads-in 1 ∷ at (Extent 8192) 0 ∷ at (Extent 8192) 0 ∷ lists-as (inARow 1 4074) 2 ∷ accepted
+    (dropped (record { length = 4074 })) ∷ loads-in 0 ∷ at (Extent 8192) 256
     ∷ lists-as (inARow 1 257) 1 ∷ []
 unfolding runs inARow
 full-page = refl
 
 -- A list of 4,073 goes to a run of two pages, behind the mark rounded up; the body is full then, but the gap before the run was carved.
-pub loaded-run : runs (fresh (bodyOf 16384) 3) (append 0 1 ∷ append 0 2 ∷ load 1 (inARow 1 4073) ∷ append 1 4074 ∷ load 2 (inARow 1 300) ∷ load 2 (inARow 1 256) ∷ read 1 4074 ∷ [])
-    ≡ at (Inline 1 1) 0 ∷ at (Slab 0 2 4096) 1 ∷ loads-in 2 ∷ at (Extent 12288) 0 ∷ refused 36 ∷ loads-in 0 ∷ lists-as (inARow 1 4074) 2 ∷ []
+pub loaded-run : runs (fresh (bodyOf 16384) 3)
+    (append 0 1 ∷ append 0 2 ∷ load 1 (inARow 1 4073) ∷ append 1 4074 ∷ load 2 (inARow 1 300) ∷ load 2 (inARow 1 256) ∷ read 1 4074 ∷ [])
+    ≡ at (Inline 1 1) 0 ∷ at (Slab 0 2 4096) 1 ∷ loads-in 2 ∷ at (Extent 12288) 0 ∷ refused 36 ∷ loads-in 0 ∷ lists-as (inARow 1 4074)
+    2 ∷ []
 unfolding runs inARow
 loaded-run = refl
 
 -- What damage gets: a slab whose stored count isn't its head's is no sound key, a free head that no block can have isn't popped, and there
 -- is no room behind a mark at the body's end. A number is judged before the key, and the key before its last number.
-pub damaged : (runs (book (bodyOf 8192) (slabWord 0 2 4096 ∷ []) 4112 (replicate 9 0)) (read 0 5 ∷ append 0 9 ∷ drop 0 ∷ append 0 0 ∷ load 0 [] ∷ [])
+pub damaged : (runs (book (bodyOf 8192) (slabWord 0 2 4096 ∷ []) 4112 (replicate 9 0))
+    (read 0 5 ∷ append 0 9 ∷ drop 0 ∷ append 0 0 ∷ load 0 [] ∷ [])
     ≡ refused 31 ∷ refused 31 ∷ refused 31 ∷ refused 12 ∷ refused 3 ∷ [])
     × (runs (book (bodyOf 8192) (5 ∷ []) 4112 (4104 ∷ replicate 8 0)) (append 0 6 ∷ append 0 5 ∷ []) ≡ refused 35 ∷ refused 32 ∷ [])
     × (runs (book (bodyOf 8192) (5 ∷ []) 8192 (replicate 9 0)) (append 0 6 ∷ read 0 1 ∷ []) ≡ refused 36 ∷ lists-as (5 ∷ []) 0 ∷ [])

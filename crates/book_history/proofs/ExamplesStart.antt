@@ -16,7 +16,20 @@ use Rattle.scripthash_pages.specs.Entries.{streamPlace, pageScan}
 use Rattle.scripthash_free.specs.FreeList.{isBlock}
 use Rattle.plain_book.specs.Key.{Kept, written, Place, inline, slab, pages, Key, emptyKey}
 use Rattle.plain_book.specs.Book.{Book as PlainBook}
-use Rattle.book_keys.specs.Keys.{soundly, sure, goOn, slabScan, linkScan, goodExtent, lastAt, linked, walk, totalGood, chainAt, pageBlocks}
+use Rattle.book_keys.specs.Keys.{
+  soundly,
+  sure,
+  goOn,
+  slabScan,
+  linkScan,
+  goodExtent,
+  lastAt,
+  pageThen,
+  walk,
+  totalGood,
+  chainAt,
+  pageBlocks,
+}
 use Rattle.book_keys.specs.Keys.{contentAt, content}
 use Rattle.book_blocks.specs.Blocks.{lastPageOf}
 use Rattle.book.specs.Book.{Book, book}
@@ -26,7 +39,12 @@ use Rattle.book_history.specs.PlainOf.{plainOf}
 
 -- The plain book of a book.
 unfoldable pub plainly : Book → PlainBook
-unfolding refuseIf andThen part overwrite isForm value formAt overflows readForm readUleb divided ulebLen shortest unpackHead lastFrom streamFrom storedNumber nextNumber scanFrom decodeStream decodeSlab field extentHeader pageOf streamPlace pageScan isBlock written soundly sure goOn slabScan linkScan goodExtent lastAt linked walk totalGood chainAt pageBlocks contentAt content named keptBy pageFrom pagesFrom placeFrom countedFrom listFrom keyFrom keysFrom stacksFrom plainOf
+unfolding refuseIf andThen part overwrite isForm value formAt overflows readForm readUleb divided ulebLen shortest unpackHead lastFrom
+    streamFrom storedNumber nextNumber scanFrom decodeStream decodeSlab field extentHeader pageOf streamPlace pageScan isBlock written
+    soundly
+    sure goOn slabScan linkScan goodExtent lastAt pageThen walk totalGood chainAt pageBlocks contentAt content named keptBy pageFrom
+    pagesFrom
+    placeFrom countedFrom listFrom keyFrom keysFrom stacksFrom plainOf
 plainly b = plainOf b
 
 -- A body of 8,192 bytes, none of them 0.

@@ -17,7 +17,20 @@ use Rattle.book_rules.specs.Offered.{offeredNumber, offeredList}
 use Rattle.book_limits.specs.Limits.{outOfShape}
 use Rattle.book_rules.specs.Places.{stays, larger, movesTo, loadsTo}
 use Rattle.book_space.specs.Space.{markBad, shapeBroken, takeMark, rounded, takeRun, takeFresh, takePopped, takeBlock, release}
-use Rattle.book_keys.specs.Keys.{soundly, sure, goOn, slabScan, linkScan, goodExtent, lastAt, linked, walk, totalGood, chainAt, pageBlocks}
+use Rattle.book_keys.specs.Keys.{
+  soundly,
+  sure,
+  goOn,
+  slabScan,
+  linkScan,
+  goodExtent,
+  lastAt,
+  pageThen,
+  walk,
+  totalGood,
+  chainAt,
+  pageBlocks,
+}
 use Rattle.book_keys.specs.Keys.{contentAt, content, createsGood, tailAt}
 use Rattle.book.specs.Book.{Book, fresh, headWord, onKey}
 use Rattle.book_blocks.specs.Blocks.{slabWith, totalWith, pageWith, pageBefore, writeRun}
@@ -32,7 +45,16 @@ use Rattle.book_history.proofs.Examples.{inARow, bodyOf}
 
 -- What a call names after others.
 unfoldable pub namedAfter : Book → List Call → Call → CallNames
-unfolding refuseIf andThen answered part overwrite isForm value formAt overflows readForm readUleb divided ulebLen shortest packHead unpackHead lastFrom streamFrom streamLenFrom storedNumber nextNumber scanFrom decodeStream firstClass classFor classWithSlack slabPayload decodeSlab fitting firstPart greedyParts replaceLast field setField nextOff deltaHeader extentHeader pageOf streamPlace pageScan spotBehind oneMore withAppended isBlock pushed popFree largestUpTo blockThen carve pushAll bookAfter afterCalls outOfShape offeredNumber offeredList stays larger movesTo loadsTo markBad shapeBroken takeMark rounded takeRun takeFresh takePopped takeBlock release soundly sure goOn slabScan linkScan goodExtent lastAt linked walk totalGood chainAt pageBlocks contentAt content createsGood tailAt headWord onKey movesInto moves slabWith appendSlab totalWith pageWith pageBefore growChain appendPage appendAt appends writeRun loadInto loadAt loads reads drops does both freeingAll takingPages taking filling writing moving growingSlab growingPage appendNames loadNames names
+unfolding refuseIf andThen answered part overwrite isForm value formAt overflows readForm readUleb divided ulebLen shortest packHead
+    unpackHead lastFrom streamFrom streamLenFrom storedNumber nextNumber scanFrom decodeStream firstClass classFor classWithSlack
+    slabPayload
+    decodeSlab fitting firstPart greedyParts replaceLast field setField nextOff deltaHeader extentHeader pageOf streamPlace pageScan
+    spotBehind oneMore withAppended isBlock pushed popFree largestUpTo blockThen carve pushAll bookAfter afterCalls outOfShape offeredNumber
+    offeredList stays larger movesTo loadsTo markBad shapeBroken takeMark rounded takeRun takeFresh takePopped takeBlock release soundly
+    sure
+    goOn slabScan linkScan goodExtent lastAt pageThen walk totalGood chainAt pageBlocks contentAt content createsGood tailAt headWord onKey
+    movesInto moves slabWith appendSlab totalWith pageWith pageBefore growChain appendPage appendAt appends writeRun loadInto loadAt loads
+    reads drops does both freeingAll takingPages taking filling writing moving growingSlab growingPage appendNames loadNames names
 namedAfter b cs c = names (after b cs) c
 
 -- What is named.
@@ -43,17 +65,20 @@ named body heads free mark = record { heads = heads; space = record { body = bod
 -- again.
 pub run-names :
     (namedAfter (fresh (bodyOf 8192) 2) (append 0 5 ∷ []) (append 0 300) ≡ named (region 4096 5 ∷ []) (region 0 1 ∷ []) [] true)
-    × (namedAfter (fresh (bodyOf 8192) 2) (append 0 5 ∷ append 0 300 ∷ []) (append 0 301) ≡ named (region 4096 2 ∷ region 4101 1 ∷ []) (region 0 1 ∷ []) [] false)
+    × (namedAfter (fresh (bodyOf 8192) 2) (append 0 5 ∷ append 0 300 ∷ []) (append 0 301)
+    ≡ named (region 4096 2 ∷ region 4101 1 ∷ []) (region 0 1 ∷ []) [] false)
     × (namedAfter (fresh (bodyOf 8192) 2) (append 0 5 ∷ append 0 300 ∷ append 0 301 ∷ append 0 302 ∷ []) (append 0 303)
     ≡ named (region 4112 8 ∷ region 4096 8 ∷ []) (region 0 1 ∷ []) (region 0 1 ∷ []) true)
-    × (namedAfter (fresh (bodyOf 8192) 2) (append 0 5 ∷ append 0 300 ∷ append 0 301 ∷ append 0 302 ∷ append 0 303 ∷ append 1 9 ∷ []) (append 1 10)
+    × (namedAfter (fresh (bodyOf 8192) 2) (append 0 5 ∷ append 0 300 ∷ append 0 301 ∷ append 0 302 ∷ append 0 303 ∷ append 1 9 ∷ [])
+    (append 1 10)
     ≡ named (region 4096 4 ∷ []) (region 1 1 ∷ []) (region 0 1 ∷ []) false)
 unfolding namedAfter
 run-names = (refl, refl, refl, refl)
 
 -- A full page gets a page behind it, which then gets a number; a drop frees both.
 pub page-names :
-    (namedAfter (fresh (bodyOf 16384) 1) (load 0 (inARow 1 4072) ∷ []) (append 0 4073) ≡ named (region 8192 4096 ∷ region 4099 5 ∷ region 4116 4 ∷ []) (region 0 1 ∷ []) [] true)
+    (namedAfter (fresh (bodyOf 16384) 1) (load 0 (inARow 1 4072) ∷ []) (append 0 4073)
+    ≡ named (region 8192 4096 ∷ region 4099 5 ∷ region 4116 4 ∷ []) (region 0 1 ∷ []) [] true)
     × (namedAfter (fresh (bodyOf 16384) 1) (load 0 (inARow 1 4072) ∷ append 0 4073 ∷ []) (append 0 4074)
     ≡ named (region 8193 2 ∷ region 8218 1 ∷ region 8212 4 ∷ []) (region 0 1 ∷ []) [] false)
     × (namedAfter (fresh (bodyOf 16384) 1) (load 0 (inARow 1 4072) ∷ append 0 4073 ∷ []) (drop 0)
@@ -63,7 +88,8 @@ page-names = (refl, refl, refl)
 
 -- A run of two pages behind a slab of 16 bytes: the gap's eight blocks are freed.
 pub gap-names : namedAfter (fresh (bodyOf 16384) 2) (append 0 1 ∷ append 0 2 ∷ []) (load 1 (inARow 1 4073))
-    ≡ named (region 4112 8 ∷ region 6160 8 ∷ region 7184 8 ∷ region 7696 8 ∷ region 7952 8 ∷ region 8080 8 ∷ region 8144 8 ∷ region 8176 8 ∷ region 8192 8192 ∷ []) (region 1 1 ∷ [])
+    ≡ named (region 4112 8 ∷ region 6160 8 ∷ region 7184 8 ∷ region 7696 8 ∷ region 7952 8 ∷ region 8080 8 ∷ region 8144 8 ∷ region 8176 8
+    ∷ region 8192 8192 ∷ []) (region 1 1 ∷ [])
     (region 7 1 ∷ region 6 1 ∷ region 5 1 ∷ region 4 1 ∷ region 3 1 ∷ region 2 1 ∷ region 1 1 ∷ region 0 1 ∷ []) true
 unfolding namedAfter inARow
 gap-names = refl

@@ -29,7 +29,7 @@ use Rattle.plain_book.specs.Space.{Space as PlainSpace, Taken as PlainTaken, ta
 use Rattle.plain_book.specs.Key.{written, longer, Page, Place, pages, lastPage, noPage, totalOf, headOf, Placed, longerPage, joins}
 use Rattle.plain_book.specs.Key.{joinedTo, begunAt, beginPage, appendPages, appendPlace}
 use Rattle.plain_book.specs.Book.{Book as PlainBook, Outcome as PlainOutcome, keyOf, extended, appends as plainAppends}
-use Rattle.plain_book.specs.Owners.{Owner, hand, stack, slabOf, pageOf, pageAt, pageIn, has, places}
+use Rattle.plain_book.specs.Owners.{Owner, hand, stack, slabOf, pageOf, pageNo, pageIn, has, places}
 use Rattle.plain_book.specs.Good.{Good, GoodPlain}
 use Rattle.plain_book.proofs.LawsOwners.{some-inj, none-some, kindOf, depthOf, atKey, key-slab, key-page}
 use Rattle.plain_book.proofs.LawsTaking.{good-taken}
@@ -44,7 +44,7 @@ use Rattle.book_blocks.proofs.LawsTotals.{total-fits}
 use Rattle.book_blocks.proofs.LawsReadsMore.{spot-fits, spot-none, page-more, page-before}
 use Rattle.book.specs.Book.{Book}
 use Rattle.book.specs.Appends.{appending, growChain, appendPage, appendAt, appends}
-use Rattle.book_history.specs.Agrees.{scanOf, PageReads, LastReads, NextReads, ChainReads, firstOff, SlabIn, PageIn, BlockReads}
+use Rattle.book_history.specs.Agrees.{scanOf, PageReads, LastReads, NextReads, ChainReads, firstPageOff, SlabIn, PageIn, BlockReads}
 use Rattle.book_history.specs.Agrees.{contentsOf, AgreesSpace, Agrees}
 use Rattle.book_history.proofs.LawsFrame.{block-ends}
 use Rattle.book_history.proofs.LawsStep.{Alike, refused-alike, alike-both, placedContents}
@@ -85,7 +85,7 @@ joined-last n page (p ∷ []) l = refl
 joined-last n page (p ∷ q ∷ ps) l = joined-last n p (q ∷ ps) (omega arith)
 
 -- The first of them is where it was.
-joined-first : (n : ℕ) (ps : List Page) → firstOff (joinedPages n ps) ≡ firstOff ps
+joined-first : (n : ℕ) (ps : List Page) → firstPageOff (joinedPages n ps) ≡ firstPageOff ps
 unfolding replaceLast
 joined-first n [] = refl
 joined-first n (p ∷ []) = refl
@@ -100,7 +100,8 @@ joined-before first creates total zero n (p ∷ []) block e r = absurd (e refl)
 joined-before first creates total zero n (p ∷ q ∷ []) block e r = r
 joined-before first creates total zero n (p ∷ q ∷ q' ∷ ps) block e r = r
 joined-before first creates total (suc i) n (p ∷ []) block e r = tt
-joined-before first creates total (suc i) n (p ∷ q ∷ ps) block e r = joined-before first creates total i n (q ∷ ps) block (λ (z : i + 1 ≡ length (q ∷ ps)). e (omega arith)) r
+joined-before first creates total (suc i) n (p ∷ q ∷ ps) block e r =
+    joined-before first creates total i n (q ∷ ps) block (λ (z : i + 1 ≡ length (q ∷ ps)). e (omega arith)) r
 
 -- ---- a chain of pages with one page more
 
@@ -111,7 +112,7 @@ begun-last page [] p = refl
 begun-last page (q ∷ ps) p = begun-last q ps p
 
 -- The first of some pages is the first with one more.
-begun-first : (ps : List Page) (p : Page) → 0 < length ps → firstOff (ps ++ (p ∷ [])) ≡ firstOff ps
+begun-first : (ps : List Page) (p : Page) → 0 < length ps → firstPageOff (ps ++ (p ∷ [])) ≡ firstPageOff ps
 begun-first [] p l = absurd (omega arith)
 begun-first (q ∷ ps) p l = refl
 
@@ -128,36 +129,43 @@ begun-next first creates (suc i) page (q ∷ q' ∷ ps) p block e r l = begun-ne
 
 -- The pages before it read as they did.
 begun-before : (first creates total i : ℕ) (ps : List Page) (p : Page) (x : Block) (block : List ℕ) → i + 1 ≢ length ps
-    → pageAt i ps ≡ some x
+    → pageNo i ps ≡ some x
     → ChainReads first creates i ps block → ChainReads first total i (ps ++ (p ∷ [])) block
-unfolding ChainReads pageAt
+unfolding ChainReads pageNo
 begun-before first creates total i [] p x block e at r = absurd (none-some at)
 begun-before first creates total zero (q ∷ []) p x block e at r = absurd (e refl)
 begun-before first creates total zero (q ∷ q' ∷ ps) p x block e at r = r
-begun-before first creates total (suc i) (q ∷ ps) p x block e at r = begun-before first creates total i ps p x block (λ (z : i + 1 ≡ length ps). e (omega arith)) at r
+begun-before first creates total (suc i) (q ∷ ps) p x block e at r =
+    begun-before first creates total i ps p x block (λ (z : i + 1 ≡ length ps). e (omega arith)) at r
 
 -- ---- the last page is written
 
 -- The last page of a key's chain is written, and all its pages read as those of another chain: the spaces agree, nobody has another block.
-chain-written : (plain : PlainBook) (inside : PlainSpace) (s : Space) (held : Option Block) (key total : ℕ) (ps qs : List Page) (ys : List ℕ)
+chain-written : (plain : PlainBook) (inside : PlainSpace) (s : Space) (held : Option Block) (key total : ℕ) (ps qs : List Page)
+    (ys : List ℕ)
     → keyOf key plain .place ≡ pages ps → 0 < length ps → Good inside (places plain) held → length ys ≡ pageSize
-    → ((i : ℕ) → i + 1 ≡ length ps → ChainReads (firstOff qs) total i qs ys)
-    → ((i : ℕ) (x : Block) (block : List ℕ) → i + 1 ≢ length ps → pageAt i ps ≡ some x → ChainReads (firstOff ps) (totalOf (keyOf key plain)) i ps block
-    → ChainReads (firstOff qs) total i qs block)
+    → ((i : ℕ) → i + 1 ≡ length ps → ChainReads (firstPageOff qs) total i qs ys)
+    → ((i : ℕ) (x : Block) (block : List ℕ) → i + 1 ≢ length ps → pageNo i ps ≡ some x
+    → ChainReads (firstPageOff ps) (totalOf (keyOf key plain)) i ps block
+    → ChainReads (firstPageOff qs) total i qs block)
     → AgreesSpace inside s (places plain) held (contentsOf plain)
-    → AgreesSpace inside (space (overwrite (s .body) (lastPage noPage ps .off) ys) (s .mark) (s .free)) (places plain) held (placedContents plain key total (pages qs))
+    → AgreesSpace inside (space (overwrite (s .body) (lastPage noPage ps .off) ys) (s .mark) (s .free)) (places plain) held
+    (placedContents plain key total (pages qs))
 unfolding has
 chain-written plain inside s held key total ps qs ys is one g long mine others a =
-    agrees-written inside s (places plain) (places plain) held held (contentsOf plain) (placedContents plain key total (pages qs)) (pageOf key (length ps - 1))
+    agrees-written inside s (places plain) (places plain) held held (contentsOf plain) (placedContents plain key total (pages qs))
+    (pageOf key (length ps - 1))
     (record { class = pageClass; off = lastPage noPage ps .off }) ys g (ap (pageIn (length ps - 1)) is ∙ at-last) long to a
   where
-    at-last : pageAt (length ps - 1) ps ≡ some (record { class = pageClass; off = lastPage noPage ps .off })
+    at-last : pageNo (length ps - 1) ps ≡ some (record { class = pageClass; off = lastPage noPage ps .off })
     at-last = last-page-at (length ps - 1) noPage ps (omega arith)
 
     to : (v : Owner) (x : Block) → has inside (places plain) held v ≡ some x
-        → ((x ≡ record { class = pageClass; off = lastPage noPage ps .off }) × BlockReads inside (placedContents plain key total (pages qs)) v ys)
+        → ((x ≡ record { class = pageClass; off = lastPage noPage ps .off }) × BlockReads inside (placedContents plain key total (pages qs))
+        v ys)
         ⊎ ((u : Owner) × (u ≢ pageOf key (length ps - 1)) × (has inside (places plain) held u ≡ some x)
-        × ((block : List ℕ) → BlockReads inside (contentsOf plain) u block → BlockReads inside (placedContents plain key total (pages qs)) v block))
+        × ((block : List ℕ) → BlockReads inside (contentsOf plain) u block
+        → BlockReads inside (placedContents plain key total (pages qs)) v block))
     to hand x e = inr (hand, λ q. (let z = ap kindOf q in omega arith), e, λ block r. r)
     to (stack k d) x e = inr (stack k d, λ q. (let z = ap kindOf q in omega arith), e, λ block r. r)
     to (slabOf j) x e = inr (slabOf j, λ q. (let z = ap kindOf q in omega arith), e, λ block r. keep (eqb j key) block r)
@@ -168,22 +176,24 @@ chain-written plain inside s held key total ps qs ys is one g long mine others a
     to (pageOf j i) x e = go (eqb j key) refl
       where
         go : (t : Bool) → eqb j key ≡ t
-            → ((x ≡ record { class = pageClass; off = lastPage noPage ps .off }) × PageIn (cond t total (totalOf (keyOf j plain))) i (cond t (pages qs) (places plain j)) ys)
+            → ((x ≡ record { class = pageClass; off = lastPage noPage ps .off }) × PageIn (cond t total (totalOf (keyOf j plain))) i
+            (cond t (pages qs) (places plain j)) ys)
             ⊎ ((u : Owner) × (u ≢ pageOf key (length ps - 1)) × (has inside (places plain) held u ≡ some x)
-            × ((block : List ℕ) → BlockReads inside (contentsOf plain) u block → PageIn (cond t total (totalOf (keyOf j plain))) i (cond t (pages qs) (places plain j)) block))
+            × ((block : List ℕ) → BlockReads inside (contentsOf plain) u block
+            → PageIn (cond t total (totalOf (keyOf j plain))) i (cond t (pages qs) (places plain j)) block))
         go false q = inr (pageOf j i, λ z. (eqb-false j key q (cc)), e, λ block r. r)
         go true q = at-index (eqb (i + 1) (length ps)) refl
           where
             same : j ≡ key
             same = eqb-true j key q
 
-            at-key : pageAt i ps ≡ some x
+            at-key : pageNo i ps ≡ some x
             at-key = sym (ap (pageIn i) (ap (places plain) same ∙ is)) ∙ e
 
             at-index : (t : Bool) → eqb (i + 1) (length ps) ≡ t
-                → ((x ≡ record { class = pageClass; off = lastPage noPage ps .off }) × ChainReads (firstOff qs) total i qs ys)
+                → ((x ≡ record { class = pageClass; off = lastPage noPage ps .off }) × ChainReads (firstPageOff qs) total i qs ys)
                 ⊎ ((u : Owner) × (u ≢ pageOf key (length ps - 1)) × (has inside (places plain) held u ≡ some x)
-                × ((block : List ℕ) → BlockReads inside (contentsOf plain) u block → ChainReads (firstOff qs) total i qs block))
+                × ((block : List ℕ) → BlockReads inside (contentsOf plain) u block → ChainReads (firstPageOff qs) total i qs block))
             at-index true w =
                 let e' = eqb-true (i + 1) (length ps) w in
                 inl (some-inj (sym at-key ∙ last-page-at i noPage ps e'), mine i e')
@@ -195,7 +205,8 @@ chain-written plain inside s held key total ps qs ys is one g long mine others a
                   e,
                   λ block r.
                       others i x block n at-key
-                      (subst (λ (p : Place). PageIn (totalOf (keyOf key plain)) i p block) is (subst (λ (k : ℕ). PageIn (totalOf (keyOf k plain)) i (places plain k) block) same r)),
+                      (subst (λ (p : Place). PageIn (totalOf (keyOf key plain)) i p block) is
+                      (subst (λ (k : ℕ). PageIn (totalOf (keyOf k plain)) i (places plain k) block) same r)),
                 )
 
 -- ---- what a last page reads as once it is changed
@@ -211,7 +222,14 @@ more-reads p page first creates n w r l above low few spot =
       m .long,
       (
         record { reads = m .scans; room = m .room ∙ r .room },
-        record { extent = m .names; last = rw (m .link) (l .last); first = rw (m .link) (l .first); good = rw (m .base, m .extents) (l .good); creates = m .counts },
+        record {
+          extent = m .names;
+          last = rw (m .link) (l .last);
+          first = rw (m .link) (l .first);
+          good =
+              rw (m .base, m .extents) (l .good);
+          creates = m .counts;
+        },
       ),
     )
 
@@ -229,8 +247,8 @@ next-reads p page first creates mark next r l room high stands =
 -- ---- a number behind a key's pages
 
 -- The first of some pages is at index 0.
-first-page-at : (ps : List Page) → 0 < length ps → pageAt 0 ps ≡ some (record { class = pageClass; off = firstOff ps })
-unfolding pageAt
+first-page-at : (ps : List Page) → 0 < length ps → pageNo 0 ps ≡ some (record { class = pageClass; off = firstPageOff ps })
+unfolding pageNo
 first-page-at [] l = absurd (omega arith)
 first-page-at (p ∷ ps) l = refl
 
@@ -243,8 +261,10 @@ one-fits : (n : ℕ) → n < 2 ^ 62 → streamLen (n ∷ []) ≤ lastPageRoom
 unfolding streamLenFrom
 one-fits n small = omega (arith, len-at-most (n - 0) (omega arith))
 
-module _ (plain : PlainBook) (b : Book) (g : GoodPlain plain) (a : Agrees plain b) (shape : outOfShape (plain .size) (length (plain .keys)) ≡ false)
-    (key n : ℕ) (ps : List Page) (is : keyOf key plain .place ≡ pages ps) (low : key < length (plain .keys)) (positive : 0 < n) (small : n < 2 ^ 62)
+module _ (plain : PlainBook) (b : Book) (g : GoodPlain plain) (a : Agrees plain b) (shape : outOfShape (plain .size) (length (plain .keys))
+    ≡ false)
+    (key n : ℕ) (ps : List Page) (is : keyOf key plain .place ≡ pages ps) (low : key < length (plain .keys)) (positive : 0 < n)
+    (small : n < 2 ^ 62)
     (above : lastFrom 0 (lastPage noPage ps .part .numbers) < n) where
   -- the key's list before, and after
   abbrev list : List ℕ
@@ -262,7 +282,7 @@ module _ (plain : PlainBook) (b : Book) (g : GoodPlain plain) (a : Agrees plain 
   total = totalOf (keyOf key plain)
 
   abbrev tail : Tail
-  tail = record { scan = scanOf (lastPage noPage ps .part); last = record { first = firstOff ps; creates = total } }
+  tail = record { scan = scanOf (lastPage noPage ps .part); last = record { first = firstPageOff ps; creates = total } }
 
   -- there is a page, and the list is one number longer, which fits creates
   one : 0 < length ps
@@ -287,16 +307,17 @@ module _ (plain : PlainBook) (b : Book) (g : GoodPlain plain) (a : Agrees plain 
 
   -- What the last page reads as, in any space that agrees.
   last-known : (inside : PlainSpace) (s : Space) (held : Option Block) → AgreesSpace inside s (places plain) held (contentsOf plain)
-      → PageReads (lastPage noPage ps) (pageBytes s last) × LastReads (firstOff ps) total (pageBytes s last)
+      → PageReads (lastPage noPage ps) (pageBytes s last) × LastReads (firstPageOff ps) total (pageBytes s last)
   last-known inside s held h =
       let l = one in
-      last-reads (firstOff ps) total (length ps - 1) noPage ps (pageBytes s last) (omega arith)
+      last-reads (firstPageOff ps) total (length ps - 1) noPage ps (pageBytes s last) (omega arith)
       (subst (λ (p : Place). PageIn total (length ps - 1) p (pageBytes s last)) is
       (h .stored (pageOf key (length ps - 1)) (record { class = pageClass; off = last }) (last-owned inside held)))
 
   -- A body is as long after the last page is written.
   last-long : (inside : PlainSpace) (s : Space) (held : Option Block) (ys : List ℕ) → Good inside (places plain) held
-      → AgreesSpace inside s (places plain) held (contentsOf plain) → length ys ≡ pageSize → length (overwrite (s .body) last ys) ≡ length (s .body)
+      → AgreesSpace inside s (places plain) held (contentsOf plain) → length ys ≡ pageSize → length (overwrite (s .body) last ys)
+      ≡ length (s .body)
   last-long inside s held ys good h long =
       let y : Block = record { class = pageClass; off = last } in
       let ends = block-ends y (inside .mark) (good .apart .stands (pageOf key (length ps - 1)) y (last-owned inside held)) in
@@ -305,43 +326,50 @@ module _ (plain : PlainBook) (b : Book) (g : GoodPlain plain) (a : Agrees plain 
   -- What the last page reads as with the number joined.
   joined-reads : (w : Spot) → spotBehind (pageBytes (b .space) last) n (tail .scan) ≡ some w
       → let ys = pageWith (pageBytes (b .space) last) w total in
-      (length ys ≡ pageSize) × (PageReads (longerPage n (lastPage noPage ps)) ys × LastReads (firstOff ps) (totalWith total) ys)
+      (length ys ≡ pageSize) × (PageReads (longerPage n (lastPage noPage ps)) ys × LastReads (firstPageOff ps) (totalWith total) ys)
   joined-reads w spot =
       let (r, l) = last-known (plain .space) (b .space) none (a .inside shape .space) in
-      more-reads (lastPage noPage ps) (pageBytes (b .space) last) (firstOff ps) total n w r l above small few spot
+      more-reads (lastPage noPage ps) (pageBytes (b .space) last) (firstPageOff ps) total n w r l above small few spot
 
   -- The number joins the last page: the spaces agree.
   joined-agrees : (w : Spot) → spotBehind (pageBytes (b .space) last) n (tail .scan) ≡ some w
-      → AgreesSpace (plain .space) (space (overwrite (b .space .body) last (pageWith (pageBytes (b .space) last) w total)) (b .space .mark) (b .space .free))
+      → AgreesSpace (plain .space) (space (overwrite (b .space .body) last (pageWith (pageBytes (b .space) last) w total)) (b .space .mark)
+      (b .space .free))
       (atKey key (joinedTo n ps) (places plain)) none (placedContents plain key (totalWith total) (joinedTo n ps))
   unfolding has
   joined-agrees w spot =
-      agrees-same (plain .space) _ (places plain) (atKey key (joinedTo n ps) (places plain)) none none (placedContents plain key (totalWith total) (joinedTo n ps))
+      agrees-same (plain .space) _ (places plain) (atKey key (joinedTo n ps) (places plain)) none none
+      (placedContents plain key (totalWith total) (joinedTo n ps))
       (placedContents plain key (totalWith total) (joinedTo n ps)) to
-      (chain-written plain (plain .space) (b .space) none key (totalWith total) ps (joinedPages n ps) ys is one (g .space) (joined-reads w spot .0) mine others (a .inside shape .space))
+      (chain-written plain (plain .space) (b .space) none key (totalWith total) ps (joinedPages n ps) ys is one (g .space)
+      (joined-reads w spot .0) mine others (a .inside shape .space))
     where
       ys : List ℕ
       ys = pageWith (pageBytes (b .space) last) w total
 
-      mine : (i : ℕ) → i + 1 ≡ length ps → ChainReads (firstOff (joinedPages n ps)) (totalWith total) i (joinedPages n ps) ys
+      mine : (i : ℕ) → i + 1 ≡ length ps → ChainReads (firstPageOff (joinedPages n ps)) (totalWith total) i (joinedPages n ps) ys
       mine i e =
           let (long, (reads, ends)) = joined-reads w spot in
           rw (joined-first n ps)
-          (reads-last (firstOff ps) (totalWith total) i noPage (joinedPages n ps) ys (rw (joined-long n ps) e) (rw (joined-last n noPage ps one) reads) ends)
+          (reads-last (firstPageOff ps) (totalWith total) i noPage (joinedPages n ps) ys (rw (joined-long n ps) e)
+          (rw (joined-last n noPage ps one) reads) ends)
 
-      others : (i : ℕ) (x : Block) (block : List ℕ) → i + 1 ≢ length ps → pageAt i ps ≡ some x
-          → ChainReads (firstOff ps) total i ps block
-          → ChainReads (firstOff (joinedPages n ps)) (totalWith total) i (joinedPages n ps) block
-      others i x block e at r = rw (joined-first n ps) (joined-before (firstOff ps) total (totalWith total) i n ps block e r)
+      others : (i : ℕ) (x : Block) (block : List ℕ) → i + 1 ≢ length ps → pageNo i ps ≡ some x
+          → ChainReads (firstPageOff ps) total i ps block
+          → ChainReads (firstPageOff (joinedPages n ps)) (totalWith total) i (joinedPages n ps) block
+      others i x block e at r = rw (joined-first n ps) (joined-before (firstPageOff ps) total (totalWith total) i n ps block e r)
 
       to : (v : Owner) (x : Block) → has (plain .space) (atKey key (joinedTo n ps) (places plain)) none v ≡ some x
           → (u : Owner) × (has (plain .space) (places plain) none u ≡ some x)
-          × ((block : List ℕ) → BlockReads (plain .space) (placedContents plain key (totalWith total) (joinedTo n ps)) u block → BlockReads (plain .space) (placedContents plain key (totalWith total) (joinedTo n ps)) v block)
+          × ((block : List ℕ) → BlockReads (plain .space) (placedContents plain key (totalWith total) (joinedTo n ps)) u block
+          → BlockReads (plain .space) (placedContents plain key (totalWith total) (joinedTo n ps)) v block)
       to hand x e = absurd (none-some e)
       to (stack k d) x e = (stack k d, e, λ block r. r)
-      to (slabOf j) x e = ⊎-elim (λ (same, f). absurd (none-some f)) (λ (other, f). (slabOf j, f, λ block r. r)) (key-slab key (joinedTo n ps) (places plain) j x e)
+      to (slabOf j) x e = ⊎-elim (λ (same, f). absurd (none-some f)) (λ (other, f). (slabOf j, f, λ block r. r))
+          (key-slab key (joinedTo n ps) (places plain) j x e)
       to (pageOf j i) x e =
-          ⊎-elim (λ (same, f). (pageOf j i, ap (pageIn i) (ap (places plain) same ∙ is) ∙ sym (joined-at i n ps) ∙ f, λ block r. r)) (λ (other, f). (pageOf j i, f, λ block r. r))
+          ⊎-elim (λ (same, f). (pageOf j i, ap (pageIn i) (ap (places plain) same ∙ is) ∙ sym (joined-at i n ps) ∙ f, λ block r. r))
+          (λ (other, f). (pageOf j i, f, λ block r. r))
           (key-page key (joinedTo n ps) (places plain) j i x e)
 
   -- What the plain book tells and leaves, once the key's new place is known.
@@ -355,21 +383,27 @@ module _ (plain : PlainBook) (b : Book) (g : GoodPlain plain) (a : Agrees plain 
   joined-alike w spot =
       append-ends plain b key more (joinedTo n ps) (keyOf key plain .counted) (totalWith total) (Extent last) 0 (plain .space) _ a shape low
       (ap (λ (p : Page). Extent (p .off)) (joined-last n noPage ps one)) (total-is (joinedTo n ps))
-      (last-long (plain .space) (b .space) none (pageWith (pageBytes (b .space) last) w total) (g .space) (a .inside shape .space) (joined-reads w spot .0))
+      (last-long (plain .space) (b .space) none (pageWith (pageBytes (b .space) last) w total) (g .space) (a .inside shape .space)
+      (joined-reads w spot .0))
       (joined-agrees w spot)
 
   -- The number begins a page in hand, and the old last page names it: the spaces agree, and the body is as long.
   begun-agrees : (inside : PlainSpace) (s : Space) (off : ℕ) → Good inside (places plain) (some (record { class = pageClass; off = off }))
       → AgreesSpace inside s (places plain) (some (record { class = pageClass; off = off })) (contentsOf plain)
-      → let body = overwrite (overwrite (s .body) last (pageBefore (pageBytes s last) off)) off (lastPageOf (firstOff ps) off 1 (totalWith total) (n ∷ [])) in
-      AgreesSpace inside (space body (s .mark) (s .free)) (atKey key (begunAt off n ps) (places plain)) none (placedContents plain key (totalWith total) (begunAt off n ps))
+      → let body = overwrite (overwrite (s .body) last (pageBefore (pageBytes s last) off)) off
+      (lastPageOf (firstPageOff ps) off 1 (totalWith total) (n ∷ [])) in
+      AgreesSpace inside (space body (s .mark) (s .free)) (atKey key (begunAt off n ps) (places plain)) none
+      (placedContents plain key (totalWith total) (begunAt off n ps))
       × (length body ≡ length (s .body))
   unfolding has
   begun-agrees inside s off good h = (
-    placed-page plain key (totalWith total) inside _ (places plain) ps new (withHand (Filled pageClass ys) (placedContents plain key (totalWith total) (begunAt off n ps))) meanwhile
+    placed-page plain key (totalWith total) inside _ (places plain) ps new
+        (withHand (Filled pageClass ys) (placedContents plain key (totalWith total) (begunAt off n ps))) meanwhile
         (λ i x e. ap (pageIn i) is ∙ e) (λ i block l r. rw (eq-eqb key key refl) at r) mine
-        (fill-agrees inside named (places plain) pageClass off (placedContents plain key (totalWith total) (begunAt off n ps)) ys whole good linked),
-    fill-long inside named (places plain) pageClass off (placedContents plain key (totalWith total) (begunAt off n ps)) ys whole good linked ∙ as-long,
+        (fill-agrees inside named (places plain) pageClass off (placedContents plain key (totalWith total) (begunAt off n ps))
+        ys whole good linked),
+    fill-long inside named (places plain) pageClass off (placedContents plain key (totalWith total) (begunAt off n ps)) ys whole good linked
+        ∙ as-long,
   )
     where
       -- the page in hand, and how high it can be
@@ -389,7 +423,8 @@ module _ (plain : PlainBook) (b : Book) (g : GoodPlain plain) (a : Agrees plain 
       next : (length old ≡ pageSize) × (PageReads (lastPage noPage ps) old × NextReads off old)
       next =
           let (r, l) = last-known inside s (some (record { class = pageClass; off = off })) h in
-          next-reads (lastPage noPage ps) (pageBytes s last) (firstOff ps) total (inside .mark) off r l (last-fits noPage ps (chain key ps g is .fit) .1) high stands
+          next-reads (lastPage noPage ps) (pageBytes s last) (firstPageOff ps) total (inside .mark) off r l
+          (last-fits noPage ps (chain key ps g is .fit) .1) high stands
 
       named : Space
       named = space (overwrite (s .body) last old) (s .mark) (s .free)
@@ -397,33 +432,39 @@ module _ (plain : PlainBook) (b : Book) (g : GoodPlain plain) (a : Agrees plain 
       as-long : length (named .body) ≡ length (s .body)
       as-long = last-long inside s (some (record { class = pageClass; off = off })) old good h (next .0)
 
-      linked : AgreesSpace inside named (places plain) (some (record { class = pageClass; off = off })) (placedContents plain key (totalWith total) (begunAt off n ps))
+      linked : AgreesSpace inside named (places plain) (some (record { class = pageClass; off = off }))
+          (placedContents plain key (totalWith total) (begunAt off n ps))
       linked =
-          chain-written plain inside s (some (record { class = pageClass; off = off })) key (totalWith total) ps (ps ++ (new ∷ [])) old is one good (next .0)
-          (λ i e. begun-next (firstOff (ps ++ (new ∷ []))) (totalWith total) i noPage ps new old e (next .1 .0) (next .1 .1))
-          (λ i x block e at r. rw (begun-first ps new one) (begun-before (firstOff ps) total (totalWith total) i ps new x block e at r))
+          chain-written plain inside s (some (record { class = pageClass; off = off })) key (totalWith total) ps (ps ++ (new ∷ []))
+          old is one good (next .0)
+          (λ i e. begun-next (firstPageOff (ps ++ (new ∷ []))) (totalWith total) i noPage ps new old e (next .1 .0) (next .1 .1))
+          (λ i x block e at r. rw (begun-first ps new one) (begun-before (firstPageOff ps) total (totalWith total) i ps new x block e at r))
           h
 
       -- the page more, and what it reads as
       ys : List ℕ
-      ys = lastPageOf (firstOff ps) off 1 (totalWith total) (n ∷ [])
+      ys = lastPageOf (firstPageOff ps) off 1 (totalWith total) (n ∷ [])
 
-      reads : (length ys ≡ pageSize) × (PageReads new ys × LastReads (firstOff ps) (totalWith total) ys)
+      reads : (length ys ≡ pageSize) × (PageReads new ys × LastReads (firstPageOff ps) (totalWith total) ys)
       reads =
-          last-written (inside .mark) off (firstOff ps) off 1 (totalWith total) (n ∷ []) high
-          (good .apart .stands (pageOf key 0) (record { class = pageClass; off = firstOff ps }) (ap (pageIn 0) is ∙ first-page-at ps one)) stands (omega arith) (omega arith) (total-fits total few)
+          last-written (inside .mark) off (firstPageOff ps) off 1 (totalWith total) (n ∷ []) high
+          (good .apart .stands (pageOf key 0) (record { class = pageClass; off = firstPageOff ps })
+          (ap (pageIn 0) is ∙ first-page-at ps one))
+          stands (omega arith) (omega arith) (total-fits total few)
           (one-rises n positive small) (one-fits n small)
 
       whole : length ys ≤ slabBytes pageClass
       whole = omega (arith, reads .0)
 
       mine : (block : List ℕ) → Filled pageClass ys block
-          → ChainReads (firstOff (ps ++ (new ∷ []))) (totalWith total) (length ps) (ps ++ (new ∷ [])) block
+          → ChainReads (firstPageOff (ps ++ (new ∷ []))) (totalWith total) (length ps) (ps ++ (new ∷ [])) block
       mine block f =
           rw (filled-whole pageClass ys block (reads .0) f, begun-first ps new one)
-          (reads-last (firstOff ps) (totalWith total) (length ps) noPage (ps ++ (new ∷ [])) ys (sym (length-append ps (new ∷ []))) (rw (begun-last noPage ps new) (reads .1 .0)) (reads .1 .1))
+          (reads-last (firstPageOff ps) (totalWith total) (length ps) noPage (ps ++ (new ∷ [])) ys (sym (length-append ps (new ∷ [])))
+          (rw (begun-last noPage ps new) (reads .1 .0)) (reads .1 .1))
 
-      meanwhile : Meanwhile plain key (places plain) (withHand (Filled pageClass ys) (placedContents plain key (totalWith total) (begunAt off n ps)))
+      meanwhile : Meanwhile plain key (places plain)
+          (withHand (Filled pageClass ys) (placedContents plain key (totalWith total) (begunAt off n ps)))
       meanwhile =
           let m = meanwhile-placed plain key (totalWith total) (begunAt off n ps) (Filled pageClass ys) in
           record { stand = λ j other. refl; slabs = m .slabs; pages = m .pages }
@@ -433,23 +474,28 @@ module _ (plain : PlainBook) (b : Book) (g : GoodPlain plain) (a : Agrees plain 
   unfolding beginPage growChain andThen headOf
   begun-alike =
       subst (λ (end : ℕ). Alike (andThen (beginPage end ps n (plain .space)) placing) (growChain b key n last tail)) (a .size)
-      (taken-then (λ x y. Alike (andThen x placing) y) (places plain) (inHandOf pageClass) (contentsOf plain) (length (b .space .body)) _ _ _ _ (λ number. refused-alike) go
+      (taken-then (λ x y. Alike (andThen x placing) y) (places plain) (inHandOf pageClass) (contentsOf plain) (length (b .space .body))
+      _ _ _ _ (λ number. refused-alike) go
       (take-agrees (plain .space) (b .space) (places plain) (contentsOf plain) pageClass (omega arith) (g .space)
       (rw (a .size) (in-shape (plain .size) (length (plain .keys)) shape .paged)) (a .inside shape .space)))
     where
       go : (t : PlainTaken) (u : Taken) → plainTake (length (b .space .body)) pageClass (plain .space) ≡ accepted t
           → takes pageClass (b .space) ≡ accepted u → u .off ≡ t .off
-          → length (u .space .body) ≡ length (b .space .body) → AgreesSpace (t .space) (u .space) (places plain) (some (record { class = pageClass; off = t .off })) (contentsOf plain)
+          → length (u .space .body) ≡ length (b .space .body)
+          → AgreesSpace (t .space) (u .space) (places plain) (some (record { class = pageClass; off = t .off })) (contentsOf plain)
           → Alike (placing (record { place = begunAt (t .off) n ps; space = t .space; rewritten = 0 }))
           (accepted (appending key (Extent (u .off)) 0
-          (space (overwrite (overwrite (u .space .body) last (pageBefore (pageBytes (u .space) last) (u .off))) (u .off) (lastPageOf (firstOff ps) (u .off) 1 (totalWith total) (n ∷ [])))
+          (space (overwrite (overwrite (u .space .body) last (pageBefore (pageBytes (u .space) last) (u .off))) (u .off)
+          (lastPageOf (firstPageOff ps) (u .off) 1 (totalWith total) (n ∷ [])))
           (u .space .mark) (u .space .free)) b))
       go t u took took' same long h =
           let good = good-taken (length (b .space .body)) pageClass (plain .space) (places plain) (omega arith) took (g .space) in
           let (all, kept) = begun-agrees (t .space) (u .space) (t .off) good h in
           rw same
-          (append-ends plain b key more (begunAt (t .off) n ps) (keyOf key plain .counted) (totalWith total) (Extent (t .off)) 0 (t .space) _ a shape low
-          (ap (λ (p : Page). Extent (p .off)) (begun-last noPage ps (record { off = t .off; room = lastPageRoom; part = written (n ∷ []) }))) (total-is (begunAt (t .off) n ps)) (kept ∙ long) all)
+          (append-ends plain b key more (begunAt (t .off) n ps) (keyOf key plain .counted) (totalWith total) (Extent (t .off)) 0 (t .space)
+          _ a shape low
+          (ap (λ (p : Page). Extent (p .off)) (begun-last noPage ps
+          (record { off = t .off; room = lastPageRoom; part = written (n ∷ []) }))) (total-is (begunAt (t .off) n ps)) (kept ∙ long) all)
 
   -- Both books answer alike: they judge by one test whether the number joins the last page.
   behind-alike : Alike (andThen (appendPages (plain .size) ps n (plain .space)) placing)
@@ -461,7 +507,8 @@ module _ (plain : PlainBook) (b : Book) (g : GoodPlain plain) (a : Agrees plain 
       room = last-known (plain .space) (b .space) none (a .inside shape .space) .0 .room
 
       go : (t : Bool) → joins n ps ≡ t
-          → Alike (andThen (cond t (accepted (record { place = joinedTo n ps; space = plain .space; rewritten = 0 })) (beginPage (plain .size) ps n (plain .space))) placing)
+          → Alike (andThen (cond t (accepted (record { place = joinedTo n ps; space = plain .space; rewritten = 0 }))
+          (beginPage (plain .size) ps n (plain .space))) placing)
           (appendPage b key n last tail (spotBehind (pageBytes (b .space) last) n (tail .scan)))
       go true e =
           let fits = leb-true (longer n (lastPage noPage ps .part) .bytes) (lastPage noPage ps .room) e in
@@ -479,7 +526,12 @@ unfolding appendPlace appendAt headOf
 append-pages plain b key n ps g a is =
     append-begins plain b key n g a
     (λ shape h low positive small.
-    rw (is, then-yes _ (λ (t : Tail). refuseIf (leb n (lastOf (t .scan))) offeredNotRising (appendPage b key n (lastPage noPage ps .off) t (spotBehind (pageBytes (b .space) (lastPage noPage ps .off)) n (t .scan)))) (tail-agrees plain b g shape h key ps is))
+    rw (
+      is,
+      then-yes _ (λ (t : Tail). refuseIf (leb n (lastOf (t .scan))) offeredNotRising
+          (appendPage b key n (lastPage noPage ps .off) t (spotBehind (pageBytes (b .space) (lastPage noPage ps .off)) n (t .scan))))
+          (tail-agrees plain b g shape h key ps is),
+    )
     (alike-both _ _ _ _ _ (ap (leb n) (chain key ps g is .last))
     (λ e. behind-alike plain b g a shape key n ps is low positive small
     (rw (chain key ps g is .last) at (leb-false n (lastFrom 0 (keyOf key plain .list)) e)))))

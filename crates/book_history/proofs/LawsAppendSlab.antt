@@ -50,7 +50,15 @@ use Rattle.book_history.specs.Agrees.{Agrees}
 use Rattle.book_history.proofs.LawsFrame.{block-ends}
 use Rattle.book_history.proofs.LawsStep.{Alike, refused-alike, alike-both, placedContents}
 use Rattle.book_history.proofs.LawsTake.{inHandOf, taken-then, take-agrees}
-use Rattle.book_history.proofs.LawsContent.{blocksOf, none-listed, one-listed, slab-agrees, last-written, appendLeaves, plainAppending}
+use Rattle.book_history.proofs.LawsContent.{
+  blocksOf,
+  none-listed,
+  one-listed,
+  slab-agrees,
+  last-written,
+  appendLeaves,
+  plainAppending,
+}
 use Rattle.book_history.proofs.LawsContent.{append-begins, append-ends}
 use Rattle.book_history.proofs.LawsHand.{agrees-written, withHand, Filled, filled-whole, fill-long, fill-agrees, payload-long}
 use Rattle.book_history.proofs.LawsHand.{filled-slab}
@@ -67,7 +75,8 @@ alike-cond-then true false x y go u v e yes' no' = absurd (true≢false e)
 alike-cond-then false true x y go u v e yes' no' = absurd (true≢false (sym e))
 alike-cond-then false false x y go u v e yes' no' = no' refl
 
-module _ (plain : PlainBook) (b : Book) (key n : ℕ) (g : GoodPlain plain) (a : Agrees plain b) (shape : outOfShape (plain .size) (length (plain .keys)) ≡ false)
+module _ (plain : PlainBook) (b : Book) (key n : ℕ) (g : GoodPlain plain) (a : Agrees plain b)
+    (shape : outOfShape (plain .size) (length (plain .keys)) ≡ false)
     (h : AgreesInside plain b) (low : key < length (plain .keys)) (small : n < 2 ^ 62) where
   -- the key's list, before and after
   abbrev list : List ℕ
@@ -95,12 +104,15 @@ module _ (plain : PlainBook) (b : Book) (key n : ℕ) (g : GoodPlain plain) (a :
       (withHand (Filled class ys) (placedContents plain key 0 empty)) (length (b .space .body))
   moved-space old class t u ys fits is same long good agrees =
       let f = fill-agrees (t .space) (u .space) (places plain) class (t .off) (contentsOf plain) ys fits good agrees in
-      let k = place-gone key (inHandOf class (t .off)) old (t .space) (space (overwrite (u .space .body) (t .off) ys) (u .space .mark) (u .space .free)) (places plain)
-      (withHand (Filled class ys) (contentsOf plain)) (withHand (Filled class ys) (placedContents plain key 0 empty)) is (gone-placed plain key (Filled class ys)) good f in
+      let k = place-gone key (inHandOf class (t .off)) old (t .space)
+      (space (overwrite (u .space .body) (t .off) ys) (u .space .mark) (u .space .free)) (places plain)
+      (withHand (Filled class ys) (contentsOf plain)) (withHand (Filled class ys) (placedContents plain key 0 empty)) is
+      (gone-placed plain key (Filled class ys)) good f in
       rw same
       (record {
         agrees = k .agrees;
-        size = k .size ∙ fill-long (t .space) (u .space) (places plain) class (t .off) (contentsOf plain) ys fits good agrees ∙ long ∙ sym (a .size);
+        size = k .size ∙ fill-long (t .space) (u .space) (places plain) class (t .off) (contentsOf plain) ys fits good agrees ∙ long
+            ∙ sym (a .size);
       })
 
   -- the body is some pages
@@ -120,13 +132,16 @@ module _ (plain : PlainBook) (b : Book) (key n : ℕ) (g : GoodPlain plain) (a :
       → PageReads (record { off = t .off; room = lastPageRoom; part = written grown }) block × LastReads (t .off) (length grown) block)
   unfolding has
   page-reads t u same good most rises fits =
-      let stands : isBlock pageClass (u .off) (t .space .mark) ≡ true = rw same (good .apart .stands hand (record { class = pageClass; off = t .off }) refl) in
+      let stands : isBlock pageClass (u .off) (t .space .mark) ≡ true =
+      rw same (good .apart .stands hand (record { class = pageClass; off = t .off }) refl) in
       let few = list-few key g (mark-most g shape) in
-      let (long, (p, l)) = last-written (t .space .mark) (t .off) (u .off) (u .off) 1 (length grown) grown most stands stands (omega arith) (omega arith)
+      let (long, (p, l)) = last-written (t .space .mark) (t .off) (u .off) (u .off) 1 (length grown) grown most stands stands (omega arith)
+      (omega arith)
       (omega (arith, one-more)) rises fits in (
         long,
         λ block f.
-            subst (λ (page : List ℕ). PageReads (record { off = t .off; room = lastPageRoom; part = written grown }) page × LastReads (t .off) (length grown) page)
+            subst (λ (page : List ℕ). PageReads (record { off = t .off; room = lastPageRoom; part = written grown }) page
+            × LastReads (t .off) (length grown) page)
             (sym (filled-whole pageClass (onlyPage u) block long f)) (p, subst (λ (o : ℕ). LastReads o (length grown) (onlyPage u)) same l),
       )
 
@@ -138,35 +153,47 @@ module _ (plain : PlainBook) (b : Book) (key n : ℕ) (g : GoodPlain plain) (a :
   move-alike old (some class) is rises fits q =
       let m = moves-to (length grown) (streamLen grown) q in
       let payload : length (slabPayload grown) ≤ slabBytes class = omega (arith, payload-long grown, m .fits) in
-      taken-then (λ x y. Alike (andThen x leaves) y) (places plain) (inHandOf class) (contentsOf plain) (plain .size) _ _ _ _ (λ number. refused-alike)
+      taken-then (λ x y. Alike (andThen x leaves) y) (places plain) (inHandOf class) (contentsOf plain) (plain .size) _ _ _ _
+      (λ number. refused-alike)
       (λ t u took took' same long agrees.
       let good = good-taken (plain .size) class (plain .space) (places plain) (omega (arith, m .slab)) took (g .space) in
       let k = moved-space old class t u (slabPayload grown) payload is same long good agrees in
-      append-ends plain b key grown (slab class (t .off) (written grown)) true (length grown) (Slab class (length grown) (u .off)) (length list) (freedPlace old (t .space))
+      append-ends plain b key grown (slab class (t .off) (written grown)) true (length grown) (Slab class (length grown) (u .off))
+      (length list) (freedPlace old (t .space))
       (release (blocksOf old) (filled u (slabPayload grown))) a shape low (ap (Slab class (length grown)) (sym same)) refl (k .size)
-      (placed-slab plain key (length grown) (freedPlace old (t .space)) (release (blocksOf old) (filled u (slabPayload grown))) (atKey key empty (places plain)) class (t .off) (written grown)
-      (withHand (Filled class (slabPayload grown)) (placedContents plain key 0 empty)) (meanwhile-placed plain key 0 empty (Filled class (slabPayload grown)))
+      (placed-slab plain key (length grown) (freedPlace old (t .space)) (release (blocksOf old) (filled u (slabPayload grown)))
+      (atKey key empty (places plain)) class (t .off) (written grown)
+      (withHand (Filled class (slabPayload grown)) (placedContents plain key 0 empty))
+      (meanwhile-placed plain key 0 empty (Filled class (slabPayload grown)))
       (λ block f. filled-slab class grown block rises (omega (arith, m .few)) f) (k .agrees)))
-      (rw (a .size) at (take-agrees (plain .space) (b .space) (places plain) (contentsOf plain) class (omega (arith, m .slab)) (g .space) paged (h .space)))
+      (rw (a .size) at (take-agrees (plain .space) (b .space) (places plain) (contentsOf plain) class (omega (arith, m .slab)) (g .space)
+      paged (h .space)))
   move-alike old none is rises fits q =
-      taken-then (λ x y. Alike (andThen x leaves) y) (places plain) (inHandOf pageClass) (contentsOf plain) (plain .size) _ _ _ _ (λ number. refused-alike)
+      taken-then (λ x y. Alike (andThen x leaves) y) (places plain) (inHandOf pageClass) (contentsOf plain) (plain .size) _ _ _ _
+      (λ number. refused-alike)
       (λ t u took took' same long agrees.
       let good = good-taken (plain .size) pageClass (plain .space) (places plain) (omega arith) took (g .space) in
       let (full, reads) = page-reads t u same good (omega (arith, agrees .within, agrees .small)) rises fits in
       let k = moved-space old pageClass t u (onlyPage u) (omega (arith, full)) is same long good agrees in
-      append-ends plain b key grown (pages (onePage (t .off) grown)) true (length grown) (Extent (u .off)) (length list) (freedPlace old (t .space)) (release (blocksOf old) (filled u (onlyPage u))) a shape low
+      append-ends plain b key grown (pages (onePage (t .off) grown)) true (length grown) (Extent (u .off)) (length list)
+      (freedPlace old (t .space)) (release (blocksOf old) (filled u (onlyPage u))) a shape low
       (ap Extent (sym same)) refl (k .size)
-      (placed-one plain key (length grown) (freedPlace old (t .space)) (release (blocksOf old) (filled u (onlyPage u))) (atKey key empty (places plain))
-      (record { off = t .off; room = lastPageRoom; part = written grown }) (withHand (Filled pageClass (onlyPage u)) (placedContents plain key 0 empty))
+      (placed-one plain key (length grown) (freedPlace old (t .space)) (release (blocksOf old) (filled u (onlyPage u)))
+      (atKey key empty (places plain))
+      (record { off = t .off; room = lastPageRoom; part = written grown })
+      (withHand (Filled pageClass (onlyPage u)) (placedContents plain key 0 empty))
       (meanwhile-placed plain key 0 empty (Filled pageClass (onlyPage u))) reads (k .agrees)))
-      (rw (a .size) at (take-agrees (plain .space) (b .space) (places plain) (contentsOf plain) pageClass (omega arith) (g .space) paged (h .space)))
+      (rw (a .size) at (take-agrees (plain .space) (b .space) (places plain) (contentsOf plain) pageClass (omega arith) (g .space) paged
+      (h .space)))
 
   -- It moves to the class for it, where the bytes hold the list.
   moves-alike : (old : Place) (ns : List ℕ) → ns ≡ list → places plain key ≡ old → lastFrom 0 list < n → streamLen grown ≤ lastPageRoom
-      → Alike (andThen (moved (plain .size) (movesTo (length grown) (streamLen grown)) (length list) grown old (plain .space)) leaves) (moves b key ns n (blocksOf old))
+      → Alike (andThen (moved (plain .size) (movesTo (length grown) (streamLen grown)) (length list) grown old (plain .space)) leaves)
+      (moves b key ns n (blocksOf old))
   unfolding moves
   moves-alike old ns same is above fits =
-      subst (λ (l : List ℕ). Alike (andThen (moved (plain .size) (movesTo (length grown) (streamLen grown)) (length list) grown old (plain .space)) leaves) (moves b key l n (blocksOf old)))
+      subst (λ (l : List ℕ). Alike (andThen (moved (plain .size) (movesTo (length grown) (streamLen grown)) (length list) grown old
+      (plain .space)) leaves) (moves b key l n (blocksOf old)))
       (sym same)
       (move-alike old (movesTo (length grown) (streamLen grown)) is (rises-snoc (2 ^ 62) list n (g .keys key .rises) above small) fits refl)
 
@@ -220,7 +247,8 @@ module _ (plain : PlainBook) (b : Book) (key n : ℕ) (g : GoodPlain plain) (a :
 
       -- the slab has as many bytes then
       after-long : length after ≡ slabBytes class
-      after-long = slab-with-long before (length (kept .numbers)) (kept .bytes) (n - lastFrom 0 (kept .numbers)) (rw before-long room) ∙ before-long
+      after-long = slab-with-long before (length (kept .numbers)) (kept .bytes) (n - lastFrom 0 (kept .numbers)) (rw before-long room)
+          ∙ before-long
 
       -- The slab reads as what it kept, with the number behind.
       after-reads : SlabReads (longer n kept) after
@@ -229,26 +257,32 @@ module _ (plain : PlainBook) (b : Book) (key n : ℕ) (g : GoodPlain plain) (a :
           let r : SlabReads kept before = subst (λ (p : Place). SlabIn p before) is (h .space .stored (slabOf key) y mine) in
           let over : lastFrom 0 (kept .numbers) < n = rw keeps above in
           let few = stays-holds class (length grown) (longer n kept .bytes) stay .0 in
-          let m = slab-more before (length (kept .numbers)) n (scanOf kept) (record { counts = r .used; reads = r .reads }) over (omega arith) (rw before-long room)
+          let m = slab-more before (length (kept .numbers)) n (scanOf kept) (record { counts = r .used; reads = r .reads }) over
+          (omega arith) (rw before-long room)
           (omega (arith, numbers-more)) in
           let count : length (kept .numbers ++ (n ∷ [])) ≡ length (kept .numbers) + 1 = length-append (kept .numbers) (n ∷ []) in
           record { used = rw count (m .counts); reads = rw count (m .reads) }
 
       -- The spaces agree once it is written.
-      stay-space : AgreesSpace (plain .space) (space (overwrite (b .space .body) off after) (b .space .mark) (b .space .free)) (atKey key (slab class off (longer n kept)) (places plain)) none
+      stay-space : AgreesSpace (plain .space) (space (overwrite (b .space .body) off after) (b .space .mark) (b .space .free))
+          (atKey key (slab class off (longer n kept)) (places plain)) none
           (placedContents plain key (length grown) (slab class off (longer n kept)))
       unfolding has
       stay-space =
-          agrees-written (plain .space) (b .space) (places plain) (atKey key (slab class off (longer n kept)) (places plain)) none none (contentsOf plain)
-          (placedContents plain key (length grown) (slab class off (longer n kept))) (slabOf key) y after (g .space) mine after-long to (h .space)
+          agrees-written (plain .space) (b .space) (places plain) (atKey key (slab class off (longer n kept)) (places plain)) none none
+          (contentsOf plain)
+          (placedContents plain key (length grown) (slab class off (longer n kept))) (slabOf key) y after (g .space) mine after-long to
+          (h .space)
         where
           others : OthersKept key (contentsOf plain) (placedContents plain key (length grown) (slab class off (longer n kept)))
-          others = others-kept plain key (places plain) (contentsOf plain) (meanwhile-first plain key (λ block. Unit {0})) (length grown) (slab class off (longer n kept))
+          others = others-kept plain key (places plain) (contentsOf plain) (meanwhile-first plain key (λ block. Unit {0})) (length grown)
+              (slab class off (longer n kept))
 
           to : (v : Owner) (x : Block) → has (plain .space) (atKey key (slab class off (longer n kept)) (places plain)) none v ≡ some x
               → ((x ≡ y) × BlockReads (plain .space) (placedContents plain key (length grown) (slab class off (longer n kept))) v after)
               ⊎ ((u : Owner) × (u ≢ slabOf key) × (has (plain .space) (places plain) none u ≡ some x)
-              × ((block : List ℕ) → BlockReads (plain .space) (contentsOf plain) u block → BlockReads (plain .space) (placedContents plain key (length grown) (slab class off (longer n kept))) v block))
+              × ((block : List ℕ) → BlockReads (plain .space) (contentsOf plain) u block
+              → BlockReads (plain .space) (placedContents plain key (length grown) (slab class off (longer n kept))) v block))
           to hand x e = absurd (none-some e)
           to (stack k d) x e = inr (stack k d, λ q. (let z = ap kindOf q in omega arith), e, λ block r. r)
           to (slabOf j) x e =
@@ -263,13 +297,16 @@ module _ (plain : PlainBook) (b : Book) (key n : ℕ) (g : GoodPlain plain) (a :
               (key-page key (slab class off (longer n kept)) (places plain) j i x e)
 
     -- The list stays in its slab, or moves out of it, in both books.
-    slab-alike : Alike (andThen (appendPlace (plain .size) (length list) grown n (slab class off kept) (plain .space)) leaves) (appendSlab b key n class off (scanOf kept))
+    slab-alike : Alike (andThen (appendPlace (plain .size) (length list) grown n (slab class off kept) (plain .space)) leaves)
+        (appendSlab b key n class off (scanOf kept))
     unfolding appendPlace appendSlab andThen headOf longer
     slab-alike =
         alike-cond-then _ _ _ _ leaves _ _ (ap (λ (m : ℕ). stays class m (longer n kept .bytes)) (sym numbers-more))
         (λ e.
-        append-ends plain b key grown (slab class off (longer n kept)) true (length grown) (Slab class (length (kept .numbers) + 1) off) 0 (plain .space)
-        (space (overwrite (b .space .body) off after) (b .space .mark) (b .space .free)) a shape low (ap (λ (m : ℕ). Slab class m off) (sym numbers-more)) refl
+        append-ends plain b key grown (slab class off (longer n kept)) true (length grown) (Slab class (length (kept .numbers) + 1) off) 0
+        (plain .space)
+        (space (overwrite (b .space .body) off after) (b .space .mark) (b .space .free)) a shape low
+        (ap (λ (m : ℕ). Slab class m off) (sym numbers-more)) refl
         (length-overwrite (b .space .body) off after (rw (after-long e) ends)) (stay-space e))
         (λ e. moves-alike (slab class off kept) (kept .numbers) keeps is above fits-page)
 
@@ -277,14 +314,17 @@ module _ (plain : PlainBook) (b : Book) (key n : ℕ) (g : GoodPlain plain) (a :
 
   -- Once the number is known to be above the key's last, the two books go on alike, by the key's place.
   place-alike : (place : Place) → places plain key ≡ place → ((ps : List Page) → place ≢ pages ps) → 0 < n
-      → Alike (refuseIf (leb n (lastFrom 0 list)) offeredNotRising (andThen (appendPlace (plain .size) (length list) grown n place (plain .space)) leaves))
+      → Alike (refuseIf (leb n (lastFrom 0 list)) offeredNotRising
+      (andThen (appendPlace (plain .size) (length list) grown n place (plain .space)) leaves))
       (appendAt b key n (headOf list place))
   unfolding appendPlace appendAt headOf andThen Fits lastFrom
   place-alike empty is other some' =
       let none' : [] ≡ list = none-listed list (subst (Fits list) is (g .keys key .fits)) in
       rw (refuse-no _ offeredNotRising _ (ap (λ (l : List ℕ). leb n (lastFrom 0 l)) (sym none') ∙ lt-leb n 0 some'))
-      (append-ends plain b key grown inline true (length grown) (Inline n 1) 0 (plain .space) (b .space) a shape low (ap (λ (l : List ℕ). Inline (lastFrom 0 (l ++ (n ∷ []))) 1) (sym none')) refl refl
-      (placed-bare plain key (length grown) (plain .space) (b .space) (places plain) inline (contentsOf plain) refl (λ i. refl) (meanwhile-first plain key (λ block. Unit {0})) (h .space)))
+      (append-ends plain b key grown inline true (length grown) (Inline n 1) 0 (plain .space) (b .space) a shape low
+      (ap (λ (l : List ℕ). Inline (lastFrom 0 (l ++ (n ∷ []))) 1) (sym none')) refl refl
+      (placed-bare plain key (length grown) (plain .space) (b .space) (places plain) inline (contentsOf plain) refl (λ i. refl)
+      (meanwhile-first plain key (λ block. Unit {0})) (h .space)))
   place-alike inline is other some' =
       let one : length list ≡ 1 = subst (Fits list) is (g .keys key .fits) in
       alike-both _ _ _ _ _ refl
@@ -294,7 +334,8 @@ module _ (plain : PlainBook) (b : Book) (key n : ℕ) (g : GoodPlain plain) (a :
   place-alike (slab class off kept) is other some' =
       let same : kept .numbers ≡ list = subst (Fits list) is (g .keys key .fits) .0 in
       rw (then-yes _ _ (slab-agrees plain b g shape h key class off kept is))
-      (alike-both _ _ _ _ _ (ap (λ (l : List ℕ). leb n (lastFrom 0 l)) (sym same)) (λ e. slab-alike class off kept is (leb-false n (lastFrom 0 list) e)))
+      (alike-both _ _ _ _ _ (ap (λ (l : List ℕ). leb n (lastFrom 0 l)) (sym same))
+      (λ e. slab-alike class off kept is (leb-false n (lastFrom 0 list) e)))
   place-alike (pages ps) is other some' = absurd (other ps refl)
 
 -- A key without pages is counted after an append.
@@ -306,7 +347,8 @@ counted-unpaged (pages ps) counted other = absurd (other ps refl)
 
 -- The two books answer an append alike, where they do so for a key in pages.
 pub append-step : (plain : PlainBook) (b : Book) (key n : ℕ) → GoodPlain plain → Agrees plain b
-    → ((ps : List Page) → keyOf key plain .place ≡ pages ps → Alike (plainAppends plain key n) (appends b key n)) → Alike (plainAppends plain key n) (appends b key n)
+    → ((ps : List Page) → keyOf key plain .place ≡ pages ps → Alike (plainAppends plain key n) (appends b key n))
+    → Alike (plainAppends plain key n) (appends b key n)
 append-step plain b key n g a in-pages = go (keyOf key plain .place) refl
   where
     begun : (place : Place) → keyOf key plain .place ≡ place → ((ps : List Page) → place ≢ pages ps)

@@ -23,12 +23,27 @@ use Rattle.scripthash_free.proofs.LawsBlock.{block-stands}
 use Rattle.book_rules.specs.Calls.{read, appended}
 use Rattle.book_limits.specs.Limits.{outOfShape}
 use Rattle.plain_book.specs.Space.{Space as PlainSpace}
-use Rattle.plain_book.specs.Key.{Kept, written, Page, Place, empty, inline, slab, pages, lastPage, noPage, totalOf, headOf, pagesOf, countedAfter}
+use Rattle.plain_book.specs.Key.{
+  Kept,
+  written,
+  Page,
+  Place,
+  empty,
+  inline,
+  slab,
+  pages,
+  lastPage,
+  noPage,
+  totalOf,
+  headOf,
+  pagesOf,
+  countedAfter,
+}
 use Rattle.plain_book.specs.Key.{Placed, appendPlace}
 use Rattle.plain_book.specs.Book.{Book as PlainBook, Outcome as PlainOutcome, keyOf, withKey, extended, appends as plainAppends}
 use Rattle.plain_book.specs.Book.{reads as plainReads, does as plainDoes}
 use Rattle.plain_book.specs.Sound.{held, FitsPage, FitPages, RisesFrom, Fits}
-use Rattle.plain_book.specs.Owners.{pageOf, slabOf, slabAt, pageAt, pageIn, has, places}
+use Rattle.plain_book.specs.Owners.{pageOf, slabOf, slabAt, pageNo, pageIn, has, places}
 use Rattle.plain_book.specs.Good.{GoodPlain}
 use Rattle.plain_book.proofs.LawsHeads.{head-told}
 use Rattle.plain_book.proofs.LawsOwners.{depthOf, atKey}
@@ -36,7 +51,7 @@ use Rattle.plain_book.proofs.LawsChain.{pages-few, mark-most, list-few, last-an
 use Rattle.plain_book.proofs.LawsSound.{rising-below}
 use Rattle.plain_book.proofs.LawsTotals.{total-most}
 use Rattle.book_space.specs.Space.{Space}
-use Rattle.book_keys.specs.Keys.{soundly, sure, goOn, goodExtent, blockAt, slabScan, linkScan, lastAt, linked, walk, totalGood, chainAt}
+use Rattle.book_keys.specs.Keys.{soundly, sure, goOn, goodExtent, blockAt, slabScan, linkScan, lastAt, pageThen, walk, totalGood, chainAt}
 use Rattle.book_keys.specs.Keys.{pageBlocks, contentAt, content, createsGood, tailAt}
 use Rattle.book_keys.specs.Keys.{pageAt as pageBytes}
 use Rattle.book_blocks.specs.Blocks.{lastPageOf, totalWith}
@@ -46,7 +61,7 @@ use Rattle.book.specs.Book.{Book, wordOf}
 use Rattle.book.specs.Appends.{appending, appendAt, appends}
 use Rattle.book.specs.Reads.{reads}
 use Rattle.book.specs.Calls.{does}
-use Rattle.book_history.specs.Agrees.{scanOf, SlabIn, PageIn, SlabReads, PageReads, LastReads, ChainReads, firstOff, AgreesSpace}
+use Rattle.book_history.specs.Agrees.{scanOf, SlabIn, PageIn, SlabReads, PageReads, LastReads, ChainReads, firstPageOff, AgreesSpace}
 use Rattle.book_history.specs.Agrees.{AgreesInside, Agrees}
 use Rattle.book_history.proofs.LawsWords.{stored-told}
 use Rattle.book_history.proofs.LawsStep.{Alike, told-alike, alike-both, alike-on-key, alike-offered, placedContents, agrees-placed}
@@ -72,7 +87,8 @@ rising-goes-on prev (n ∷ ns) (a, b, r) l = rw (lt-ltb prev n a, lt-ltb (lastFr
 -- A slab that stands below the mark and reads as a kept stream gives it.
 slab-scans : (s : Space) (class off : ℕ) (kept : Kept) → class ≤ maxSlabClass → isBlock class off (s .mark) ≡ true
     → length (kept .numbers) ≤ maxSlabCount
-    → SlabReads kept (blockAt s class off) → goOn 0 (kept .numbers) ≡ true → slabScan s class (length (kept .numbers)) off ≡ accepted (scanOf kept)
+    → SlabReads kept (blockAt s class off) → goOn 0 (kept .numbers) ≡ true → slabScan s class (length (kept .numbers)) off
+    ≡ accepted (scanOf kept)
 unfolding slabScan
 slab-scans s class off kept c stands few r go =
     sure-yes _ _ (rw (le-leb class maxSlabClass c, stands))
@@ -111,18 +127,21 @@ pub record Stands (s : Space) (first creates last i : ℕ) (ps : List Page) (off
 walks : (k : ℕ) (s : Space) (first creates last prev : ℕ) (page : Page) (ps : List Page) → length ps ≤ k → lastPage page ps .off ≡ last
     → FitPages ps
     → RisesFrom prev ps
-    → ((i off : ℕ) → pageAt i ps ≡ some (record { class = pageClass; off = off }) → Stands s first creates last i ps off)
-    → walk k s last prev (firstOff ps) ≡ accepted (record { numbers = held ps; offs = offsOf ps })
-unfolding walk FitPages RisesFrom held offsOf pageAt ChainReads lastPage linked
+    → ((i off : ℕ) → pageNo i ps ≡ some (record { class = pageClass; off = off }) → Stands s first creates last i ps off)
+    → walk k s last prev (firstPageOff ps) ≡ accepted (record { numbers = held ps; offs = offsOf ps })
+unfolding walk FitPages RisesFrom held offsOf pageNo ChainReads lastPage pageThen
 walks k s first creates last prev page [] few is fit rises at = absurd fit
 walks zero s first creates last prev page (p ∷ ps) few is fit rises at = absurd (omega arith)
 walks (suc k) s first creates last prev page (p ∷ []) few is fit (some', rises, rest) at =
     let h = at 0 (p .off) refl in
-    then-yes _ _ (link-scans s prev (p .off) p (h .block) (h .reads .0) rises some') ∙ rw (eq-eqb (p .off) last is, append-nil (p .part .numbers))
+    then-yes _ _ (link-scans s prev (p .off) p (h .block) (h .reads .0) rises some')
+    ∙ rw (eq-eqb (p .off) last is, append-nil (p .part .numbers))
 walks (suc k) s first creates last prev page (p ∷ q ∷ ps) few is (fit, fits) (some', rises, rest) at =
     let h = at 0 (p .off) refl in
-    let others = walks k s first creates last (lastFrom prev (p .part .numbers)) p (q ∷ ps) (omega arith) is fits (rw (last-any prev 0 (p .part .numbers) some') rest)
-    (λ i off e. let z = at (suc i) off e in record { block = z .block; reads = z .reads; only = λ w. (let v = z .only w in omega arith) }) in
+    let others = walks k s first creates last (lastFrom prev (p .part .numbers)) p (q ∷ ps) (omega arith) is fits
+    (rw (last-any prev 0 (p .part .numbers) some') rest)
+    (λ i off e. let z = at (suc i) off e in record { block = z .block; reads = z .reads; only = λ w. (let v = z .only w in omega arith) })
+    in
     then-yes _ _ (link-scans s prev (p .off) p (h .block) (h .reads .0) rises some')
     ∙ rw (ne-eqb (p .off) last (λ e. let z = h .only e in omega arith))
     (sure-yes _ _ (ap not (h .reads .1 .more)) ∙ then-yes _ _ (rw (h .reads .1 .next) others))
@@ -141,8 +160,8 @@ some-pages (p ∷ ps) f = omega arith
 
 -- The last of some pages is at the last index.
 pub last-page-at : (i : ℕ) (page : Page) (ps : List Page) → i + 1 ≡ length ps
-    → pageAt i ps ≡ some (record { class = pageClass; off = lastPage page ps .off })
-unfolding pageAt lastPage
+    → pageNo i ps ≡ some (record { class = pageClass; off = lastPage page ps .off })
+unfolding pageNo lastPage
 last-page-at i page [] e = absurd (omega arith)
 last-page-at zero page (p ∷ []) e = refl
 last-page-at zero page (p ∷ q ∷ ps) e = absurd (omega arith)
@@ -212,7 +231,8 @@ one-listed [] e = absurd (omega arith)
 one-listed (n ∷ []) e = refl
 one-listed (n ∷ m ∷ ns) e = absurd (omega arith)
 
-module _ (plain : PlainBook) (b : Book) (g : GoodPlain plain) (shape : outOfShape (plain .size) (length (plain .keys)) ≡ false) (h : AgreesInside plain b) (key : ℕ) where
+module _ (plain : PlainBook) (b : Book) (g : GoodPlain plain) (shape : outOfShape (plain .size) (length (plain .keys)) ≡ false)
+    (h : AgreesInside plain b) (key : ℕ) where
   -- A key's head word tells its place.
   pub head-agrees : unpackHead (wordOf key b) ≡ accepted (headOf (keyOf key plain .list) (keyOf key plain .place))
   head-agrees = h .heads key ∙ stored-told (head-told key g (mark-most g shape))
@@ -224,14 +244,16 @@ module _ (plain : PlainBook) (b : Book) (g : GoodPlain plain) (shape : outOfShap
   slab-read class off kept is =
       let (same, shortest, c, two, few, bytes) = rw is at (g .keys key .fits) in
       rw (← same)
-      (slab-scans (b .space) class off kept c (rw (h .space .mark) (g .space .apart .stands (slabOf key) (record { class = class; off = off }) (ap slabAt is)))
-      (rw same few) (subst (λ (p : Place). SlabIn p (blockAt (b .space) class off)) is (h .space .stored (slabOf key) (record { class = class; off = off }) (ap slabAt is)))
+      (slab-scans (b .space) class off kept c (rw (h .space .mark)
+      (g .space .apart .stands (slabOf key) (record { class = class; off = off }) (ap slabAt is)))
+      (rw same few) (subst (λ (p : Place). SlabIn p (blockAt (b .space) class off)) is
+      (h .space .stored (slabOf key) (record { class = class; off = off }) (ap slabAt is)))
       (rising-goes-on 0 (kept .numbers) (rw same (g .keys key .rises)) (rw same (omega arith))))
 
   -- What is known of the pages of a key.
   pub chain-page : (ps : List Page) → keyOf key plain .place ≡ pages ps → (i off : ℕ)
-      → pageAt i ps ≡ some (record { class = pageClass; off = off })
-      → Stands (b .space) (firstOff ps) (totalOf (keyOf key plain)) (lastPage noPage ps .off) i ps off
+      → pageNo i ps ≡ some (record { class = pageClass; off = off })
+      → Stands (b .space) (firstPageOff ps) (totalOf (keyOf key plain)) (lastPage noPage ps .off) i ps off
   unfolding has
   chain-page ps is i off e =
       record {
@@ -241,7 +263,7 @@ module _ (plain : PlainBook) (b : Book) (g : GoodPlain plain) (shape : outOfShap
         only = only (eqb (i + 1) (length ps)) refl;
       }
     where
-      mine : (j o : ℕ) → pageAt j ps ≡ some (record { class = pageClass; off = o })
+      mine : (j o : ℕ) → pageNo j ps ≡ some (record { class = pageClass; off = o })
           → has (plain .space) (places plain) none (pageOf key j) ≡ some (record { class = pageClass; off = o })
       mine j o e = ap (pageIn j) is ∙ e
 
@@ -254,7 +276,8 @@ module _ (plain : PlainBook) (b : Book) (g : GoodPlain plain) (shape : outOfShap
           absurd
           (⊎-elim (λ d. omega arith) (λ d. omega arith)
           (g .space .apart .apart (pageOf key i) (pageOf key (length ps - 1)) _ _
-          (λ (z : pageOf key i ≡ pageOf key (length ps - 1)). other (let y = ap depthOf z in omega arith)) (mine i off e) (mine (length ps - 1) (lastPage noPage ps .off) at-last)))
+          (λ (z : pageOf key i ≡ pageOf key (length ps - 1)). other (let y = ap depthOf z in omega arith)) (mine i off e)
+          (mine (length ps - 1) (lastPage noPage ps .off) at-last)))
 
   -- As an append looks at it, a key's slab reads as what it keeps.
   pub slab-agrees : (class off : ℕ) (kept : Kept) → keyOf key plain .place ≡ slab class off kept
@@ -273,29 +296,34 @@ module _ (plain : PlainBook) (b : Book) (g : GoodPlain plain) (shape : outOfShap
 
   -- The header of a key's last page.
   last-told : (ps : List Page) → keyOf key plain .place ≡ pages ps
-      → lastAt (b .space) (lastPage noPage ps .off) ≡ accepted (record { first = firstOff ps; creates = totalOf (keyOf key plain) })
+      → lastAt (b .space) (lastPage noPage ps .off) ≡ accepted (record { first = firstPageOff ps; creates = totalOf (keyOf key plain) })
   last-told ps is =
       let one = some-pages ps (chain key ps g is .fit) in
       let k = chain-page ps is (length ps - 1) (lastPage noPage ps .off) (last-page-at (length ps - 1) noPage ps (omega arith)) in
-      last-header (b .space) (lastPage noPage ps .off) (firstOff ps) (totalOf (keyOf key plain)) (k .block)
-      (last-reads (firstOff ps) (totalOf (keyOf key plain)) (length ps - 1) noPage ps _ (omega arith) (k .reads) .1)
+      last-header (b .space) (lastPage noPage ps .off) (firstPageOff ps) (totalOf (keyOf key plain)) (k .block)
+      (last-reads (firstPageOff ps) (totalOf (keyOf key plain)) (length ps - 1) noPage ps _ (omega arith) (k .reads) .1)
 
   -- As an append looks at it, a key's last page reads as its part of the list, with the first page's offset and the key's total.
   pub tail-agrees : (ps : List Page) → keyOf key plain .place ≡ pages ps
       → soundly (tailAt (b .space) (lastPage noPage ps .off))
-      ≡ accepted (record { scan = scanOf (lastPage noPage ps .part); last = record { first = firstOff ps; creates = totalOf (keyOf key plain) } })
+      ≡ accepted (record {
+        scan = scanOf (lastPage noPage ps .part);
+        last =
+            record { first = firstPageOff ps; creates = totalOf (keyOf key plain) };
+      })
   unfolding tailAt createsGood
   tail-agrees ps is =
       let c = chain key ps g is in
       let one = some-pages ps (c .fit) in
       let fit = last-fits noPage ps (c .fit) .0 in
       let k = chain-page ps is (length ps - 1) (lastPage noPage ps .off) (last-page-at (length ps - 1) noPage ps (omega arith)) in
-      let r = last-reads (firstOff ps) (totalOf (keyOf key plain)) (length ps - 1) noPage ps _ (omega arith) (k .reads) .0 in
+      let r = last-reads (firstPageOff ps) (totalOf (keyOf key plain)) (length ps - 1) noPage ps _ (omega arith) (k .reads) .0 in
       soundly-yes _
       (then-yes _ _ (last-told ps is)
       ∙ sure-yes _ _
       (lt-ltb (totalOf (keyOf key plain)) (2 ^ 32 - 1) (omega (arith, total-most (keyOf key plain), list-few key g (mark-most g shape))))
-      ∙ then-yes _ _ (link-scans (b .space) 0 (lastPage noPage ps .off) (lastPage noPage ps) (k .block) r (last-rises 0 noPage ps (c .fit) (c .rises)) (fit .0)))
+      ∙ then-yes _ _ (link-scans (b .space) 0 (lastPage noPage ps .off) (lastPage noPage ps) (k .block) r
+      (last-rises 0 noPage ps (c .fit) (c .rises)) (fit .0)))
 
   -- A key's chain gives its list, and its pages' offsets.
   chain-agrees : (ps : List Page) → keyOf key plain .place ≡ pages ps
@@ -304,13 +332,15 @@ module _ (plain : PlainBook) (b : Book) (g : GoodPlain plain) (shape : outOfShap
   chain-agrees ps is =
       let c = chain key ps g is in
       then-yes _ _ (last-told ps is)
-      ∙ then-yes _ _ (walks (b .space .mark / pageSize) (b .space) (firstOff ps) (totalOf (keyOf key plain)) (lastPage noPage ps .off) 0 noPage ps
+      ∙ then-yes _ _ (walks (b .space .mark / pageSize) (b .space) (firstPageOff ps) (totalOf (keyOf key plain)) (lastPage noPage ps .off)
+      0 noPage ps
       (rw (h .space .mark) (pages-few key ps g is)) refl (c .fit) (c .rises) (chain-page ps is))
       ∙ rw (c .holds) (sure-yes _ _ (total-good (keyOf key plain .counted) (length (keyOf key plain .list))))
 
   -- What the place that a key's head word tells holds.
   place-agrees : (place : Place) → keyOf key plain .place ≡ place
-      → contentAt (b .space) (headOf (keyOf key plain .list) place) ≡ accepted (record { numbers = keyOf key plain .list; blocks = blocksOf place; pages = pagesOf place })
+      → contentAt (b .space) (headOf (keyOf key plain .list) place)
+      ≡ accepted (record { numbers = keyOf key plain .list; blocks = blocksOf place; pages = pagesOf place })
   unfolding contentAt headOf Fits
   place-agrees empty is =
       let e : length (keyOf key plain .list) ≡ 0 = rw is at (g .keys key .fits) in
@@ -325,7 +355,12 @@ module _ (plain : PlainBook) (b : Book) (g : GoodPlain plain) (shape : outOfShap
 
   -- A key holds its list, in its place's blocks.
   pub content-agrees : content (b .space) (wordOf key b)
-      ≡ accepted (record { numbers = keyOf key plain .list; blocks = blocksOf (keyOf key plain .place); pages = pagesOf (keyOf key plain .place) })
+      ≡ accepted (record {
+        numbers = keyOf key plain .list;
+        blocks = blocksOf (keyOf key plain .place);
+        pages =
+            pagesOf (keyOf key plain .place);
+      })
   unfolding content
   content-agrees = soundly-yes _ (then-yes _ _ head-agrees ∙ place-agrees (keyOf key plain .place) refl)
 
@@ -346,8 +381,10 @@ read-step plain b key room g a =
 -- A last page as it is written, with a first page and an extent base that stand below the mark, is a whole page, and reads as a last page.
 pub last-written : (mark off first base extents creates : ℕ) (ns : List ℕ) → mark ≤ 2 ^ 30 → isBlock pageClass first mark ≡ true
     → isBlock pageClass base mark ≡ true
-    → 0 < extents → extents < 2 ^ 32 → creates < 2 ^ 32 → Rising (2 ^ 62) 0 ns → streamLen ns ≤ lastPageRoom → let page = lastPageOf first base extents creates ns in
-    (length page ≡ pageSize) × (PageReads (record { off = off; room = lastPageRoom; part = written ns }) page × LastReads first creates page)
+    → 0 < extents → extents < 2 ^ 32 → creates < 2 ^ 32 → Rising (2 ^ 62) 0 ns → streamLen ns ≤ lastPageRoom → let page =
+    lastPageOf first base extents creates ns in
+    (length page ≡ pageSize) × (PageReads (record { off = off; room = lastPageRoom; part = written ns }) page
+    × LastReads first creates page)
 unfolding written goodExtent
 last-written mark off first base extents creates ns high f b some' few low rises fits =
     let s = block-stands pageClass first mark f in
@@ -357,9 +394,22 @@ last-written mark off first base extents creates ns high f b some' few low rises
     let ta = t .aligned in
     let te = t .ends in
     let tb = t .begins in
-    let r = last-page-reads first base extents creates ns (rising-below (2 ^ 62) (2 ^ 63) 0 ns (omega arith) rises) fits sa (omega arith) (omega arith) ta
-    (λ (z : base ≡ 0). omega arith) some' few low in
-    (r .long, (record { reads = r .scans; room = r .room }, record { extent = r .names; last = r .last; first = r .from; good = r .extent; creates = r .counts }))
+    let r = last-page-reads first base extents creates ns (rising-below (2 ^ 62) (2 ^ 63) 0 ns (omega arith) rises) fits sa (omega arith)
+    (omega arith) ta
+    (λ (z : base ≡ 0). omega arith) some' few low in (
+      r .long,
+      (
+        record { reads = r .scans; room = r .room },
+        record {
+          extent = r .names;
+          last = r .last;
+          first = r .from;
+          good =
+              r .extent;
+          creates = r .counts;
+        },
+      ),
+    )
 
 -- ---- an append, up to where the key's place decides
 
@@ -375,13 +425,15 @@ appendLeaves plain key n counted p =
 -- What a plain book's append does once the number is known to be above the key's last.
 abbrev pub plainAppending : PlainBook → ℕ → ℕ → Bool → Answer PlainOutcome
 plainAppending plain key n counted =
-    andThen (appendPlace (plain .size) (length (keyOf key plain .list)) (extended (keyOf key plain .list) n) n (keyOf key plain .place) (plain .space))
+    andThen (appendPlace (plain .size) (length (keyOf key plain .list)) (extended (keyOf key plain .list) n) n (keyOf key plain .place)
+    (plain .space))
     (appendLeaves plain key n counted)
 
 -- The two books answer an append alike, where they do so once the key's place is known.
 pub append-begins : (plain : PlainBook) (b : Book) (key n : ℕ) → GoodPlain plain → Agrees plain b
     → (outOfShape (plain .size) (length (plain .keys)) ≡ false → AgreesInside plain b → key < length (plain .keys) → 0 < n → n < 2 ^ 62
-    → Alike (refuseIf (leb n (lastFrom 0 (keyOf key plain .list))) offeredNotRising (plainAppending plain key n (countedAfter (keyOf key plain .place) (keyOf key plain .counted))))
+    → Alike (refuseIf (leb n (lastFrom 0 (keyOf key plain .list))) offeredNotRising
+    (plainAppending plain key n (countedAfter (keyOf key plain .place) (keyOf key plain .counted))))
     (appendAt b key n (headOf (keyOf key plain .list) (keyOf key plain .place))))
     → Alike (plainAppends plain key n) (appends b key n)
 unfolding plainAppends appends
@@ -392,12 +444,17 @@ append-begins plain b key n g a go =
     (λ some' small. rw (then-yes _ (appendAt b key n) (soundly-yes _ (head-agrees plain b g shape h key))) (go shape h low some' small)))
 
 -- The two books end an append alike: the key gets its longer list and its place in both, and the spaces agree.
-pub append-ends : (plain : PlainBook) (b : Book) (key : ℕ) (list : List ℕ) (place : Place) (counted : Bool) (total : ℕ) (value : ShHeadValue) (rewritten : ℕ) (inside : PlainSpace)
+pub append-ends : (plain : PlainBook) (b : Book) (key : ℕ) (list : List ℕ) (place : Place) (counted : Bool) (total : ℕ)
+    (value : ShHeadValue) (rewritten : ℕ) (inside : PlainSpace)
     (s : Space) → Agrees plain b
     → outOfShape (plain .size) (length (plain .keys)) ≡ false → key < length (plain .keys) → headOf list place ≡ value
     → totalOf (record { list = list; place = place; counted = counted }) ≡ total → length (s .body) ≡ length (b .space .body)
     → AgreesSpace inside s (atKey key place (places plain)) none (placedContents plain key total place)
-    → Alike (accepted (record { told = appended (record { place = headOf list place; rewritten = rewritten }); book = withKey key list place counted inside plain }))
+    → Alike (accepted (record {
+      told = appended (record { place = headOf list place; rewritten = rewritten });
+      book =
+          withKey key list place counted inside plain;
+    }))
     (accepted (appending key value rewritten s b))
 append-ends plain b key list place counted total value rewritten inside s a shape low is told long h =
     let placed : AgreesSpace inside s (atKey key place (places plain)) none

@@ -18,7 +18,7 @@ use Rattle.book_rules.specs.Calls.{drop}
 use Rattle.plain_book.specs.Space.{Space as PlainSpace, freed}
 use Rattle.plain_book.specs.Key.{Page, Place, empty, inline, slab, pages, headOf, freedPages, freedPlace}
 use Rattle.plain_book.specs.Book.{Book as PlainBook, drops as plainDrops, does as plainDoes}
-use Rattle.plain_book.specs.Owners.{Owner, hand, stack, slabOf, pageOf, pageAt, slabAt, pageIn, has, places}
+use Rattle.plain_book.specs.Owners.{Owner, hand, stack, slabOf, pageOf, pageNo, slabAt, pageIn, has, places}
 use Rattle.plain_book.specs.Good.{Good, GoodPlain}
 use Rattle.plain_book.proofs.LawsOwners.{none-some, kindOf, depthOf, atKey, key-slab, key-page, good-first-freed}
 use Rattle.book_space.specs.Space.{Space, release}
@@ -74,7 +74,8 @@ module _ (key : ℕ) (held : Option Block) where
   slab-gone plain s at c c' class off is k g a =
       let st = g .apart .stands (slabOf key) (record { class = class; off = off }) is in
       record {
-        agrees = push-agrees plain s at (atKey key empty at) held held c c' (slabOf key) class off (block-stands class off (plain .mark) st .class-to-8) g a
+        agrees = push-agrees plain s at (atKey key empty at) held held c c' (slabOf key) class off
+            (block-stands class off (plain .mark) st .class-to-8) g a
             (λ i d q. (let z = ap kindOf q in omega arith)) is to;
         size = release-long class off s (omega (arith, block-ends (record { class = class; off = off }) (plain .mark) st, a .within));
       }
@@ -84,24 +85,31 @@ module _ (key : ℕ) (held : Option Block) where
       to hand x n e = (hand, λ q. (let z = ap kindOf q in omega arith), e, λ block r. k .inHand block r)
       to (stack i d) x n e = absurd (n i d refl)
       to (slabOf j) x n e =
-          ⊎-elim (λ (is, f). absurd (none-some f)) (λ (o, f). (slabOf j, λ q. o (ap depthOf q), f, λ block r. k .others .slabs j block o r)) (key-slab key empty at j x e)
+          ⊎-elim (λ (is, f). absurd (none-some f)) (λ (o, f). (slabOf j, λ q. o (ap depthOf q), f, λ block r. k .others .slabs j block o r))
+          (key-slab key empty at j x e)
       to (pageOf j i) x n e =
           ⊎-elim (λ (is, f). absurd (none-some f))
-          (λ (o, f). (pageOf j i, λ q. (let z = ap kindOf q in omega arith), f, λ block r. k .others .pages j i block o r)) (key-page key empty at j i x e)
+          (λ (o, f). (pageOf j i, λ q. (let z = ap kindOf q in omega arith), f, λ block r. k .others .pages j i block o r))
+          (key-page key empty at j i x e)
 
   -- The first of some pages is given up: the others have an index less.
   first-gone : (plain : PlainSpace) (s : Space) (at : ℕ → Place) (c c' : Contents) (p : Page) (ps : List Page) → at key ≡ pages (p ∷ ps)
       → Gone key c c'
       → Good plain at held → AgreesSpace plain s at held c
-      → Given (freed pageClass (p .off) plain) (release (record { class = pageClass; off = p .off } ∷ []) s) (atKey key (pages ps) at) held c' (length (s .body))
-  unfolding has pageAt
+      → Given (freed pageClass (p .off) plain) (release (record { class = pageClass; off = p .off } ∷ []) s) (atKey key (pages ps) at)
+      held c' (length (s .body))
+  unfolding has pageNo
   first-gone plain s at c c' p ps is k g a =
       let mine : has plain at held (pageOf key 0) ≡ some (record { class = pageClass; off = p .off }) = ap (pageIn 0) is in
       let st = g .apart .stands (pageOf key 0) (record { class = pageClass; off = p .off }) mine in
       record {
         agrees = push-agrees plain s at (atKey key (pages ps) at) held held c c' (pageOf key 0) pageClass (p .off) (omega arith) g a
             (λ i d q. (let z = ap kindOf q in omega arith)) mine to;
-        size = release-long pageClass (p .off) s (omega (arith, block-ends (record { class = pageClass; off = p .off }) (plain .mark) st, a .within));
+        size = release-long pageClass (p .off) s (omega (
+          arith,
+          block-ends (record { class = pageClass; off = p .off }) (plain .mark) st,
+          a .within,
+        ));
       }
     where
       to : (v : Owner) (x : Block) → ((i d : ℕ) → v ≢ stack i d) → has plain (atKey key (pages ps) at) held v ≡ some x
@@ -109,24 +117,32 @@ module _ (key : ℕ) (held : Option Block) where
       to hand x n e = (hand, λ q. (let z = ap kindOf q in omega arith), e, λ block r. k .inHand block r)
       to (stack i d) x n e = absurd (n i d refl)
       to (slabOf j) x n e =
-          ⊎-elim (λ (same, f). absurd (none-some f)) (λ (o, f). (slabOf j, λ q. (let z = ap kindOf q in omega arith), f, λ block r. k .others .slabs j block o r))
+          ⊎-elim (λ (same, f). absurd (none-some f))
+          (λ (o, f). (slabOf j, λ q. (let z = ap kindOf q in omega arith), f, λ block r. k .others .slabs j block o r))
           (key-slab key (pages ps) at j x e)
       to (pageOf j i) x n e =
           ⊎-elim
-          (λ (same, f).
-          (pageOf key (suc i), λ q. (let z = ap depthOf q in omega arith), ap (pageIn (suc i)) is ∙ f, λ block r. subst (λ (h : ℕ). c' .pages h i block) (sym same) (k .any i block)))
+          (λ (same, f). (
+            pageOf key (suc i),
+            λ q. (let z = ap depthOf q in omega arith),
+            ap (pageIn (suc i)) is ∙ f,
+            λ block r.
+                subst (λ (h : ℕ). c' .pages h i block) (sym same) (k .any i block),
+          ))
           (λ (o, f). (pageOf j i, λ q. o cc, f, λ block r. k .others .pages j i block o r))
           (key-page key (pages ps) at j i x e)
 
   -- Pages are given up, the first first.
   pages-gone : (ps : List Page) (plain : PlainSpace) (s : Space) (at : ℕ → Place) (c c' : Contents) → at key ≡ pages ps → Gone key c c'
       → Good plain at held
-      → AgreesSpace plain s at held c → Given (freedPages ps plain) (release (pageBlocks (offsOf ps)) s) (atKey key empty at) held c' (length (s .body))
+      → AgreesSpace plain s at held c → Given (freedPages ps plain) (release (pageBlocks (offsOf ps)) s) (atKey key empty at) held c'
+      (length (s .body))
   unfolding freedPages offsOf pageBlocks
   pages-gone [] plain s at c c' is k g a = rw (release-none s) (record { agrees = bare-gone plain s at c c' k a; size = refl })
   pages-gone (p ∷ ps) plain s at c c' is k g a =
       let one = first-gone plain s at c c' p ps is k g a in
-      let all = pages-gone ps (freed pageClass (p .off) plain) (release (record { class = pageClass; off = p .off } ∷ []) s) (atKey key (pages ps) at) c' c' (rw (eq-eqb key key refl))
+      let all = pages-gone ps (freed pageClass (p .off) plain) (release (record { class = pageClass; off = p .off } ∷ []) s)
+      (atKey key (pages ps) at) c' c' (rw (eq-eqb key key refl))
       (record { others = record { slabs = λ j block n r. r; pages = λ j i block n r. r }; inHand = λ block r. r; any = k .any })
       (good-first-freed plain at held key p ps is g) (one .agrees) in
       rw (release-first (record { class = pageClass; off = p .off }) (pageBlocks (offsOf ps)) s)
@@ -140,7 +156,8 @@ module _ (key : ℕ) (held : Option Block) where
   -- A key's place is given up.
   pub place-gone : (place : Place) (plain : PlainSpace) (s : Space) (at : ℕ → Place) (c c' : Contents) → at key ≡ place → Gone key c c'
       → Good plain at held
-      → AgreesSpace plain s at held c → Given (freedPlace place plain) (release (blocksOf place) s) (atKey key empty at) held c' (length (s .body))
+      → AgreesSpace plain s at held c → Given (freedPlace place plain) (release (blocksOf place) s) (atKey key empty at) held c'
+      (length (s .body))
   unfolding freedPlace
   place-gone empty plain s at c c' is k g a = rw (release-none s) (record { agrees = bare-gone plain s at c c' k a; size = refl })
   place-gone inline plain s at c c' is k g a = rw (release-none s) (record { agrees = bare-gone plain s at c c' k a; size = refl })
@@ -167,8 +184,10 @@ unfolding plainDoes does plainDrops drops headOf
 drop-step plain b key g a =
     alike-on-key plain b key _ _ g a
     (λ shape h low.
-    let k = place-gone key none (places plain key) (plain .space) (b .space) (places plain) (contentsOf plain) (placedContents plain key 0 empty) refl
+    let k = place-gone key none (places plain key) (plain .space) (b .space) (places plain) (contentsOf plain)
+    (placedContents plain key 0 empty) refl
     (gone-placed plain key (λ block. Unit {0})) (g .space) (h .space) in
     rw (then-yes _ _ (content-agrees plain b g shape h key))
     (told-alike refl
-    (agrees-placed plain key [] empty true (freedPlace (places plain key) (plain .space)) low b (release (blocksOf (places plain key)) (b .space)) a shape (k .size) (k .agrees))))
+    (agrees-placed plain key [] empty true (freedPlace (places plain key) (plain .space)) low b
+    (release (blocksOf (places plain key)) (b .space)) a shape (k .size) (k .agrees))))

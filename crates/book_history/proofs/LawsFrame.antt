@@ -36,7 +36,8 @@ block-apart body x y ys long fits d =
 pub block-written : (body : List ℕ) (y : Block) (ys : List ℕ) → length ys ≡ slabBytes (y .class)
     → y .off + slabBytes (y .class) ≤ length body
     → blockOf (overwrite body (y .off) ys) y ≡ ys
-block-written body y ys long fits = ap (part (overwrite body (y .off) ys) (y .off)) (sym long) ∙ part-written body (y .off) ys (rw long fits)
+block-written body y ys long fits = ap (part (overwrite body (y .off) ys) (y .off)) (sym long)
+    ∙ part-written body (y .off) ys (rw long fits)
 
 module _ (f g : Owner → Option Block) (R R' : Owner → List ℕ → Type 0) (body : List ℕ) where
   -- Blocks go to other owners, who read them so too; nothing is written.

@@ -42,7 +42,7 @@ use Rattle.plain_book.specs.Key.{Page, Place, empty, inline, slab, pages, writt
 use Rattle.plain_book.specs.Key.{runPages, loadInto as plainLoadInto, loadPlace}
 use Rattle.plain_book.specs.Book.{Book as PlainBook, Outcome as PlainOutcome, keyOf, withKey, inUse, loads as plainLoads, does as plainDoes}
 use Rattle.plain_book.specs.Sound.{Fits, SoundKey}
-use Rattle.plain_book.specs.Owners.{Owner, hand, stack, slabOf, pageOf, Apart, slabAt, pageAt, pageIn, has, places}
+use Rattle.plain_book.specs.Owners.{Owner, hand, stack, slabOf, pageOf, Apart, slabAt, pageNo, pageIn, has, places}
 use Rattle.plain_book.specs.Good.{Good, GoodPlain}
 use Rattle.plain_book.proofs.LawsApart.{apart-fewer}
 use Rattle.plain_book.proofs.LawsOwners.{some-inj, none-some, atKey, key-slab, key-page}
@@ -57,7 +57,7 @@ use Rattle.book_blocks.proofs.LawsReadsPage.{last-page-reads, page-to-reads}
 use Rattle.book.specs.Book.{Book, Outcome, wordOf, filled}
 use Rattle.book.specs.Loads.{loading, lastOfRun, loadInto, loadAt, loads}
 use Rattle.book.specs.Calls.{does}
-use Rattle.book_history.specs.Agrees.{SlabReads, PageReads, LastReads, NextReads, ChainReads, firstOff, SlabIn, PageIn, Contents}
+use Rattle.book_history.specs.Agrees.{SlabReads, PageReads, LastReads, NextReads, ChainReads, firstPageOff, SlabIn, PageIn, Contents}
 use Rattle.book_history.specs.Agrees.{BlockReads, contentsOf, AgreesSpace, AgreesInside, Agrees}
 use Rattle.book_history.proofs.LawsFrame.{blockOf, block-ends, block-written}
 use Rattle.book_history.proofs.LawsWords.{empty-told}
@@ -73,18 +73,19 @@ use Rattle.book_history.proofs.LawsTake.{anyHand, inHandOf, TakenAlike,
 record RunWritten (body after : List ℕ) (off first creates : ℕ) (ps : List Page) : Type 0 where
   long : length after ≡ length body
   before : (p n : ℕ) → p + n ≤ off → part after p n ≡ part body p n
-  reads : (i : ℕ) (x : Block) → pageAt i ps ≡ some x → ChainReads first creates i ps (blockOf after x)
+  reads : (i : ℕ) (x : Block) → pageNo i ps ≡ some x → ChainReads first creates i ps (blockOf after x)
 
 -- No page is written.
 run-none : (body : List ℕ) (off first creates : ℕ) → RunWritten body body off first creates []
-unfolding pageAt
+unfolding pageNo
 run-none body off first creates = record { long = refl; before = λ p n l. refl; reads = λ i x e. absurd (none-some e) }
 
 -- A page is written, and then those behind it.
 run-more : (body page after : List ℕ) (off first creates : ℕ) (p : Page) (qs : List Page) → p .off ≡ off → length page ≡ slabBytes pageClass
-    → off + slabBytes pageClass ≤ length body → ChainReads first creates 0 (p ∷ qs) page → RunWritten (overwrite body off page) after (off + pageSize) first creates qs
+    → off + slabBytes pageClass ≤ length body → ChainReads first creates 0 (p ∷ qs) page
+    → RunWritten (overwrite body off page) after (off + pageSize) first creates qs
     → RunWritten body after off first creates (p ∷ qs)
-unfolding pageAt ChainReads
+unfolding pageNo ChainReads
 run-more body page after off first creates p qs is size fits r w =
     record {
       long = w .long ∙ length-overwrite body off page (rw size fits);
@@ -95,9 +96,10 @@ run-more body page after off first creates p qs is size fits r w =
     held : blockOf after (record { class = pageClass; off = off }) ≡ page
     held = w .before off (slabBytes pageClass) (omega arith) ∙ block-written body (record { class = pageClass; off = off }) page size fits
 
-    reads : (i : ℕ) (x : Block) → pageAt i (p ∷ qs) ≡ some x → ChainReads first creates i (p ∷ qs) (blockOf after x)
+    reads : (i : ℕ) (x : Block) → pageNo i (p ∷ qs) ≡ some x → ChainReads first creates i (p ∷ qs) (blockOf after x)
     reads zero x e =
-        let here : page ≡ blockOf after x = sym held ∙ ap (λ (o : ℕ). blockOf after (record { class = pageClass; off = o })) (sym is) ∙ ap (blockOf after) (some-inj e) in
+        let here : page ≡ blockOf after x = sym held ∙ ap (λ (o : ℕ). blockOf after (record { class = pageClass; off = o })) (sym is)
+        ∙ ap (blockOf after) (some-inj e) in
         subst (ChainReads first creates 0 (p ∷ qs)) here r
     reads (suc i) x e = w .reads i x e
 
@@ -108,7 +110,8 @@ unfolding ChainReads runPages
 run-next first creates off p q [] block r n = (r, n)
 run-next first creates off p q (s ∷ ps) block r n = (r, n)
 
-module _ (start count creates : ℕ) (aligned : start % 4096 ≡ 0) (from : 4096 ≤ start) (low : start ≤ 2 ^ 30) (some' : 0 < count) (few : count < 2 ^ 32)
+module _ (start count creates : ℕ) (aligned : start % 4096 ≡ 0) (from : 4096 ≤ start) (low : start ≤ 2 ^ 30) (some' : 0 < count)
+    (few : count < 2 ^ 32)
     (fits : creates < 2 ^ 32) where
   -- the last page of a run reads as its part
   last-of-run : (off : ℕ) (ns : List ℕ) → Rising (2 ^ 63) 0 ns → streamLen ns ≤ lastPageRoom
@@ -117,7 +120,8 @@ module _ (start count creates : ℕ) (aligned : start % 4096 ≡ 0) (from : 4096
       × LastReads start creates (lastPageOf start start count creates ns)
   unfolding written goodExtent
   last-of-run off ns rises room =
-      let r = last-page-reads start start count creates ns rises room aligned (omega arith) (omega arith) aligned (λ z. omega arith) some' few fits in (
+      let r = last-page-reads start start count creates ns rises room aligned (omega arith) (omega arith) aligned (λ z. omega arith)
+      some' few fits in (
         r .long,
         record { reads = r .scans; room = r .room },
         record { extent = r .names; last = r .last; first = r .from; good = r .extent; creates = r .counts },
@@ -125,7 +129,8 @@ module _ (start count creates : ℕ) (aligned : start % 4096 ≡ 0) (from : 4096
 
   -- a page before another reads as its part
   next-of-run : (off next : ℕ) (ns : List ℕ) → Rising (2 ^ 63) 0 ns → streamLen ns ≤ pageRoom → next % 4096 ≡ 0 → next ≤ 2 ^ 30
-      → (length (pageTo next ns) ≡ slabBytes pageClass) × PageReads (record { off = off; room = pageRoom; part = written ns }) (pageTo next ns) × NextReads next (pageTo next ns)
+      → (length (pageTo next ns) ≡ slabBytes pageClass) × PageReads (record { off = off; room = pageRoom; part = written ns })
+      (pageTo next ns) × NextReads next (pageTo next ns)
   unfolding written
   next-of-run off next ns rises room at-page in-body =
       let r = page-to-reads next ns rises room at-page (omega arith) in
@@ -140,15 +145,19 @@ module _ (start count creates : ℕ) (aligned : start % 4096 ≡ 0) (from : 4096
   run-written [] body off at-page in-body small rises fit = run-none body off start creates
   run-written (ns ∷ []) body off at-page in-body small rises (one, room) =
       let (size, r, last) = last-of-run off ns (rising-left (2 ^ 63) 0 ns [] rises) room in
-      run-more body (lastPageOf start start count creates ns) _ off start creates _ [] refl size (omega arith) (r, last) (run-none _ (off + pageSize) start creates)
+      run-more body (lastPageOf start start count creates ns) _ off start creates _ [] refl size (omega arith) (r, last)
+      (run-none _ (off + pageSize) start creates)
   run-written (ns ∷ ms ∷ ps) body off at-page in-body small rises (one, room, fit) =
-      let (size, r, next) = next-of-run off (off + pageSize) ns (rising-left (2 ^ 63) 0 ns (joined (ms ∷ ps)) rises) room (omega arith) (omega arith) in
+      let (size, r, next) = next-of-run off (off + pageSize) ns (rising-left (2 ^ 63) 0 ns (joined (ms ∷ ps)) rises) room (omega arith)
+      (omega arith) in
       let inside : off + slabBytes pageClass ≤ length body = omega arith in
       let long = length-overwrite body off (pageTo (off + pageSize) ns) (rw size inside) in
-      run-more body (pageTo (off + pageSize) ns) (writeRun start count creates (overwrite body off (pageTo (off + pageSize) ns)) (off + pageSize) (ms ∷ ps)) off start creates
+      run-more body (pageTo (off + pageSize) ns) (writeRun start count creates (overwrite body off (pageTo (off + pageSize) ns))
+      (off + pageSize) (ms ∷ ps)) off start creates
       (record { off = off; room = pageRoom; part = written ns }) (runPages (off + pageSize) (ms ∷ ps)) refl size inside
       (run-next start creates (off + pageSize) (record { off = off; room = pageRoom; part = written ns }) ms ps _ r next)
-      (run-written (ms ∷ ps) (overwrite body off (pageTo (off + pageSize) ns)) (off + pageSize) (omega arith) (rw long (omega arith)) (rw long small)
+      (run-written (ms ∷ ps) (overwrite body off (pageTo (off + pageSize) ns)) (off + pageSize) (omega arith) (rw long (omega arith))
+      (rw long small)
       (rising-right (2 ^ 63) 0 ns (joined (ms ∷ ps)) rises) fit)
 
 -- Where the last page of a run is.
@@ -157,10 +166,11 @@ run-last : (off : ℕ) (page : Page) (parts : List (List ℕ)) → 0 < length pa
 unfolding runPages lastPage
 run-last off page [] l = absurd (omega arith)
 run-last off page (p ∷ []) l = omega arith
-run-last off page (p ∷ q ∷ ps) l = run-last (off + pageSize) (record { off = off; room = pageRoom; part = written p }) (q ∷ ps) (omega arith) ∙ omega arith
+run-last off page (p ∷ q ∷ ps) l = run-last (off + pageSize) (record { off = off; room = pageRoom; part = written p }) (q ∷ ps)
+    (omega arith) ∙ omega arith
 
 -- Where the first is.
-run-first : (off : ℕ) (parts : List (List ℕ)) → 0 < length parts → firstOff (runPages off parts) ≡ off
+run-first : (off : ℕ) (parts : List (List ℕ)) → 0 < length parts → firstPageOff (runPages off parts) ≡ off
 unfolding runPages
 run-first off [] l = absurd (omega arith)
 run-first off (p ∷ []) l = refl
@@ -181,7 +191,8 @@ written-beyond plain s at held c mark after apart long before a =
       within = rw long (a .within);
       small = rw long (a .small);
       stored = λ w x e.
-          subst (BlockReads plain c w) (sym (before (x .off) (slabBytes (x .class)) (block-ends x mark (apart .stands w x e)))) (a .stored w x e);
+          subst (BlockReads plain c w) (sym (before (x .off) (slabBytes (x .class)) (block-ends x mark (apart .stands w x e))))
+          (a .stored w x e);
     }
 
 -- A key gets a place whose blocks, which nobody has, read as they should.
@@ -189,7 +200,8 @@ pub placed-stored : (plain : PlainBook) (key total : ℕ) (place : Place) (insid
     → Meanwhile plain key (places plain) c
     → ((x : Block) → slabAt place ≡ some x → SlabIn place (blockOf (s .body) x))
     → ((i : ℕ) (x : Block) → pageIn i place ≡ some x → PageIn total i place (blockOf (s .body) x))
-    → AgreesSpace inside s (places plain) none c → AgreesSpace inside s (atKey key place (places plain)) none (placedContents plain key total place)
+    → AgreesSpace inside s (places plain) none c
+    → AgreesSpace inside s (atKey key place (places plain)) none (placedContents plain key total place)
 unfolding has
 placed-stored plain key total place inside s c m slabs pgs a =
     record { mark = a .mark; nine = a .nine; tops = a .tops; within = a .within; small = a .small; stored = stored }
@@ -205,7 +217,8 @@ placed-stored plain key total place inside s c m slabs pgs a =
         ⊎-elim (λ (is, f). rw (eq-eqb j key is) (slabs x f)) (λ (n, f). others .slabs j (blockOf (s .body) x) n (a .stored (slabOf j) x f))
         (key-slab key place (places plain) j x e)
     stored (pageOf j i) x e =
-        ⊎-elim (λ (is, f). rw (eq-eqb j key is) (pgs i x f)) (λ (n, f). others .pages j i (blockOf (s .body) x) n (a .stored (pageOf j i) x f))
+        ⊎-elim (λ (is, f). rw (eq-eqb j key is) (pgs i x f))
+        (λ (n, f). others .pages j i (blockOf (s .body) x) n (a .stored (pageOf j i) x f))
         (key-page key place (places plain) j i x e)
 
 -- ---- what is offered
@@ -277,14 +290,20 @@ pub payload-reads : (class : ℕ) (ns block : List ℕ) → Rising (2 ^ 62) 0 ns
     → SlabReads (written ns) block
 unfolding written
 payload-reads class ns block rises few f =
-    let r = slab-written block ns (ap (part block 0) (sym (payload-long ns)) ∙ f .begins) (rising-below (2 ^ 62) (2 ^ 63) 0 ns (omega arith) rises) few in
+    let r = slab-written block ns (ap (part block 0) (sym (payload-long ns)) ∙ f .begins)
+    (rising-below (2 ^ 62) (2 ^ 63) 0 ns (omega arith) rises) few in
     record { used = r .counts; reads = r .reads }
 
-module _ (plain : PlainBook) (b : Book) (key : ℕ) (ns : List ℕ) (g : GoodPlain plain) (a : Agrees plain b) (shape : outOfShape (plain .size) (length (plain .keys)) ≡ false)
+module _ (plain : PlainBook) (b : Book) (key : ℕ) (ns : List ℕ) (g : GoodPlain plain) (a : Agrees plain b)
+    (shape : outOfShape (plain .size) (length (plain .keys)) ≡ false)
     (h : AgreesInside plain b) (l : key < length (plain .keys)) (rises : Rising (2 ^ 62) 0 ns) (few : length ns ≤ maxOffered) where
   -- what the plain book answers, once the list has a place
   abbrev loadedTo : Placed → Answer PlainOutcome
-  loadedTo p = accepted (record { told = loaded (record { pages = pagesOf (p .place) }); book = withKey key ns (p .place) true (p .space) plain })
+  loadedTo p = accepted (record {
+    told = loaded (record { pages = pagesOf (p .place) });
+    book =
+        withKey key ns (p .place) true (p .space) plain;
+  })
 
   whole : length (b .space .body) % 4096 ≡ 0
   whole = ap (λ (n : ℕ). n % 4096) (a .size) ∙ in-shape (plain .size) (length (plain .keys)) shape .paged
@@ -294,8 +313,10 @@ module _ (plain : PlainBook) (b : Book) (key : ℕ) (ns : List ℕ) (g : GoodPla
       → Alike (andThen (plainLoadInto (plain .size) (some class) ns (plain .space)) loadedTo) (loadInto b key ns (some class))
   unfolding plainLoadInto loadInto headOf andThen
   load-slab class is =
-      taken-then (λ x y. Alike (andThen x loadedTo) y) (places plain) (inHandOf class) (anyHand (contentsOf plain)) (plain .size) _ _ _ _ (λ number. refused-alike) go
-      (subst (λ (n : ℕ). TakenAlike (places plain) (inHandOf class) (anyHand (contentsOf plain)) n (plainTake n class (plain .space)) (takes class (b .space))) (a .size)
+      taken-then (λ x y. Alike (andThen x loadedTo) y) (places plain) (inHandOf class) (anyHand (contentsOf plain)) (plain .size) _ _ _ _
+      (λ number. refused-alike) go
+      (subst (λ (n : ℕ). TakenAlike (places plain) (inHandOf class) (anyHand (contentsOf plain)) n (plainTake n class (plain .space))
+      (takes class (b .space))) (a .size)
       (take-agrees (plain .space) (b .space) (places plain) (contentsOf plain) class to-8 (g .space) whole (h .space)))
     where
       to-8 : class ≤ 8
@@ -303,7 +324,8 @@ module _ (plain : PlainBook) (b : Book) (key : ℕ) (ns : List ℕ) (g : GoodPla
 
       go : (t : PlainTaken) (u : Taken) → plainTake (plain .size) class (plain .space) ≡ accepted t → takes class (b .space) ≡ accepted u
           → u .off ≡ t .off
-          → length (u .space .body) ≡ plain .size → AgreesSpace (t .space) (u .space) (places plain) (inHandOf class (t .off)) (anyHand (contentsOf plain))
+          → length (u .space .body) ≡ plain .size → AgreesSpace (t .space) (u .space) (places plain) (inHandOf class (t .off))
+          (anyHand (contentsOf plain))
           → Alike (loadedTo (record { place = slab class (t .off) (written ns); space = t .space; rewritten = 0 }))
           (accepted (loading key (Slab class (length ns) (u .off)) 0 (filled u (slabPayload ns)) b))
       go t u took took' off long agrees =
@@ -313,13 +335,17 @@ module _ (plain : PlainBook) (b : Book) (key : ℕ) (ns : List ℕ) (g : GoodPla
           let c = anyHand (contentsOf plain) in
           let bytes = fill-long (t .space) (u .space) (places plain) class (t .off) c (slabPayload ns) short good agrees in
           let placed =
-          placed-slab plain key (length ns) (t .space) _ (places plain) class (t .off) (written ns) _ (meanwhile-first plain key (Filled class (slabPayload ns)))
-          (λ block f. payload-reads class ns block rises few f) (fill-agrees (t .space) (u .space) (places plain) class (t .off) c (slabPayload ns) short good agrees) in
+          placed-slab plain key (length ns) (t .space) _ (places plain) class (t .off) (written ns) _
+          (meanwhile-first plain key (Filled class (slabPayload ns)))
+          (λ block f. payload-reads class ns block rises few f)
+          (fill-agrees (t .space) (u .space) (places plain) class (t .off) c (slabPayload ns) short good agrees) in
           subst
           (λ (o : ℕ). Alike (loadedTo (record { place = slab class (t .off) (written ns); space = t .space; rewritten = 0 }))
-          (accepted (loading key (Slab class (length ns) o) 0 (space (overwrite (u .space .body) o (slabPayload ns)) (u .space .mark) (u .space .free)) b)))
+          (accepted (loading key (Slab class (length ns) o) 0
+          (space (overwrite (u .space .body) o (slabPayload ns)) (u .space .mark) (u .space .free)) b)))
           (sym off)
-          (told-alike refl (agrees-placed plain key ns (slab class (t .off) (written ns)) true (t .space) l b _ a shape (bytes ∙ long ∙ sym (a .size)) placed))
+          (told-alike refl (agrees-placed plain key ns (slab class (t .off) (written ns)) true (t .space) l b _ a shape
+          (bytes ∙ long ∙ sym (a .size)) placed))
 
   -- a run is written beyond all blocks, and becomes the key's pages
   run-placed : (inside : PlainSpace) (s : Space) (start : ℕ) (parts : List (List ℕ)) → 0 < length parts → joined parts ≡ ns
@@ -327,17 +353,21 @@ module _ (plain : PlainBook) (b : Book) (key : ℕ) (ns : List ℕ) (g : GoodPla
       → start % 4096 ≡ 0 → 4096 ≤ start → start + length parts * pageSize ≤ inside .mark → Apart start (has inside (places plain) none)
       → AgreesSpace inside s (places plain) none (contentsOf plain)
       → (length (writeRun start (length parts) (length ns) (s .body) start parts) ≡ length (s .body))
-      × AgreesSpace inside (space (writeRun start (length parts) (length ns) (s .body) start parts) (s .mark) (s .free)) (atKey key (pages (runPages start parts)) (places plain)) none
+      × AgreesSpace inside (space (writeRun start (length parts) (length ns) (s .body) start parts) (s .mark) (s .free))
+      (atKey key (pages (runPages start parts)) (places plain)) none
       (placedContents plain key (length ns) (pages (runPages start parts)))
   run-placed inside s start parts some' same fit aligned from below apart agrees =
       let in-body = agrees .within in
       let small = agrees .small in
       let w =
-      run-written start (length parts) (length ns) aligned from (omega arith) some' (omega arith) (omega arith) parts (s .body) start aligned (omega arith) small
+      run-written start (length parts) (length ns) aligned from (omega arith) some' (omega arith) (omega arith) parts (s .body)
+      start aligned (omega arith) small
       (rising-below (2 ^ 62) (2 ^ 63) 0 (joined parts) (omega arith) (rw same rises)) fit in (
         w .long,
-        placed-stored plain key (length ns) (pages (runPages start parts)) inside _ (contentsOf plain) (meanwhile-first plain key (λ block. Unit {0})) (λ x e. absurd (none-some e))
-            (λ i x e. subst (λ (first : ℕ). ChainReads first (length ns) i (runPages start parts) (blockOf (writeRun start (length parts) (length ns) (s .body) start parts) x))
+        placed-stored plain key (length ns) (pages (runPages start parts)) inside _ (contentsOf plain)
+            (meanwhile-first plain key (λ block. Unit {0})) (λ x e. absurd (none-some e))
+            (λ i x e. subst (λ (first : ℕ). ChainReads first (length ns) i (runPages start parts)
+            (blockOf (writeRun start (length parts) (length ns) (s .body) start parts) x))
             (sym (run-first start parts some')) (w .reads i x e))
             (written-beyond inside s (places plain) none (contentsOf plain) start _ apart (w .long) (w .before) agrees),
       )
@@ -347,12 +377,16 @@ module _ (plain : PlainBook) (b : Book) (key : ℕ) (ns : List ℕ) (g : GoodPla
       → Alike (andThen (plainLoadInto (plain .size) none ns (plain .space)) loadedTo) (loadInto b key ns none)
   unfolding plainLoadInto loadInto headOf andThen plainTakeRun has
   load-run some' =
-      taken-then (λ x y. Alike (andThen x loadedTo) y) (places plain) (λ off. none) (contentsOf plain) (plain .size) _ _ _ _ (λ number. refused-alike)
+      taken-then (λ x y. Alike (andThen x loadedTo) y) (places plain) (λ off. none) (contentsOf plain) (plain .size) _ _ _ _
+      (λ number. refused-alike)
       (λ t u took took' off long agrees.
       subst
-      (λ (t : PlainTaken). u .off ≡ t .off → AgreesSpace (t .space) (u .space) (places plain) none (contentsOf plain) → Alike (loadedTo (placedAt t)) (written-at u))
-      (sym (took-mark (plain .size) (length parts * pageSize) (plainRounded (plain .space)) took)) (λ off agrees. placed u off long agrees) off agrees)
-      (subst (λ (n : ℕ). TakenAlike (places plain) (λ off. none) (contentsOf plain) n (plainTakeRun n (length parts) (plain .space)) (takeRun (length parts) (b .space))) (a .size)
+      (λ (t : PlainTaken). u .off ≡ t .off → AgreesSpace (t .space) (u .space) (places plain) none (contentsOf plain)
+      → Alike (loadedTo (placedAt t)) (written-at u))
+      (sym (took-mark (plain .size) (length parts * pageSize) (plainRounded (plain .space)) took)) (λ off agrees. placed u off long agrees)
+      off agrees)
+      (subst (λ (n : ℕ). TakenAlike (places plain) (λ off. none) (contentsOf plain) n (plainTakeRun n (length parts) (plain .space))
+      (takeRun (length parts) (b .space))) (a .size)
       (run-agrees (plain .space) (b .space) (places plain) (contentsOf plain) (length parts) (g .space) whole (h .space)))
     where
       parts : List (List ℕ)
@@ -391,11 +425,14 @@ module _ (plain : PlainBook) (b : Book) (key : ℕ) (ns : List ℕ) (g : GoodPla
       placed u off long agrees =
           let ok = cut-allowed ns rises in
           let (bytes, run) =
-          run-placed beyond (u .space) start parts some' (ok .consecutive) (ok .fit) (rounded-mark (plain .space)) (good .from) (le-refl (beyond .mark)) apart agrees in
-          subst (λ (o : ℕ). Alike (loadedTo (placedAt (record { off = start; space = beyond }))) (written-at (record { off = o; space = u .space }))) (sym off)
+          run-placed beyond (u .space) start parts some' (ok .consecutive) (ok .fit) (rounded-mark (plain .space)) (good .from)
+          (le-refl (beyond .mark)) apart agrees in
+          subst (λ (o : ℕ). Alike (loadedTo (placedAt (record { off = start; space = beyond })))
+          (written-at (record { off = o; space = u .space }))) (sym off)
           (subst
           (λ (last : ℕ). Alike (loadedTo (placedAt (record { off = start; space = beyond })))
-          (accepted (loading key (Extent last) (length parts) (space (writeRun start (length parts) (length ns) (u .space .body) start parts) (u .space .mark) (u .space .free)) b)))
+          (accepted (loading key (Extent last) (length parts)
+          (space (writeRun start (length parts) (length ns) (u .space .body) start parts) (u .space .mark) (u .space .free)) b)))
           (run-last start noPage parts some')
           (told-alike (ap (λ (n : ℕ). loaded (record { pages = n })) (run-length start parts))
           (agrees-placed plain key ns (pages (runPages start parts)) true beyond l b _ a shape (bytes ∙ long ∙ sym (a .size)) run)))
@@ -408,24 +445,31 @@ load-alike : (plain : PlainBook) (b : Book) (key : ℕ) (ns : List ℕ) → Good
     → AgreesInside plain b → key < length (plain .keys) → keyOf key plain .place ≡ empty → Rising (2 ^ 62) 0 ns → length ns ≤ maxOffered
     → Alike
     (andThen (loadPlace (plain .size) ns (plain .space))
-    (λ p. accepted (record { told = loaded (record { pages = pagesOf (p .place) }); book = withKey key ns (p .place) true (p .space) plain })))
+    (λ p. accepted (record {
+      told = loaded (record { pages = pagesOf (p .place) });
+      book =
+          withKey key ns (p .place) true (p .space) plain;
+    })))
     (loadAt b key ns)
 unfolding loadPlace loadAt andThen headOf lastFrom
 load-alike plain b key [] g a shape h l is rises few = told-alike refl (subst (λ (p : PlainBook). Agrees p b) (sym same) a)
   where
     same : withKey key [] empty true (plain .space) plain ≡ plain
     same =
-        ap (λ (k : Key). record { size = plain .size; keys = set (plain .keys) key k; space = plain .space }) (sym (empty-key (keyOf key plain) (g .keys key) is))
+        ap (λ (k : Key). record { size = plain .size; keys = set (plain .keys) key k; space = plain .space })
+        (sym (empty-key (keyOf key plain) (g .keys key) is))
         ∙ ap (λ (ks : List Key). record { size = plain .size; keys = ks; space = plain .space }) (set-getD (plain .keys) key emptyKey)
 load-alike plain b key (n ∷ []) g a shape h l is rises few =
     told-alike refl
     (agrees-placed plain key (n ∷ []) inline true (plain .space) l b (b .space) a shape refl
-    (placed-stored plain key 1 inline (plain .space) (b .space) (contentsOf plain) (meanwhile-first plain key (λ block. Unit {0})) (λ x e. absurd (none-some e))
+    (placed-stored plain key 1 inline (plain .space) (b .space) (contentsOf plain) (meanwhile-first plain key (λ block. Unit {0}))
+    (λ x e. absurd (none-some e))
     (λ i x e. absurd (none-some e)) (h .space)))
 load-alike plain b key (n ∷ m ∷ ns) g a shape h l is rises few = go (loadsTo (length (n ∷ m ∷ ns)) (streamLen (n ∷ m ∷ ns))) refl
   where
     go : (to : Option ℕ) → loadsTo (length (n ∷ m ∷ ns)) (streamLen (n ∷ m ∷ ns)) ≡ to
-        → Alike (andThen (plainLoadInto (plain .size) to (n ∷ m ∷ ns) (plain .space)) (loadedTo plain b key (n ∷ m ∷ ns) g a shape h l rises few)) (loadInto b key (n ∷ m ∷ ns) to)
+        → Alike (andThen (plainLoadInto (plain .size) to (n ∷ m ∷ ns) (plain .space))
+        (loadedTo plain b key (n ∷ m ∷ ns) g a shape h l rises few)) (loadInto b key (n ∷ m ∷ ns) to)
     go (some class) e = load-slab plain b key (n ∷ m ∷ ns) g a shape h l rises few class e
     go none e =
         load-run plain b key (n ∷ m ∷ ns) g a shape h l rises few
@@ -448,4 +492,5 @@ load-step plain b key ns g a =
     alike-both _ _ _ _ _ (in-use-alike plain b key g shape h)
     (λ free. alike-both _ _ _ _ _ refl
     (λ many. alike-offered-list true 0 ns _ _
-    (λ rises. load-alike plain b key ns g a shape h l (unused (keyOf key plain .place) free) rises (ltb-false maxOffered (length ns) many)))))
+    (λ rises. load-alike plain b key ns g a shape h l (unused (keyOf key plain .place) free) rises
+    (ltb-false maxOffered (length ns) many)))))

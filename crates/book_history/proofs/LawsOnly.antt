@@ -108,8 +108,10 @@ shifted o (r ∷ rs) = region (o + r .off) (r .len) ∷ shifted o rs
 outside-shifted : (o : ℕ) (rs : List Region) (j : ℕ) → Outside (shifted o rs) (o + j) → Outside rs j
 unfolding Outside shifted
 outside-shifted o [] j h = tt
-outside-shifted o (r ∷ rs) j h =
-    (⊎-elim (λ (l : o + j < o + r .off). inl (omega arith)) (λ (l : o + r .off + r .len ≤ o + j). inr (omega arith)) (h .0), outside-shifted o rs j (h .1))
+outside-shifted o (r ∷ rs) j h = (
+  ⊎-elim (λ (l : o + j < o + r .off). inl (omega arith)) (λ (l : o + r .off + r .len ≤ o + j). inr (omega arith)) (h .0),
+  outside-shifted o rs j (h .1),
+)
 
 -- A part of a list is overwritten by what differs from it in some regions only.
 pub only-part : (b : List ℕ) (o k : ℕ) (block : List ℕ) (rs : List Region) → o + k ≤ length b → Only rs (part b o k) block

@@ -60,7 +60,8 @@ top-low plain at held class g = go (stackOf class plain) refl
 -- A free head for each top, after the stack and the free head of one class changed.
 pub tops-changed : (plain : PlainSpace) (free : List ℕ) (class head : ℕ) (os : List ℕ) → class < length (plain .stacks)
     → class < length free → head ≡ top os
-    → ((k : ℕ) → getD free k 0 ≡ top (stackOf k plain)) → (k : ℕ) → getD (set free class head) k 0 ≡ top (stackOf k (withStack class os plain))
+    → ((k : ℕ) → getD free k 0 ≡ top (stackOf k plain)) → (k : ℕ) → getD (set free class head) k 0
+    ≡ top (stackOf k (withStack class os plain))
 tops-changed plain free class head os in-stacks in-heads is tops k = go (eqb k class) refl
   where
     go : (t : Bool) → eqb k class ≡ t → getD (set free class head) k 0 ≡ top (stackOf k (withStack class os plain))
@@ -120,7 +121,8 @@ release-long class off s fits =
     ap (λ (r : Space). length (r .body)) (release-one class off s)
     ∙ length-overwrite (s .body) off (bytesOf 8 (getD (s .free) class 0)) (omega (arith, link-short class (getD (s .free) class 0)))
 
-module _ (plain : PlainSpace) (s : Space) (at at' : ℕ → Place) (held held' : Option Block) (c c' : Contents) (w : Owner) (class off : ℕ) (to-8 : class ≤ 8)
+module _ (plain : PlainSpace) (s : Space) (at at' : ℕ → Place) (held held' : Option Block) (c c' : Contents) (w : Owner) (class off : ℕ)
+    (to-8 : class ≤ 8)
     (g : Good plain at held) (a : AgreesSpace plain s at held c) (kind : (k d : ℕ) → w ≢ stack k d)
     (mine : has plain at held w ≡ some (record { class = class; off = off })) where
   -- the class has a stack and a free head
@@ -132,7 +134,12 @@ module _ (plain : PlainSpace) (s : Space) (at at' : ℕ → Place) (held held' :
 
   -- the block lies in the body
   block-fits : off + slabBytes class ≤ length (s .body)
-  block-fits = omega (arith, block-ends (record { class = class; off = off }) (plain .mark) (g .apart .stands w (record { class = class; off = off }) mine), a .within)
+  block-fits = omega (
+    arith,
+    block-ends (record { class = class; off = off }) (plain .mark)
+        (g .apart .stands w (record { class = class; off = off }) mine),
+    a .within,
+  )
 
   -- the eight bytes that are written, and the block then
   abbrev link : List ℕ
@@ -163,15 +170,26 @@ module _ (plain : PlainSpace) (s : Space) (at at' : ℕ → Place) (held held' :
   own : stackOf class (freed class off plain) ≡ off ∷ stackOf class plain
   own = stack-same plain class (off ∷ stackOf class plain) in-stacks
 
-  stacked : ((v : Owner) (x : Block) → ((k d : ℕ) → v ≢ stack k d) → has plain at' held' v ≡ some x → FromOther plain at held c w x (BlockReads plain c' v))
+  stacked : ((v : Owner) (x : Block) → ((k d : ℕ) → v ≢ stack k d) → has plain at' held' v ≡ some x
+      → FromOther plain at held c w x (BlockReads plain c' v))
       → (v : Owner) (x : Block) → has (freed class off plain) at' held' v ≡ some x → Goes x v
   unfolding has
   stacked rest v x e =
       ⊎-elim
       (λ (depth, is, found).
       subst (Goes x) (sym is) (⊎-elim
-      (λ (high, is-block). inl (is-block, names ∙ sym (ap (under depth) own ∙ ap (λ (d : ℕ). under d (off ∷ stackOf class plain)) high ∙ under-pushed off (stackOf class plain))))
-      (λ (n, found'). inr (stack class depth, (λ q. kind class depth (sym q)), found', λ b r. r ∙ sym (ap (under depth) own ∙ under-kept depth off (stackOf class plain) n)))
+      (λ (high, is-block). inl (
+        is-block,
+        names ∙ sym (ap (under depth) own ∙ ap (λ (d : ℕ). under d (off ∷ stackOf class plain)) high
+            ∙ under-pushed off (stackOf class plain)),
+      ))
+      (λ (n, found'). inr (
+        stack class depth,
+        (λ q. kind class depth (sym q)),
+        found',
+        λ b r. r
+            ∙ sym (ap (under depth) own ∙ under-kept depth off (stackOf class plain) n),
+      ))
       (below-top class depth off (stackOf class plain) x found)))
       (λ (n, found). other v n found)
       (changed-has plain class (off ∷ stackOf class plain) in-stacks at' held' v x e)
@@ -185,7 +203,8 @@ module _ (plain : PlainSpace) (s : Space) (at at' : ℕ → Place) (held held' :
           inr (stack k d, (λ q. kind k d (sym q)), h, λ b r. r ∙ sym (ap (under d) same))
 
   -- The block of an owner goes onto the stack of its class; the owners but stacks have their blocks from others, who read them so too.
-  pub push-agrees : ((v : Owner) (x : Block) → ((k d : ℕ) → v ≢ stack k d) → has plain at' held' v ≡ some x → FromOther plain at held c w x (BlockReads plain c' v))
+  pub push-agrees : ((v : Owner) (x : Block) → ((k d : ℕ) → v ≢ stack k d) → has plain at' held' v ≡ some x
+      → FromOther plain at held c w x (BlockReads plain c' v))
       → AgreesSpace (freed class off plain) (release (record { class = class; off = off } ∷ []) s) at' held' c'
   push-agrees rest =
       rw (release-one class off s)
@@ -203,6 +222,7 @@ module _ (plain : PlainSpace) (s : Space) (at at' : ℕ → Place) (held held' :
 
       stored : Stored (has (freed class off plain) at' held') (BlockReads (freed class off plain) c') (overwrite (s .body) off block)
       stored =
-          stored-written (has plain at held) (has (freed class off plain) at' held') (BlockReads plain c) (BlockReads (freed class off plain) c') (s .body) (plain .mark)
+          stored-written (has plain at held) (has (freed class off plain) at' held') (BlockReads plain c)
+          (BlockReads (freed class off plain) c') (s .body) (plain .mark)
           (g .apart) (a .within) w (record { class = class; off = off }) block mine
           (block-long (s .body) (record { class = class; off = off }) link block-fits short) (stacked rest) (a .stored)

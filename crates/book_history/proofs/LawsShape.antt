@@ -59,8 +59,10 @@ pub fresh-stands : (body : List ℕ) (heads : ℕ) → outOfShape (length body) 
 unfolding unpackHead headOf Names
 fresh-stands body heads out =
     record {
-      heads = λ key. ap unpackHead (all-same 0 heads key) ∙ sym (ap (λ (k : Key). accepted (headOf (k .list) (k .place))) (fresh-key (length body) heads key));
+      heads = λ key. ap unpackHead (all-same 0 heads key)
+          ∙ sym (ap (λ (k : Key). accepted (headOf (k .list) (k .place))) (fresh-key (length body) heads key));
       mark = refl;
-      free = λ class l. subst (λ (os : List ℕ). Names body (getD (replicate 9 0) class 0) os) (sym (all-same {A = List ℕ} [] 9 class)) (all-same 0 9 class);
+      free = λ class l. subst (λ (os : List ℕ). Names body (getD (replicate 9 0) class 0) os) (sym (all-same {A = List ℕ} [] 9 class))
+          (all-same 0 9 class);
       reads = λ key room shape l fits. absurd (true≢false (sym out ∙ shape));
     }

@@ -80,7 +80,8 @@ pub free-named : (plain : PlainSpace) (s : Space) (at : ℕ → Place) (c : Cont
     → Names (s .body) (getD (s .free) class 0) (stackOf class plain)
 unfolding has
 free-named plain s at c g a class =
-    subst (λ (z : ℕ). Names (s .body) z (stackOf class plain)) (sym (a .tops class)) (names-linked class (s .body) (stackOf class plain) linked)
+    subst (λ (z : ℕ). Names (s .body) z (stackOf class plain)) (sym (a .tops class))
+    (names-linked class (s .body) (stackOf class plain) linked)
   where
     linked : Linked class (s .body) (stackOf class plain)
     linked d x e =
@@ -89,7 +90,8 @@ free-named plain s at c g a class =
         let begins = st .begins in
         let ends = st .ends in
         let within = a .within in
-        let read : littleEndian (part (part (s .body) (x .off) (slabBytes (x .class))) 0 8) ≡ under d (stackOf class plain) = a .stored (stack class d) x e in
+        let read : littleEndian (part (part (s .body) (x .off) (slabBytes (x .class))) 0 8) ≡ under d (stackOf class plain) =
+        a .stored (stack class d) x e in
         (omega arith, omega arith, ap littleEndian (sym (part-start (s .body) (x .off) (slabBytes (x .class)) 8 (omega arith))) ∙ read)
 
 -- ---- books
@@ -98,7 +100,11 @@ free-named plain s at c g a class =
 reads-list : (plain : PlainBook) (b : Book) (key room : ℕ) → GoodPlain plain → Agrees plain b
     → outOfShape (plain .size) (length (plain .keys)) ≡ false
     → key < length (plain .keys) → length (keyOf key plain .list) ≤ room
-    → reads b key room ≡ accepted (record { told = listed (record { numbers = keyOf key plain .list; pages = pagesOf (keyOf key plain .place) }); book = b })
+    → reads b key room ≡ accepted (record {
+      told =
+          listed (record { numbers = keyOf key plain .list; pages = pagesOf (keyOf key plain .place) });
+      book = b;
+    })
 unfolding reads
 reads-list plain b key room g a shape l fits =
     on-key-passes plain b key _ g a shape l

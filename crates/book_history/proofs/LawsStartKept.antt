@@ -18,7 +18,7 @@ use Rattle.book_limits.specs.Limits.{outOfShape}
 use Rattle.plain_book.specs.Space.{stackOf}
 use Rattle.plain_book.specs.Key.{Page, Place, empty, inline, slab, pages}
 use Rattle.plain_book.specs.Book.{Book as PlainBook, keyOf, after as plainAfter}
-use Rattle.plain_book.specs.Owners.{Owner, hand, stack, slabOf, pageOf, atDepth, pageAt, slabAt, pageIn, has, places}
+use Rattle.plain_book.specs.Owners.{Owner, hand, stack, slabOf, pageOf, atDepth, pageNo, slabAt, pageIn, has, places}
 use Rattle.plain_book.specs.Good.{GoodPlain}
 use Rattle.plain_book.proofs.LawsOwners.{none-some, kindOf, depthOf, classOf, top-is, under-top}
 use Rattle.plain_book.proofs.LawsChain.{few-below}
@@ -147,8 +147,8 @@ indexIn (slabOf k) = 0
 indexIn (pageOf k i) = i
 
 -- Pages by their index are blocks by theirs.
-pages-no : (i : ℕ) (ps : List Page) → pageAt i ps ≡ blockNo i (pageBlocks (offsOf ps))
-unfolding pageAt offsOf pageBlocks blockNo
+pages-no : (i : ℕ) (ps : List Page) → pageNo i ps ≡ blockNo i (pageBlocks (offsOf ps))
+unfolding pageNo offsOf pageBlocks blockNo
 pages-no i [] = refl
 pages-no zero (p ∷ ps) = refl
 pages-no (suc i) (p ∷ ps) = pages-no i ps

@@ -24,7 +24,7 @@ use Rattle.scripthash_pages.proofs.LawsAppended.{count-least}
 use Rattle.scripthash_free.specs.FreeList.{Block}
 use Rattle.plain_book.specs.Key.{Kept, slab, pages, Key, totalOf, noPage, headOf}
 use Rattle.plain_book.specs.Sound.{Fits, SoundKey}
-use Rattle.plain_book.specs.Owners.{pageAt, slabAt, pageIn}
+use Rattle.plain_book.specs.Owners.{pageNo, slabAt, pageIn}
 use Rattle.plain_book.proofs.LawsOwners.{some-inj, none-some}
 use Rattle.book_space.specs.Space.{Space}
 use Rattle.book_keys.specs.Keys.{goodExtent, blockAt, slabScan, Last, lastAt, Chain, totalGood, chainAt, Content, pageBlocks, contentAt}
@@ -34,7 +34,7 @@ use Rattle.book_keys.proofs.LawsSlab.{slab-sound}
 use Rattle.book_keys.proofs.LawsPages.{last-sound}
 use Rattle.book_keys.proofs.LawsChain.{chain-sound}
 use Rattle.book_keys.proofs.LawsContent.{was-slab, was-pages, was-content, slab-from-two}
-use Rattle.book_history.specs.Agrees.{firstOff, SlabReads, LastReads, SlabIn, PageIn}
+use Rattle.book_history.specs.Agrees.{firstPageOff, SlabReads, LastReads, SlabIn, PageIn}
 use Rattle.book_history.specs.PlainOf.{keptBy, pageFrom, pagesFrom, placeFrom, countedFrom, listFrom, keyFrom}
 use Rattle.book_history.proofs.LawsWords.{inline-told}
 use Rattle.book_history.proofs.LawsStartApart.{blockNo}
@@ -102,8 +102,8 @@ module _ (s : Space) where
       })
 
   -- The pages at some offsets are these offsets' blocks.
-  pages-blocks : (i : ℕ) (os : List ℕ) → pageAt i (pagesFrom s os) ≡ blockNo i (pageBlocks os)
-  unfolding pageAt pagesFrom pageFrom blockNo pageBlocks
+  pages-blocks : (i : ℕ) (os : List ℕ) → pageNo i (pagesFrom s os) ≡ blockNo i (pageBlocks os)
+  unfolding pageNo pagesFrom pageFrom blockNo pageBlocks
   pages-blocks i [] = refl
   pages-blocks zero (o ∷ os) = refl
   pages-blocks (suc i) (o ∷ os) = pages-blocks i os
@@ -143,7 +143,7 @@ module _ (s : Space) where
       let (os, offs) = walk-offs (s .mark / pageSize) s last 0 first c (k .walks) in
       let header = last-reads last (k .header) (length (c .numbers)) (k .header-is) (k .creates) in
       let p = pages-read (s .mark / pageSize) s first total last header 0 first c (k .walks) in
-      let begins : firstOff (pagesFrom s (c .offs)) ≡ first = ap (λ (xs : List ℕ). firstOff (pagesFrom s xs)) offs in
+      let begins : firstPageOff (pagesFrom s (c .offs)) ≡ first = ap (λ (xs : List ℕ). firstPageOff (pagesFrom s xs)) offs in
       rw is
       (record {
         sound = record { rises = p .rises; fits = (p .holds, p .fit); known = tt };

@@ -20,10 +20,10 @@ use Rattle.scripthash_pages.proofs.LawsAppended.{count-least}
 use Rattle.scripthash_free.specs.FreeList.{Block, isBlock}
 use Rattle.plain_book.specs.Key.{Kept, Page, lastPage}
 use Rattle.plain_book.specs.Sound.{held, FitsPage, FitPages}
-use Rattle.plain_book.specs.Owners.{pageAt}
+use Rattle.plain_book.specs.Owners.{pageNo}
 use Rattle.plain_book.proofs.LawsOwners.{some-inj, none-some}
 use Rattle.book_space.specs.Space.{Space}
-use Rattle.book_keys.specs.Keys.{linkScan, Chain, linked, walk}
+use Rattle.book_keys.specs.Keys.{linkScan, Chain, pageThen, walk}
 use Rattle.book_keys.specs.Keys.{pageAt as pageBytes}
 use Rattle.book_keys.proofs.LawsPages.{link-sound}
 use Rattle.book_keys.proofs.LawsWalk.{Ends, GoesOn, walk-step}
@@ -78,12 +78,12 @@ pub record PagesRead (s : Space) (first total last prev : ℕ) (numbers offs : L
   pub rises : Rising (2 ^ 62) prev numbers
   pub fit : FitPages (pagesFrom s offs)
   pub ends : (page : Page) → lastPage page (pagesFrom s offs) .off ≡ last
-  pub each : (i : ℕ) (x : Block) → pageAt i (pagesFrom s offs) ≡ some x → BlockAs s (ChainReads first total i (pagesFrom s offs)) x
+  pub each : (i : ℕ) (x : Block) → pageNo i (pagesFrom s offs) ≡ some x → BlockAs s (ChainReads first total i (pagesFrom s offs)) x
 
 -- A walk's offsets begin with the one that it begins at.
 pub walk-offs : (k : ℕ) (s : Space) (last prev off : ℕ) (c : Chain) → walk k s last prev off ≡ accepted c
     → (os : List ℕ) × (c .offs ≡ off ∷ os)
-unfolding walk linked
+unfolding walk pageThen
 walk-offs zero s last prev off c e = absurd (refused≢accepted e)
 walk-offs (suc k) s last prev off c e =
     let w = walk-step k s last prev off c e in
@@ -99,7 +99,7 @@ module _ (s : Space) (first total last : ℕ) (header : LastReads first total (p
 
   -- The key's last page.
   one-read : off ≡ last → PagesRead s first total last prev (c .numbers) (off ∷ [])
-  unfolding pageFrom pagesFrom held FitPages lastPage pageAt ChainReads
+  unfolding pageFrom pagesFrom held FitPages lastPage pageNo ChainReads
   one-read e =
       record {
         holds = ap (λ (k : Kept). k .numbers ++ []) (part-is s prev off c is) ∙ append-nil (c .numbers);
@@ -109,7 +109,7 @@ module _ (s : Space) (first total last : ℕ) (header : LastReads first total (p
         each = each;
       }
     where
-      each : (i : ℕ) (x : Block) → pageAt i (pageFrom s off ∷ []) ≡ some x → BlockAs s (ChainReads first total i (pageFrom s off ∷ [])) x
+      each : (i : ℕ) (x : Block) → pageNo i (pageFrom s off ∷ []) ≡ some x → BlockAs s (ChainReads first total i (pageFrom s off ∷ [])) x
       each zero x f =
           first-block (λ bytes. PageReads (pageFrom s off) bytes × LastReads first total bytes)
           (page-reads s prev off c is, subst (λ (o : ℕ). LastReads first total (pageBytes s o)) (sym e) header) x f
@@ -120,7 +120,7 @@ module _ (s : Space) (first total last : ℕ) (header : LastReads first total (p
       → linkOffset (linkOf (pageBytes s off)) ≡ next
       → PagesRead s first total last (lastFrom prev (c .numbers)) ns (next ∷ os)
       → PagesRead s first total last prev (c .numbers ++ ns) (off ∷ next ∷ os)
-  unfolding pageFrom pagesFrom held FitPages lastPage pageAt ChainReads
+  unfolding pageFrom pagesFrom held FitPages lastPage pageNo ChainReads
   more-read ns next os more to rest =
       record {
         holds = ap₂ (λ (k : Kept) (ms : List ℕ). k .numbers ++ ms) (part-is s prev off c is) (rest .holds);
@@ -130,7 +130,7 @@ module _ (s : Space) (first total last : ℕ) (header : LastReads first total (p
         each = each;
       }
     where
-      each : (i : ℕ) (x : Block) → pageAt i (pagesFrom s (off ∷ next ∷ os)) ≡ some x
+      each : (i : ℕ) (x : Block) → pageNo i (pagesFrom s (off ∷ next ∷ os)) ≡ some x
           → BlockAs s (ChainReads first total i (pagesFrom s (off ∷ next ∷ os))) x
       each zero x f =
           first-block (λ bytes. PageReads (pageFrom s off) bytes × NextReads next bytes)
@@ -140,7 +140,7 @@ module _ (s : Space) (first total last : ℕ) (header : LastReads first total (p
 -- All pages of a walk.
 pub pages-read : (k : ℕ) (s : Space) (first total last : ℕ) → LastReads first total (pageBytes s last) → (prev off : ℕ) (c : Chain)
     → walk k s last prev off ≡ accepted c → PagesRead s first total last prev (c .numbers) (c .offs)
-unfolding walk linked
+unfolding walk pageThen
 pages-read zero s first total last header prev off c e = absurd (refused≢accepted e)
 pages-read (suc k) s first total last header prev off c e =
     let w = walk-step k s last prev off c e in

@@ -94,8 +94,10 @@ alike-on-key plain b key x y g a go =
         (λ e. go shape (a .inside shape) (leb-false (length (plain .keys)) key e))
 
     shape : (t : Bool) → outOfShape (plain .size) (length (plain .keys)) ≡ t
-        → Alike (refuseIf (outOfShape (plain .size) (length (plain .keys))) shapeBad (refuseIf (leb (length (plain .keys)) key) keyBeyond x))
-        (refuseIf (outOfShape (plain .size) (length (plain .keys)) || markBad (plain .size) (b .space .mark)) shapeBad (refuseIf (leb (length (plain .keys)) key) keyBeyond y))
+        → Alike (refuseIf (outOfShape (plain .size) (length (plain .keys))) shapeBad
+        (refuseIf (leb (length (plain .keys)) key) keyBeyond x))
+        (refuseIf (outOfShape (plain .size) (length (plain .keys)) || markBad (plain .size) (b .space .mark)) shapeBad
+        (refuseIf (leb (length (plain .keys)) key) keyBeyond y))
     shape true e = rw e (alike-both true true shapeBad _ _ refl (λ z. absurd (true≢false z)))
     shape false e =
         let m : markBad (plain .size) (b .space .mark) ≡ false = rw (← a .size) (mark-good plain b g e (a .size) (a .inside e)) in
@@ -113,7 +115,8 @@ on-key-passes plain b key after g a shape l =
 
 -- A number that is offered: the plain book knows the number before it, the bytes find it later.
 pub alike-offered : (last n : ℕ) (x : Answer PlainOutcome) (y : Answer Outcome)
-    → (0 < n → n < 2 ^ 62 → Alike (refuseIf (leb n last) offeredNotRising x) y) → Alike (offeredNumber true last n x) (offeredNumber true 0 n y)
+    → (0 < n → n < 2 ^ 62 → Alike (refuseIf (leb n last) offeredNotRising x) y)
+    → Alike (offeredNumber true last n x) (offeredNumber true 0 n y)
 unfolding offeredNumber
 alike-offered last n x y go =
     alike-both _ _ _ _ _ refl

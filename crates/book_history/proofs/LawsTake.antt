@@ -55,7 +55,8 @@ inHandOf class off = some (record { class = class; off = off })
 
 -- Two calls go on after takes alike: refused alike, or from what was taken.
 pub taken-then : {A B : Type 0} (P : Answer A → Answer B → Type 0) (at : ℕ → Place) (held : ℕ → Option Block) (c : Contents) (long : ℕ)
-    (x : Answer PlainTaken) (y : Answer Taken) (f : PlainTaken → Answer A) (g : Taken → Answer B) → ((number : ℕ) → P (refused number) (refused number))
+    (x : Answer PlainTaken) (y : Answer Taken) (f : PlainTaken → Answer A) (g : Taken → Answer B)
+    → ((number : ℕ) → P (refused number) (refused number))
     → ((t : PlainTaken) (u : Taken) → x ≡ accepted t → y ≡ accepted u → u .off ≡ t .off → length (u .space .body) ≡ long
     → AgreesSpace (t .space) (u .space) at (held (t .off)) c → P (f t) (g u))
     → TakenAlike at held c long x y → P (andThen x f) (andThen y g)
@@ -70,7 +71,8 @@ pub part-start : (b : List ℕ) (o k n : ℕ) → n ≤ k → part (part b o k) 
 unfolding part
 part-start b o k n l = take-take n k (drop o b) l
 
-module _ (plain : PlainSpace) (s : Space) (at : ℕ → Place) (c : Contents) (class o : ℕ) (os : List ℕ) (to-8 : class ≤ 8) (g : Good plain at none)
+module _ (plain : PlainSpace) (s : Space) (at : ℕ → Place) (c : Contents) (class o : ℕ) (os : List ℕ) (to-8 : class ≤ 8)
+    (g : Good plain at none)
     (a : AgreesSpace plain s at none c) (is : stackOf class plain ≡ o ∷ os) where
   in-stacks : class < length (plain .stacks)
   in-stacks = omega (arith, g .nine)
@@ -79,13 +81,16 @@ module _ (plain : PlainSpace) (s : Space) (at : ℕ → Place) (c : Contents) (c
   next-is : nextOf (s .body) o ≡ top os
   unfolding has
   next-is =
-      let reads = a .stored (stack class (length os)) (record { class = class; off = o }) (ap (atDepth class (length os)) is ∙ top-is class o os) in
-      ap littleEndian (sym (part-start (s .body) o (slabBytes class) 8 (omega (arith, bytes-from-16 class)))) ∙ reads ∙ ap (under (length os)) is ∙ under-pushed o os
+      let reads = a .stored (stack class (length os)) (record { class = class; off = o })
+      (ap (atDepth class (length os)) is ∙ top-is class o os) in
+      ap littleEndian (sym (part-start (s .body) o (slabBytes class) 8 (omega (arith, bytes-from-16 class)))) ∙ reads
+      ∙ ap (under (length os)) is ∙ under-pushed o os
 
   -- who had a block before
   abbrev From : Block → Owner → Type 0
   From x v =
-      (u : Owner) × (has plain at none u ≡ some x) × ((block : List ℕ) → BlockReads plain c u block → BlockReads (withStack class os plain) (anyHand c) v block)
+      (u : Owner) × (has plain at none u ≡ some x) × ((block : List ℕ) → BlockReads plain c u block
+      → BlockReads (withStack class os plain) (anyHand c) v block)
 
   popped-from : (v : Owner) (x : Block) → has (withStack class os plain) at (inHandOf class o) v ≡ some x → From x v
   unfolding has
@@ -108,7 +113,8 @@ module _ (plain : PlainSpace) (s : Space) (at : ℕ → Place) (c : Contents) (c
           (stack k d, h, λ b r. r ∙ sym (ap (under d) same))
 
   -- The top of a stack comes to hand.
-  pub popped-agrees : AgreesSpace (withStack class os plain) (space (s .body) (s .mark) (set (s .free) class (nextOf (s .body) o))) at (inHandOf class o) (anyHand c)
+  pub popped-agrees : AgreesSpace (withStack class os plain) (space (s .body) (s .mark) (set (s .free) class (nextOf (s .body) o)))
+      at (inHandOf class o) (anyHand c)
   popped-agrees =
       record {
         mark = a .mark;
@@ -117,7 +123,8 @@ module _ (plain : PlainSpace) (s : Space) (at : ℕ → Place) (c : Contents) (c
         within = a .within;
         small = a .small;
         stored =
-            stored-same (has plain at none) (has (withStack class os plain) at (inHandOf class o)) (BlockReads plain c) (BlockReads (withStack class os plain) (anyHand c)) (s .body)
+            stored-same (has plain at none) (has (withStack class os plain) at (inHandOf class o)) (BlockReads plain c)
+            (BlockReads (withStack class os plain) (anyHand c)) (s .body)
             popped-from (a .stored);
       }
 
@@ -148,12 +155,14 @@ module _ (plain : PlainSpace) (s : Space) (at : ℕ → Place) (c : Contents) (c
 -- The mark passes some bytes.
 pub passed-agrees : (plain : PlainSpace) (s : Space) (at : ℕ → Place) (held : Option Block) (c : Contents) (bytes : ℕ)
     → plain .mark + bytes ≤ length (s .body)
-    → AgreesSpace plain s at held c → AgreesSpace (record { mark = plain .mark + bytes; stacks = plain .stacks }) (space (s .body) (s .mark + bytes) (s .free)) at held c
+    → AgreesSpace plain s at held c → AgreesSpace (record { mark = plain .mark + bytes; stacks = plain .stacks })
+    (space (s .body) (s .mark + bytes) (s .free)) at held c
 unfolding has
 passed-agrees plain s at held c bytes fits a =
     record { mark = ap (λ (m : ℕ). m + bytes) (a .mark); nine = a .nine; tops = a .tops; within = fits; small = a .small; stored = stored }
   where
-    stored : Stored (has (record { mark = plain .mark + bytes; stacks = plain .stacks }) at held) (BlockReads (record { mark = plain .mark + bytes; stacks = plain .stacks }) c) (s .body)
+    stored : Stored (has (record { mark = plain .mark + bytes; stacks = plain .stacks }) at held)
+        (BlockReads (record { mark = plain .mark + bytes; stacks = plain .stacks }) c) (s .body)
     stored hand x e = a .stored hand x e
     stored (stack k d) x e = a .stored (stack k d) x e
     stored (slabOf k) x e = a .stored (slabOf k) x e
@@ -180,12 +189,17 @@ mark-agrees plain s at c long bytes is a = rw (is, a .mark) (go (ltb long (plain
   where
     go : (t : Bool) → ltb long (plain .mark + bytes) ≡ t
         → TakenAlike at (λ off. none) c long
-        (cond t (refused noRoom) (accepted (record { off = plain .mark; space = record { mark = plain .mark + bytes; stacks = plain .stacks } })))
+        (cond t (refused noRoom) (accepted (record {
+          off = plain .mark;
+          space =
+              record { mark = plain .mark + bytes; stacks = plain .stacks };
+        })))
         (cond t (refused noRoom) (accepted (record { off = plain .mark; space = space (s .body) (plain .mark + bytes) (s .free) })))
     go true e = refused-taken
     go false e =
         taken-alike refl is
-        (subst (λ (m : ℕ). AgreesSpace (record { mark = plain .mark + bytes; stacks = plain .stacks }) (space (s .body) (m + bytes) (s .free)) at none c) (a .mark)
+        (subst (λ (m : ℕ). AgreesSpace (record { mark = plain .mark + bytes; stacks = plain .stacks })
+        (space (s .body) (m + bytes) (s .free)) at none c) (a .mark)
         (passed-agrees plain s at none c bytes (omega (arith, ltb-false long (plain .mark + bytes) e)) a))
 
 -- What was taken at the mark is in hand.
@@ -213,7 +227,8 @@ AgreesLong plain s at c long = AgreesSpace plain s at none c × (length (s .body
 -- A block at the mark goes onto its stack, and the mark passes it.
 carved-one : (plain : PlainSpace) (s : Space) (at : ℕ → Place) (c : Contents) (b : Block) → b .off ≡ plain .mark → b .class ≤ 7
     → plain .mark + slabBytes (b .class) ≤ length (s .body) → Good plain at none → AgreesSpace plain s at none c
-    → AgreesLong (freedTo (plain .mark + slabBytes (b .class)) (b ∷ []) plain) (pushedTo (s .mark + slabBytes (b .class)) (b ∷ []) s) at c (length (s .body))
+    → AgreesLong (freedTo (plain .mark + slabBytes (b .class)) (b ∷ []) plain) (pushedTo (s .mark + slabBytes (b .class)) (b ∷ []) s) at c
+    (length (s .body))
 unfolding has release pushAll pushed freedAll
 carved-one plain s at c b is to-7 fits g a = (agrees, release-long (b .class) (b .off) past (rw is fits))
   where
@@ -234,7 +249,8 @@ carved-one plain s at c b is to-7 fits g a = (agrees, release-long (b .class) (b
     agrees : AgreesSpace (freed (b .class) (b .off) farther) (release (b ∷ []) past) at none c
     agrees =
         push-agrees farther past at at (some b) none (anyHand c) c hand (b .class) (b .off) (omega arith) good
-        (hand-any farther past at c b (passed-agrees plain s at none c (slabBytes (b .class)) fits a)) (λ k d q. (let z = ap kindOf q in omega arith)) refl rest
+        (hand-any farther past at c b (passed-agrees plain s at none c (slabBytes (b .class)) fits a))
+        (λ k d q. (let z = ap kindOf q in omega arith)) refl rest
       where
         rest : (v : Owner) (x : Block) → ((k d : ℕ) → v ≢ stack k d) → has farther at none v ≡ some x
             → FromOther farther at (some b) (anyHand c) hand x (BlockReads farther c v)
@@ -246,7 +262,8 @@ carved-one plain s at c b is to-7 fits g a = (agrees, release-long (b .class) (b
 -- Blocks side by side from the mark on go onto their stacks, and the mark passes them.
 carved : (bs : List Block) (plain : PlainSpace) (s : Space) (at : ℕ → Place) (c : Contents) (end : ℕ) → Adjoin (plain .mark) bs end
     → Each (IsSlab end) bs
-    → end ≤ length (s .body) → Good plain at none → AgreesSpace plain s at none c → AgreesLong (freedTo end bs plain) (pushedTo end bs s) at c (length (s .body))
+    → end ≤ length (s .body) → Good plain at none → AgreesSpace plain s at none c
+    → AgreesLong (freedTo end bs plain) (pushedTo end bs s) at c (length (s .body))
 unfolding Adjoin Each freedAll pushAll
 carved [] plain s at c end here each fits g a =
     let there : AgreesSpace plain (space (s .body) (plain .mark) (s .free)) at none c =
@@ -273,8 +290,10 @@ rounded-agrees plain s at c g whole a =
     let up : plain .mark ≤ pageAfter (plain .mark) = omega arith in
     let gap : (pageAfter (plain .mark) - plain .mark) % 16 ≡ 0 = omega (arith, g .aligned) in
     rw (a .mark)
-    (carved (gapBlocks (plain .mark) (pageAfter (plain .mark))) plain s at c (pageAfter (plain .mark)) (gap-filled (plain .mark) (pageAfter (plain .mark)) up gap)
-    (gap-slabs (plain .mark) (pageAfter (plain .mark)) (pageAfter (plain .mark)) up (record { aligned = g .aligned; begins = g .from; ends = omega arith }))
+    (carved (gapBlocks (plain .mark) (pageAfter (plain .mark))) plain s at c (pageAfter (plain .mark))
+    (gap-filled (plain .mark) (pageAfter (plain .mark)) up gap)
+    (gap-slabs (plain .mark) (pageAfter (plain .mark)) (pageAfter (plain .mark)) up
+    (record { aligned = g .aligned; begins = g .from; ends = omega arith }))
     (omega (arith, a .within)) g a)
 
 -- ---- takes
@@ -282,7 +301,8 @@ rounded-agrees plain s at c g whole a =
 -- A run of pages is taken: nothing is in hand, and the mark has passed it.
 pub run-agrees : (plain : PlainSpace) (s : Space) (at : ℕ → Place) (c : Contents) (pages : ℕ) → Good plain at none
     → length (s .body) % 4096 ≡ 0
-    → AgreesSpace plain s at none c → TakenAlike at (λ off. none) c (length (s .body)) (plainTakeRun (length (s .body)) pages plain) (takeRun pages s)
+    → AgreesSpace plain s at none c → TakenAlike at (λ off. none) c (length (s .body)) (plainTakeRun (length (s .body)) pages plain)
+    (takeRun pages s)
 unfolding plainTakeRun takeRun
 run-agrees plain s at c pages g whole a =
     let (all, long) = rounded-agrees plain s at c g whole a in
@@ -297,12 +317,14 @@ unfolding takes takeFrom takePopped plainTakeFresh takeFresh
 take-agrees plain s at c class to-8 g whole a = from-stack (stackOf class plain) refl
   where
     fresh : (t : Bool) → TakenAlike at (inHandOf class) (anyHand c) (length (s .body))
-        (cond t (plainTakeRun (length (s .body)) 1 plain) (plainTakeMark (length (s .body)) (slabBytes class) plain)) (cond t (takeRun 1 s) (takeMark (slabBytes class) s))
+        (cond t (plainTakeRun (length (s .body)) 1 plain) (plainTakeMark (length (s .body)) (slabBytes class) plain))
+        (cond t (takeRun 1 s) (takeMark (slabBytes class) s))
     fresh true = hand-alike at c class (length (s .body)) _ _ (run-agrees plain s at c 1 g whole a)
     fresh false = hand-alike at c class (length (s .body)) _ _ (mark-agrees plain s at c (length (s .body)) (slabBytes class) refl a)
 
     from-stack : (os : List ℕ) → stackOf class plain ≡ os
         → TakenAlike at (inHandOf class) (anyHand c) (length (s .body)) (takeFrom (length (s .body)) class os plain) (takes class s)
-    from-stack [] e = rw (then-yes _ (λ p. takePopped class s (p .block) (p .heads)) (pop-none class (s .mark) (listsOf s) to-8 (a .tops class ∙ ap top e))) (fresh (eqb class pageClass))
+    from-stack [] e = rw (then-yes _ (λ p. takePopped class s (p .block) (p .heads))
+        (pop-none class (s .mark) (listsOf s) to-8 (a .tops class ∙ ap top e))) (fresh (eqb class pageClass))
     from-stack (o ∷ os) e =
         rw (take-pops plain s at c class o os to-8 g a e) (taken-alike refl refl (popped-agrees plain s at c class o os to-8 g a e))

@@ -49,7 +49,8 @@ place-within s (Inline entry used) k e = subst (λ (k : Content). Each (Within 0
 place-within s (Slab class used off) k e =
     let (c, is, same) = was-slab s class used off k e in
     let known = slab-sound s class used off c is in
-    subst (λ (k : Content). Each (Within 0 (s .mark)) (k .blocks)) same ((omega arith, block-stands class off (s .mark) (known .stands) .ends), tt)
+    subst (λ (k : Content). Each (Within 0 (s .mark)) (k .blocks)) same
+    ((omega arith, block-stands class off (s .mark) (known .stands) .ends), tt)
 place-within s (Extent last) k e =
     let (c, is, same) = was-pages s last k e in
     subst (λ (k : Content). Each (Within 0 (s .mark)) (k .blocks)) same (pages-within (s .mark) (c .offs) (chain-known s last c is .stands))
@@ -87,7 +88,8 @@ list-only b key out l {o} e is =
     let k = on-key b key _ e in
     let (c, held, answer) = went-on (content (b .space) (wordOf key b)) _ (k .2) in
     let p = passed _ _ _ answer in
-    let same : listed (record { numbers = c .numbers; pages = c .pages }) ≡ listed l = ap (λ (x : Outcome). x .told) (accepted-inj (p .1)) ∙ is in
+    let same : listed (record { numbers = c .numbers; pages = c .pages }) ≡ listed l = ap (λ (x : Outcome). x .told) (accepted-inj (p .1))
+    ∙ is in
     let numbers : c .numbers ≡ l .numbers = cc in
     let fits : length (l .numbers) ≤ length out = rw numbers at (ltb-false (length out) (length (c .numbers)) (p .0)) in
     rw (e, is) (only-bytes out 0 (length (l .numbers)) (l .numbers) refl (omega arith))
@@ -125,7 +127,8 @@ pub accepted-only : (b : Book) (c : Call) {o : Outcome} → does b c ≡ accepte
 unfolding does names
 accepted-only b (load key ns) e = load-only b key ns e
 accepted-only b (append key n) e = append-only b key n e
-accepted-only b (read key room) e = subst (λ (a : Book). Differs (record { heads = []; space = nothing }) b a) (sym (read-nothing b key room e)) (differs-not (record { heads = []; space = nothing }) b)
+accepted-only b (read key room) e = subst (λ (a : Book). Differs (record { heads = []; space = nothing }) b a)
+    (sym (read-nothing b key room e)) (differs-not (record { heads = []; space = nothing }) b)
 accepted-only b (drop key) e = drop-only b key e
 
 -- What an answer leaves.
@@ -142,7 +145,8 @@ call-only b c = after-answer b c (does b c) (λ o e. accepted-only b c e)
 -- A key other than another is outside of its head word.
 outside-key : (k key : ℕ) → k ≢ key → (k < key) ⊎ (key + 1 ≤ k)
 outside-key k key other =
-    ⊎-elim inl (λ (h : key ≤ k). inr (⊎-elim (λ (e : key ≡ k). absurd (other (sym e))) (λ (l : key < k). omega arith) (eq-or-lt-of-le h))) (lt-or-ge k key)
+    ⊎-elim inl (λ (h : key ≤ k). inr (⊎-elim (λ (e : key ≡ k). absurd (other (sym e))) (λ (l : key < k). omega arith) (eq-or-lt-of-le h)))
+    (lt-or-ge k key)
 
 -- A call names no head word but its key's.
 words-named : (b : Book) (c : Call) (k : ℕ) → k ≢ keyOfCall c → Outside (names b c .heads) k

@@ -51,7 +51,8 @@ use Rattle.book_history.proofs.LawsWritesLoad.{on-key, differs-placed}
 -- ---- moving
 
 -- A list moves, with the blocks that it had within the body: by the class of the slab that it moves to.
-module _ (b : Book) (key : ℕ) (ns : List ℕ) (n : ℕ) (old : List Block) (i : InShape (b .space)) (here : Each (Within 0 (length (b .space .body))) old) where
+module _ (b : Book) (key : ℕ) (ns : List ℕ) (n : ℕ) (old : List Block) (i : InShape (b .space))
+    (here : Each (Within 0 (length (b .space .body))) old) where
   -- The list with its new number.
   abbrev list : List ℕ
   list = ns ++ (n ∷ [])
@@ -72,14 +73,18 @@ module _ (b : Book) (key : ℕ) (ns : List ℕ) (n : ℕ) (old : List Block) (i 
   into-only (some class) is fits e =
       let m = moves-to (length list) (streamLen list) is in
       let w = went-on (takeBlock class (b .space)) _ e in
-      subst (λ (o : Outcome). Differs (wordAnd key (both (writing list (some class) (b .space)) (freeingAll old))) b (o .book)) (accepted-inj (w .2))
-      (differs-placed key _ _ b (moved-wrote class (payloadLen (streamLen list)) (slabPayload list) (omega (arith, m .slab)) (length-payload list) (m .fits) (w .1)))
+      subst (λ (o : Outcome). Differs (wordAnd key (both (writing list (some class) (b .space)) (freeingAll old))) b (o .book))
+      (accepted-inj (w .2))
+      (differs-placed key _ _ b (moved-wrote class (payloadLen (streamLen list)) (slabPayload list) (omega (arith, m .slab))
+      (length-payload list) (m .fits) (w .1)))
   into-only none is fits e =
       let w = went-on (takeBlock pageClass (b .space)) _ e in
       let off = w .0 .off in
-      subst (λ (o : Outcome). Differs (wordAnd key (both (writing list none (b .space)) (freeingAll old))) b (o .book)) (accepted-inj (w .2))
+      subst (λ (o : Outcome). Differs (wordAnd key (both (writing list none (b .space)) (freeingAll old))) b (o .book))
+      (accepted-inj (w .2))
       (differs-placed key _ _ b
-      (moved-wrote pageClass pageSize (lastPageOf off off 1 (length list) list) (omega arith) (length-lastPage off off 1 (length list) list fits) (omega arith) (w .1)))
+      (moved-wrote pageClass pageSize (lastPageOf off off 1 (length list) list) (omega arith)
+      (length-lastPage off off 1 (length list) list fits) (omega arith) (w .1)))
 
   -- It moves to the class for it.
   moves-only : {o : Outcome} → streamLen list ≤ lastPageRoom → moves b key ns n old ≡ accepted o
@@ -90,7 +95,8 @@ module _ (b : Book) (key : ℕ) (ns : List ℕ) (n : ℕ) (old : List Block) (i 
 -- ---- a slab
 
 -- A number behind the stream of a sound slab.
-module _ (b : Book) (key n class used off : ℕ) (c : Scan) (i : InShape (b .space)) (known : SoundSlab (b .space) class used off c) (small : n < 2 ^ 62) where
+module _ (b : Book) (key n class used off : ℕ) (c : Scan) (i : InShape (b .space)) (known : SoundSlab (b .space) class used off c)
+    (small : n < 2 ^ 62) where
   -- The space.
   abbrev s : Space
   s = b .space
@@ -111,9 +117,11 @@ module _ (b : Book) (key n class used off : ℕ) (c : Scan) (i : InShape (b .spa
   stays-wrote e =
       let held = stays-holds class (length (c .numbers) + 1) (c .taken + ulebLen difference) e in
       let block = blockAt s class off in
-      let fits : 2 + c .taken + ulebLen difference ≤ length block = omega (arith, held .2, length-part (s .body) off (slabBytes class) slab-ends) in
+      let fits : 2 + c .taken + ulebLen difference ≤ length block =
+      omega (arith, held .2, length-part (s .body) off (slabBytes class) slab-ends) in
       rw (add-zero off) at
-      (wrote-part s off (slabBytes class) (slabWith block (length (c .numbers)) (c .taken) difference) (region 0 2 ∷ region (2 + c .taken) (ulebLen difference) ∷ []) slab-ends
+      (wrote-part s off (slabBytes class) (slabWith block (length (c .numbers)) (c .taken) difference)
+      (region 0 2 ∷ region (2 + c .taken) (ulebLen difference) ∷ []) slab-ends
       (only-slab block (length (c .numbers)) (c .taken) difference fits))
 
   -- Written anew, the list with the number fits a page.
@@ -132,12 +140,14 @@ module _ (b : Book) (key n class used off : ℕ) (c : Scan) (i : InShape (b .spa
   unfolding appendSlab growingSlab
   grown-only true t e =
       rw t
-      (subst (λ (o : Outcome). Differs (wordAnd key (both (bytesAt off 2) (bytesAt (off + (2 + c .taken)) (ulebLen difference)))) b (o .book))
+      (subst (λ (o : Outcome). Differs (wordAnd key (both (bytesAt off 2) (bytesAt (off + (2 + c .taken)) (ulebLen difference)))) b
+      (o .book))
       (accepted-inj (rw t at e)) (differs-placed key _ _ b (stays-wrote t)))
   grown-only false t e =
       let block : Block = record { class = class; off = off } in
       rw t
-      (moves-only b key (c .numbers) n (block ∷ []) i (each-one (Within 0 (length (s .body))) block (omega arith, slab-ends)) slab-fits-page (rw t at e))
+      (moves-only b key (c .numbers) n (block ∷ []) i (each-one (Within 0 (length (s .body))) block (omega arith, slab-ends)) slab-fits-page
+      (rw t at e))
 
 -- ---- pages
 
@@ -158,8 +168,10 @@ module _ (b : Book) (key n last : ℕ) (t : Tail) (i : InShape (b .space)) (know
   unfolding growingPage both shifted
   joined-wrote w e =
       let within = i .within in
-      wrote-part room last pageSize (pageWith (pageAt room last) w (t .last .creates)) (region 1 2 ∷ region (w .at) (ulebLen (w .difference)) ∷ region 20 4 ∷ [])
-      (omega (arith, page-ends)) (only-joined (pageAt room last) n (t .last .creates) (t .scan) w (known .link .scanned) (known .header .version) e)
+      wrote-part room last pageSize (pageWith (pageAt room last) w (t .last .creates))
+      (region 1 2 ∷ region (w .at) (ulebLen (w .difference)) ∷ region 20 4 ∷ [])
+      (omega (arith, page-ends)) (only-joined (pageAt room last) n (t .last .creates) (t .scan) w (known .link .scanned)
+      (known .header .version) e)
 
   -- The link and creates of the page are written.
   old-wrote : (p : Taken) → last + pageSize ≤ length (p .space .body)
@@ -180,7 +192,8 @@ module _ (b : Book) (key n last : ℕ) (t : Tail) (i : InShape (b .space)) (know
   chain-wrote : (p : Taken) → takeBlock pageClass room ≡ accepted p
       → let body = overwrite (p .space .body) last (pageBefore (pageAt (p .space) last) (p .off)) in
       Wrote (growingPage last none room) room
-      (space (overwrite body (p .off) (lastPageOf (t .last .first) (p .off) 1 (totalWith (t .last .creates)) (n ∷ []))) (p .space .mark) (p .space .free))
+      (space (overwrite body (p .off) (lastPageOf (t .last .first) (p .off) 1 (totalWith (t .last .creates)) (n ∷ []))) (p .space .mark)
+      (p .space .free))
   unfolding growingPage filling
   chain-wrote p e =
       let took = take-took pageClass room (omega arith) i e in
@@ -191,7 +204,8 @@ module _ (b : Book) (key n last : ℕ) (t : Tail) (i : InShape (b .space)) (know
       let page = lastPageOf (t .last .first) (p .off) 1 (totalWith (t .last .creates)) (n ∷ []) in
       rw e
       (wrote-between (wrote-took pageClass room (omega arith) i e) old
-      (wrote-bytes _ (p .off) pageSize page (length-lastPage (t .last .first) (p .off) 1 (totalWith (t .last .creates)) (n ∷ []) one-fits) (omega (arith, old .body .long))))
+      (wrote-bytes _ (p .off) pageSize page (length-lastPage (t .last .first) (p .off) 1 (totalWith (t .last .creates)) (n ∷ []) one-fits)
+      (omega (arith, old .body .long))))
 
   -- A number in the page, or in a page more.
   page-only : (spot : Option Spot) {o : Outcome} → spotBehind (pageAt room last) n (t .scan) ≡ spot
@@ -199,7 +213,8 @@ module _ (b : Book) (key n last : ℕ) (t : Tail) (i : InShape (b .space)) (know
       → Differs (wordAnd key (growingPage last spot room)) b (o .book)
   unfolding appendPage growChain
   page-only (some w) is e =
-      subst (λ (o : Outcome). Differs (wordAnd key (growingPage last (some w) room)) b (o .book)) (accepted-inj e) (differs-placed key _ _ b (joined-wrote w is))
+      subst (λ (o : Outcome). Differs (wordAnd key (growingPage last (some w) room)) b (o .book)) (accepted-inj e)
+      (differs-placed key _ _ b (joined-wrote w is))
   page-only none is e =
       let g = went-on (takeBlock pageClass room) _ e in
       subst (λ (o : Outcome). Differs (wordAnd key (growingPage last none room)) b (o .book)) (accepted-inj (g .2))
@@ -212,11 +227,13 @@ at-only : (b : Book) (key n : ℕ) (place : ShHeadValue) {o : Outcome} → InSha
     → Differs (wordAnd key (appendNames n (b .space) place)) b (o .book)
 unfolding appendAt appendNames streamLenFrom Each
 at-only b key n Empty i small e =
-    subst (λ (o : Outcome). Differs (wordAnd key nothing) b (o .book)) (accepted-inj e) (differs-placed key _ (b .space) b (wrote-same nothing (b .space)))
+    subst (λ (o : Outcome). Differs (wordAnd key nothing) b (o .book)) (accepted-inj e)
+    (differs-placed key _ (b .space) b (wrote-same nothing (b .space)))
 at-only b key n (Inline entry used) i small e =
     let p = passed _ _ _ e in
     let less = leb-false n entry (p .0) in
-    moves-only b key (entry ∷ []) n [] i tt (omega (arith, len-at-most (entry - 0) (omega arith), len-at-most (n - entry) (omega arith))) (p .1)
+    moves-only b key (entry ∷ []) n [] i tt (omega (arith, len-at-most (entry - 0) (omega arith), len-at-most (n - entry) (omega arith)))
+    (p .1)
 at-only b key n (Slab class used off) i small e =
     let g = went-on _ _ e in
     let scanned = was-sound (slabScan (b .space) class used off) (g .1) in
@@ -228,7 +245,8 @@ at-only b key n (Extent last) i small e =
     let tail = was-sound (tailAt (b .space) last) (g .1) in
     let p = passed _ _ _ (g .2) in
     rw tail
-    (page-only b key n last (g .0) i (tail-sound (b .space) last (g .0) tail) small (spotBehind (pageAt (b .space) last) n (g .0 .scan)) refl (p .1))
+    (page-only b key n last (g .0) i (tail-sound (b .space) last (g .0) tail) small (spotBehind (pageAt (b .space) last) n (g .0 .scan))
+    refl (p .1))
 
 -- An append.
 pub append-only : (b : Book) (key n : ℕ) {o : Outcome} → appends b key n ≡ accepted o → Changes b (o .book) (append key n)

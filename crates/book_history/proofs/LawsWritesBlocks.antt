@@ -30,7 +30,8 @@ unfolding slabWith
 only-slab block used taken difference h =
     let counted = only-bytes block 0 2 (bytesOf 2 (used + 1)) refl (omega arith) in
     only-then counted
-    (only-bytes (overwrite block 0 (bytesOf 2 (used + 1))) (2 + taken) (ulebLen difference) (shortest difference) (length-shortest difference) (omega (arith, counted .long)))
+    (only-bytes (overwrite block 0 (bytesOf 2 (used + 1))) (2 + taken) (ulebLen difference) (shortest difference)
+    (length-shortest difference) (omega (arith, counted .long)))
 
 -- A last page that got a next page differs in its link and in creates.
 pub only-before : (page : List ℕ) (next : ℕ) → length page ≡ pageSize → Only (region 3 5 ∷ region 20 4 ∷ []) page (pageBefore page next)
@@ -57,5 +58,7 @@ only-joined page n creates c w scans version spot =
     let whole : Only (region 1 2 ∷ region (24 + c .taken) (ulebLen d) ∷ region 20 4 ∷ []) page (pageWith page spot-of creates) =
     subst (λ (x : List ℕ). Only (region 1 2 ∷ region (24 + c .taken) (ulebLen d) ∷ region 20 4 ∷ []) page x)
     (grown-written page (countOf page) (c .taken) d creates (omega arith) version (count-read page)) (only-then o (only-then p q)) in
-    subst (λ (v : Spot). Only (region 1 2 ∷ region (v .at) (ulebLen (v .difference)) ∷ region 20 4 ∷ []) page (pageWith page v creates)) (sym (found .1))
-    (subst (λ (k : ℕ). Only (region 1 2 ∷ region (k + c .taken) (ulebLen d) ∷ region 20 4 ∷ []) page (pageWith page spot-of creates)) (sym start) whole)
+    subst (λ (v : Spot). Only (region 1 2 ∷ region (v .at) (ulebLen (v .difference)) ∷ region 20 4 ∷ []) page (pageWith page v creates))
+    (sym (found .1))
+    (subst (λ (k : ℕ). Only (region 1 2 ∷ region (k + c .taken) (ulebLen d) ∷ region 20 4 ∷ []) page (pageWith page spot-of creates))
+    (sym start) whole)

@@ -74,7 +74,8 @@ run-wrote ns s {t} i r e =
 
 -- A list of rising numbers, by the class that it is given.
 into-only : (b : Book) (key : ℕ) (ns : List ℕ) (to : Option ℕ) {o : Outcome} → InShape (b .space) → Rising (2 ^ 62) 0 ns
-    → loadsTo (length ns) (streamLen ns) ≡ to → loadInto b key ns to ≡ accepted o → Differs (wordAnd key (loadNames ns to (b .space))) b (o .book)
+    → loadsTo (length ns) (streamLen ns) ≡ to → loadInto b key ns to ≡ accepted o
+    → Differs (wordAnd key (loadNames ns to (b .space))) b (o .book)
 unfolding loadInto loadNames
 into-only b key ns (some class) i r is e =
     let l = loads-to (length ns) (streamLen ns) is in
@@ -91,7 +92,8 @@ into-only b key ns none i r is e =
 at-only : (b : Book) (key : ℕ) (ns : List ℕ) {o : Outcome} → InShape (b .space) → Rising (2 ^ 62) 0 ns → loadAt b key ns ≡ accepted o
     → Changes b (o .book) (load key ns)
 unfolding loadAt names
-at-only b key [] i r e = subst (λ (o : Outcome). Differs (record { heads = []; space = nothing }) b (o .book)) (accepted-inj e) (differs-not (record { heads = []; space = nothing }) b)
+at-only b key [] i r e = subst (λ (o : Outcome). Differs (record { heads = []; space = nothing }) b (o .book)) (accepted-inj e)
+    (differs-not (record { heads = []; space = nothing }) b)
 at-only b key (n ∷ []) i r e =
     subst (λ (o : Outcome). Differs (wordAnd key nothing) b (o .book)) (accepted-inj e)
     (differs-placed {n = nothing} key (headWord (Inline n 1)) (b .space) b (wrote-same nothing (b .space)))

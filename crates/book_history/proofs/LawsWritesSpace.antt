@@ -33,7 +33,13 @@ use Rattle.book_history.proofs.LawsOnly.{only-covered, shifted, only-pa
 
 -- A space differs in nothing from itself.
 pub wrote-same : (n : Named) (s : Space) → Wrote n s s
-wrote-same n s = record { body = only-same (n .body) (s .body); free = only-same (n .free) (s .free); mark = λ e. refl; rises = omega arith }
+wrote-same n s = record {
+  body = only-same (n .body) (s .body);
+  free = only-same (n .free) (s .free);
+  mark = λ e. refl;
+  rises =
+      omega arith;
+}
 
 -- One part of a call after another.
 pub wrote-then : {m n : Named} {s t u : Space} → Wrote m s t → Wrote n t u → Wrote (both m n) s u
@@ -58,7 +64,8 @@ unfolding both
 wrote-between {m} {x} {y} a b c = record {
   body = only-covered (outside-swapped (m .body) (x .body) (y .body)) (only-then (a .body) (only-then (b .body) (c .body)));
   free = only-covered (outside-swapped (m .free) (x .free) (y .free)) (only-then (a .free) (only-then (b .free) (c .free)));
-  mark = λ e. let p = neither _ (x .mark) e in let q = neither (m .mark) (y .mark) (p .0) in c .mark (q .1) ∙ b .mark (p .1) ∙ a .mark (q .0);
+  mark = λ e. let p = neither _ (x .mark) e in let q = neither (m .mark) (y .mark) (p .0) in
+      c .mark (q .1) ∙ b .mark (p .1) ∙ a .mark (q .0);
   rises = omega arith;
 }
 
@@ -87,7 +94,8 @@ wrote-part s off len block rs fits o = record {
 
 -- A block that is freed, with its first 8 bytes within the body.
 wrote-freed : (mark : ℕ) (x : Block) (l : Lists) → x .off + 8 ≤ length (l .body)
-    → Wrote (freeing x) (space (l .body) mark (l .heads)) (space (pushed (x .class) (x .off) l .body) mark (pushed (x .class) (x .off) l .heads))
+    → Wrote (freeing x) (space (l .body) mark (l .heads))
+    (space (pushed (x .class) (x .off) l .body) mark (pushed (x .class) (x .off) l .heads))
 unfolding both pushed
 wrote-freed mark x l h = record {
   body = only-written (l .body) (x .off) (bytesOf 8 (firstFreed (x .class) l)) h [];
@@ -103,7 +111,8 @@ unfolding pushAll Each freeingAll
 wrote-pushed size mark [] l e z = wrote-same nothing (space (l .body) mark (l .heads))
 wrote-pushed size mark (x ∷ xs) l e z =
     let fits : x .off + 8 ≤ length (l .body) = omega (arith, e .0) in
-    wrote-then (wrote-freed mark x l fits) (wrote-pushed size mark xs (pushed (x .class) (x .off) l) (e .1) (length-pushed (x .class) (x .off) l fits ∙ z))
+    wrote-then (wrote-freed mark x l fits) (wrote-pushed size mark xs (pushed (x .class) (x .off) l) (e .1)
+    (length-pushed (x .class) (x .off) l fits ∙ z))
 
 -- Blocks that end within the body are given back.
 pub wrote-released : (xs : List Block) (s : Space) → Each (Within 0 (length (s .body))) xs → Wrote (freeingAll xs) s (release xs s)
@@ -128,7 +137,8 @@ wrote-rises body free mark later h = record {
 wrote-mark : (bytes : ℕ) (s : Space) {t : Taken} → takeMark bytes s ≡ accepted t → Wrote theMark s (t .space)
 unfolding takeMark
 wrote-mark bytes s e =
-    subst (λ (t : Taken). Wrote theMark s (t .space)) (accepted-inj (passed _ _ _ e .1)) (wrote-rises (s .body) (s .free) (s .mark) (s .mark + bytes) (omega arith))
+    subst (λ (t : Taken). Wrote theMark s (t .space)) (accepted-inj (passed _ _ _ e .1))
+    (wrote-rises (s .body) (s .free) (s .mark) (s .mark + bytes) (omega arith))
 
 -- A run of pages taken: the blocks of the gap are freed, then the mark rises.
 pub wrote-run : (pages : ℕ) (s : Space) {t : Taken} → InShape s → takeRun pages s ≡ accepted t → Wrote (takingPages s) s (t .space)
@@ -138,7 +148,8 @@ wrote-run pages s i e =
     let size = length (s .body) in
     let gap = adjoin-within (s .mark) (gapBlocks (s .mark) to) to (gap-filled (s .mark) to (omega arith) (omega arith)) in
     let carved = wrote-pushed size (s .mark) (gapBlocks (s .mark) to) (listsOf s)
-    (each-map (Within (s .mark) to) (λ x. x .off + 8 ≤ size) (λ x h. omega (arith, bytes-from-16 (x .class), h .1)) (gapBlocks (s .mark) to) gap) refl in
+    (each-map (Within (s .mark) to) (λ x. x .off + 8 ≤ size) (λ x h. omega (arith, bytes-from-16 (x .class), h .1)) (gapBlocks (s .mark) to)
+    gap) refl in
     let r = rounded s in
     subst (λ (t : Taken). Wrote (takingPages s) s (t .space)) (accepted-inj (passed _ _ _ e .1))
     (wrote-then carved (wrote-rises (r .body) (r .free) (s .mark) (to + pages * pageSize) (omega arith)))
@@ -161,7 +172,13 @@ module _ (class : ℕ) (s : Space) (small : class ≤ pageClass) (i : InShape s)
       let q = passed _ _ _ (p .1) in
       subst (λ (t : Taken). Wrote (freeHead class) s (t .space))
       (accepted-inj (ap (λ (x : Pop). takePopped class s (x .block) (x .heads)) (accepted-inj (q .1)) ∙ p .2))
-      (record { body = only-same [] (s .body); free = only-set [] (s .free) class (nextOf (s .body) (getD (s .free) class 0)); mark = λ w. refl; rises = omega arith })
+      (record {
+        body = only-same [] (s .body);
+        free = only-set [] (s .free) class (nextOf (s .body) (getD (s .free) class 0));
+        mark =
+            λ w. refl;
+        rises = omega arith;
+      })
 
   -- A block.
   pub wrote-took : {t : Taken} → takeBlock class s ≡ accepted t → Wrote (taking class s) s (t .space)
@@ -182,7 +199,8 @@ module _ (class : ℕ) (s : Space) (small : class ≤ pageClass) (i : InShape s)
 
 -- The pages of a run lie side by side.
 pub only-run : (start count creates : ℕ) (body : List ℕ) (off : ℕ) (parts : List (List ℕ)) → Fit lastPageRoom pageRoom parts
-    → off + length parts * pageSize ≤ length body → Only (region off (length parts * pageSize) ∷ []) body (writeRun start count creates body off parts)
+    → off + length parts * pageSize ≤ length body
+    → Only (region off (length parts * pageSize) ∷ []) body (writeRun start count creates body off parts)
 unfolding writeRun Fit Outside
 only-run start count creates body off [] f h = only-same _ body
 only-run start count creates body off (p ∷ []) f h =

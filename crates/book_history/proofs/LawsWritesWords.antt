@@ -35,7 +35,8 @@ unfolding headWord
 word-of place e = ap (λ a. told (λ w. w) a 0) e
 
 -- An accepted append to a key whose word, of 64 bits, tells a place.
-module _ (b : Book) (key n : ℕ) {o : Outcome} (place : ShHeadValue) (word : wordOf key b < 2 ^ 64) (is : unpackHead (wordOf key b) ≡ accepted place)
+module _ (b : Book) (key n : ℕ) {o : Outcome} (place : ShHeadValue) (word : wordOf key b < 2 ^ 64) (is : unpackHead (wordOf key b)
+    ≡ accepted place)
     (e : does b (append key n) ≡ accepted o) where
   -- The book is in shape, the key has a head word, and the append to that place is accepted.
   went-at : InShape (b .space) × (key < length (b .heads)) × (appendAt b key n place ≡ accepted o)
@@ -62,11 +63,13 @@ slab-word b key n class used off c {o} word is scanned stay e =
     let known = slab-sound (b .space) class used off c scanned in
     let g = went-on _ _ (w .2) in
     let same : g .0 ≡ c = accepted-inj (sym (was-sound _ (g .1)) ∙ scanned) in
-    let did : appendSlab b key n class off c ≡ accepted o = subst (λ (x : Scan). appendSlab b key n class off x ≡ accepted o) same (passed _ _ _ (g .2) .1) in
+    let did : appendSlab b key n class off c ≡ accepted o =
+    subst (λ (x : Scan). appendSlab b key n class off x ≡ accepted o) same (passed _ _ _ (g .2) .1) in
     let ends = block-stands class off (b .space .mark) (known .stands) .ends in
     let within = w .0 .within in
     let most = w .0 .most in
-    let packs : (k : ℕ) → headWord (Slab class k off) ≡ slabWord class k off = λ k. word-of (Slab class k off) (pack-slab class k off (omega (arith, known .class-to-7)) (omega arith)) in (
+    let packs : (k : ℕ) → headWord (Slab class k off) ≡ slabWord class k off =
+    λ k. word-of (Slab class k off) (pack-slab class k off (omega (arith, known .class-to-7)) (omega arith)) in (
       sym (word-is b key n place word is e) ∙ packs used,
       ap (λ (x : Outcome). wordOf key (x .book)) (sym (accepted-inj (rw stay at did)))
           ∙ getD-set-same (b .heads) key (headWord (Slab class (length (c .numbers) + 1) off)) 0 (w .1) ∙ packs (length (c .numbers) + 1)
@@ -76,7 +79,8 @@ slab-word b key n class used off c {o} word is scanned stay e =
 -- Where the number joins its last page, the head words are as before.
 pub page-words : (b : Book) (key n last : ℕ) (t : Tail) (w : Spot) {o : Outcome} → wordOf key b < 2 ^ 64
     → unpackHead (wordOf key b) ≡ accepted (Extent last)
-    → tailAt (b .space) last ≡ accepted t → spotBehind (pageAt (b .space) last) n (t .scan) ≡ some w → does b (append key n) ≡ accepted o → o .book .heads ≡ b .heads
+    → tailAt (b .space) last ≡ accepted t → spotBehind (pageAt (b .space) last) n (t .scan) ≡ some w → does b (append key n) ≡ accepted o
+    → o .book .heads ≡ b .heads
 unfolding appendAt appendPage
 page-words b key n last t w {o} word is tail spot e =
     let place = Extent last in
@@ -84,5 +88,7 @@ page-words b key n last t w {o} word is tail spot e =
     let g = went-on _ _ (a .2) in
     let same : g .0 ≡ t = accepted-inj (sym (was-sound _ (g .1)) ∙ tail) in
     let did : appendPage b key n last t (spotBehind (pageAt (b .space) last) n (t .scan)) ≡ accepted o =
-    subst (λ (x : Tail). appendPage b key n last x (spotBehind (pageAt (b .space) last) n (x .scan)) ≡ accepted o) same (passed _ _ _ (g .2) .1) in
-    ap (λ (x : Outcome). x .book .heads) (sym (accepted-inj (rw spot at did))) ∙ ap (set (b .heads) key) (word-is b key n place word is e) ∙ set-getD (b .heads) key 0
+    subst (λ (x : Tail). appendPage b key n last x (spotBehind (pageAt (b .space) last) n (x .scan)) ≡ accepted o) same
+    (passed _ _ _ (g .2) .1) in
+    ap (λ (x : Outcome). x .book .heads) (sym (accepted-inj (rw spot at did))) ∙ ap (set (b .heads) key) (word-is b key n place word is e)
+    ∙ set-getD (b .heads) key 0

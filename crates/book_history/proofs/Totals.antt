@@ -1,5 +1,5 @@
--- What last pages tell after any calls, from any book that stands for a good plain book: a total that was told stays exact, and one that was
--- never counted stays unknown until its key is dropped. Assumes nothing.
+-- What last pages tell after any calls, from any book that stands for a good plain book: a total that was told stays exact, and one that
+-- was never counted stays unknown until its key is dropped. Assumes nothing.
 use Prim.Native.Nat.{ℕ, _-_}
 use mathlib.Core.Bool.{true, false}
 use mathlib.Core.List.{List}
@@ -24,7 +24,7 @@ use Rattle.book_keys.specs.Keys.{pageAt}
 use Rattle.book.specs.Book.{Book, fresh, wordOf}
 use Rattle.book.specs.Calls.{after}
 use Rattle.book_start.specs.Start.{GoodStart}
-use Rattle.book_history.specs.Agrees.{firstOff, AgreesInside, Agrees}
+use Rattle.book_history.specs.Agrees.{firstPageOff, AgreesInside, Agrees}
 use Rattle.book_history.specs.PlainOf.{plainOf}
 use Rattle.book_history.proofs.LawsCalls.{books-agree}
 use Rattle.book_history.proofs.LawsEach.{each-alike}
@@ -34,7 +34,8 @@ use Rattle.book_history.proofs.LawsStartFresh.{fresh-agrees}
 
 -- The last page that a key's head word names tells the key's total.
 told : (plain : PlainBook) (b : Book) → GoodPlain plain → outOfShape (plain .size) (length (plain .keys)) ≡ false → AgreesInside plain b
-    → (key last : ℕ) → unpackHead (wordOf key b) ≡ accepted (Extent last) → createsFieldOf (pageAt (b .space) last) ≡ totalOf (keyOf key plain)
+    → (key last : ℕ) → unpackHead (wordOf key b) ≡ accepted (Extent last) → createsFieldOf (pageAt (b .space) last)
+    ≡ totalOf (keyOf key plain)
 unfolding headOf
 told plain b g shape h key last word =
     go (keyOf key plain .place) refl (accepted-inj (sym (head-agrees plain b g shape h key) ∙ word))
@@ -47,9 +48,10 @@ told plain b g shape h key last word =
     go (pages ps) is e =
         let same : lastPage noPage ps .off ≡ last = cc in
         let one = some-pages ps (chain key ps g is .fit) in
-        let k = chain-page plain b g shape h key ps is (length ps - 1) (lastPage noPage ps .off) (last-page-at (length ps - 1) noPage ps (omega arith)) in
+        let k = chain-page plain b g shape h key ps is (length ps - 1) (lastPage noPage ps .off)
+        (last-page-at (length ps - 1) noPage ps (omega arith)) in
         ap (λ (o : ℕ). createsFieldOf (pageAt (b .space) o)) (sym same)
-        ∙ last-reads (firstOff ps) (totalOf (keyOf key plain)) (length ps - 1) noPage ps _ (omega arith) (k .reads) .1 .creates
+        ∙ last-reads (firstPageOff ps) (totalOf (keyOf key plain)) (length ps - 1) noPage ps _ (omega arith) (k .reads) .1 .creates
 
 module _ (plain : PlainBook) (b : Book) (cs : List Call) (g : GoodPlain plain) (a : Agrees plain b)
     (shape : outOfShape (plain .size) (length (plain .keys)) ≡ false) (key last : ℕ)
@@ -86,7 +88,9 @@ module _ (b : Book) (cs : List Call) (g : GoodStart b) (key last : ℕ)
 pub total-fresh-book : (body : List ℕ) (heads : ℕ) (cs : List Call)
     → outOfShape (length body) (length (plainFresh (length body) heads .keys)) ≡ false → (key last : ℕ)
     → unpackHead (wordOf key (after (fresh body heads) cs)) ≡ accepted (Extent last)
-    → createsFieldOf (pageAt (after (fresh body heads) cs .space) last) ≡ length (keyOf key (plainAfter (plainFresh (length body) heads) cs) .list)
+    → createsFieldOf (pageAt (after (fresh body heads) cs .space) last)
+    ≡ length (keyOf key (plainAfter (plainFresh (length body) heads) cs) .list)
 total-fresh-book body heads cs shape key last word =
-    total-kept (plainFresh (length body) heads) (fresh body heads) cs (fresh-good (length body) heads) (fresh-agrees body heads) shape key last word
+    total-kept (plainFresh (length body) heads) (fresh body heads) cs (fresh-good (length body) heads) (fresh-agrees body heads)
+    shape key last word
     (ap (λ (k : Key). k .counted) (fresh-key (length body) heads key))

@@ -73,9 +73,9 @@ ChainReads first creates zero (p ∷ q ∷ ps) block = PageReads p block × Next
 ChainReads first creates (suc i) (p ∷ ps) block = ChainReads first creates i ps block
 
 -- The offset of the first of some pages.
-abbrev pub firstOff : List Page → ℕ
-firstOff [] = 0
-firstOff (p ∷ ps) = p .off
+abbrev pub firstPageOff : List Page → ℕ
+firstPageOff [] = 0
+firstPageOff (p ∷ ps) = p .off
 
 -- The slab of a place reads as what it keeps.
 abbrev pub SlabIn : Place → List ℕ → Type 0
@@ -89,7 +89,7 @@ abbrev pub PageIn : ℕ → ℕ → Place → List ℕ → Type 0
 PageIn creates i empty block = Unit {0}
 PageIn creates i inline block = Unit {0}
 PageIn creates i (slab class off kept) block = Unit {0}
-PageIn creates i (pages ps) block = ChainReads (firstOff ps) creates i ps block
+PageIn creates i (pages ps) block = ChainReads (firstPageOff ps) creates i ps block
 
 -- ---- who reads what
 

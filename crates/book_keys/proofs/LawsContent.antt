@@ -100,9 +100,11 @@ slab-from-two w class used off e = by-mode (modeOf w) refl
     inline false f = no-slab-place (Inline w 1) class used off (inr (inl (w, refl))) (accepted-inj f)
 
     pages : refuseIf (eqb (payloadOf w) 0) extentPayloadZero (accepted (Extent (payloadOf w))) ≡ accepted (Slab class used off) → ⊥
-    pages f = no-slab-place (Extent (payloadOf w)) class used off (inr (inr (payloadOf w, refl))) (accepted-inj (passed (eqb (payloadOf w) 0) _ _ f .1))
+    pages f = no-slab-place (Extent (payloadOf w)) class used off (inr (inr (payloadOf w, refl)))
+        (accepted-inj (passed (eqb (payloadOf w) 0) _ _ f .1))
 
-    stored : refuseIf (leb (usedOf w) 1) slabUsedTooSmall (accepted (Slab (classOf w) (usedOf w) (offsetOf w))) ≡ accepted (Slab class used off) → 2 ≤ used
+    stored : refuseIf (leb (usedOf w) 1) slabUsedTooSmall (accepted (Slab (classOf w) (usedOf w) (offsetOf w)))
+        ≡ accepted (Slab class used off) → 2 ≤ used
     stored f =
         let p = passed (leb (usedOf w) 1) _ _ f in
         let same : usedOf w ≡ used = let g = p .1 in cc in

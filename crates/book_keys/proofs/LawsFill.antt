@@ -19,7 +19,7 @@ use Rattle.scripthash_fields.specs.Page.{nextOff, countOf, linkOf, streamOf, li
 use Rattle.scripthash_pages.specs.EntryAnswers.{PageRead as Told}
 use Rattle.scripthash_pages.specs.Entries.{pageScan, pageEntries, pageReadOf}
 use Rattle.book_space.specs.Space.{Space}
-use Rattle.book_keys.specs.Keys.{pageAt, linkScan, Chain, linked, walk}
+use Rattle.book_keys.specs.Keys.{pageAt, linkScan, Chain, pageThen, walk}
 use Rattle.book_keys.specs.Steps.{pageInto, PageFilled}
 use Rattle.book_keys.proofs.LawsPages.{PageRead, page-read, link-sound, into-on}
 use Rattle.book_keys.proofs.LawsWalk.{Ends, GoesOn, walk-step}
@@ -82,17 +82,20 @@ pub into-sound : (room : ℕ) (s : Space) (prev off : ℕ) (c : Scan) → linkSc
 unfolding pageEntries
 into-sound room s prev off c e h =
     let k = link-sound s prev off c e in
-    into-on room s off (k .stands) ∙ then-yes (pageScan (pageAt s off)) _ (k .scanned) ∙ refuse-no (ltb room (length (c .numbers))) _ _ (le-ltb room (length (c .numbers)) h)
+    into-on room s off (k .stands) ∙ then-yes (pageScan (pageAt s off)) _ (k .scanned) ∙ refuse-no (ltb room (length (c .numbers))) _ _
+    (le-ltb room (length (c .numbers)) h)
 
 -- the list with a page's numbers written into its lent part
 pub page-written : (out : List ℕ) (at : ℕ) (part : List ℕ) (c : Scan) → at + length (c .numbers) ≤ length out
     → part ≡ overwrite (lent out at) 0 (c .numbers) → putBack out at part ≡ overwrite out at (c .numbers)
 page-written out at part c h e =
     ap (putBack out at) e
-    ∙ overwrite-part out at (length out - at) 0 (c .numbers) (omega arith) (omega arith) ∙ ap (λ (p : ℕ). overwrite out p (c .numbers)) (add-zero at)
+    ∙ overwrite-part out at (length out - at) 0 (c .numbers) (omega arith) (omega arith) ∙ ap (λ (p : ℕ). overwrite out p (c .numbers))
+    (add-zero at)
 
 -- it is as long as before
-pub length-put : (out : List ℕ) (at : ℕ) (part : List ℕ) → at ≤ length out → length part ≡ length (lent out at) → length (putBack out at part) ≡ length out
+pub length-put : (out : List ℕ) (at : ℕ) (part : List ℕ) → at ≤ length out → length part ≡ length (lent out at)
+    → length (putBack out at part) ≡ length out
 length-put out at part h e = simp (length-append, length-take, length-drop) (omega (arith, e, length-lent out at h))
 
 -- ---- what is left
@@ -134,7 +137,7 @@ module _ (s : Space) (last : ℕ) (before : List ℕ) (whole : Chain) (out : Lis
           → Filling k s last before whole (overwrite out at (page .numbers)) (at + length (page .numbers)) (nextOff (pageAt s off))
 
     pub fill-turn : Turn
-    unfolding linked nextOff
+    unfolding pageThen nextOff
     fill-turn =
         let w = walk-step k s last (f .prev) off (f .rest) (f .walks) in
         ⊎-elim (by-end (w .page) (w .is)) (by-rest (w .page) (w .is)) (w .goes)
@@ -152,7 +155,8 @@ module _ (s : Space) (last : ℕ) (before : List ℕ) (whole : Chain) (out : Lis
         by-rest : (p : Scan) → linkScan s (f .prev) off ≡ accepted p → GoesOn k s last (f .prev) off p (f .rest) → Turn
         by-rest p is g =
             let all : f .rest .numbers ≡ p .numbers ++ g .rest .numbers = ap (λ (x : Chain). x .numbers) (g .whole) in
-            let size : length (f .rest .numbers) ≡ length (p .numbers) + length (g .rest .numbers) = ap length all ∙ length-append (p .numbers) (g .rest .numbers) in
+            let size : length (f .rest .numbers) ≡ length (p .numbers) + length (g .rest .numbers) =
+            ap length all ∙ length-append (p .numbers) (g .rest .numbers) in
             let fits = f .fits in
             let next : nextOff (pageAt s off) ≡ linkOffset (linkOf (pageAt s off)) = rw (g .unflagged) in
             record {
@@ -164,6 +168,7 @@ module _ (s : Space) (last : ℕ) (before : List ℕ) (whole : Chain) (out : Lis
                 rest = g .rest;
                 walks = rw next (g .walks);
                 fits = rw (length-overwrite out at (p .numbers) (omega arith)) (omega arith);
-                writes = overwrite-adjoin out at (p .numbers) (g .rest .numbers) (omega arith) ∙ ap (overwrite out at) (sym all) ∙ f .writes;
+                writes = overwrite-adjoin out at (p .numbers) (g .rest .numbers) (omega arith) ∙ ap (overwrite out at) (sym all)
+                    ∙ f .writes;
               };
             }

@@ -14,7 +14,7 @@ use Rattle.scripthash_stream.proofs.LawsStream.{rising-append}
 use Rattle.scripthash_fields.specs.Page.{linkOf, isLastLink, linkOffset}
 use Rattle.scripthash_free.specs.FreeList.{isBlock}
 use Rattle.book_space.specs.Space.{Space}
-use Rattle.book_keys.specs.Keys.{pageAt, linkScan, Chain, linked, walk, chainAt}
+use Rattle.book_keys.specs.Keys.{pageAt, linkScan, Chain, pageThen, walk, chainAt}
 use Rattle.book_keys.proofs.LawsPages.{link-sound}
 use Rattle.book_keys.proofs.LawsWalk.{alone, Ends, GoesOn, walk-step}
 use Rattle.book_keys.proofs.LawsChain.{chain-sound}
@@ -31,8 +31,9 @@ Every P (o ∷ os) = P o × Every P os
 -- What holds of the first page alone, and of a page and more behind it, holds of every walk.
 module _ (P : ℕ → ℕ → Chain → Type 0) (s : Space) (last : ℕ)
     (ends : (prev : ℕ) (page : Scan) → linkScan s prev last ≡ accepted page → P prev last (alone last page))
-    (goes : (prev off : ℕ) (page : Scan) (rest : Chain) → linkScan s prev off ≡ accepted page → (off ≡ last → ⊥) → isLastLink (linkOf (pageAt s off)) ≡ false
-    → P (lastFrom prev (page .numbers)) (linkOffset (linkOf (pageAt s off))) rest → P prev off (linked off page rest)) where
+    (goes : (prev off : ℕ) (page : Scan) (rest : Chain) → linkScan s prev off ≡ accepted page → (off ≡ last → ⊥)
+    → isLastLink (linkOf (pageAt s off)) ≡ false
+    → P (lastFrom prev (page .numbers)) (linkOffset (linkOf (pageAt s off))) rest → P prev off (pageThen off page rest)) where
   pub by-steps : (k prev off : ℕ) (c : Chain) → walk k s last prev off ≡ accepted c → P prev off c
   unfolding walk
   by-steps zero prev off c e = absurd (refused≢accepted e)
@@ -41,48 +42,54 @@ module _ (P : ℕ → ℕ → Chain → Type 0) (s : Space) (last : ℕ)
       ⊎-elim (λ (d : Ends last off (w .page) c). here (w .page) (w .is) d)
       (λ (g : GoesOn k s last prev off (w .page) c).
       subst (λ (x : Chain). P prev off x) (sym (g .whole))
-      (goes prev off (w .page) (g .rest) (w .is) (g .not-there) (g .unflagged) (by-steps k (lastFrom prev (w .page .numbers)) (linkOffset (linkOf (pageAt s off))) (g .rest) (g .walks))))
+      (goes prev off (w .page) (g .rest) (w .is) (g .not-there) (g .unflagged)
+      (by-steps k (lastFrom prev (w .page .numbers)) (linkOffset (linkOf (pageAt s off))) (g .rest) (g .walks))))
       (w .goes)
     where
       here : (page : Scan) → linkScan s prev off ≡ accepted page → Ends last off page c → P prev off c
       here page is d =
           subst (λ (x : Chain). P prev off x) (sym (d .whole))
-          (subst (λ (o : ℕ). P prev o (alone o page)) (sym (d .there)) (ends prev page (subst (λ (o : ℕ). linkScan s prev o ≡ accepted page) (d .there) is)))
+          (subst (λ (o : ℕ). P prev o (alone o page)) (sym (d .there))
+          (ends prev page (subst (λ (o : ℕ). linkScan s prev o ≡ accepted page) (d .there) is)))
 
 -- ---- a sound chain
 
 module _ (s : Space) (last : ℕ) where
   -- the numbers rise from above the number before, and stay below 2 ^ 62
   pub walk-rising : (k prev off : ℕ) (c : Chain) → walk k s last prev off ≡ accepted c → Rising (2 ^ 62) prev (c .numbers)
-  unfolding linked
+  unfolding pageThen
   walk-rising =
       by-steps (λ prev off c. Rising (2 ^ 62) prev (c .numbers)) s last (λ prev page is. link-sound s prev last page is .going .rising)
-      (λ prev off page rest is n u ih. rising-append (2 ^ 62) prev (page .numbers) (rest .numbers) (link-sound s prev off page is .going .rising) ih)
+      (λ prev off page rest is n u ih. rising-append (2 ^ 62) prev (page .numbers) (rest .numbers)
+      (link-sound s prev off page is .going .rising) ih)
 
   -- each page stands below the mark
   pub walk-stands : (k prev off : ℕ) (c : Chain) → walk k s last prev off ≡ accepted c
       → Every (λ o. isBlock pageClass o (s .mark) ≡ true) (c .offs)
-  unfolding Every linked
+  unfolding Every pageThen
   walk-stands =
-      by-steps (λ prev off c. Every (λ o. isBlock pageClass o (s .mark) ≡ true) (c .offs)) s last (λ prev page is. (link-sound s prev last page is .stands, tt))
+      by-steps (λ prev off c. Every (λ o. isBlock pageClass o (s .mark) ≡ true) (c .offs)) s last
+      (λ prev page is. (link-sound s prev last page is .stands, tt))
       (λ prev off page rest is n u ih. (link-sound s prev off page is .stands, ih))
 
   -- the last page is the key's
   pub walk-ends : (k prev off : ℕ) (c : Chain) → walk k s last prev off ≡ accepted c → (x : ℕ) → lastFrom x (c .offs) ≡ last
-  unfolding linked lastFrom
-  walk-ends = by-steps (λ prev off c. (x : ℕ) → lastFrom x (c .offs) ≡ last) s last (λ prev page is x. refl) (λ prev off page rest is n u ih x. ih off)
+  unfolding pageThen lastFrom
+  walk-ends = by-steps (λ prev off c. (x : ℕ) → lastFrom x (c .offs) ≡ last) s last (λ prev page is x. refl)
+      (λ prev off page rest is n u ih x. ih off)
 
   -- a page has no more numbers than bytes
   pub walk-counts : (k prev off : ℕ) (c : Chain) → walk k s last prev off ≡ accepted c → length (c .numbers) ≤ pageSize * length (c .offs)
-  unfolding linked
+  unfolding pageThen
   walk-counts =
       by-steps (λ prev off c. length (c .numbers) ≤ pageSize * length (c .offs)) s last
       (λ prev page is. let k = link-sound s prev last page is .read in omega (arith, k .counted, k .count-fits))
-      (λ prev off page rest is n u ih. let k = link-sound s prev off page is .read in omega (arith, length-append (page .numbers) (rest .numbers), k .counted, k .count-fits))
+      (λ prev off page rest is n u ih. let k = link-sound s prev off page is .read in
+      omega (arith, length-append (page .numbers) (rest .numbers), k .counted, k .count-fits))
 
   -- there is a page, and a number
   pub walk-some : (k prev off : ℕ) (c : Chain) → walk k s last prev off ≡ accepted c → (0 < length (c .offs)) × (0 < length (c .numbers))
-  unfolding linked
+  unfolding pageThen
   walk-some =
       by-steps (λ prev off c. (0 < length (c .offs)) × (0 < length (c .numbers))) s last
       (λ prev page is. (omega arith, link-sound s prev last page is .going .some))
@@ -90,7 +97,7 @@ module _ (s : Space) (last : ℕ) where
 
 -- there are no more pages than were to be walked
 pub walk-few : (k : ℕ) (s : Space) (last prev off : ℕ) (c : Chain) → walk k s last prev off ≡ accepted c → length (c .offs) ≤ k
-unfolding walk linked
+unfolding walk pageThen
 walk-few zero s last prev off c e = absurd (refused≢accepted e)
 walk-few (suc k) s last prev off c e =
     let w = walk-step k s last prev off c e in

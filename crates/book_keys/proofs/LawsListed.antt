@@ -17,7 +17,7 @@ use Rattle.scripthash_forms.specs.Quick.{ShortRead, unread as unread-stream, sh
 use Rattle.scripthash_slabs.specs.Slab.{slabUsed}
 use Rattle.book_space.specs.Space.{Space}
 use Rattle.book_keys.specs.Keys.{soundly, slabScan, Content, contentAt}
-use Rattle.book_keys.specs.Steps.{slabRead, Counts, countsOf, ShortList, unread, short, fitting, afterRead, KeyRead}
+use Rattle.book_keys.specs.Steps.{slabRead, Counts, countsOf, ShortList, unread, short, inRoom, afterRead, KeyRead}
 use Rattle.book_keys.proofs.LawsSound.{soundly-yes, soundly-no}
 use Rattle.book_keys.proofs.LawsSlab.{slab-short, slab-payload}
 use Rattle.book_keys.proofs.LawsContent.{inSlab, content-slab, content-no-slab}
@@ -26,23 +26,23 @@ use Rattle.book_keys.proofs.LawsContent.{inSlab, content-slab, content-
 
 module _ (room : ℕ) (a : Answer Content) where
   -- a key that isn't sound
-  pub fitting-no : {number : ℕ} → a ≡ refused number → fitting room a ≡ refused number
-  unfolding fitting
+  pub fitting-no : {number : ℕ} → a ≡ refused number → inRoom room a ≡ refused number
+  unfolding inRoom
   fitting-no e = then-no a _ e
 
   -- a list that doesn't fit, and one that does
-  pub fitting-short : (c : Content) → a ≡ accepted c → room < length (c .numbers) → fitting room a ≡ refused listTooShort
-  unfolding fitting
+  pub fitting-short : (c : Content) → a ≡ accepted c → room < length (c .numbers) → inRoom room a ≡ refused listTooShort
+  unfolding inRoom
   fitting-short c e h = then-yes a _ e ∙ refuse-yes (ltb room (length (c .numbers))) _ _ (lt-ltb room (length (c .numbers)) h)
 
-  pub fitting-yes : (c : Content) → a ≡ accepted c → length (c .numbers) ≤ room → fitting room a ≡ accepted c
-  unfolding fitting
+  pub fitting-yes : (c : Content) → a ≡ accepted c → length (c .numbers) ≤ room → inRoom room a ≡ accepted c
+  unfolding inRoom
   fitting-yes c e h = then-yes a _ e ∙ refuse-no (ltb room (length (c .numbers))) _ _ (le-ltb room (length (c .numbers)) h)
 
 -- ---- a read
 
 -- one that is refused, and leaves the list
-stays : (out : List ℕ) (a : Answer Content) {number : ℕ} → fitting (length out) a ≡ refused number → KeyRead (refused number) out out a
+stays : (out : List ℕ) (a : Answer Content) {number : ℕ} → inRoom (length out) a ≡ refused number → KeyRead (refused number) out out a
 unfolding afterRead
 stays out a e = (sym (answered-no countsOf _ e), rw e)
 
@@ -95,7 +95,8 @@ module _ (s : Space) (class used off : ℕ) (slab out after : List ℕ) (at : sl
     slab-counted = let p = slab-payload slab used c is in p .2 .counted ∙ p .0
 
     -- but the list is too short
-    pub slab-too-long : length out < used → after ≡ out → KeyRead (refused listTooShort) out after (soundly (contentAt s (Slab class used off)))
+    pub slab-too-long : length out < used → after ≡ out
+        → KeyRead (refused listTooShort) out after (soundly (contentAt s (Slab class used off)))
     slab-too-long h f = read-short out after _ (inSlab class off c) holds (omega (arith, slab-counted)) f
 
     -- and else they are in the list

@@ -99,11 +99,13 @@ page-read page c e =
 scan-first : (k : ℕ) (bs : List ℕ) (c : Scan) → scan k bs ≡ accepted c → 0 < length (c .numbers)
     → (len : ℕ) × (readUleb bs ≡ accepted (record { value = getD (c .numbers) 0 0; len = len }))
 unfolding scanFrom
-scan-first zero bs c e h = let none : c ≡ record { numbers = []; taken = 0 } = sym (accepted-inj e) in absurd (omega (arith, ap (λ (x : Scan). length (x .numbers)) none))
+scan-first zero bs c e h = let none : c ≡ record { numbers = []; taken = 0 } = sym (accepted-inj e) in
+    absurd (omega (arith, ap (λ (x : Scan). length (x .numbers)) none))
 scan-first (suc k) bs c e h =
     let w = scan-step 0 k bs c e in
     let n = next-accepted 0 bs (w .first) (w .next) in
-    let value : w .first .value - 0 ≡ getD (c .numbers) 0 0 = sub-zero (w .first .value) ∙ ap (λ (x : Scan). getD (x .numbers) 0 0) (sym (w .whole)) in
+    let value : w .first .value - 0 ≡ getD (c .numbers) 0 0 =
+    sub-zero (w .first .value) ∙ ap (λ (x : Scan). getD (x .numbers) 0 0) (sym (w .whole)) in
     (w .first .len, n .read ∙ ap (λ (v : ℕ). accepted (record { value = v; len = w .first .len })) value)
 
 pub page-first : (page : List ℕ) (c : Scan) → pageScan page ≡ accepted c → 0 < length (c .numbers)
@@ -130,7 +132,8 @@ module _ (page : List ℕ) (prev : ℕ) where
   module _ (c : Scan) (is : pageScan page ≡ accepted c) where
     by-last : linkRead prev page ≡ sure (soundLast (lastFrom 0 (c .numbers)) && ltb prev (getD (c .numbers) 0 0)) (accepted c)
     unfolding linkRead
-    by-last = then-yes (pageScan page) _ is ∙ ap (λ (t : Bool). sure t (accepted c)) (goes-on prev (c .numbers) (page-read page c is .rising))
+    by-last = then-yes (pageScan page) _ is ∙ ap (λ (t : Bool). sure t (accepted c))
+        (goes-on prev (c .numbers) (page-read page c is .rising))
 
     -- a last number that can't be
     pub link-unsound : soundLast (lastFrom 0 (c .numbers)) ≡ false → linkRead prev page ≡ refused keyUnsound

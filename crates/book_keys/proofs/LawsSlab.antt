@@ -39,7 +39,8 @@ module _ (slab : List ℕ) (used : ℕ) where
 
   -- and else the scan decides
   decode-as-scan : slabUsed slab ≡ used → 2 ≤ length slab → decodeSlab used slab ≡ scan used (drop 2 slab)
-  decode-as-scan e h = unslab-as-stream used slab h ∙ ap (λ (n : ℕ). decodeStream used n (drop 2 slab)) e ∙ always (scan used (drop 2 slab)) refl
+  decode-as-scan e h = unslab-as-stream used slab h ∙ ap (λ (n : ℕ). decodeStream used n (drop 2 slab)) e
+      ∙ always (scan used (drop 2 slab)) refl
     where
       always : (a : Answer Scan) → scan used (drop 2 slab) ≡ a → decodeStream used used (drop 2 slab) ≡ a
       always (accepted s) is = decode-fits used used (drop 2 slab) is (omega arith)

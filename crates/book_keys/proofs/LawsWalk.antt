@@ -14,7 +14,7 @@ use Rattle.error.proofs.LawsAnswer.{accepted-inj, refused≢accepted, then-yes,
 use Rattle.scripthash_stream.specs.Stream.{Scan, lastFrom}
 use Rattle.scripthash_fields.specs.Page.{linkOf, isLastLink, linkOffset}
 use Rattle.book_space.specs.Space.{Space}
-use Rattle.book_keys.specs.Keys.{soundly, sure, pageAt, linkScan, Chain, linked, walk}
+use Rattle.book_keys.specs.Keys.{soundly, sure, pageAt, linkScan, Chain, pageThen, walk}
 use Rattle.book_keys.specs.Steps.{Walked, walkedFrom}
 use Rattle.book_keys.proofs.LawsSound.{was-unsound, sure-yes, sure-no, was-sure, turned-back, let-through}
 use Rattle.book_keys.proofs.LawsPages.{link-sound}
@@ -27,7 +27,8 @@ alone off c = record { numbers = c .numbers; offs = off ∷ [] }
 abbrev behind : ℕ → Space → ℕ → ℕ → ℕ → Scan → Answer Chain
 behind k s last prev off page =
     sure (not (isLastLink (linkOf (pageAt s off))))
-    (andThen (walk k s last (lastFrom prev (page .numbers)) (linkOffset (linkOf (pageAt s off)))) (λ rest. accepted (linked off page rest)))
+    (andThen (walk k s last (lastFrom prev (page .numbers)) (linkOffset (linkOf (pageAt s off))))
+    (λ rest. accepted (pageThen off page rest)))
 
 -- ---- a step
 
@@ -41,20 +42,24 @@ module _ (k : ℕ) (s : Space) (last prev off : ℕ) where
     -- the key's last page ends it too
     pub walk-last : off ≡ last → walk (suc k) s last prev off ≡ accepted (alone off c)
     unfolding walk
-    walk-last e = then-yes (linkScan s prev off) _ is ∙ ap (λ (t : Bool). cond t (accepted (alone off c)) (behind k s last prev off c)) (eq-eqb off last e)
+    walk-last e = then-yes (linkScan s prev off) _ is ∙ ap (λ (t : Bool). cond t (accepted (alone off c)) (behind k s last prev off c))
+        (eq-eqb off last e)
 
     -- another page with LAST
     pub walk-flagged : (off ≡ last → ⊥) → isLastLink (linkOf (pageAt s off)) ≡ true → walk (suc k) s last prev off ≡ refused keyUnsound
     unfolding walk
     walk-flagged n e =
-        then-yes (linkScan s prev off) _ is ∙ ap (λ (t : Bool). cond t (accepted (alone off c)) (behind k s last prev off c)) (ne-eqb off last n) ∙ sure-no (not (isLastLink (linkOf (pageAt s off)))) _ (ap not e)
+        then-yes (linkScan s prev off) _ is ∙ ap (λ (t : Bool). cond t (accepted (alone off c)) (behind k s last prev off c))
+        (ne-eqb off last n) ∙ sure-no (not (isLastLink (linkOf (pageAt s off)))) _ (ap not e)
 
     -- and else the walk goes on behind it
     pub walk-more : (off ≡ last → ⊥) → isLastLink (linkOf (pageAt s off)) ≡ false
-        → walk (suc k) s last prev off ≡ andThen (walk k s last (lastFrom prev (c .numbers)) (linkOffset (linkOf (pageAt s off)))) (λ rest. accepted (linked off c rest))
+        → walk (suc k) s last prev off ≡ andThen (walk k s last (lastFrom prev (c .numbers)) (linkOffset (linkOf (pageAt s off))))
+        (λ rest. accepted (pageThen off c rest))
     unfolding walk
     walk-more n e =
-        then-yes (linkScan s prev off) _ is ∙ ap (λ (t : Bool). cond t (accepted (alone off c)) (behind k s last prev off c)) (ne-eqb off last n) ∙ sure-yes (not (isLastLink (linkOf (pageAt s off)))) _ (ap not e)
+        then-yes (linkScan s prev off) _ is ∙ ap (λ (t : Bool). cond t (accepted (alone off c)) (behind k s last prev off c))
+        (ne-eqb off last n) ∙ sure-yes (not (isLastLink (linkOf (pageAt s off)))) _ (ap not e)
 
 -- The walk ends with its first page.
 pub record Ends (last off : ℕ) (page : Scan) (c : Chain) : Type 0 where
@@ -67,7 +72,7 @@ pub record GoesOn (k : ℕ) (s : Space) (last prev off : ℕ) (page : Scan) (c :
   pub unflagged : isLastLink (linkOf (pageAt s off)) ≡ false
   pub rest : Chain
   pub walks : walk k s last (lastFrom prev (page .numbers)) (linkOffset (linkOf (pageAt s off))) ≡ accepted rest
-  pub whole : c ≡ linked off page rest
+  pub whole : c ≡ pageThen off page rest
 
 -- What an accepted walk is made of: its first page, with which it ends, or behind which it goes on.
 pub record Step (k : ℕ) (s : Space) (last prev off : ℕ) (c : Chain) : Type 0 where
@@ -97,7 +102,7 @@ walk-step k s last prev off c e =
 
 -- a walk begins where it was told to
 pub walk-first : (k : ℕ) (s : Space) (last prev off : ℕ) (c : Chain) → walk k s last prev off ≡ accepted c → getD (c .offs) 0 0 ≡ off
-unfolding walk linked
+unfolding walk pageThen
 walk-first zero s last prev off c e = absurd (refused≢accepted e)
 walk-first (suc k) s last prev off c e =
     let w = walk-step k s last prev off c e in
@@ -112,11 +117,12 @@ told count pages k s last prev off = answered (walkedFrom count pages) (soundly 
 
 -- what is told of a page and more behind it
 told-linked : (count pages off : ℕ) (page : Scan) (a : Answer Chain)
-    → answered (walkedFrom count pages) (soundly (andThen a (λ rest. accepted (linked off page rest))))
+    → answered (walkedFrom count pages) (soundly (andThen a (λ rest. accepted (pageThen off page rest))))
     ≡ answered (walkedFrom (count + length (page .numbers)) (pages + 1)) (soundly a)
-unfolding andThen soundly answered linked
+unfolding andThen soundly answered pageThen
 told-linked count pages off page (accepted rest) =
-    let numbers : count + length (page .numbers ++ rest .numbers) ≡ count + length (page .numbers) + length (rest .numbers) = rw length-append (omega arith) in
+    let numbers : count + length (page .numbers ++ rest .numbers) ≡ count + length (page .numbers) + length (rest .numbers) =
+    rw length-append (omega arith) in
     let offs : pages + suc (length (rest .offs)) ≡ pages + 1 + length (rest .offs) = omega arith in
     rw (numbers, offs)
 told-linked count pages off page (refused number) = refl
@@ -146,7 +152,8 @@ module _ (count pages most : ℕ) (s : Space) (last prev off : ℕ) (h : pages <
 
     -- the walk goes on behind it
     pub told-more : (off ≡ last → ⊥) → isLastLink (linkOf (pageAt s off)) ≡ false
-        → told (count + length (c .numbers)) (pages + 1) (most - (pages + 1)) s last (lastFrom 0 (c .numbers)) (linkOffset (linkOf (pageAt s off)))
+        → told (count + length (c .numbers)) (pages + 1) (most - (pages + 1)) s last (lastFrom 0 (c .numbers))
+        (linkOffset (linkOf (pageAt s off)))
         ≡ told count pages (most - pages) s last prev off
     unfolding told
     told-more n e =
@@ -162,7 +169,8 @@ module _ (count pages most : ℕ) (s : Space) (last prev off : ℕ) (h : pages <
 pub told-none : (count pages most : ℕ) (s : Space) (last prev off : ℕ) → most ≤ pages
     → refused keyUnsound ≡ told count pages (most - pages) s last prev off
 unfolding told walk
-told-none count pages most s last prev off h = let none : most - pages ≡ 0 = omega arith in rw none (turned-back (walkedFrom count pages) (walk 0 s last prev off) refl)
+told-none count pages most s last prev off h = let none : most - pages ≡ 0 = omega arith in
+    rw none (turned-back (walkedFrom count pages) (walk 0 s last prev off) refl)
 
 -- at first all are left
 pub told-start : (most : ℕ) (s : Space) (last off : ℕ)

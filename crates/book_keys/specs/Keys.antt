@@ -78,8 +78,8 @@ pub record Chain : Type 0 where
   pub offs : List ℕ
 
 -- A page before others in a chain.
-unfoldable pub linked : ℕ → Scan → Chain → Chain
-linked off c rest = record { numbers = c .numbers ++ rest .numbers; offs = off ∷ rest .offs }
+unfoldable pub pageThen : ℕ → Scan → Chain → Chain
+pageThen off c rest = record { numbers = c .numbers ++ rest .numbers; offs = off ∷ rest .offs }
 
 -- Walking a chain from a page on, behind a number, up to the key's last page, over at most so many pages; no other page has LAST.
 unfoldable pub walk : ℕ → Space → ℕ → ℕ → ℕ → Answer Chain
@@ -88,7 +88,7 @@ walk (suc k) s last prev off =
     andThen (linkScan s prev off)
     (λ c. cond (eqb off last) (accepted (record { numbers = c .numbers; offs = off ∷ [] }))
     (sure (not (isLastLink (linkOf (pageAt s off))))
-    (andThen (walk k s last (lastFrom prev (c .numbers)) (linkOffset (linkOf (pageAt s off)))) (λ rest. accepted (linked off c rest)))))
+    (andThen (walk k s last (lastFrom prev (c .numbers)) (linkOffset (linkOf (pageAt s off)))) (λ rest. accepted (pageThen off c rest)))))
 
 -- The last page's creates tells the length of the list, or 0, which says that it was never counted.
 unfoldable pub totalGood : ℕ → ℕ → Bool

@@ -110,8 +110,8 @@ countsOf c = record { length = length (c .numbers); pages = c .pages }
 unfoldable pub pageInto : ℕ → Space → ℕ → Answer Scan
 pageInto room s off = sure (isBlock pageClass off (s .mark)) (pageEntries room (pageAt s off))
 
--- What filling a list from a page does, whose reading would be `a`: where that is accepted, it tells as much and the list holds the numbers; it
--- never tells more numbers than fit.
+-- What filling a list from a page does, whose reading would be `a`: where that is accepted, it tells as much and the list holds the
+-- numbers; it never tells more numbers than fit.
 pub record PageFilled (told : Answer PageRead) (before after page : List ℕ) (a : Answer Scan) : Type 0 where
   pub reads : (c : Scan) → a ≡ accepted c → (told ≡ accepted (pageReadOf page c)) × (after ≡ overwrite before 0 (c .numbers))
   pub within : (t : PageRead) → told ≡ accepted t → t .count ≤ length before
@@ -120,16 +120,16 @@ pub record PageFilled (told : Answer PageRead) (before after page : List ℕ) (a
 abbrev pub Written : List ℕ → List ℕ → List ℕ → Type 0
 Written before after ns = length ns ≤ length before → after ≡ overwrite before 0 ns
 
--- A try at reading a block's numbers, whose scan as a sound one would be `a`, into the start of a list: it leaves the list, or the block is sound
--- and its numbers fit, and the list holds them.
+-- A try at reading a block's numbers, whose scan as a sound one would be `a`, into the start of a list: it leaves the list, or the block is
+-- sound and its numbers fit, and the list holds them.
 pub data ShortList (did : Bool) (before after : List ℕ) (a : Answer Scan) : Type 0 where
   unread : did ≡ false → after ≡ before → ShortList did before after a
   short : (c : Scan) → did ≡ true → a ≡ accepted c → length (c .numbers) ≤ length before → after ≡ overwrite before 0 (c .numbers)
       → ShortList did before after a
 
 -- What a key holds, to be read into a list with room for some numbers: 34 where its own don't fit.
-unfoldable pub fitting : ℕ → Answer Content → Answer Content
-fitting room a = andThen a (λ c. refuseIf (ltb room (length (c .numbers))) listTooShort (accepted c))
+unfoldable pub inRoom : ℕ → Answer Content → Answer Content
+inRoom room a = andThen a (λ c. refuseIf (ltb room (length (c .numbers))) listTooShort (accepted c))
 
 -- What a lent list holds after a read: the numbers at its start, or what it held where the read is refused.
 unfoldable pub afterRead : List ℕ → Answer Content → List ℕ
@@ -138,4 +138,5 @@ afterRead out (refused number) = out
 
 -- What a read of a key does, which holds `a`: what it tells, and the lent list afterwards.
 abbrev pub KeyRead : Answer Counts → List ℕ → List ℕ → Answer Content → Type 0
-KeyRead told before after a = (told ≡ answered countsOf (fitting (length before) a)) × (after ≡ afterRead before (fitting (length before) a))
+KeyRead told before after a = (told ≡ answered countsOf (inRoom (length before) a))
+    × (after ≡ afterRead before (inRoom (length before) a))

@@ -6,7 +6,7 @@ ghost use Rattle.error.specs.Refusal.{answered, refusalOf};
 ghost use Rattle.scripthash_layout.specs.declared.head.ShHeadValue.the-variants.{Inline};
 ghost use Rattle.book_space.specs.Space.{Space};
 ghost use Rattle.book_keys.specs.Keys.{soundly, contentAt, content};
-ghost use Rattle.book_keys.specs.Steps.{keySpace, countsOf, fitting, afterRead, KeyRead};
+ghost use Rattle.book_keys.specs.Steps.{keySpace, countsOf, inRoom, afterRead, KeyRead};
 ghost use Rattle.book_keys.specs.Answers.{countsAnswer};
 use crate::chain::read_chain;
 use crate::slab::read_stored;
@@ -72,9 +72,9 @@ fn read_place(body: &[u8], mark: u64, place: ShHeadValue, out: &mut [u64]) -> Ke
 pub fn read_key(body: &[u8], mark: u64, word: u64, out: &mut [u64]) -> KeyCounts
     requires { ⌜ mark ≤ length (now body) ⌝ }
     ensures answer { λ r. ⌜ countsAnswer r
-        ≡ answered countsOf (fitting (length (now (out .entry))) (content (keySpace (now (body .entry)) mark) word)) ⌝ }
+        ≡ answered countsOf (inRoom (length (now (out .entry))) (content (keySpace (now (body .entry)) mark) word)) ⌝ }
     ensures list { λ r. ⌜ now (out .exit)
-        ≡ afterRead (now (out .entry)) (fitting (length (now (out .entry))) (content (keySpace (now (body .entry)) mark) word)) ⌝ }
+        ≡ afterRead (now (out .entry)) (inRoom (length (now (out .entry))) (content (keySpace (now (body .entry)) mark) word)) ⌝ }
 {
     let got = scripthash_layout::unpack8(word);
     let Unpacked::Head(place) = got else {

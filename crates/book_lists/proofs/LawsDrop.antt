@@ -27,7 +27,7 @@ use Rattle.book_rules.specs.Calls.{dropped}
 use Rattle.book_space.specs.Space.{Space, shapeBroken, release}
 use Rattle.book_space.proofs.LawsLists.{stands-further, each-one}
 use Rattle.book_space.proofs.LawsTake.{InBody, release-none, release-first, release-mark, release-size, release-outside}
-use Rattle.book_keys.specs.Keys.{soundly, pageAt, linkScan, linked, Chain, walk, chainAt, Content, pageBlocks, contentAt, content}
+use Rattle.book_keys.specs.Keys.{soundly, pageAt, linkScan, pageThen, Chain, walk, chainAt, Content, pageBlocks, contentAt, content}
 use Rattle.book_keys.specs.Steps.{ChainEndOf, chainEndOf}
 use Rattle.book_keys.proofs.LawsSound.{soundly-yes, soundly-no}
 use Rattle.book_keys.proofs.LawsPages.{link-sound}
@@ -158,7 +158,7 @@ pub record Turn (s : Space) (off left : ℕ) (offs : List ℕ) : Type 0 where
 -- A turn of a walk.
 walk-turn : (k : ℕ) (s : Space) (last prev off left : ℕ) (offs : List ℕ) (c : Chain) → walk k s last prev off ≡ accepted c → c .offs ≡ offs
     → s .mark ≤ length (s .body) → length offs ≡ left → Turn s off left offs
-unfolding walk linked pageBlocks
+unfolding walk pageThen pageBlocks
 walk-turn zero s last prev off left offs c e met within count = absurd (refused≢accepted e)
 walk-turn (suc k) s last prev off left offs c e met within count =
     let w = walk-step k s last prev off c e in ⊎-elim (by-end (w .page) (w .is)) (by-rest (w .page) (w .is)) (w .goes)

@@ -11,7 +11,7 @@ use Rattle.buffer.specs.Bytes.{overwrite}
 use Rattle.book_rules.specs.Calls.{listed, answerOf}
 use Rattle.book_space.specs.Space.{shapeBroken}
 use Rattle.book_keys.specs.Keys.{Content, content}
-use Rattle.book_keys.specs.Steps.{Counts, countsOf, fitting, afterRead, KeyRead}
+use Rattle.book_keys.specs.Steps.{Counts, countsOf, inRoom, afterRead, KeyRead}
 use Rattle.book.specs.Book.{Book, Outcome, wordOf}
 use Rattle.book.specs.Reads.{reads, listAfter}
 use Rattle.book.specs.Answers.{Counted, countedOf}
@@ -23,8 +23,9 @@ reading c b = record { told = listed (record { numbers = c .numbers; pages = c .
 
 -- What a read tells of what a key holds.
 read-fitting : (b : Book) (room : ℕ) (a : Answer Content)
-    → andThen a (λ c. refuseIf (ltb room (length (c .numbers))) listTooShort (accepted (reading c b))) ≡ answered (λ c. reading c b) (fitting room a)
-unfolding fitting answered andThen refuseIf
+    → andThen a (λ c. refuseIf (ltb room (length (c .numbers))) listTooShort (accepted (reading c b)))
+    ≡ answered (λ c. reading c b) (inRoom room a)
+unfolding inRoom answered andThen refuseIf
 read-fitting b room (refused number) = refl
 read-fitting b room (accepted c) = by-room (ltb room (length (c .numbers)))
   where
@@ -48,7 +49,7 @@ module _ (b : Book) (key room : ℕ) where
 
     -- It isn't: what the key holds decides, and the room.
     pub read-key : key < length (b .heads)
-        → reads b key room ≡ answered (λ c. reading c b) (fitting room (content (b .space) (wordOf key b)))
+        → reads b key room ≡ answered (λ c. reading c b) (inRoom room (content (b .space) (wordOf key b)))
     unfolding reads
     read-key h = key-there b key _ whole h ∙ read-fitting b room (content (b .space) (wordOf key b))
 
@@ -71,11 +72,11 @@ read-yes a b c counts before after e n w = (rw (e, ← n), rw e w)
 
 -- A read of a key that is there, by what was told of the key and done to the list.
 module _ (a : Answer Outcome) (b : Book) (held : Answer Content) (told : Answer Counts) (before after : List ℕ)
-    (is : a ≡ answered (λ c. reading c b) (fitting (length before) held)) (does : KeyRead told before after held) where
+    (is : a ≡ answered (λ c. reading c b) (inRoom (length before) held)) (does : KeyRead told before after held) where
   pub read-refused : {number : ℕ} → told ≡ refused number → ReadDoes a before after (refused number)
   unfolding afterRead
   read-refused {number} e =
-      let stop : fitting (length before) held ≡ refused number = was-refused countsOf (fitting (length before) held) (sym (does .0) ∙ e) in
+      let stop : inRoom (length before) held ≡ refused number = was-refused countsOf (inRoom (length before) held) (sym (does .0) ∙ e) in
       let left : after ≡ before = rw stop at (does .1) in
       rw left (read-no a before (is ∙ answered-no (λ c. reading c b) _ stop))
 
@@ -83,6 +84,6 @@ module _ (a : Answer Outcome) (b : Book) (held : Answer Content) (told : Answer 
       → ReadDoes a before after (accepted (record { length = counts .length; pages = counts .pages }))
   unfolding afterRead
   read-accepted counts e =
-      let got = was-accepted countsOf (fitting (length before) held) (sym (does .0) ∙ e) in
+      let got = was-accepted countsOf (inRoom (length before) held) (sym (does .0) ∙ e) in
       let wrote : after ≡ overwrite before 0 (got .0 .numbers) = rw (got .1) at (does .1) in
       read-yes a b (got .0) counts before after (is ∙ answered-yes (λ c. reading c b) _ (got .1)) (got .2) wrote

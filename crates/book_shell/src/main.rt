@@ -1,6 +1,7 @@
 // A shell for the account book: reads a script from standard input, a call a line, and writes each answer in words. `body BYTES` and then
 // `keys COUNT` make a fresh book; `load KEY NUMBER ...`, `append KEY NUMBER`, `read KEY` and `drop KEY` are its calls; `places` and `space`
-// show what it holds, and `check` tells whether it is a good start; `#` begins a comment. A line that can't be read is reported with its number, and nothing is done for it.
+// show what it holds, and `check` tells whether it is a good start; `#` begins a comment. A line that can't be read is reported with its
+// number, and nothing is done for it.
 mod calls;
 mod memory;
 

@@ -16,17 +16,22 @@ use Rattle.scripthash_pages.specs.Entries.{streamPlace, pageScan}
 use Rattle.scripthash_free.specs.FreeList.{isBlock}
 use Rattle.book_limits.specs.Limits.{outOfShape}
 use Rattle.book_space.specs.Space.{markBad, shapeBroken}
-use Rattle.book_keys.specs.Keys.{soundly, sure, goOn, slabScan, linkScan, goodExtent, lastAt, linked}
+use Rattle.book_keys.specs.Keys.{soundly, sure, goOn, slabScan, linkScan, goodExtent, lastAt, pageThen}
 use Rattle.book_keys.specs.Keys.{walk, totalGood, chainAt, pageBlocks, contentAt}
 use Rattle.book_keys.specs.Keys.{content}
 use Rattle.book_blocks.specs.Blocks.{lastPageOf}
 use Rattle.book.specs.Book.{Book, book, fresh, headWord}
 use Rattle.book_start.specs.Start.{Verdict, good, keyUnsound, keyShares, freeStrays, freeShares, shares, sharesOne, claimAll}
-use Rattle.book_start.specs.Start.{claimContent, claimFreed, onward, judgeLists, judgeKeys, judged, judges}
+use Rattle.book_start.specs.Start.{claimContent, claimFreed, onward, judgeLists, judgeKeys, verdictOf, judges}
 
 -- The answer to a book with a work list of 512 bytes, which is enough for a body of 8,192.
 unfoldable pub told : Book → Answer Verdict
-unfolding refuseIf andThen part overwrite isForm value formAt overflows readForm readUleb divided ulebLen shortest packHead unpackHead lastFrom streamFrom streamLenFrom storedNumber nextNumber scanFrom decodeStream slabPayload decodeSlab field nextOff extentHeader pageOf streamPlace pageScan isBlock outOfShape markBad shapeBroken soundly sure goOn slabScan linkScan goodExtent lastAt linked walk totalGood chainAt pageBlocks contentAt content headWord shares sharesOne claimAll claimContent claimFreed onward judgeLists judgeKeys judged judges
+unfolding refuseIf andThen part overwrite isForm value formAt overflows readForm readUleb divided ulebLen shortest packHead unpackHead
+    lastFrom streamFrom streamLenFrom storedNumber nextNumber scanFrom decodeStream slabPayload decodeSlab field nextOff extentHeader pageOf
+    streamPlace pageScan isBlock outOfShape markBad shapeBroken soundly sure goOn slabScan linkScan goodExtent lastAt pageThen walk
+    totalGood
+    chainAt pageBlocks contentAt content headWord shares sharesOne claimAll claimContent claimFreed onward judgeLists judgeKeys verdictOf
+    judges
 told b = judges b 512
 
 -- A body of 8,192 bytes, none of them 0.

@@ -17,7 +17,7 @@ use Rattle.book_keys.specs.Keys.{Content, content}
 use Rattle.book.specs.Book.{Book}
 use Rattle.book_start.specs.Start.{blocksAt, blocksIn, heldBy, namedFrom, freedBy, blocksOf, GoodStart}
 use Rattle.book_start.specs.Start.{Verdict, good, keyUnsound, keyShares, freeStrays, freeShares, Claim, claimed, unfit, shared}
-use Rattle.book_start.specs.Start.{claimAll, claimContent, claimFreed, onward, judgeLists, judgeKeys, judged, judges}
+use Rattle.book_start.specs.Start.{claimAll, claimContent, claimFreed, onward, judgeLists, judgeKeys, verdictOf, judges}
 use Rattle.book_start.proofs.LawsClaims.{Claims, Cross, claim-none, claim-both, claims-left, claims-apart, apart-claims}
 use Rattle.book_start.proofs.LawsFreed.{Ending, freed-claimed, claimed-freed, named-few}
 
@@ -168,8 +168,8 @@ cross-none (x ∷ xs) = (tt, cross-none xs)
 
 module _ (b : Book) (nine : length (b .space .free) ≡ 9) where
   -- A book in shape that is judged good is a good start.
-  pub judged-start : shapeBroken (b .space) (length (b .heads)) ≡ false → judged b ≡ good → GoodStart b
-  unfolding judged
+  pub judged-start : shapeBroken (b .space) (length (b .heads)) ≡ false → verdictOf b ≡ good → GoodStart b
+  unfolding verdictOf
   judged-start shape e =
       let within = shape-holds (b .space) (length (b .heads)) shape .0 .within in
       let k = keys-good (b .space) 0 (b .heads) [] e in
@@ -189,8 +189,8 @@ module _ (b : Book) (nine : length (b .space .free) ≡ 9) where
       }
 
 -- A good start is judged good.
-pub start-judged : (b : Book) → GoodStart b → judged b ≡ good
-unfolding judged
+pub start-judged : (b : Book) → GoodStart b → verdictOf b ≡ good
+unfolding verdictOf
 start-judged b g =
     let held = heldBy (b .space) (b .heads) in
     let freed = freedBy (b .space) 0 (b .space .free) in

@@ -15,7 +15,7 @@ use Rattle.scripthash_fields.specs.Page.{linkOf, linkOffset}
 use Rattle.scripthash_free.specs.FreeList.{Block, Each, isBlock, nextOf}
 use Rattle.scripthash_free.proofs.LawsBlock.{block-stands, bytes-from-16}
 use Rattle.book_space.specs.Space.{Space}
-use Rattle.book_keys.specs.Keys.{soundly, pageAt, linkScan, Chain, linked, walk, Content, pageBlocks}
+use Rattle.book_keys.specs.Keys.{soundly, pageAt, linkScan, Chain, pageThen, walk, Content, pageBlocks}
 use Rattle.book_keys.proofs.LawsPages.{link-sound}
 use Rattle.book_keys.proofs.LawsWalk.{Ends, GoesOn, walk-step}
 use Rattle.book.specs.Steps.{PagesLeft}
@@ -132,7 +132,7 @@ pub record PageTurn (s : Space) (off left : ℕ) (offs : List ℕ) : Type 0 wher
 
 walk-turn : (k : ℕ) (s : Space) (last prev off left : ℕ) (offs : List ℕ) (c : Chain) → walk k s last prev off ≡ accepted c → c .offs ≡ offs
     → s .mark ≤ length (s .body) → length offs ≡ left → PageTurn s off left offs
-unfolding walk linked
+unfolding walk pageThen
 walk-turn zero s last prev off left offs c e met within count = absurd (refused≢accepted e)
 walk-turn (suc k) s last prev off left offs c e met within count =
     let w = walk-step k s last prev off c e in ⊎-elim (by-end (w .page) (w .is)) (by-rest (w .page) (w .is)) (w .goes)

@@ -18,7 +18,7 @@ use Rattle.book_keys.specs.Steps.{keySpace}
 use Rattle.book_keys.proofs.LawsFree.{content-free}
 use Rattle.book.specs.Book.{Book}
 use Rattle.book_start.specs.Start.{Verdict, keyUnsound, keyShares, freeStrays, freeShares, Claim, claimed, unfit, shared}
-use Rattle.book_start.specs.Start.{claimContent, claimFreed, onward, judgeLists, judgeKeys, judged, judges}
+use Rattle.book_start.specs.Start.{claimContent, claimFreed, onward, judgeLists, judgeKeys, verdictOf, judges}
 use Rattle.book_start.specs.Units.{cleared, markAll, workAfter, Marked, claimOf, ClaimsAs, JudgesAs}
 use Rattle.book_start.specs.declared.claiming.Claiming.{Claiming}
 use Rattle.book_start.specs.declared.claiming.Claiming.the-variants.{Done, Unfit, Shared}
@@ -194,7 +194,7 @@ module _ (b : Book) (work : List ℕ) where
         (b .space .body) / 16) h)
 
     -- It is judged.
-    pub judges-all : length (b .space .body) / 16 ≤ length work → judges b (length work) ≡ accepted (judged b)
+    pub judges-all : length (b .space .body) / 16 ≤ length work → judges b (length work) ≡ accepted (verdictOf b)
     unfolding judges
     judges-all h =
         refuse-no (shapeBroken (b .space) (length (b .heads))) shapeBad _ shape
@@ -216,8 +216,8 @@ pub cleared-is : (units : ℕ) (work : List ℕ) → overwrite work 0 (replicate
 unfolding cleared
 cleared-is units work = refl
 
-pub judged-is : (b : Book) → judged b ≡ judgeKeys (b .space) 0 (b .heads) []
-unfolding judged
+pub judged-is : (b : Book) → verdictOf b ≡ judgeKeys (b .space) 0 (b .heads) []
+unfolding verdictOf
 judged-is b = refl
 
 -- A cleared work list shows no claims.

@@ -154,11 +154,11 @@ judgeKeys s key (w ∷ ws) before =
     onward (claimContent before (content s w)) (keyUnsound key) (keyShares key) (λ bs. judgeKeys s (key + 1) ws bs)
 
 -- The verdict on a book in shape: blocks are claimed one after the other, keys rising and then classes rising, and the first fault decides.
-unfoldable pub judged : Book → Verdict
-judged b = judgeKeys (b .space) 0 (b .heads) []
+unfoldable pub verdictOf : Book → Verdict
+verdictOf b = judgeKeys (b .space) 0 (b .heads) []
 
 -- The call that judges a start, with a work list of so many bytes, one for each 16 bytes of the body.
 unfoldable pub judges : Book → ℕ → Answer Verdict
 judges b room =
     refuseIf (shapeBroken (b .space) (length (b .heads))) shapeBad
-    (refuseIf (ltb room (length (b .space .body) / 16)) listTooShort (accepted (judged b)))
+    (refuseIf (ltb room (length (b .space .body) / 16)) listTooShort (accepted (verdictOf b)))

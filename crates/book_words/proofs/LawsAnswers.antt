@@ -31,7 +31,8 @@ answer-words (refused number) = suc-le-suc zero-le
 
 -- what an append told
 append-back : (place : ShHeadValue) (rewritten : ℕ) (rest : List ℕ)
-    → appendedAt (rewritten ∷ (spellPlace place ++ rest)) ≡ begins (accepted (appended (record { place = place; rewritten = rewritten }))) rest
+    → appendedAt (rewritten ∷ (spellPlace place ++ rest)) ≡ begins (accepted (appended (record { place = place; rewritten = rewritten })))
+    rest
 unfolding spellPlace appendedAt placeOf word
 append-back Empty rewritten rest = refl
 append-back (Inline entry used) rewritten rest = refl
@@ -45,7 +46,11 @@ told-back (loaded l) rest = refl
 told-back (appended a) rest = append-back (a .place) (a .rewritten) rest
 told-back (listed l) rest =
     let room : length (l .numbers) ≤ length (l .numbers ++ rest) = omega (arith, length-append (l .numbers) rest) in
-    rw (le-leb (length (l .numbers)) (length (l .numbers ++ rest)) room, take-append-seam (l .numbers) rest, drop-append-seam (l .numbers) rest)
+    rw (
+      le-leb (length (l .numbers)) (length (l .numbers ++ rest)) room,
+      take-append-seam (l .numbers) rest,
+      drop-append-seam (l .numbers) rest,
+    )
 told-back (dropped d) rest = refl
 
 -- an answer reads back, whatever follows its words

@@ -46,7 +46,8 @@ any-calls (c ∷ cs) = (tt, any-calls cs)
 -- A list of calls, spelled and read back, is the list.
 pub calls-back : (cs : List Call) → callsOf (spellCalls cs) ≡ some cs
 calls-back cs =
-    reads-all spellCall callAt (λ (c : Call). Unit {0}) call-words (λ (c : Call) (rest : List ℕ) g. call-back c rest) cs (length (spellCalls cs)) (le-refl _) (any-calls cs)
+    reads-all spellCall callAt (λ (c : Call). Unit {0}) call-words (λ (c : Call) (rest : List ℕ) g. call-back c rest) cs
+    (length (spellCalls cs)) (le-refl _) (any-calls cs)
 
 -- ---- read, and spelled
 
@@ -77,13 +78,16 @@ call-was (kind ∷ []) b e = absurd (none≢some e)
 call-was (kind ∷ key ∷ []) b e = absurd (none≢some e)
 call-was (kind ∷ key ∷ third ∷ rest) b e =
     ⊎-elim (λ (w : (eqb kind 0 ≡ true) × (loadOf key third rest ≡ some b)). load-was key third rest b (w .1) ∙ of-kind 0 (w .0))
-    (λ e1. ⊎-elim (λ (w : (eqb kind 1 ≡ true) × (begins (append key third) rest ≡ some b)). ap words-of (sym (some-inj (w .1))) ∙ of-kind 1 (w .0))
-    (λ e2. ⊎-elim (λ (w : (eqb kind 2 ≡ true) × (begins (read key third) rest ≡ some b)). ap words-of (sym (some-inj (w .1))) ∙ of-kind 2 (w .0))
+    (λ e1. ⊎-elim (λ (w : (eqb kind 1 ≡ true) × (begins (append key third) rest ≡ some b)). ap words-of (sym (some-inj (w .1)))
+    ∙ of-kind 1 (w .0))
+    (λ e2. ⊎-elim (λ (w : (eqb kind 2 ≡ true) × (begins (read key third) rest ≡ some b)). ap words-of (sym (some-inj (w .1)))
+    ∙ of-kind 2 (w .0))
     (λ e3. ⊎-elim (λ (w : (eqb kind 3 ≡ true) × (cond (eqb third 0) (begins (drop key) rest) none ≡ some b)).
     ⊎-elim (λ (v : (eqb third 0 ≡ true) × (begins (drop key) rest ≡ some b)).
     ap words-of (sym (some-inj (v .1))) ∙ ap (λ (n : ℕ). 3 ∷ key ∷ n ∷ rest) (sym (eqb-true third 0 (v .0))) ∙ of-kind 3 (w .0))
     (λ (n : none ≡ some b). absurd (none≢some n)) (branch (eqb third 0) _ none (some b) (w .1)))
-    (λ (n : none ≡ some b). absurd (none≢some n)) (branch (eqb kind 3) _ _ _ e3)) (branch (eqb kind 2) _ _ _ e2)) (branch (eqb kind 1) _ _ _ e1)) (branch (eqb kind 0) _ _ _ e)
+    (λ (n : none ≡ some b). absurd (none≢some n)) (branch (eqb kind 3) _ _ _ e3)) (branch (eqb kind 2) _ _ _ e2))
+    (branch (eqb kind 1) _ _ _ e1)) (branch (eqb kind 0) _ _ _ e)
   where
     of-kind : (k : ℕ) → eqb kind k ≡ true → k ∷ key ∷ third ∷ rest ≡ kind ∷ key ∷ third ∷ rest
     of-kind k t = ap (λ (n : ℕ). n ∷ key ∷ third ∷ rest) (sym (eqb-true kind k t))
@@ -124,7 +128,14 @@ module _ (calls : List ℕ) (at : ℕ) where
       let one : at + 1 ≡ suc at = add-one at in
       let two : at + 2 ≡ suc (suc at) = omega arith in
       let three : at + 3 ≡ suc (suc (suc at)) = omega arith in
-      rw (one, two, three, drop-cons calls at 0 (omega arith), drop-cons calls (suc at) 0 (omega arith), drop-cons calls (suc (suc at)) 0 (omega arith))
+      rw (
+        one,
+        two,
+        three,
+        drop-cons calls at 0 (omega arith),
+        drop-cons calls (suc at) 0 (omega arith),
+        drop-cons calls (suc (suc at)) 0 (omega arith),
+      )
 
   pub call-short : length calls < at + 3 → callAt (behind at calls) ≡ none
   call-short h = call-few (behind at calls) (simp length-drop (omega arith))

@@ -34,7 +34,8 @@ pub reads-all : {A : Type 0} (spell : A → List ℕ) (reader : List ℕ → Opt
 unfolding spellAll readAll atEnd readOn AllGood before
 reads-all spell reader Good some-words reads-back [] zero h g = refl
 reads-all spell reader Good some-words reads-back [] (suc most) h g = refl
-reads-all spell reader Good some-words reads-back (x ∷ xs) zero h g = absurd (omega (arith, length-append (spell x) (spellAll spell xs), some-words x))
+reads-all spell reader Good some-words reads-back (x ∷ xs) zero h g =
+    absurd (omega (arith, length-append (spell x) (spellAll spell xs), some-words x))
 reads-all {A} spell reader Good some-words reads-back (x ∷ xs) (suc most) h g =
     let words = length-append (spell x) (spellAll spell xs) in
     let some-of = some-words x in
@@ -71,7 +72,8 @@ module _ {A : Type 0} (spell : A → List ℕ) (reader : List ℕ → Option (Be
       first-was (w ∷ ws) xs (λ rest. readAll reader most rest) (λ rest ys f. spelled-all most rest ys f) (reader (w ∷ ws)) refl e
 
 -- The bound doesn't matter where it is large enough, when each element takes a word.
-module _ {A : Type 0} (reader : List ℕ → Option (Begins A)) (shrinks : (ws : List ℕ) (b : Begins A) → reader ws ≡ some b → length (b .rest) < length ws) where
+module _ {A : Type 0} (reader : List ℕ → Option (Begins A)) (shrinks : (ws : List ℕ) (b : Begins A) → reader ws ≡ some b
+    → length (b .rest) < length ws) where
   -- what is read behind an element is the same for both bounds
   same-behind : (ws : List ℕ) (most other : List ℕ → Option (List A))
       → ((b : Begins A) → reader ws ≡ some b → most (b .rest) ≡ other (b .rest))
@@ -91,7 +93,8 @@ module _ {A : Type 0} (reader : List ℕ → Option (Begins A)) (shrinks : (ws :
   same-bound (suc most) zero (w ∷ ws) h k = absurd (omega arith)
   same-bound (suc most) (suc other) (w ∷ ws) h k =
       same-behind (w ∷ ws) (λ rest. readAll reader most rest) (λ rest. readAll reader other rest)
-      (λ (b : Begins A) (r : reader (w ∷ ws) ≡ some b). let less : length (b .rest) < suc (length ws) = shrinks (w ∷ ws) b r in same-bound most other (b .rest) (omega arith) (omega arith))
+      (λ (b : Begins A) (r : reader (w ∷ ws) ≡ some b). let less : length (b .rest) < suc (length ws) = shrinks (w ∷ ws) b r in
+      same-bound most other (b .rest) (omega arith) (omega arith))
       (reader (w ∷ ws)) refl
 
   -- some words are read as the element that they begin with, and the words behind it

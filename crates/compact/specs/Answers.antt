@@ -8,11 +8,11 @@ use Rattle.compact.specs.declared.WriteUleb128.{WriteUleb128}
 use Rattle.compact.specs.declared.WriteUleb128.the-variants.{Written, Refused as NotWritten}
 
 -- The answer of `read_uleb128`.
-abbrev pub readAnswer : ReadUleb128 → Answer Reading
-readAnswer (Value value len) = accepted (record { value = value; len = len })
-readAnswer (Refused number) = refused number
+abbrev pub readUlebAnswer : ReadUleb128 → Answer Reading
+readUlebAnswer (Value value len) = accepted (record { value = value; len = len })
+readUlebAnswer (Refused number) = refused number
 
 -- The answer of `write_uleb128_into`.
-abbrev pub writeAnswer : WriteUleb128 → Answer ℕ
-writeAnswer (Written len) = accepted len
-writeAnswer (NotWritten number) = refused number
+abbrev pub writeUlebAnswer : WriteUleb128 → Answer ℕ
+writeUlebAnswer (Written len) = accepted len
+writeUlebAnswer (NotWritten number) = refused number

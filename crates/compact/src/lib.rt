@@ -5,7 +5,7 @@ ghost use lib.ListN.{length};
 ghost use Rattle.error.specs.Refusal.{refusalOf, told};
 ghost use Rattle.buffer.specs.Bytes.{overwrite};
 ghost use Rattle.compact.specs.Uleb128.{piece, passes, readUleb, ulebLen, shortest, writeUleb, afterWrite};
-ghost use Rattle.compact.specs.Answers.{readAnswer, writeAnswer};
+ghost use Rattle.compact.specs.Answers.{readUlebAnswer, writeUlebAnswer};
 use error::Refusal;
 
 // What reading a number answers: its value and the length of its form, or a refusal.
@@ -23,7 +23,7 @@ pub enum WriteUleb128 {
 impl ReadUleb128 {
     // The refusal's number, and 0 of a value.
     pub fn refusal(self) -> Refusal
-        ensures { λ r. ⌜ r ≡ refusalOf (readAnswer self) ⌝ }
+        ensures { λ r. ⌜ r ≡ refusalOf (readUlebAnswer self) ⌝ }
     {
         match self {
             ReadUleb128::Value { value: _, len: _ } => 0,
@@ -35,7 +35,7 @@ impl ReadUleb128 {
 impl WriteUleb128 {
     // The refusal's number, and 0 of a length.
     pub fn refusal(self) -> Refusal
-        ensures { λ r. ⌜ r ≡ refusalOf (writeAnswer self) ⌝ }
+        ensures { λ r. ⌜ r ≡ refusalOf (writeUlebAnswer self) ⌝ }
     {
         match self {
             WriteUleb128::Written(_) => 0,
@@ -105,7 +105,7 @@ pub fn read_form(buf: &[u8], value: &mut u64, len: &mut usize) -> Refusal
 
 // The number at the start of buf and the length of its form, or a refusal.
 pub fn read_uleb128(buf: &[u8]) -> ReadUleb128
-    ensures { λ r. ⌜ readAnswer r ≡ readUleb (now (buf .entry)) ⌝ }
+    ensures { λ r. ⌜ readUlebAnswer r ≡ readUleb (now (buf .entry)) ⌝ }
 {
     let mut value: u64 = 0;
     let mut len: usize = 0;
@@ -157,7 +157,7 @@ fn put_unrolled(dst: &mut [u8], n: u64) -> usize
 // Writes n's shortest form to a dst of one byte or none, or leaves it where the form doesn't fit.
 fn write_byte(dst: &mut [u8], n: u64) -> WriteUleb128
     requires { ⌜ length (now dst) < 2 ⌝ }
-    ensures answer { λ r. ⌜ writeAnswer r ≡ writeUleb (length (now (dst .entry))) n ⌝ }
+    ensures answer { λ r. ⌜ writeUlebAnswer r ≡ writeUleb (length (now (dst .entry))) n ⌝ }
     ensures bytes { λ r. ⌜ now (dst .exit) ≡ afterWrite (now (dst .entry)) n ⌝ }
 {
     if dst.len() == 0 {
@@ -173,7 +173,7 @@ fn write_byte(dst: &mut [u8], n: u64) -> WriteUleb128
 // The same to any dst for a form of one byte or of two.
 fn write_two(dst: &mut [u8], n: u64) -> WriteUleb128
     requires { ⌜ n < 16384 ⌝ }
-    ensures answer { λ r. ⌜ writeAnswer r ≡ writeUleb (length (now (dst .entry))) n ⌝ }
+    ensures answer { λ r. ⌜ writeUlebAnswer r ≡ writeUleb (length (now (dst .entry))) n ⌝ }
     ensures bytes { λ r. ⌜ now (dst .exit) ≡ afterWrite (now (dst .entry)) n ⌝ }
 {
     if dst.len() < 2 {
@@ -191,7 +191,7 @@ fn write_two(dst: &mut [u8], n: u64) -> WriteUleb128
 // The same for a form of three bytes.
 fn write_three(dst: &mut [u8], n: u64) -> WriteUleb128
     requires { ⌜ (16384 ≤ n) × (n < 2097152) ⌝ }
-    ensures answer { λ r. ⌜ writeAnswer r ≡ writeUleb (length (now (dst .entry))) n ⌝ }
+    ensures answer { λ r. ⌜ writeUlebAnswer r ≡ writeUleb (length (now (dst .entry))) n ⌝ }
     ensures bytes { λ r. ⌜ now (dst .exit) ≡ afterWrite (now (dst .entry)) n ⌝ }
 {
     if dst.len() < 3 {
@@ -206,7 +206,7 @@ fn write_three(dst: &mut [u8], n: u64) -> WriteUleb128
 // Writes n's shortest form to the start of dst and leaves the rest, or leaves all of dst where the form doesn't fit. The length is found
 // for forms of four bytes and more alone.
 pub fn write_uleb128_into(dst: &mut [u8], n: u64) -> WriteUleb128
-    ensures answer { λ r. ⌜ writeAnswer r ≡ writeUleb (length (now (dst .entry))) n ⌝ }
+    ensures answer { λ r. ⌜ writeUlebAnswer r ≡ writeUleb (length (now (dst .entry))) n ⌝ }
     ensures bytes { λ r. ⌜ now (dst .exit) ≡ afterWrite (now (dst .entry)) n ⌝ }
 {
     if n < 16384 {

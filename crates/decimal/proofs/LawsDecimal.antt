@@ -11,7 +11,7 @@ use lib.Dec.{ltb, leb}
 use lib.ListN.{length, drop, getD}
 use lib.Seq.{drop-cons}
 use Rattle.io.specs.Digits.{digits, glyph, Fewest}
-use Rattle.decimal.specs.Decimal.{isDigit, allDigits, isNumber, valueFrom, valueOf, fitting, readDecimal}
+use Rattle.decimal.specs.Decimal.{isDigit, allDigits, isNumber, valueFrom, valueOf, in64Bits, readDecimal}
 use Rattle.decimal.specs.declared.ReadDecimal.{ReadDecimal}
 use Rattle.decimal.specs.declared.ReadDecimal.the-variants.{Number, NotANumber, TooLarge}
 
@@ -36,12 +36,12 @@ value-grows v (b ∷ bs) = let more : v * 10 + (b - 48) ≤ valueFrom (v * 10 + 
 
 -- ---- a number that fits, and one that doesn't
 
-pub fits : (n : ℕ) → n < 2 ^ 64 → fitting n ≡ Number n
-unfolding fitting
+pub fits : (n : ℕ) → n < 2 ^ 64 → in64Bits n ≡ Number n
+unfolding in64Bits
 fits n h = rw (lt-ltb n (2 ^ 64) h)
 
-pub passes : (n : ℕ) → 2 ^ 64 ≤ n → fitting n ≡ TooLarge
-unfolding fitting
+pub passes : (n : ℕ) → 2 ^ 64 ≤ n → in64Bits n ≡ TooLarge
+unfolding in64Bits
 passes n h = rw (le-ltb n (2 ^ 64) h)
 
 -- ---- numbers that were printed
@@ -50,7 +50,8 @@ passes n h = rw (le-ltb n (2 ^ 64) h)
 digits-append : (xs ys : List ℕ) → allDigits (xs ++ ys) ≡ allDigits xs && allDigits ys
 unfolding allDigits
 digits-append [] ys = refl
-digits-append (x ∷ xs) ys = ap (λ (t : Bool). isDigit x && t) (digits-append xs ys) ∙ sym (and-assoc (isDigit x) (allDigits xs) (allDigits ys))
+digits-append (x ∷ xs) ys = ap (λ (t : Bool). isDigit x && t) (digits-append xs ys)
+    ∙ sym (and-assoc (isDigit x) (allDigits xs) (allDigits ys))
 
 value-append : (v : ℕ) (xs ys : List ℕ) → valueFrom v (xs ++ ys) ≡ valueFrom (valueFrom v xs) ys
 unfolding valueFrom
@@ -111,8 +112,8 @@ read-fitting : (v n : ℕ) (t : Bool) → ltb v (2 ^ 64) ≡ t → cond t (Numbe
 read-fitting v n true e f = (cc, ltb-true v (2 ^ 64) e)
 read-fitting v n false e f = let z : _≡_ {A = ℕ} 0 1 = cc in absurd (omega arith)
 
-pub read-number : (bs : List ℕ) (n : ℕ) (t : Bool) → isNumber bs ≡ t → cond t (fitting (valueOf bs)) NotANumber ≡ Number n → Reads bs n
-unfolding fitting
+pub read-number : (bs : List ℕ) (n : ℕ) (t : Bool) → isNumber bs ≡ t → cond t (in64Bits (valueOf bs)) NotANumber ≡ Number n → Reads bs n
+unfolding in64Bits
 read-number bs n true e f =
     let v = read-fitting (valueOf bs) n (ltb (valueOf bs) (2 ^ 64)) refl f in
     record { number = e; value = v .0; fits = rw (v .0) at (v .1) }

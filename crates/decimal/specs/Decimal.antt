@@ -30,9 +30,9 @@ abbrev pub valueOf : List ℕ → ℕ
 valueOf bs = valueFrom 0 bs
 
 -- A number, where 64 bits hold it.
-unfoldable pub fitting : ℕ → ReadDecimal
-fitting n = cond (ltb n (2 ^ 64)) (Number n) TooLarge
+unfoldable pub in64Bits : ℕ → ReadDecimal
+in64Bits n = cond (ltb n (2 ^ 64)) (Number n) TooLarge
 
 -- Reading a word: what isn't a number is refused, and so is a number that 64 bits don't hold.
 unfoldable pub readDecimal : List ℕ → ReadDecimal
-readDecimal bs = cond (isNumber bs) (fitting (valueOf bs)) NotANumber
+readDecimal bs = cond (isNumber bs) (in64Bits (valueOf bs)) NotANumber

@@ -4,7 +4,7 @@ mod words;
 
 ghost use mathlib.Core.Path.{_≡_};
 ghost use Prim.Native.Nat.{_-_};
-ghost use Rattle.decimal.specs.Decimal.{isDigit, allDigits, valueOf, fitting, readDecimal};
+ghost use Rattle.decimal.specs.Decimal.{isDigit, allDigits, valueOf, in64Bits, readDecimal};
 pub use words::Numbers;
 pub use words::numbers_into;
 pub use words::skip_spaces;
@@ -56,7 +56,7 @@ fn all_digits(word: &[u8]) -> bool
 
 // The value of the digits of a word, where 64 bits hold it.
 fn value_of(word: &[u8]) -> ReadDecimal
-    ensures { λ r. ⌜ r ≡ fitting (valueOf (now (word .entry))) ⌝ }
+    ensures { λ r. ⌜ r ≡ in64Bits (valueOf (now (word .entry))) ⌝ }
 {
     let mut value: u64 = 0;
     let mut i: usize = 0;

@@ -4,7 +4,7 @@ ghost use mathlib.Core.List.{List};
 ghost use Prim.Native.Nat.{ℕ, _≤_, _<_};
 ghost use lib.ListN.{length};
 ghost use Rattle.decimal.specs.Decimal.{readDecimal};
-ghost use Rattle.decimal.specs.Words.{Taken, wordsFrom, takeWord, takeWords, afterWord, Skips, Ends};
+ghost use Rattle.decimal.specs.Words.{TakenWords, wordsFrom, takeWord, takeWords, afterWord, Skips, Ends};
 use crate::ReadDecimal;
 use crate::read_decimal;
 
@@ -58,7 +58,7 @@ pub fn word_end(line: &[u8], start: usize) -> usize
 
 // Reads the word of a line that begins and ends at two indices, and puts its number behind so many in a list.
 fn put_word(word: &[u8], start: usize, end: usize, list: &mut [u64], count: usize) -> PutWord
-    ensures { λ r. ⌜ ((more : List ℕ → Taken)
+    ensures { λ r. ⌜ ((more : List ℕ → TakenWords)
         → takeWord (readDecimal (now (word .entry))) start end (now (list .entry)) count more ≡ afterWord r (now (list .exit)) more) ⌝ }
     ensures { λ r. ⌜ length (now (list .exit)) ≡ length (now (list .entry)) ⌝ }
 {
@@ -81,7 +81,8 @@ fn put_word(word: &[u8], start: usize, end: usize, list: &mut [u64], count: usiz
 pub fn numbers_into(line: &[u8], from: usize, list: &mut [u64]) -> Numbers
     requires { ⌜ from ≤ length (now line) ⌝ }
     ensures answer { λ r. ⌜ r ≡ takeWords (now (line .entry)) (now (list .entry)) 0 (wordsFrom (now (line .entry)) from) .answer ⌝ }
-    ensures list { λ r. ⌜ now (list .exit) ≡ takeWords (now (line .entry)) (now (list .entry)) 0 (wordsFrom (now (line .entry)) from) .list ⌝ }
+    ensures list { λ r. ⌜ now (list .exit)
+        ≡ takeWords (now (line .entry)) (now (list .entry)) 0 (wordsFrom (now (line .entry)) from) .list ⌝ }
 {
     let mut at = from;
     let mut count: usize = 0;

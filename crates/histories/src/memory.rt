@@ -1,5 +1,5 @@
-// The memory of two books: ours, which calls change, and the one that is wanted, which the lines change. Each has a body of its own; the words
-// of both stand in one array, in each half ten of the state and then the heads. The contracts give the lengths, which lending needs.
+// The memory of two books: ours, which calls change, and the one that is wanted, which the lines change. Each has a body of its own; the
+// words of both stand in one array, in each half ten of the state and then the heads. The contracts give the lengths, which lending needs.
 ghost use mathlib.Core.Path.{_≡_};
 ghost use Prim.Native.Nat.{_≤_};
 ghost use lib.ListN.{length};

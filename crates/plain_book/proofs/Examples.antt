@@ -36,43 +36,64 @@ inARow n zero = []
 inARow n (suc k) = n ∷ inARow (n + 1) k
 
 -- 5, 300, 301, 302, 303 to key 0 move at 300 and at 303; 9, 10 to key 1 take the block that was freed.
-pub run-case : answers (fresh 8192 2) (append 0 5 ∷ append 0 300 ∷ append 0 301 ∷ append 0 302 ∷ append 0 303 ∷ append 1 9 ∷ append 1 10 ∷ [])
-    ≡ at (Inline 5 1) 0 ∷ at (Slab 0 2 4096) 1 ∷ at (Slab 0 3 4096) 0 ∷ at (Slab 0 4 4096) 0 ∷ at (Slab 1 5 4112) 4 ∷ at (Inline 9 1) 0 ∷ at (Slab 0 2 4096) 1 ∷ []
-unfolding refuseIf andThen divided shortest ulebLen lastFrom streamLenFrom firstClass classFor classWithSlack takeMark takeFresh takeFrom headOf freedPlace stays larger movesTo moved written longer appendPlace outOfShape onKey offeredNumber appends does bookAfter answered answersTo
+pub run-case : answers (fresh 8192 2) (append 0 5 ∷ append 0 300 ∷ append 0 301 ∷ append 0 302 ∷ append 0 303 ∷ append 1 9 ∷ append 1 10
+    ∷ [])
+    ≡ at (Inline 5 1) 0 ∷ at (Slab 0 2 4096) 1 ∷ at (Slab 0 3 4096) 0 ∷ at (Slab 0 4 4096) 0 ∷ at (Slab 1 5 4112) 4 ∷ at (Inline 9 1)
+    0 ∷ at (Slab 0 2 4096) 1 ∷ []
+unfolding refuseIf andThen divided shortest ulebLen lastFrom streamLenFrom firstClass classFor classWithSlack takeMark takeFresh takeFrom
+    headOf freedPlace stays larger movesTo moved written longer appendPlace outOfShape onKey offeredNumber appends does bookAfter answered
+    answersTo
 run-case = refl
 
 -- What is turned back: the shape, a key beyond the heads, a key in use, and numbers that can't be offered.
 pub turned-back : (answers (fresh 4096 1) (read 0 0 ∷ []) ≡ refused 1 ∷ [])
-    × (answers (fresh 8192 1) (append 1 5 ∷ append 0 0 ∷ append 0 (2 ^ 63) ∷ append 0 (2 ^ 62) ∷ append 0 5 ∷ append 0 5 ∷ load 0 [] ∷ read 0 0 ∷ [])
+    × (answers (fresh 8192 1) (append 1 5 ∷ append 0 0 ∷ append 0 (2 ^ 63) ∷ append 0 (2 ^ 62) ∷ append 0 5 ∷ append 0 5 ∷ load 0 []
+    ∷ read 0 0 ∷ [])
     ≡ refused 2 ∷ refused 12 ∷ refused 13 ∷ refused 14 ∷ at (Inline 5 1) 0 ∷ refused 32 ∷ refused 3 ∷ refused 34 ∷ [])
-unfolding refuseIf andThen headOf written longer appendPlace outOfShape onKey offeredNumber appends reads loads does bookAfter answered answersTo lastFrom
+unfolding refuseIf andThen headOf written longer appendPlace outOfShape onKey offeredNumber appends reads loads does bookAfter answered
+    answersTo lastFrom
 turned-back = (refl, refl)
 
 -- A list by bytes goes to a slab that has fewer slots than numbers, and moves with the next; a drop frees its block for another key.
 pub loaded-slab : answers (fresh 8192 2) (load 0 (inARow 1 14) ∷ append 0 15 ∷ read 0 15 ∷ drop 0 ∷ read 0 0 ∷ load 1 (inARow 1 40) ∷ [])
-    ≡ loads-in 0 ∷ at (Slab 2 15 4112) 14 ∷ accepted (listed (record { numbers = inARow 1 15; pages = 0 })) ∷ accepted (dropped (record { length = 15 }))
+    ≡ loads-in 0 ∷ at (Slab 2 15 4112) 14 ∷ accepted (listed (record { numbers = inARow 1 15; pages = 0 })) ∷ accepted
+    (dropped (record { length = 15 }))
     ∷ accepted (listed (record { numbers = []; pages = 0 })) ∷ loads-in 0 ∷ []
-unfolding refuseIf andThen divided shortest ulebLen lastFrom streamLenFrom firstClass classFor classWithSlack takeMark takeFresh takeFrom headOf freedPlace stays larger movesTo loadsTo moved written longer appendPlace loadInto loadPlace outOfShape onKey offeredNumber offeredList loads appends reads drops does bookAfter answered answersTo inARow
+unfolding refuseIf andThen divided shortest ulebLen lastFrom streamLenFrom firstClass classFor classWithSlack takeMark takeFresh takeFrom
+    headOf freedPlace stays larger movesTo loadsTo moved written longer appendPlace loadInto loadPlace outOfShape onKey offeredNumber
+    offeredList loads appends reads drops does bookAfter answered answersTo inARow
 loaded-slab = refl
 
 -- A load's class is by bytes: 15 numbers of a byte each need 17, and four of 9 bytes each need 38.
-pub loaded-by-bytes : answers (fresh 8192 3) (load 0 (inARow 1 15) ∷ load 1 (2 ^ 56 ∷ 2 ^ 57 ∷ 2 ^ 58 ∷ 2 ^ 59 ∷ []) ∷ append 2 5 ∷ append 2 6 ∷ [])
+pub loaded-by-bytes : answers (fresh 8192 3)
+    (load 0 (inARow 1 15) ∷ load 1 (2 ^ 56 ∷ 2 ^ 57 ∷ 2 ^ 58 ∷ 2 ^ 59 ∷ []) ∷ append 2 5 ∷ append 2 6 ∷ [])
     ≡ loads-in 0 ∷ loads-in 0 ∷ at (Inline 5 1) 0 ∷ at (Slab 0 2 4192) 1 ∷ []
-unfolding refuseIf andThen divided shortest ulebLen lastFrom streamLenFrom firstClass classFor classWithSlack takeMark takeFresh takeFrom headOf freedPlace stays larger movesTo loadsTo moved written longer appendPlace loadInto loadPlace outOfShape onKey offeredNumber offeredList loads appends reads drops does bookAfter answered answersTo inARow
+unfolding refuseIf andThen divided shortest ulebLen lastFrom streamLenFrom firstClass classFor classWithSlack takeMark takeFresh takeFrom
+    headOf freedPlace stays larger movesTo loadsTo moved written longer appendPlace loadInto loadPlace outOfShape onKey offeredNumber
+    offeredList loads appends reads drops does bookAfter answered answersTo inARow
 loaded-by-bytes = refl
 
 -- A list of 4,073 goes to a run of two pages, behind the mark rounded up; the body is full then, but the gap before the run was carved.
-pub loaded-run : answers (fresh 16384 3) (append 0 1 ∷ append 0 2 ∷ load 1 (inARow 1 4073) ∷ append 1 4074 ∷ load 2 (inARow 1 300) ∷ load 2 (inARow 1 256) ∷ [])
+pub loaded-run : answers (fresh 16384 3) (append 0 1 ∷ append 0 2 ∷ load 1 (inARow 1 4073) ∷ append 1 4074 ∷ load 2 (inARow 1 300) ∷ load 2
+    (inARow 1 256) ∷ [])
     ≡ at (Inline 1 1) 0 ∷ at (Slab 0 2 4096) 1 ∷ loads-in 2 ∷ at (Extent 12288) 0 ∷ refused 36 ∷ loads-in 0 ∷ []
-unfolding refuseIf andThen divided shortest ulebLen lastFrom streamLenFrom firstClass classFor classWithSlack fitting firstPart greedyParts replaceLast largestUpTo blockThen carve freedAll takeMark rounded takeRun takeFresh takeFrom lastPage headOf freedPages freedPlace stays larger movesTo loadsTo moved joins beginPage appendPages written longer appendPlace runPages loadInto loadPlace outOfShape onKey offeredNumber offeredList loads appends reads drops does bookAfter answered answersTo inARow
+unfolding refuseIf andThen divided shortest ulebLen lastFrom streamLenFrom firstClass classFor classWithSlack fitting firstPart greedyParts
+    replaceLast largestUpTo blockThen carve freedAll takeMark rounded takeRun takeFresh takeFrom lastPage headOf freedPages freedPlace stays
+    larger movesTo loadsTo moved joins beginPage appendPages written longer appendPlace runPages loadInto loadPlace outOfShape onKey
+    offeredNumber offeredList loads appends reads drops does bookAfter answered answersTo inARow
 loaded-run = refl
 
 -- A page of 4,072 bytes is full, so that the next number begins another. A drop frees the first page first, so that the last one is taken
 -- again, here by a list that moves out of its slab.
-pub full-page : answers (fresh 16384 2) (load 0 (inARow 1 4072) ∷ append 0 4073 ∷ read 0 4073 ∷ drop 0 ∷ load 1 (inARow 1 256) ∷ append 1 257 ∷ [])
-    ≡ loads-in 1 ∷ at (Extent 8192) 0 ∷ accepted (listed (record { numbers = inARow 1 4073; pages = 2 })) ∷ accepted (dropped (record { length = 4073 }))
+pub full-page : answers (fresh 16384 2) (load 0 (inARow 1 4072) ∷ append 0 4073 ∷ read 0 4073 ∷ drop 0 ∷ load 1
+    (inARow 1 256) ∷ append 1 257 ∷ [])
+    ≡ loads-in 1 ∷ at (Extent 8192) 0 ∷ accepted (listed (record { numbers = inARow 1 4073; pages = 2 })) ∷ accepted
+    (dropped (record { length = 4073 }))
     ∷ loads-in 0 ∷ at (Extent 8192) 256 ∷ []
-unfolding refuseIf andThen divided shortest ulebLen lastFrom streamLenFrom firstClass classFor classWithSlack fitting firstPart greedyParts replaceLast largestUpTo blockThen carve freedAll takeMark rounded takeRun takeFresh takeFrom lastPage headOf freedPages freedPlace stays larger movesTo loadsTo moved joins beginPage appendPages written longer appendPlace runPages loadInto loadPlace outOfShape onKey offeredNumber offeredList loads appends reads drops does bookAfter answered answersTo inARow
+unfolding refuseIf andThen divided shortest ulebLen lastFrom streamLenFrom firstClass classFor classWithSlack fitting firstPart greedyParts
+    replaceLast largestUpTo blockThen carve freedAll takeMark rounded takeRun takeFresh takeFrom lastPage headOf freedPages freedPlace stays
+    larger movesTo loadsTo moved joins beginPage appendPages written longer appendPlace runPages loadInto loadPlace outOfShape onKey
+    offeredNumber offeredList loads appends reads drops does bookAfter answered answersTo inARow
 full-page = refl
 
 -- k numbers from n on, each larger by a step than the one before, appended to key 0.
@@ -86,13 +107,24 @@ tallyAfter cs = tallyOf 0 cs (answers (fresh 65536 1) cs) noMoves
 
 -- The ceiling of 765 records is reached: 6 numbers that are loaded move at 7, 9, 17, 33, 65 and 129 for their slots, at 256 for their
 -- bytes, and at 257 to a page.
-pub records-reached : tallyAfter (load 0 (inARow 1 6) ∷ (appendSteps 7 1 122 ++ appendSteps (128 + 2 ^ 42) (2 ^ 42) 129)) ≡ record { moves = 8; rewritten = 765 }
-unfolding refuseIf andThen divided shortest ulebLen lastFrom streamLenFrom firstClass classFor classWithSlack fitting firstPart greedyParts replaceLast largestUpTo blockThen carve freedAll takeMark rounded takeRun takeFresh takeFrom lastPage headOf freedPages freedPlace stays larger movesTo loadsTo moved joins beginPage appendPages written longer appendPlace runPages loadInto loadPlace outOfShape onKey offeredNumber offeredList loads appends reads drops does bookAfter answered answersTo inARow appendSteps counted talliedBy tallied tallyOf tallyAfter
+pub records-reached : tallyAfter (load 0 (inARow 1 6) ∷ (appendSteps 7 1 122 ++ appendSteps (128 + 2 ^ 42) (2 ^ 42) 129))
+    ≡ record { moves = 8; rewritten = 765 }
+unfolding refuseIf andThen divided shortest ulebLen lastFrom streamLenFrom firstClass classFor classWithSlack fitting firstPart greedyParts
+    replaceLast largestUpTo blockThen carve freedAll takeMark rounded takeRun takeFresh takeFrom lastPage headOf freedPages freedPlace stays
+    larger movesTo loadsTo moved joins beginPage appendPages written longer appendPlace runPages loadInto loadPlace outOfShape onKey
+    offeredNumber offeredList loads appends reads drops does bookAfter answered answersTo inARow appendSteps counted talliedBy tallied
+    tallyOf
+    tallyAfter
 records-reached = refl
 
 -- The ceiling of 9 moves is reached: 1 to 146 are appended, and 111 more in steps of 2^50.
 pub moves-reached : tallyAfter (appendSteps 1 1 146 ++ appendSteps (146 + 2 ^ 50) (2 ^ 50) 111) ≡ record { moves = 9; rewritten = 764 }
-unfolding refuseIf andThen divided shortest ulebLen lastFrom streamLenFrom firstClass classFor classWithSlack fitting firstPart greedyParts replaceLast largestUpTo blockThen carve freedAll takeMark rounded takeRun takeFresh takeFrom lastPage headOf freedPages freedPlace stays larger movesTo loadsTo moved joins beginPage appendPages written longer appendPlace runPages loadInto loadPlace outOfShape onKey offeredNumber offeredList loads appends reads drops does bookAfter answered answersTo inARow appendSteps counted talliedBy tallied tallyOf tallyAfter
+unfolding refuseIf andThen divided shortest ulebLen lastFrom streamLenFrom firstClass classFor classWithSlack fitting firstPart greedyParts
+    replaceLast largestUpTo blockThen carve freedAll takeMark rounded takeRun takeFresh takeFrom lastPage headOf freedPages freedPlace stays
+    larger movesTo loadsTo moved joins beginPage appendPages written longer appendPlace runPages loadInto loadPlace outOfShape onKey
+    offeredNumber offeredList loads appends reads drops does bookAfter answered answersTo inARow appendSteps counted talliedBy tallied
+    tallyOf
+    tallyAfter
 moves-reached = refl
 
 -- A list found in padded forms, 13 bytes in a slab of 16: a third number fits, and a fourth moves it, where shortest forms would let it
@@ -102,5 +134,7 @@ pub padded :
     answers (record { size = 8192; keys = found ∷ []; space = record { mark = 4112; stacks = replicate 9 [] } })
     (append 0 7 ∷ append 0 8 ∷ read 0 4 ∷ [])
     ≡ at (Slab 0 3 4096) 0 ∷ at (Slab 1 4 4112) 3 ∷ accepted (listed (record { numbers = 5 ∷ 6 ∷ 7 ∷ 8 ∷ []; pages = 0 })) ∷ []
-unfolding refuseIf andThen divided shortest ulebLen lastFrom streamLenFrom firstClass classFor classWithSlack takeMark takeFresh takeFrom headOf freedPlace stays larger movesTo moved written longer appendPlace outOfShape onKey offeredNumber appends reads does bookAfter answered answersTo
+unfolding refuseIf andThen divided shortest ulebLen lastFrom streamLenFrom firstClass classFor classWithSlack takeMark takeFresh takeFrom
+    headOf freedPlace stays larger movesTo moved written longer appendPlace outOfShape onKey offeredNumber appends reads does bookAfter
+    answered answersTo
 padded = refl

@@ -18,7 +18,13 @@ use Rattle.plain_book.specs.Owners.{Owner, Apart}
 raised : (mark higher : ℕ) (x : Block) → mark ≤ higher → isBlock (x .class) (x .off) mark ≡ true → isBlock (x .class) (x .off) higher ≡ true
 raised mark higher x h e =
     let s = block-stands (x .class) (x .off) mark e in
-    stands-block (x .class) (x .off) higher (record { class-to-8 = s .class-to-8; aligned = s .aligned; begins = s .begins; ends = omega (arith, s .ends) })
+    stands-block (x .class) (x .off) higher (record {
+      class-to-8 = s .class-to-8;
+      aligned = s .aligned;
+      begins = s .begins;
+      ends =
+          omega (arith, s .ends);
+    })
 
 -- Disjoint either way round.
 turned : (x y : Block) → Disjoint x y → Disjoint y x
@@ -54,12 +60,17 @@ module _ (f g : Owner → Option Block) where
 
   -- Some owners have nothing any more.
   pub apart-fewer : (mark : ℕ) → ((w : Owner) (x : Block) → g w ≡ some x → f w ≡ some x) → Apart mark f → Apart mark g
-  apart-fewer mark to p = record { stands = λ w x e. p .stands w x (to w x e); apart = λ v w x y n e e'. p .apart v w x y n (to v x e) (to w y e') }
+  apart-fewer mark to p = record {
+    stands = λ w x e. p .stands w x (to w x e);
+    apart =
+        λ v w x y n e e'. p .apart v w x y n (to v x e) (to w y e');
+  }
 
   -- Blocks side by side begin at the mark, which then passes them, each with an owner of its own.
   pub apart-run : (mark higher count size class : ℕ) (name : ℕ → Owner) → slabBytes class ≡ size → mark ≤ higher
       → ((i : ℕ) → i < count → isBlock class (mark + i * size) higher ≡ true)
-      → ((w : Owner) (x : Block) → g w ≡ some x → ((i : ℕ) × (w ≡ name i) × (x ≡ record { class = class; off = mark + i * size }) × (i < count)) ⊎ (f w ≡ some x))
+      → ((w : Owner) (x : Block) → g w ≡ some x
+      → ((i : ℕ) × (w ≡ name i) × (x ≡ record { class = class; off = mark + i * size }) × (i < count)) ⊎ (f w ≡ some x))
       → Apart mark f → Apart higher g
   apart-run mark higher count size class name sized h stands to p =
       record {
@@ -70,7 +81,8 @@ module _ (f g : Owner → Option Block) where
         apart = λ v w x y n e e'.
             ⊎-elim
             (λ (i, q, is, l).
-            ⊎-elim (λ (j, q', is', l'). side i j x y is is' (λ z. n (q ∙ ap name z ∙ sym q'))) (λ q'. turned y x (before w y x i q' is)) (to w y e'))
+            ⊎-elim (λ (j, q', is', l'). side i j x y is is' (λ z. n (q ∙ ap name z ∙ sym q'))) (λ q'. turned y x (before w y x i q' is))
+            (to w y e'))
             (λ q.
             ⊎-elim (λ (j, q', is', l'). before v x y j q is') (λ q'. p .apart v w x y n q q') (to w y e'))
             (to v x e);
@@ -92,7 +104,8 @@ module _ (f g : Owner → Option Block) where
           let cy : slabBytes (y .class) ≡ size = ap (λ (z : Block). slabBytes (z .class)) is' ∙ sized in
           ⊎-elim
           (λ (l : i < j). let m : suc i * size ≤ j * size = mul-le-mul-right size l in let d = suc-mul i size in inl (omega arith))
-          (λ (l : j ≤ i). let l' : j < i = lt-of-le-of-ne l (λ z. n (sym z)) in let m : suc j * size ≤ i * size = mul-le-mul-right size l' in let d = suc-mul j size in inr (omega arith))
+          (λ (l : j ≤ i). let l' : j < i = lt-of-le-of-ne l (λ z. n (sym z)) in let m : suc j * size ≤ i * size =
+          mul-le-mul-right size l' in let d = suc-mul j size in inr (omega arith))
           (lt-or-ge i j)
 
   -- A block begins at or behind the mark, which then passes it: it is the only one that its owner has.

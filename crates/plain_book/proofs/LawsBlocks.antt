@@ -21,7 +21,7 @@ use Rattle.plain_book.specs.Key.{longerPage, moved, joins, joinedTo, beg
 use Rattle.plain_book.specs.Key.{loadPlace}
 use Rattle.book_rules.specs.Calls.{Call, load, append, read, drop, bookAfter}
 use Rattle.plain_book.specs.Book.{Book, fresh, Outcome, keyOf, withKey, extended, does, after}
-use Rattle.plain_book.specs.Owners.{Owner, hand, stack, slabOf, pageOf, atDepth, pageAt, slabAt, pageIn, has, Apart, places}
+use Rattle.plain_book.specs.Owners.{Owner, hand, stack, slabOf, pageOf, atDepth, pageNo, slabAt, pageIn, has, Apart, places}
 use Rattle.plain_book.specs.Good.{Good}
 use Rattle.book_rules.proofs.LawsRules.{moves-to, loads-to}
 use Rattle.book_rules.proofs.LawsCalls.{calls-keep}
@@ -41,8 +41,8 @@ leaves at key e g = subst (Leaves at key) (accepted-inj e) g
 -- ---- moving
 
 -- No pages have none at any index.
-no-page : (i : ℕ) (x : Block) → pageAt i [] ≡ some x → ⊥
-unfolding pageAt
+no-page : (i : ℕ) (x : Block) → pageNo i [] ≡ some x → ⊥
+unfolding pageNo
 no-page i x z = none-some z
 
 -- What a list leaves that moves out of a key's old place.
@@ -66,8 +66,8 @@ moved-good end held list s at key old none few is e g =
 -- ---- pages
 
 -- The pages of a list whose last one has a number more stand where they stood.
-pub joined-at : (i n : ℕ) (ps : List Page) → pageAt i (replaceLast (λ p. longerPage n p ∷ []) ps) ≡ pageAt i ps
-unfolding pageAt replaceLast
+pub joined-at : (i n : ℕ) (ps : List Page) → pageNo i (replaceLast (λ p. longerPage n p ∷ []) ps) ≡ pageNo i ps
+unfolding pageNo replaceLast
 joined-at i n [] = refl
 joined-at zero n (p ∷ []) = refl
 joined-at (suc i) n (p ∷ []) = refl
@@ -97,20 +97,25 @@ unfolding appendPlace
 append-good end held list n s at key empty is e g =
     leaves at key e (good-kept s at none key inline (λ x h. absurd (none-some h)) (λ i x h. absurd (none-some h)) g)
 append-good end held list n s at key inline is e g =
-    moved-good end held list s at key inline (movesTo (length list) (streamLen list)) (λ c q. let m = moves-to (length list) (streamLen list) q in omega (arith, m .slab)) is e g
+    moved-good end held list s at key inline (movesTo (length list) (streamLen list)) (λ c q. let m =
+    moves-to (length list) (streamLen list) q in omega (arith, m .slab)) is e g
 append-good end held list n s at key (slab class off kept) is e g =
     ⊎-elim
-    (λ (b, q). leaves at key q (good-kept s at none key (slab class off (longer n kept)) (λ x h. ap slabAt is ∙ h) (λ i x h. absurd (none-some h)) g))
+    (λ (b, q). leaves at key q (good-kept s at none key (slab class off (longer n kept)) (λ x h. ap slabAt is ∙ h)
+    (λ i x h. absurd (none-some h)) g))
     (λ (b, q).
-    moved-good end held list s at key (slab class off kept) (movesTo (length list) (streamLen list)) (λ c z. let m = moves-to (length list) (streamLen list) z in omega (arith, m .slab)) is q g)
+    moved-good end held list s at key (slab class off kept) (movesTo (length list) (streamLen list)) (λ c z. let m =
+    moves-to (length list) (streamLen list) z in omega (arith, m .slab)) is q g)
     (which (stays class (length list) (longer n kept .bytes)) _ _ e)
 append-good end held list n s at key (pages ps) is e g = pages-good end ps n s at key is e g
 
 load-good : (end : ℕ) (ns : List ℕ) (s : Space) (at : ℕ → Place) (key : ℕ) {p : Placed} → loadPlace end ns s ≡ accepted p → Good s at none
     → Leaves at key p
 unfolding loadPlace loadInto takeRun
-load-good end [] s at key e g = leaves at key e (good-kept s at none key empty (λ x h. absurd (none-some h)) (λ i x h. absurd (none-some h)) g)
-load-good end (n ∷ []) s at key e g = leaves at key e (good-kept s at none key inline (λ x h. absurd (none-some h)) (λ i x h. absurd (none-some h)) g)
+load-good end [] s at key e g = leaves at key e (good-kept s at none key empty (λ x h. absurd (none-some h)) (λ i x h. absurd (none-some h))
+    g)
+load-good end (n ∷ []) s at key e g = leaves at key e
+    (good-kept s at none key inline (λ x h. absurd (none-some h)) (λ i x h. absurd (none-some h)) g)
 load-good end (n ∷ m ∷ ns) s at key {p} e g = go (loadsTo (length (n ∷ m ∷ ns)) (streamLen (n ∷ m ∷ ns))) refl e
   where
     go : (o : Option ℕ) → loadsTo (length (n ∷ m ∷ ns)) (streamLen (n ∷ m ∷ ns)) ≡ o → loadInto end o (n ∷ m ∷ ns) s ≡ accepted p
@@ -160,19 +165,22 @@ unfolding does bookAfter
 call-space b c (refused number) e g = g
 call-space b (load key ns) (accepted o) e g =
     let (p, within, free, rises, got, is) = load-did b key ns e in
-    rw (ap (λ (x : Outcome). x .book) is) (good-with b key ns (p .place) _ (p .space) within (load-good (b .size) ns (b .space) (places b) key got g))
+    rw (ap (λ (x : Outcome). x .book) is) (good-with b key ns (p .place) _ (p .space) within
+    (load-good (b .size) ns (b .space) (places b) key got g))
 call-space b (append key n) (accepted o) e g =
     let (p, within, rises, low, got, is) = append-did b key n e in
     rw (ap (λ (x : Outcome). x .book) is)
     (good-with b key (extended (keyOf key b .list) n) (p .place) _ (p .space) within
-    (append-good (b .size) (length (keyOf key b .list)) (extended (keyOf key b .list) n) n (b .space) (places b) key (keyOf key b .place) refl got g))
+    (append-good (b .size) (length (keyOf key b .list)) (extended (keyOf key b .list) n) n (b .space) (places b) key (keyOf key b .place)
+    refl got g))
 call-space b (read key room) (accepted o) e g =
     let (within, is) = read-did b key room e in
     rw (ap (λ (x : Outcome). x .book) is) g
 call-space b (drop key) (accepted o) e g =
     let (within, is) = drop-did b key e in
     rw (ap (λ (x : Outcome). x .book) is)
-    (good-with b key [] empty _ (freedPlace (keyOf key b .place) (b .space)) within (good-freed-place (b .space) (places b) none key (keyOf key b .place) refl g))
+    (good-with b key [] empty _ (freedPlace (keyOf key b .place) (b .space)) within
+    (good-freed-place (b .space) (places b) none key (keyOf key b .place) refl g))
 
 -- So is a fresh one's: nobody has a block.
 pub fresh-space : (size heads : ℕ) → GoodSpace (fresh size heads)

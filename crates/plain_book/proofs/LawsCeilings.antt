@@ -47,10 +47,12 @@ spent-kept : KeptByCalls (λ k t. SoundKey k × Spent (length (k .list)) (k .pla
 spent-kept =
     record {
       loads = λ end k ns s p t (sound, h) f rises e.
-          let (m, r) = unused (length (k .list)) (k .place) t f h in (sound-kept .loads end k ns s p t sound f rises e, load-spent end ns s t m r e);
+          let (m, r) = unused (length (k .list)) (k .place) t f h in
+          (sound-kept .loads end k ns s p t sound f rises e, load-spent end ns s t m r e);
       appends = λ end k n s p t (sound, h) rises low e. (
         sound-kept .appends end k n s p t sound rises low e,
-        append-spent end (length (k .list)) (extended (k .list) n) n (k .place) s t (length-append (k .list) (n ∷ [])) (λ class off kept is. longer-is n (k .list) class off kept (rw is at (sound .fits))) h e,
+        append-spent end (length (k .list)) (extended (k .list) n) n (k .place) s t (length-append (k .list) (n ∷ []))
+            (λ class off kept is. longer-is n (k .list) class off kept (rw is at (sound .fits))) h e,
       );
       drops = (sound-kept .drops, (refl, refl, refl));
     }
@@ -74,7 +76,8 @@ ceilings-from b key cs sound =
 -- Take any fresh book and any list of calls: from empty to drop no key is moved more than 9 times, nor has more than 765 records rewritten
 -- by moves.
 pub ceilings : (size heads key : ℕ) (cs : List Call)
-    → (tallyOf key cs (answers (fresh size heads) cs) noMoves .moves ≤ mostMoves) × (tallyOf key cs (answers (fresh size heads) cs) noMoves .rewritten ≤ mostRewritten)
+    → (tallyOf key cs (answers (fresh size heads) cs) noMoves .moves ≤ mostMoves)
+    × (tallyOf key cs (answers (fresh size heads) cs) noMoves .rewritten ≤ mostRewritten)
 ceilings size heads key cs = ceilings-from (fresh size heads) key cs (rw (fresh-key size heads key) empty-sound)
 
 -- ---- the pages of a load
@@ -101,12 +104,14 @@ load-pages end (n ∷ k ∷ ns) s {p} e = go (loadsTo (length (n ∷ k ∷ ns)) 
 
 -- For every accepted load, every allowed cutting of its list has at least as many pages as the load reports.
 pub load-least : (b : Book) (key : ℕ) (ns : List ℕ) {o : Outcome} → loads b key ns ≡ accepted o
-    → (pages : ℕ) × (o .told ≡ loaded (record { pages = pages })) × ((parts : List (List ℕ)) → AllowedCutting ns parts → pages ≤ length parts)
+    → (pages : ℕ) × (o .told ≡ loaded (record { pages = pages })) × ((parts : List (List ℕ)) → AllowedCutting ns parts
+    → pages ≤ length parts)
 load-least b key ns e =
     let (p, within, free, rises, got, is) = load-did b key ns e in (
       pagesOf (p .place),
       ap (λ (x : Outcome). x .told) is,
-      λ parts ok. le-trans (load-pages (b .size) ns (b .space) got) (pages-optimal ns (rising-below (2 ^ 62) (2 ^ 63) 0 ns (omega arith) rises) parts ok),
+      λ parts ok. le-trans (load-pages (b .size) ns (b .space) got)
+          (pages-optimal ns (rising-below (2 ^ 62) (2 ^ 63) 0 ns (omega arith) rises) parts ok),
     )
 
 -- So it is with each load of a list of calls, on any book.

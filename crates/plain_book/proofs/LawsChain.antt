@@ -20,7 +20,7 @@ use Rattle.book_limits.proofs.LawsLimits.{in-shape}
 use Rattle.plain_book.specs.Key.{Page, Place, empty, inline, slab, pages, lastPage, noPage}
 use Rattle.plain_book.specs.Book.{Book, keyOf}
 use Rattle.plain_book.specs.Sound.{held, FitsPage, FitPages, Fits, RisesFrom}
-use Rattle.plain_book.specs.Owners.{pageOf, pageAt, pageIn, has, places}
+use Rattle.plain_book.specs.Owners.{pageOf, pageNo, pageIn, has, places}
 use Rattle.plain_book.specs.Good.{GoodPlain}
 use Rattle.plain_book.proofs.LawsOwners.{depthOf}
 
@@ -60,8 +60,8 @@ few-below (suc m) (suc n) f low one = let fewer = few-below m n g g-low g-one in
         go false q false r e = one i j (omega arith) (omega arith) e
 
 -- The page at an index.
-page-at : (i : ℕ) (ps : List Page) → i < length ps → pageAt i ps ≡ some (record { class = pageClass; off = getD ps i noPage .off })
-unfolding pageAt
+page-at : (i : ℕ) (ps : List Page) → i < length ps → pageNo i ps ≡ some (record { class = pageClass; off = getD ps i noPage .off })
+unfolding pageNo
 page-at i [] l = absurd (omega arith)
 page-at zero (p ∷ ps) l = refl
 page-at (suc i) (p ∷ ps) l = page-at i ps (omega arith)
@@ -93,7 +93,8 @@ pages-few {b} key ps g is = few-below (b .space .mark / 4096) (length ps) (λ i.
             let a' = s' .aligned in
             absurd
             (⊎-elim (λ d. omega arith) (λ d. omega arith)
-            (g .space .apart .apart (pageOf key i) (pageOf key j) _ _ (λ (z : pageOf key i ≡ pageOf key j). eqb-false i j q (ap depthOf z)) (mine i l) (mine j k)))
+            (g .space .apart .apart (pageOf key i) (pageOf key j) _ _ (λ (z : pageOf key i ≡ pageOf key j). eqb-false i j q (ap depthOf z))
+            (mine i l) (mine j k)))
 
 -- The mark of a good book in shape is at most 2^30.
 pub mark-most : {b : Book} → GoodPlain b → outOfShape (b .size) (length (b .keys)) ≡ false → b .space .mark ≤ 2 ^ 30
@@ -110,7 +111,8 @@ pub held-count : (ps : List Page) → FitPages ps → length (held ps) ≤ 4088 
 unfolding FitPages held
 held-count [] f = absurd f
 held-count (p ∷ []) (f, r) = simp (length-append) (omega (arith, page-count p f))
-held-count (p ∷ q ∷ ps) (f, fs) = rw (length-append (p .part .numbers) (held (q ∷ ps))) (omega (arith, page-count p f, held-count (q ∷ ps) fs))
+held-count (p ∷ q ∷ ps) (f, fs) = rw (length-append (p .part .numbers) (held (q ∷ ps)))
+    (omega (arith, page-count p f, held-count (q ∷ ps) fs))
 
 -- A list in pages has at most 4,088 numbers a page.
 pub pages-count : {b : Book} (key : ℕ) (ps : List Page) → GoodPlain b → keyOf key b .place ≡ pages ps
@@ -128,7 +130,8 @@ list-few {b} key g low = go (keyOf key b .place) refl
     go : (place : Place) → keyOf key b .place ≡ place → length (keyOf key b .list) < 2 ^ 32 - 1
     go empty is = let f : length (keyOf key b .list) ≡ 0 = rw is at (g .keys key .fits) in omega arith
     go inline is = let f : length (keyOf key b .list) ≡ 1 = rw is at (g .keys key .fits) in omega arith
-    go (slab class off kept) is = let f : Fits (keyOf key b .list) (slab class off kept) = rw is at (g .keys key .fits) in omega (arith, f .4)
+    go (slab class off kept) is = let f : Fits (keyOf key b .list) (slab class off kept) = rw is at (g .keys key .fits) in
+        omega (arith, f .4)
     go (pages ps) is = omega (arith, pages-few key ps g is, pages-count key ps g is)
 
 -- ---- how the numbers rise
@@ -160,8 +163,12 @@ unfolding FitPages held RisesFrom
 held-rises prev [] f r = tt
 held-rises prev (p ∷ []) (f, last) r = (f .0, rising-left (2 ^ 62) prev (p .part .numbers) [] r, tt)
 held-rises prev (p ∷ q ∷ ps) (f, fs) r =
-    let behind = rising-behind (2 ^ 62) prev (p .part .numbers) (held (q ∷ ps)) r in
-    (f .0, rising-left (2 ^ 62) prev (p .part .numbers) (held (q ∷ ps)) r, held-rises (lastFrom 0 (p .part .numbers)) (q ∷ ps) fs (rw (last-any prev 0 (p .part .numbers) (f .0)) at behind))
+    let behind = rising-behind (2 ^ 62) prev (p .part .numbers) (held (q ∷ ps)) r in (
+      f .0,
+      rising-left (2 ^ 62) prev (p .part .numbers) (held (q ∷ ps)) r,
+      held-rises (lastFrom 0 (p .part .numbers)) (q ∷ ps) fs
+          (rw (last-any prev 0 (p .part .numbers) (f .0)) at behind),
+    )
 
 -- A page's own part rises from 0, below 2^62.
 pub part-rises : (prev : ℕ) (ns : List ℕ) → Rising (2 ^ 62) prev ns → Rising (2 ^ 62) 0 ns

@@ -21,7 +21,7 @@ use Rattle.plain_book.specs.Key.{Page, Place, empty, inline, slab, pages
 use Rattle.book_rules.specs.Calls.{Call}
 use Rattle.plain_book.specs.Book.{Book, fresh, keyOf, after}
 use Rattle.plain_book.specs.Sound.{FitPages, Fits}
-use Rattle.plain_book.specs.Owners.{Owner, slabOf, pageOf, pageAt, slabAt, pageIn, has, places}
+use Rattle.plain_book.specs.Owners.{Owner, slabOf, pageOf, pageNo, slabAt, pageIn, has, places}
 use Rattle.plain_book.specs.Good.{GoodPlain}
 use Rattle.plain_book.proofs.LawsMark.{mark-within}
 use Rattle.plain_book.proofs.LawsGood.{fresh-good, calls-good}
@@ -49,7 +49,8 @@ told-inline n some' low =
 told-slab : (class used off : ℕ) → class ≤ maxSlabClass → 2 ≤ used → used ≤ maxSlabCount → off < 2 ^ 30 → Told (Slab class used off)
 unfolding packHead refuseIf
 told-slab class used off c two few low =
-    let packs : packHead (Slab class used off) ≡ accepted (slabWord class used off) = simp (lt-leb (2 ^ 40) off (omega arith), lt-leb (2 ^ 6) class (omega arith)) in
+    let packs : packHead (Slab class used off) ≡ accepted (slabWord class used off) =
+    simp (lt-leb (2 ^ 40) off (omega arith), lt-leb (2 ^ 6) class (omega arith)) in
     record {
       word = slabWord class used off;
       packs = packs;
@@ -59,13 +60,14 @@ told-slab class used off c two few low =
 told-extent : (last : ℕ) → 0 < last → last < 2 ^ 30 → Told (Extent last)
 unfolding packHead refuseIf
 told-extent last some' low =
-    let packs : packHead (Extent last) ≡ accepted (extentWord last) = simp (ne-eqb last 0 (λ (z : last ≡ 0). omega arith), lt-leb (2 ^ 62) last (omega arith)) in
+    let packs : packHead (Extent last) ≡ accepted (extentWord last) =
+    simp (ne-eqb last 0 (λ (z : last ≡ 0). omega arith), lt-leb (2 ^ 62) last (omega arith)) in
     record { word = extentWord last; packs = packs; unpacks = unpack-packed (Extent last) _ (omega arith) packs }
 
 -- The last page of some is at an index.
 last-at : (page : Page) (ps : List Page) → FitPages ps
-    → (i : ℕ) × (pageAt i ps ≡ some (record { class = pageClass; off = lastPage page ps .off }))
-unfolding FitPages pageAt lastPage
+    → (i : ℕ) × (pageNo i ps ≡ some (record { class = pageClass; off = lastPage page ps .off }))
+unfolding FitPages pageNo lastPage
 last-at page [] f = absurd f
 last-at page (p ∷ []) f = (0, refl)
 last-at page (p ∷ q ∷ ps) f = let (i, e) = last-at p (q ∷ ps) (f .1) in (suc i, e)
@@ -92,7 +94,8 @@ head-told {b} key g high = go (keyOf key b .list) (keyOf key b .place) refl (g .
 
     go : (list : List ℕ) (place : Place) → keyOf key b .place ≡ place → Rising (2 ^ 62) 0 list → Fits list place → Told (headOf list place)
     go list empty is r f = told-empty
-    go list inline is r f = told-inline (lastFrom 0 list) (last-above (2 ^ 62) 0 list r (omega arith)) (last-below (2 ^ 62) 0 list (omega arith) r)
+    go list inline is r f = told-inline (lastFrom 0 list) (last-above (2 ^ 62) 0 list r (omega arith))
+        (last-below (2 ^ 62) 0 list (omega arith) r)
     go list (slab class off kept) is r (same, shortest, c, two, few, bytes) =
         let (a, l) = stands (slabOf key) (record { class = class; off = off }) (ap slabAt is) in
         told-slab class (length list) off c two few l

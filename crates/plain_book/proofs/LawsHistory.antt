@@ -35,7 +35,8 @@ on-key b key after e =
 -- ---- what an accepted call did
 
 pub load-did : (b : Book) (key : ℕ) (ns : List ℕ) {o : Outcome} → loads b key ns ≡ accepted o
-    → (p : Placed) × (key < length (b .keys)) × (inUse (keyOf key b .place) ≡ false) × Rising (2 ^ 62) 0 ns × (loadPlace (b .size) ns (b .space) ≡ accepted p)
+    → (p : Placed) × (key < length (b .keys)) × (inUse (keyOf key b .place) ≡ false) × Rising (2 ^ 62) 0 ns
+    × (loadPlace (b .size) ns (b .space) ≡ accepted p)
     × (o ≡ record { told = loaded (record { pages = pagesOf (p .place) }); book = withKey key ns (p .place) true (p .space) b })
 unfolding loads
 load-did b key ns e =
@@ -51,17 +52,23 @@ pub append-did : (b : Book) (key n : ℕ) {o : Outcome} → appends b key n ≡ 
     × (appendPlace (b .size) (length (keyOf key b .list)) (extended (keyOf key b .list) n) n (keyOf key b .place) (b .space) ≡ accepted p)
     × (o ≡ record {
       told = appended (record { place = headOf (extended (keyOf key b .list) n) (p .place); rewritten = p .rewritten });
-      book = withKey key (extended (keyOf key b .list) n) (p .place) (countedAfter (keyOf key b .place) (keyOf key b .counted)) (p .space) b;
+      book = withKey key (extended (keyOf key b .list) n) (p .place) (countedAfter (keyOf key b .place) (keyOf key b .counted)) (p .space)
+          b;
     })
 unfolding appends
 append-did b key n e =
     let (within, e1) = on-key b key _ e in
     let (rises, low, e2) = offered-on true _ n _ e1 in
-    let (p, got, is) = went-on (appendPlace (b .size) (length (keyOf key b .list)) (extended (keyOf key b .list) n) n (keyOf key b .place) (b .space)) _ e2 in
+    let (p, got, is) = went-on (appendPlace (b .size) (length (keyOf key b .list)) (extended (keyOf key b .list) n) n (keyOf key b .place)
+    (b .space)) _ e2 in
     (p, within, rises, low, got, sym (accepted-inj is))
 
 pub read-did : (b : Book) (key room : ℕ) {o : Outcome} → reads b key room ≡ accepted o
-    → (key < length (b .keys)) × (o ≡ record { told = listed (record { numbers = keyOf key b .list; pages = pagesOf (keyOf key b .place) }); book = b })
+    → (key < length (b .keys)) × (o ≡ record {
+      told =
+          listed (record { numbers = keyOf key b .list; pages = pagesOf (keyOf key b .place) });
+      book = b;
+    })
 unfolding reads
 read-did b key room e =
     let (within, e1) = on-key b key _ e in
@@ -105,7 +112,8 @@ pub record KeptByCalls (P : Key → Tally → Type 0) : Type 0 where
       → loadPlace end ns s ≡ accepted p → P (record { list = ns; place = p .place; counted = true }) t
   pub appends : (end : ℕ) (k : Key) (n : ℕ) (s : Space) (p : Placed) (t : Tally) → P k t → lastFrom 0 (k .list) < n → n < 2 ^ 62
       → appendPlace end (length (k .list)) (extended (k .list) n) n (k .place) s ≡ accepted p
-      → P (record { list = extended (k .list) n; place = p .place; counted = countedAfter (k .place) (k .counted) }) (counted (p .rewritten) t)
+      → P (record { list = extended (k .list) n; place = p .place; counted = countedAfter (k .place) (k .counted) })
+      (counted (p .rewritten) t)
   pub drops : P emptyKey noMoves
 
 module _ (P : Key → Tally → Type 0) (kept : KeptByCalls P) where
@@ -130,7 +138,8 @@ module _ (P : Key → Tally → Type 0) (kept : KeptByCalls P) where
         known = true;
         space = p .space;
         book = ap (λ (x : Outcome). x .book) is;
-        keeps = λ t h. rw (ap (λ (x : Outcome). talliedBy (x .told) t) is) (kept .loads (b .size) (keyOf key b) ns (b .space) p t h free rises got);
+        keeps = λ t h. rw (ap (λ (x : Outcome). talliedBy (x .told) t) is)
+            (kept .loads (b .size) (keyOf key b) ns (b .space) p t h free rises got);
       }
 
   append-changed : (b : Book) (key n : ℕ) {o : Outcome} → appends b key n ≡ accepted o → Changed b key o
@@ -144,7 +153,8 @@ module _ (P : Key → Tally → Type 0) (kept : KeptByCalls P) where
         known = countedAfter (keyOf key b .place) (keyOf key b .counted);
         space = p .space;
         book = ap (λ (x : Outcome). x .book) is;
-        keeps = λ t h. rw (ap (λ (x : Outcome). talliedBy (x .told) t) is) (kept .appends (b .size) (keyOf key b) n (b .space) p t h rises low got);
+        keeps = λ t h. rw (ap (λ (x : Outcome). talliedBy (x .told) t) is)
+            (kept .appends (b .size) (keyOf key b) n (b .space) p t h rises low got);
       }
 
   read-changed : (b : Book) (key room : ℕ) {o : Outcome} → reads b key room ≡ accepted o → Changed b key o
@@ -157,7 +167,8 @@ module _ (P : Key → Tally → Type 0) (kept : KeptByCalls P) where
         place = keyOf key b .place;
         known = keyOf key b .counted;
         space = b .space;
-        book = ap (λ (x : Outcome). x .book) is ∙ ap (λ (ks : List Key). record { size = b .size; keys = ks; space = b .space }) (sym (set-getD (b .keys) key emptyKey));
+        book = ap (λ (x : Outcome). x .book) is ∙ ap (λ (ks : List Key). record { size = b .size; keys = ks; space = b .space })
+            (sym (set-getD (b .keys) key emptyKey));
         keeps = λ t h. rw (ap (λ (x : Outcome). talliedBy (x .told) t) is) h;
       }
 
@@ -200,7 +211,8 @@ module _ (P : Key → Tally → Type 0) (kept : KeptByCalls P) where
           rw (← is) done
       go ch false q =
           let other : key ≢ keyOfCall c = λ (e : key ≡ keyOfCall c). eqb-false (keyOfCall c) key q (sym e) in
-          let old : keyOf key (o .book) ≡ keyOf key b = ap (λ (x : Book). keyOf key x) (ch .book) ∙ getD-set-other (b .keys) (keyOfCall c) key _ emptyKey other in
+          let old : keyOf key (o .book) ≡ keyOf key b = ap (λ (x : Book). keyOf key x) (ch .book) ∙ getD-set-other (b .keys) (keyOfCall c)
+          key _ emptyKey other in
           rw old h
 
   -- So does every list of calls.

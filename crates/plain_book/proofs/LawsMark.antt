@@ -83,7 +83,8 @@ append-within end held list n (slab class off kept) s h e =
     (which (stays class (length list) (longer n kept .bytes)) _ _ e)
 append-within end held list n (pages ps) s h e =
     ⊎-elim (λ (b, is). subst (Within end) (accepted-inj is) h)
-    (λ (b, is). let (t, got, is') = went-on (takeBlock end pageClass s) _ is in subst (Within end) (accepted-inj is') (taken-within end pageClass s got h))
+    (λ (b, is). let (t, got, is') = went-on (takeBlock end pageClass s) _ is in
+    subst (Within end) (accepted-inj is') (taken-within end pageClass s got h))
     (which (joins n ps) (accepted (record { place = joinedTo n ps; space = s; rewritten = 0 })) (beginPage end ps n s) e)
 
 load-within : (end : ℕ) (ns : List ℕ) (s : Space) {p : Placed} → s .mark ≤ end → loadPlace end ns s ≡ accepted p → Within end p

@@ -114,7 +114,8 @@ module _ (held bytes c : ℕ) (kept : Kept) (shortest : Shortest kept) (t : Tall
           record {
             holds = m .holds;
             moves = omega (arith, moves-now);
-            rewritten = ⊎-elim (λ g. inr (g, omega (arith, rewritten-now))) (λ g. inl (omega (arith, rewritten-now), omega (arith, rewritten-now, m .few))) (m .spare);
+            rewritten = ⊎-elim (λ g. inr (g, omega (arith, rewritten-now)))
+                (λ g. inl (omega (arith, rewritten-now), omega (arith, rewritten-now, m .few))) (m .spare);
           },
           shortest,
         );
@@ -132,14 +133,16 @@ module _ (held bytes c : ℕ) (kept : Kept) (shortest : Shortest kept) (t : Tall
           record {
             holds = m .holds;
             moves = omega (arith, moves-now, g .moves);
-            rewritten = ⊎-elim (λ (a, b). inl (omega (arith, rewritten-now, g .holds), omega (arith, rewritten-now, m .few))) (λ (a, b). absurd (omega (arith, m .few))) (g .rewritten);
+            rewritten = ⊎-elim (λ (a, b). inl (omega (arith, rewritten-now, g .holds), omega (arith, rewritten-now, m .few)))
+                (λ (a, b). absurd (omega (arith, m .few))) (g .rewritten);
           },
           shortest,
         );
       }
 
 -- Out of a slab into a page.
-to-page : (held c : ℕ) (kept : Kept) (t : Tally) → InSlab c held kept t → (counted held t .moves ≤ mostMoves) × (counted held t .rewritten ≤ mostRewritten)
+to-page : (held c : ℕ) (kept : Kept) (t : Tally) → InSlab c held kept t → (counted held t .moves ≤ mostMoves)
+    × (counted held t .rewritten ≤ mostRewritten)
 to-page held c kept t i =
     let a = counted-moves held t in
     let b = counted-rewritten held t in
@@ -152,7 +155,8 @@ to-page held c kept t i =
 
 -- A move into what was chosen, given the tally of the slab that it leaves, or of the head word.
 moved-spent : (end held : ℕ) (list : List ℕ) (old : Place) (s : Space) {p : Placed} (t : Tally) (o : Option ℕ) → length list ≡ held + 1
-    → ((c : ℕ) → o ≡ some c → InSlab c (held + 1) (written list) (counted held t)) → (counted held t .moves ≤ mostMoves) × (counted held t .rewritten ≤ mostRewritten)
+    → ((c : ℕ) → o ≡ some c → InSlab c (held + 1) (written list) (counted held t)) → (counted held t .moves ≤ mostMoves)
+    × (counted held t .rewritten ≤ mostRewritten)
     → moved end o held list old s ≡ accepted p → Spent (length list) (p .place) (counted (p .rewritten) t)
 moved-spent end held list old s {p} t (some c) l into out e =
     let (off, at, told) = moved-slab end held list old s c e in
@@ -196,7 +200,8 @@ append-spent end held list n empty s t l same (z, m, r) e =
     rw (at, told, counted-none t) (omega arith, m, r)
 append-spent end held list n inline s t l same (o, m, r) e =
     moved-spent end held list inline s t (movesTo (length list) (streamLen list)) l
-    (λ c q. first-move held (streamLen list) c (written list) (written-shortest list) t (rw l at (moves-to (length list) (streamLen list) q)) m r)
+    (λ c q. first-move held (streamLen list) c (written list) (written-shortest list) t
+    (rw l at (moves-to (length list) (streamLen list) q)) m r)
     (omega (arith, counted-moves held t), omega (arith, counted-rewritten held t))
     e
 append-spent end held list n (slab d off kept) s t l same i e =
@@ -205,7 +210,8 @@ append-spent end held list n (slab d off kept) s t l same i e =
     let (at, told) = given is in
     rw (at, told, counted-none t) (stayed b))
     (λ (b, is).
-    moved-spent end held list (slab d off kept) s t (movesTo (length list) (streamLen list)) l (λ c q. into b c q) (to-page held d kept t i) is)
+    moved-spent end held list (slab d off kept) s t (movesTo (length list) (streamLen list)) l (λ c q. into b c q) (to-page held d kept t i)
+    is)
     (which (stays d (length list) (longer n kept .bytes)) _ _ e)
   where
     into : stays d (length list) (longer n kept .bytes) ≡ false → (c : ℕ) → movesTo (length list) (streamLen list) ≡ some c

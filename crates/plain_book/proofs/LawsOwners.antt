@@ -16,7 +16,7 @@ use Rattle.scripthash_free.specs.FreeList.{Block, isBlock}
 use Rattle.scripthash_free.proofs.LawsBlock.{block-stands}
 use Rattle.plain_book.specs.Space.{Space, stackOf, freed}
 use Rattle.plain_book.specs.Key.{Kept, Page, Place, empty, inline, slab, pages, onePage, freedPages, freedPlace}
-use Rattle.plain_book.specs.Owners.{Owner, hand, stack, slabOf, pageOf, atDepth, pageAt, slabAt, pageIn, has}
+use Rattle.plain_book.specs.Owners.{Owner, hand, stack, slabOf, pageOf, atDepth, pageNo, slabAt, pageIn, has}
 use Rattle.plain_book.specs.Good.{Good}
 use Rattle.plain_book.proofs.LawsApart.{apart-moved, apart-renamed, apart-fewer, apart-added}
 
@@ -106,7 +106,8 @@ module _ (s : Space) (class : ℕ) (os : List ℕ) (nine : class < length (s .st
 
   -- who has what then: in the changed stack, or as before
   pub changed-has : (at : ℕ → Place) (held : Option Block) (w : Owner) (x : Block) → has (withStack class os s) at held w ≡ some x
-      → ((depth : ℕ) × (w ≡ stack class depth) × (atDepth class depth os ≡ some x)) ⊎ (((depth : ℕ) → w ≢ stack class depth) × (has s at held w ≡ some x))
+      → ((depth : ℕ) × (w ≡ stack class depth) × (atDepth class depth os ≡ some x))
+      ⊎ (((depth : ℕ) → w ≢ stack class depth) × (has s at held w ≡ some x))
   unfolding has
   changed-has at held hand x e = inr (λ d q. (let z = ap kindOf q in omega arith), e)
   changed-has at held (slabOf k) x e = inr (λ d q. (let z = ap kindOf q in omega arith), e)
@@ -114,10 +115,16 @@ module _ (s : Space) (class : ℕ) (os : List ℕ) (nine : class < length (s .st
   changed-has at held (stack c d) x e = go (eqb c class) refl
     where
       go : (b : Bool) → eqb c class ≡ b
-          → ((depth : ℕ) × (stack c d ≡ stack class depth) × (atDepth class depth os ≡ some x)) ⊎ (((depth : ℕ) → stack c d ≢ stack class depth) × (atDepth c d (stackOf c s) ≡ some x))
+          → ((depth : ℕ) × (stack c d ≡ stack class depth) × (atDepth class depth os ≡ some x))
+          ⊎ (((depth : ℕ) → stack c d ≢ stack class depth) × (atDepth c d (stackOf c s) ≡ some x))
       go true q =
           let is : c ≡ class = eqb-true c class q in
-          inl (d, ap (λ (k : ℕ). stack k d) is, sym (ap (λ (k : ℕ). atDepth k d (stackOf k (withStack class os s))) is ∙ ap (atDepth class d) stack-same) ∙ e)
+          inl (
+            d,
+            ap (λ (k : ℕ). stack k d) is,
+            sym (ap (λ (k : ℕ). atDepth k d (stackOf k (withStack class os s))) is
+                ∙ ap (atDepth class d) stack-same) ∙ e,
+          )
       go false q =
           let n = eqb-false c class q in
           inr (λ d' z. n (stack-class z), ap (atDepth c d) (sym (stack-other c n)) ∙ e)
@@ -198,11 +205,13 @@ good-marked s at class b g =
       nine = g .nine;
       aligned = bytes-aligned (s .mark) class (g .aligned);
       from = omega (arith, g .from);
-      apart = apart-added _ _ (s .mark) (s .mark + slabBytes class) hand (record { class = class; off = s .mark }) (omega arith) (omega arith) b to (g .apart);
+      apart = apart-added _ _ (s .mark) (s .mark + slabBytes class) hand (record { class = class; off = s .mark }) (omega arith)
+          (omega arith) b to (g .apart);
     }
   where
     to : (w : Owner) (x : Block)
-        → has (record { mark = s .mark + slabBytes class; stacks = s .stacks }) at (some (record { class = class; off = s .mark })) w ≡ some x
+        → has (record { mark = s .mark + slabBytes class; stacks = s .stacks }) at (some (record { class = class; off = s .mark })) w
+        ≡ some x
         → ((w ≡ hand) × (x ≡ record { class = class; off = s .mark })) ⊎ (has s at none w ≡ some x)
     to hand x e = inl (refl, sym (some-inj e))
     to (stack c d) x e = inr e
@@ -246,14 +255,16 @@ good-slab s at key class off kept g =
     to hand x e = absurd (none-some e)
     to (stack c d) x e = inr (λ q. (let z = ap kindOf q in omega arith), e)
     to (slabOf j) x e =
-        ⊎-elim (λ (is, f). inl (ap slabOf is, f)) (λ (n, f). inr (λ q. (let z = ap kindOf q in omega arith), f)) (key-slab key (slab class off kept) at j x e)
+        ⊎-elim (λ (is, f). inl (ap slabOf is, f)) (λ (n, f). inr (λ q. (let z = ap kindOf q in omega arith), f))
+        (key-slab key (slab class off kept) at j x e)
     to (pageOf j i) x e =
-        ⊎-elim (λ (is, f). absurd (none-some f)) (λ (n, f). inr (λ q. (let z = ap kindOf q in omega arith), f)) (key-page key (slab class off kept) at j i x e)
+        ⊎-elim (λ (is, f). absurd (none-some f)) (λ (n, f). inr (λ q. (let z = ap kindOf q in omega arith), f))
+        (key-page key (slab class off kept) at j i x e)
 
 -- Pages with one more behind them.
-pub page-behind : (i : ℕ) (ps : List Page) (p : Page) (x : Block) → pageAt i (ps ++ (p ∷ [])) ≡ some x
-    → ((i ≡ length ps) × (x ≡ record { class = pageClass; off = p .off })) ⊎ (pageAt i ps ≡ some x)
-unfolding pageAt
+pub page-behind : (i : ℕ) (ps : List Page) (p : Page) (x : Block) → pageNo i (ps ++ (p ∷ [])) ≡ some x
+    → ((i ≡ length ps) × (x ≡ record { class = pageClass; off = p .off })) ⊎ (pageNo i ps ≡ some x)
+unfolding pageNo
 page-behind zero [] p x e = inl (refl, sym (some-inj e))
 page-behind (suc i) [] p x e = absurd (none-some e)
 page-behind zero (q ∷ ps) p x e = inr e
@@ -261,17 +272,25 @@ page-behind (suc i) (q ∷ ps) p x e = ⊎-elim (λ (is, f). inl (ap suc is, f))
 
 -- What is in hand becomes a key's last page.
 pub good-page : (s : Space) (at : ℕ → Place) (key off : ℕ) (ps : List Page) (part : List ℕ)
-    → ((i : ℕ) (x : Block) → pageAt i ps ≡ some x → pageIn i (at key) ≡ some x) → Good s at (some (record { class = pageClass; off = off }))
+    → ((i : ℕ) (x : Block) → pageNo i ps ≡ some x → pageIn i (at key) ≡ some x) → Good s at (some (record { class = pageClass; off = off }))
     → Good s (atKey key (pages (ps ++ onePage off part)) at) none
 unfolding has
 good-page s at key off ps part old g =
-    record { nine = g .nine; aligned = g .aligned; from = g .from; apart = apart-moved _ _ (s .mark) hand (pageOf key (length ps)) to (g .apart) }
+    record {
+      nine = g .nine;
+      aligned = g .aligned;
+      from = g .from;
+      apart =
+          apart-moved _ _ (s .mark) hand (pageOf key (length ps)) to (g .apart);
+    }
   where
-    to : Goes hand (pageOf key (length ps)) (has s at (some (record { class = pageClass; off = off }))) (has s (atKey key (pages (ps ++ onePage off part)) at) none)
+    to : Goes hand (pageOf key (length ps)) (has s at (some (record { class = pageClass; off = off })))
+        (has s (atKey key (pages (ps ++ onePage off part)) at) none)
     to hand x e = absurd (none-some e)
     to (stack c d) x e = inr (λ q. (let z = ap kindOf q in omega arith), e)
     to (slabOf j) x e =
-        ⊎-elim (λ (is, f). absurd (none-some f)) (λ (n, f). inr (λ q. (let z = ap kindOf q in omega arith), f)) (key-slab key (pages (ps ++ onePage off part)) at j x e)
+        ⊎-elim (λ (is, f). absurd (none-some f)) (λ (n, f). inr (λ q. (let z = ap kindOf q in omega arith), f))
+        (key-slab key (pages (ps ++ onePage off part)) at j x e)
     to (pageOf j i) x e =
         ⊎-elim
         (λ (is, f).
@@ -307,7 +326,8 @@ good-freed s at held key class off kept c e g =
       aligned = g .aligned;
       from = g .from;
       apart = apart-moved _ _ (s .mark) (slabOf key) (stack class (length (stackOf class s)))
-          (pushed-from s class (omega arith) (slabOf key) off at (atKey key empty at) held held (λ d q. (let z = ap kindOf q in omega arith)) (ap slabAt e) rest) (g .apart);
+          (pushed-from s class (omega arith) (slabOf key) off at (atKey key empty at) held held
+          (λ d q. (let z = ap kindOf q in omega arith)) (ap slabAt e) rest) (g .apart);
     }
   where
     rest : (w : Owner) (x : Block) → ((d : ℕ) → w ≢ stack class d) → has s (atKey key empty at) held w ≡ some x
@@ -317,7 +337,8 @@ good-freed s at held key class off kept c e g =
     rest (slabOf j) x n h =
         ⊎-elim (λ (is, f). absurd (none-some f)) (λ (other, f). (λ q. other (ap depthOf q), f)) (key-slab key empty at j x h)
     rest (pageOf j i) x n h =
-        ⊎-elim (λ (is, f). absurd (none-some f)) (λ (other, f). (λ q. (let z = ap kindOf q in omega arith), f)) (key-page key empty at j i x h)
+        ⊎-elim (λ (is, f). absurd (none-some f)) (λ (other, f). (λ q. (let z = ap kindOf q in omega arith), f))
+        (key-page key empty at j i x h)
 
 -- ---- a key's first page is freed: the others have an index less
 
@@ -344,7 +365,8 @@ module _ (key high : ℕ) where
     where
       go : (a : Bool) → eqb c pageClass ≡ a → (b : Bool) → eqb d high ≡ b
           → newName (cond a (cond b (pageOf key 0) (stack c d)) (stack c d)) ≡ stack c d
-      go true q true q' = rw (eq-eqb key key refl) (ap (λ (x : ℕ). stack x high) (sym (eqb-true c pageClass q)) ∙ ap (stack c) (sym (eqb-true d high q')))
+      go true q true q' = rw (eq-eqb key key refl) (ap (λ (x : ℕ). stack x high) (sym (eqb-true c pageClass q))
+          ∙ ap (stack c) (sym (eqb-true d high q')))
       go true q false q' = refl
       go false q b q' = refl
   name-back (pageOf k i) = go (eqb k key) refl i
@@ -357,7 +379,7 @@ module _ (key high : ℕ) where
 pub good-first-freed : (s : Space) (at : ℕ → Place) (held : Option Block) (key : ℕ) (p : Page) (ps : List Page) → at key ≡ pages (p ∷ ps)
     → Good s at held
     → Good (freed pageClass (p .off) s) (atKey key (pages ps) at) held
-unfolding has pageAt
+unfolding has pageNo
 good-first-freed s at held key p ps e g =
     record {
       nine = length-set (s .stacks) pageClass (p .off ∷ stackOf pageClass s) ∙ g .nine;
@@ -401,7 +423,8 @@ pub good-twice : (s : Space) (at : ℕ → Place) (held : Option Block) (key : �
     → Good s (atKey key second (atKey key first at)) held
     → Good s (atKey key second at) held
 good-twice s at held key first second g =
-    good-fewer s (atKey key second (atKey key first at)) (atKey key second at) held (λ j x h. once slabAt (eqb j key) j x h) (λ j i x h. once (pageIn i) (eqb j key) j x h) g
+    good-fewer s (atKey key second (atKey key first at)) (atKey key second at) held (λ j x h. once slabAt (eqb j key) j x h)
+    (λ j i x h. once (pageIn i) (eqb j key) j x h) g
   where
     once : (tell : Place → Option Block) (b : Bool) (j : ℕ) (x : Block) → tell (cond b second (at j)) ≡ some x
         → tell (cond b second (cond b first (at j))) ≡ some x
@@ -419,7 +442,8 @@ good-pages-freed s at held key [] e g =
     g
 good-pages-freed s at held key (p ∷ ps) e g =
     good-twice (freedPages ps (freed pageClass (p .off) s)) at held key (pages ps) empty
-    (good-pages-freed (freed pageClass (p .off) s) (atKey key (pages ps) at) held key ps (rw (eq-eqb key key refl)) (good-first-freed s at held key p ps e g))
+    (good-pages-freed (freed pageClass (p .off) s) (atKey key (pages ps) at) held key ps (rw (eq-eqb key key refl))
+    (good-first-freed s at held key p ps e g))
 
 -- ---- places given up, and changed
 

@@ -39,7 +39,8 @@ unused-holds list (slab class off kept) f fits = absurd (false≢true (sym f))
 unused-holds list (pages ps) f fits = absurd (false≢true (sym f))
 
 -- A key's list after the place and list of a key changed: the new one where it is that key.
-list-with : (b : Book) (own key : ℕ) (list new : List ℕ) (place : Place) (counted : Bool) (space : Space) {b' : Book} → own < length (b .keys)
+list-with : (b : Book) (own key : ℕ) (list new : List ℕ) (place : Place) (counted : Bool) (space : Space) {b' : Book}
+    → own < length (b .keys)
     → b' ≡ withKey own list place counted space b
     → (own ≡ key → list ≡ new) → keyOf key b' .list ≡ cond (eqb own key) new (keyOf key b .list)
 list-with b own key list new place counted space {b'} within is same = ap (λ (x : Book). keyOf key x .list) is ∙ go (eqb own key) refl
@@ -47,7 +48,8 @@ list-with b own key list new place counted space {b'} within is same = ap (λ (x
     go : (x : Bool) → eqb own key ≡ x → keyOf key (withKey own list place counted space b) .list ≡ cond x new (keyOf key b .list)
     go true q =
         let e = eqb-true own key q in
-        ap (λ (k : ℕ). keyOf k (withKey own list place counted space b) .list) (sym e) ∙ ap (λ (k : Key). k .list) (getD-set-same (b .keys) own _ emptyKey within) ∙ same e
+        ap (λ (k : ℕ). keyOf k (withKey own list place counted space b) .list) (sym e)
+        ∙ ap (λ (k : Key). k .list) (getD-set-same (b .keys) own _ emptyKey within) ∙ same e
     go false q = ap (λ (k : Key). k .list) (getD-set-other (b .keys) own key _ emptyKey (λ (e : key ≡ own). eqb-false own key q (sym e)))
 
 -- After a call a key's list is what the call recorded for it.
@@ -114,7 +116,8 @@ pub read-refused : (b : Book) (key room : ℕ) {number : ℕ} → does b (read k
 unfolding does reads onKey
 read-refused b key room e =
     ⊎-elim (λ q. inl q)
-    (λ e1. inr (⊎-elim (λ q. inl q) (λ e2. inr (⊎-elim (λ q. q) (λ e3. absurd (refused≢accepted (sym e3))) (refused-by _ _ _ e2))) (refused-by _ _ _ e1)))
+    (λ e1. inr (⊎-elim (λ q. inl q) (λ e2. inr (⊎-elim (λ q. q) (λ e3. absurd (refused≢accepted (sym e3))) (refused-by _ _ _ e2)))
+    (refused-by _ _ _ e1)))
     (refused-by _ _ _ e)
 
 -- ---- the licence's sentence
@@ -144,4 +147,5 @@ licensed-from b before (c ∷ cs) s is = (
 -- On a fresh book, with nothing recorded, the licence's sentence holds of every list of calls.
 pub licensed : (size heads : ℕ) (cs : List Call) → Licensed (λ key. []) cs (answers (fresh size heads) cs)
 licensed size heads cs =
-    licensed-from (fresh size heads) (λ key. []) cs (λ key. rw (fresh-key size heads key) empty-sound) (λ key. ap (λ (k : Key). k .list) (fresh-key size heads key))
+    licensed-from (fresh size heads) (λ key. []) cs (λ key. rw (fresh-key size heads key) empty-sound)
+    (λ key. ap (λ (k : Key). k .list) (fresh-key size heads key))

@@ -58,7 +58,8 @@ run-fits : (off : ℕ) (parts : List (List ℕ)) → 0 < length parts → Fit la
 unfolding runPages Fit FitPages written
 run-fits off [] h f = absurd (omega arith)
 run-fits off (p ∷ []) h (some', fits) = ((some', fits, omega arith, written-each p), refl)
-run-fits off (p ∷ q ∷ []) h (some', fits, f) = ((some', fits, le-refl pageRoom, written-each p), run-fits (off + 4096) (q ∷ []) (omega arith) f)
+run-fits off (p ∷ q ∷ []) h (some', fits, f) =
+    ((some', fits, le-refl pageRoom, written-each p), run-fits (off + 4096) (q ∷ []) (omega arith) f)
 run-fits off (p ∷ q ∷ r ∷ ps) h (some', fits, f) =
     ((some', fits, le-refl pageRoom, written-each p), run-fits (off + 4096) (q ∷ r ∷ ps) (omega arith) f)
 
@@ -72,7 +73,8 @@ run-held off (p ∷ q ∷ ps) = ap (λ (l : List ℕ). p ++ l) (run-held (off + 
 join-held : (n : ℕ) (ps : List Page) → FitPages ps → held (replaceLast (λ p. longerPage n p ∷ []) ps) ≡ held ps ++ (n ∷ [])
 unfolding held replaceLast FitPages longer
 join-held n [] f = absurd f
-join-held n (p ∷ []) f = append-nil (p .part .numbers ++ (n ∷ [])) ∙ ap (λ (l : List ℕ). l ++ (n ∷ [])) (sym (append-nil (p .part .numbers)))
+join-held n (p ∷ []) f = append-nil (p .part .numbers ++ (n ∷ []))
+    ∙ ap (λ (l : List ℕ). l ++ (n ∷ [])) (sym (append-nil (p .part .numbers)))
 join-held n (p ∷ q ∷ ps) (f, fs) =
     ap (λ (l : List ℕ). p .part .numbers ++ l) (join-held n (q ∷ ps) fs) ∙ sym (append-assoc (p .part .numbers) (held (q ∷ ps)) (n ∷ []))
 
@@ -89,7 +91,8 @@ join-fits n page (p ∷ q ∷ r ∷ ps) (f, fs) h = (f, join-fits n p (q ∷ r �
 begin-held : (n off : ℕ) (ps : List Page) → held (ps ++ onePage off (n ∷ [])) ≡ held ps ++ (n ∷ [])
 unfolding held written
 begin-held n off [] = refl
-begin-held n off (p ∷ ps) = ap (λ (l : List ℕ). p .part .numbers ++ l) (begin-held n off ps) ∙ sym (append-assoc (p .part .numbers) (held ps) (n ∷ []))
+begin-held n off (p ∷ ps) = ap (λ (l : List ℕ). p .part .numbers ++ l) (begin-held n off ps)
+    ∙ sym (append-assoc (p .part .numbers) (held ps) (n ∷ []))
 
 begin-fits : (n off : ℕ) (ps : List Page) → FitPages ps → ulebLen (n - 0) ≤ lastPageRoom → FitPages (ps ++ onePage off (n ∷ []))
 unfolding FitPages streamLenFrom written
@@ -181,7 +184,11 @@ load-fits end (n ∷ m ∷ ns) s {p} r e = go (loadsTo (length (n ∷ m ∷ ns))
     go none q e =
         let (t, got, is) = went-on (takeRun end (length (cutting (n ∷ m ∷ ns))) s) _ e in
         let ok = pages-allowed (n ∷ m ∷ ns) (rising-words 0 (n ∷ m ∷ ns) (rising-below (2 ^ 62) (2 ^ 63) 0 (n ∷ m ∷ ns) (omega arith) r)) in
-        rw (placed is) (run-held (t .off) (cutting (n ∷ m ∷ ns)) ∙ ok .consecutive, run-fits (t .off) (cutting (n ∷ m ∷ ns)) (some-parts n (m ∷ ns) (cutting (n ∷ m ∷ ns)) (ok .consecutive)) (ok .fit))
+        rw (placed is) (
+          run-held (t .off) (cutting (n ∷ m ∷ ns)) ∙ ok .consecutive,
+          run-fits (t .off) (cutting (n ∷ m ∷ ns))
+              (some-parts n (m ∷ ns) (cutting (n ∷ m ∷ ns)) (ok .consecutive)) (ok .fit),
+        )
 
 -- ---- totals
 

@@ -19,7 +19,7 @@ use Rattle.scripthash_free.proofs.LawsGap.{gap-filled, gap-slabs}
 use Rattle.book_limits.specs.Limits.{pageAfter}
 use Rattle.plain_book.specs.Space.{Space, stackOf, freed, freedAll, Taken, takeMark, rounded, takeRun, takeFresh, takeFrom, takeBlock}
 use Rattle.plain_book.specs.Key.{Place, pages, runPages}
-use Rattle.plain_book.specs.Owners.{Owner, hand, stack, slabOf, pageOf, pageAt, has}
+use Rattle.plain_book.specs.Owners.{Owner, hand, stack, slabOf, pageOf, pageNo, has}
 use Rattle.plain_book.specs.Good.{Good}
 use Rattle.plain_book.proofs.LawsApart.{apart-added, apart-run}
 use Rattle.plain_book.proofs.LawsOwners.{some-inj, none-some, below-top, withStack, changed-has, bytes-aligned, good-popped}
@@ -37,7 +37,8 @@ good-carved-one s at held class off is c g =
       nine = length-set (s .stacks) class (off ∷ stackOf class s) ∙ g .nine;
       aligned = bytes-aligned (s .mark) class (g .aligned);
       from = omega (arith, g .from);
-      apart = apart-added _ _ (s .mark) (s .mark + slabBytes class) (stack class (length (stackOf class s))) (record { class = class; off = off }) (omega arith) (omega arith)
+      apart = apart-added _ _ (s .mark) (s .mark + slabBytes class) (stack class (length (stackOf class s)))
+          (record { class = class; off = off }) (omega arith) (omega arith)
           (slab-stands class off (s .mark + slabBytes class) c (rw is (g .aligned)) (omega (arith, g .from)) (omega arith)) to (g .apart);
     }
   where
@@ -74,7 +75,8 @@ unfolding Adjoin Each freedAll
 good-carved [] s at held end a e g = subst (λ (m : ℕ). Good (record { mark = m; stacks = s .stacks }) at held) a g
 good-carved (b ∷ bs) s at held end (is, a) (b7, e) g =
     let one = good-carved-one s at held (b .class) (b .off) is (b7 .0) g in
-    let all = good-carved bs (record { mark = s .mark + slabBytes (b .class); stacks = freed (b .class) (b .off) s .stacks }) at held end a e one in
+    let all = good-carved bs (record { mark = s .mark + slabBytes (b .class); stacks = freed (b .class) (b .off) s .stacks })
+    at held end a e one in
     subst (λ (st : List (List ℕ)). Good (record { mark = end; stacks = st }) at held)
     (freed-stacks bs (s .mark + slabBytes (b .class)) (s .mark) (freed (b .class) (b .off) s .stacks))
     all
@@ -85,8 +87,10 @@ unfolding rounded
 good-rounded s at held g =
     let up : s .mark ≤ pageAfter (s .mark) = omega arith in
     let gap : (pageAfter (s .mark) - s .mark) % 16 ≡ 0 = omega (arith, g .aligned) in
-    good-carved (gapBlocks (s .mark) (pageAfter (s .mark))) s at held (pageAfter (s .mark)) (gap-filled (s .mark) (pageAfter (s .mark)) up gap)
-    (gap-slabs (s .mark) (pageAfter (s .mark)) (pageAfter (s .mark)) up (record { aligned = g .aligned; begins = g .from; ends = omega arith }))
+    good-carved (gapBlocks (s .mark) (pageAfter (s .mark))) s at held (pageAfter (s .mark))
+    (gap-filled (s .mark) (pageAfter (s .mark)) up gap)
+    (gap-slabs (s .mark) (pageAfter (s .mark)) (pageAfter (s .mark)) up
+    (record { aligned = g .aligned; begins = g .from; ends = omega arith }))
     g
 
 -- A page at a multiple of 4,096 can stand there.
@@ -152,9 +156,9 @@ good-taken end class s at {t} c e g = from-stack (stackOf class s) refl e
 
 -- ---- a run of pages is taken for a key
 
-pub run-at : (i off : ℕ) (parts : List (List ℕ)) (x : Block) → pageAt i (runPages off parts) ≡ some x
+pub run-at : (i off : ℕ) (parts : List (List ℕ)) (x : Block) → pageNo i (runPages off parts) ≡ some x
     → (x ≡ record { class = pageClass; off = off + i * pageSize }) × (i < length parts)
-unfolding pageAt runPages
+unfolding pageNo runPages
 run-at i off [] x e = absurd (none-some e)
 run-at zero off (p ∷ []) x e = (sym (some-inj e) ∙ ap (λ (o : ℕ). record { class = pageClass; off = o }) (omega arith), omega arith)
 run-at (suc i) off (p ∷ []) x e = absurd (none-some e)
@@ -172,15 +176,19 @@ good-run s at key parts a g =
       aligned = omega arith;
       from = omega (arith, g .from);
       apart = apart-run _ _ (s .mark) (s .mark + length parts * pageSize) (length parts) pageSize pageClass (pageOf key) refl (omega arith)
-          (λ i l. page-stands (s .mark + i * pageSize) (s .mark + length parts * pageSize) (omega arith) (omega (arith, g .from)) (omega arith)) to (g .apart);
+          (λ i l. page-stands (s .mark + i * pageSize) (s .mark + length parts * pageSize) (omega arith) (omega (arith, g .from))
+          (omega arith)) to (g .apart);
     }
   where
     to : (w : Owner) (x : Block)
-        → has (record { mark = s .mark + length parts * pageSize; stacks = s .stacks }) (atKey key (pages (runPages (s .mark) parts)) at) none w ≡ some x
-        → ((i : ℕ) × (w ≡ pageOf key i) × (x ≡ record { class = pageClass; off = s .mark + i * pageSize }) × (i < length parts)) ⊎ (has s at none w ≡ some x)
+        → has (record { mark = s .mark + length parts * pageSize; stacks = s .stacks }) (atKey key (pages (runPages (s .mark) parts)) at)
+        none w ≡ some x
+        → ((i : ℕ) × (w ≡ pageOf key i) × (x ≡ record { class = pageClass; off = s .mark + i * pageSize }) × (i < length parts))
+        ⊎ (has s at none w ≡ some x)
     to hand x e = inr e
     to (stack c d) x e = inr e
-    to (slabOf j) x e = ⊎-elim (λ (is, f). absurd (none-some f)) (λ (n, f). inr f) (key-slab key (pages (runPages (s .mark) parts)) at j x e)
+    to (slabOf j) x e = ⊎-elim (λ (is, f). absurd (none-some f)) (λ (n, f). inr f)
+        (key-slab key (pages (runPages (s .mark) parts)) at j x e)
     to (pageOf j i) x e =
         ⊎-elim
         (λ (is, f). let (block, l) = run-at i (s .mark) parts x f in inl (i, ap (λ (k : ℕ). pageOf k i) is, block, l))

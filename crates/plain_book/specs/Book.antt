@@ -66,7 +66,11 @@ loads b key ns =
     (refuseIf (ltb maxOffered (length ns)) tooManyOffered
     (offeredList true 0 ns
     (andThen (loadPlace (b .size) ns (b .space))
-    (λ p. accepted (record { told = loaded (record { pages = pagesOf (p .place) }); book = withKey key ns (p .place) true (p .space) b }))))))
+    (λ p. accepted (record {
+      told = loaded (record { pages = pagesOf (p .place) });
+      book =
+          withKey key ns (p .place) true (p .space) b;
+    }))))))
 
 -- A list with one number more.
 abbrev pub extended : List ℕ → ℕ → List ℕ

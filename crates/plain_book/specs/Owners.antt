@@ -27,10 +27,10 @@ atDepth class depth [] = none
 atDepth class depth (o ∷ os) = cond (eqb depth (length os)) (some (record { class = class; off = o })) (atDepth class depth os)
 
 -- The page at an index.
-unfoldable pub pageAt : ℕ → List Page → Option Block
-pageAt i [] = none
-pageAt zero (p ∷ ps) = some (record { class = pageClass; off = p .off })
-pageAt (suc i) (p ∷ ps) = pageAt i ps
+unfoldable pub pageNo : ℕ → List Page → Option Block
+pageNo i [] = none
+pageNo zero (p ∷ ps) = some (record { class = pageClass; off = p .off })
+pageNo (suc i) (p ∷ ps) = pageNo i ps
 
 -- The slab of a place.
 abbrev pub slabAt : Place → Option Block
@@ -44,7 +44,7 @@ abbrev pub pageIn : ℕ → Place → Option Block
 pageIn i empty = none
 pageIn i inline = none
 pageIn i (slab class off kept) = none
-pageIn i (pages ps) = pageAt i ps
+pageIn i (pages ps) = pageNo i ps
 
 -- The block that an owner has, if it has one: in a space, with keys' places and what a call has in hand.
 unfoldable pub has : Space → (ℕ → Place) → Option Block → Owner → Option Block

@@ -53,8 +53,8 @@ pub data QuickPart (told : ℕ) (before after : List ℕ) (at : ℕ) (a : Answer
   read : (ns : List ℕ) → 0 < told → a ≡ accepted (record { numbers = ns; taken = told }) → after ≡ overwrite before at ns
       → QuickPart told before after at a
 
--- A try at judging and reading a stream, whose scan would be `a`, into the start of a list: it tells 0 and leaves the list, or the bytes of a
--- stream that fits and whose last number is below a limit, and the list holds the numbers.
+-- A try at judging and reading a stream, whose scan would be `a`, into the start of a list: it tells 0 and leaves the list, or the bytes of
+-- a stream that fits and whose last number is below a limit, and the list holds the numbers.
 pub data ShortRead (told top : ℕ) (before after : List ℕ) (a : Answer Scan) : Type 0 where
   unread : told ≡ 0 → after ≡ before → ShortRead told top before after a
   short : (s : Scan) → 0 < told → a ≡ accepted s → s .taken ≡ told → length (s .numbers) ≤ length before → lastFrom 0 (s .numbers) < top

@@ -95,8 +95,8 @@ fn keep(space: &mut [u64], k: usize, fk: u64)
 }
 
 // Sums up n forms from a place on, behind a number, and keeps the numbers in space as far as that has room: tells the place behind them and
-// the last number, or place 0 where a form is 0 or can't be read, or a number would have bit 63. It alone calls short_form, which so becomes
-// part of the loop.
+// the last number, or place 0 where a form is 0 or can't be read, or a number would have bit 63. It alone calls short_form, which so
+// becomes part of the loop.
 pub fn sum_forms(buf: &[u8], from: usize, prev: u64, n: usize, space: &mut [u64]) -> StreamEnd
     requires { ⌜ (from ≤ length (now buf)) × (prev < 2 ^ 63) ⌝ }
     ensures { λ r. ⌜ QuickSum (r .taken) (r .last) from prev n (now (buf .entry)) (now (space .exit)) ⌝ }

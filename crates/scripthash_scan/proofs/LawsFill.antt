@@ -29,7 +29,8 @@ module _ (taken last n : ℕ) (bs space : List ℕ) (q : QuickSum taken last 0 0
   pub short-summed : (top : ℕ) (out after : List ℕ) → last < top → n ≤ length out → after ≡ overwrite out 0 (take n space)
       → ShortRead taken top out after (scan n bs)
   short-summed top out after low fits e =
-      short (record { numbers = take n space; taken = taken }) h summed-scan refl (omega (arith, length-take-le n space room)) (omega (arith, summed-last)) e
+      short (record { numbers = take n space; taken = taken }) h summed-scan refl (omega (arith, length-take-le n space room))
+      (omega (arith, summed-last)) e
 
 -- a try that does nothing
 pub short-none : (top : ℕ) (out : List ℕ) (a : Answer Scan) → ShortRead 0 top out out a
@@ -45,7 +46,8 @@ short-quick told top n bs out after fits (short s some is size room low wrote) =
     inr (some, answered-yes (λ t. t .taken) _ read ∙ ap accepted size, wrote ∙ sym (after-accepted out _ read))
 
 -- a stream whose last number was told first
-pub short-told : (taken last told n top : ℕ) (bs out after : List ℕ) → QuickEnd taken last (answered (endFrom 0) (scan n bs)) → 0 < taken → last < top
+pub short-told : (taken last told n top : ℕ) (bs out after : List ℕ) → QuickEnd taken last (answered (endFrom 0) (scan n bs)) → 0 < taken
+    → last < top
     → n ≤ length out → 0 < told → Quick told out after (decodeStream (length out) n bs) → ShortRead told top out after (scan n bs)
 unfolding QuickEnd
 short-told taken last told n top bs out after q h low fits some d =
@@ -69,14 +71,17 @@ unfolding overwrite
 put-front out part n h = rw (zero-add (length part), h, sub-zero n)
 
 -- where all of them were summed up, the list holds them
-pub filled-front : (taken last n : ℕ) (bs out part : List ℕ) (s : Scan) → scan n bs ≡ accepted s → QuickSum taken last 0 0 n bs part → 0 < taken
+pub filled-front : (taken last n : ℕ) (bs out part : List ℕ) (s : Scan) → scan n bs ≡ accepted s → QuickSum taken last 0 0 n bs part
+    → 0 < taken
     → length part ≡ n → part ++ drop (n - 0) (drop 0 out) ≡ overwrite out 0 (s .numbers)
 filled-front taken last n bs out part s e q h size =
-    let same : s ≡ record { numbers = take n part; taken = taken } = accepted-inj (sym e ∙ summed-scan taken last n bs part q h (omega arith)) in
+    let same : s ≡ record { numbers = take n part; taken = taken } =
+    accepted-inj (sym e ∙ summed-scan taken last n bs part q h (omega arith)) in
     put-front out part n size ∙ ap (overwrite out 0) (sym (take-all n part (omega arith)) ∙ ap (λ (x : Scan). x .numbers) (sym same))
 
 -- else a reading of all writes over what was put back
-over : (out part ys : List ℕ) (n : ℕ) → length part ≡ n → length ys ≡ n → overwrite (part ++ drop (n - 0) (drop 0 out)) 0 ys ≡ overwrite out 0 ys
+over : (out part ys : List ℕ) (n : ℕ) → length part ≡ n → length ys ≡ n → overwrite (part ++ drop (n - 0) (drop 0 out)) 0 ys
+    ≡ overwrite out 0 ys
 unfolding overwrite
 over out part ys n h k =
     let past : drop n (part ++ drop n out) ≡ drop n out =

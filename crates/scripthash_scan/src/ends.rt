@@ -1,5 +1,5 @@
-// Where forms end: bytes below 128 are counted, many at a time in plain loops, of which the compiler makes loops over many bytes at a time, and
-// at last byte by byte.
+// Where forms end: bytes below 128 are counted, many at a time in plain loops, of which the compiler makes loops over many bytes at a time,
+// and at last byte by byte.
 ghost use mathlib.Core.Path.{_≡_};
 ghost use Prim.Native.Nat.{_+_, _*_, _≤_, _<_};
 ghost use lib.ListN.{length};
@@ -57,8 +57,8 @@ pub fn ends_early(buf: &[u8]) -> usize {
     forms(ends_in(buf, 8, 24))
 }
 
-// Counts forms that end from a place on, 240 bytes at a time, until fewer than 240 of those wanted are left; stops before where too few bytes
-// follow, or where forms of six bytes and more are met.
+// Counts forms that end from a place on, 240 bytes at a time, until fewer than 240 of those wanted are left; stops before where too few
+// bytes follow, or where forms of six bytes and more are met.
 fn count_blocks(buf: &[u8], from: usize, want: usize) -> Counted
     requires { ⌜ from ≤ length (now buf) ⌝ }
     ensures { λ r. ⌜ (total (endAt (now (buf .entry))) from + want ≡ total (endAt (now (buf .entry))) (r .at) + r .left) × (from ≤ r .at)
@@ -168,8 +168,8 @@ fn stepped(buf: &[u8], at: usize, left: usize, dense: usize) -> Counting
     }
 }
 
-// Counts forms that end from a place on, until fewer than 16 of those wanted are left; stops before where too few bytes follow, or where forms
-// of six bytes and more are met.
+// Counts forms that end from a place on, until fewer than 16 of those wanted are left; stops before where too few bytes follow, or where
+// forms of six bytes and more are met.
 fn count_forms(buf: &[u8], from: usize, want: usize) -> Counted
     requires { ⌜ from ≤ length (now buf) ⌝ }
     ensures { λ r. ⌜ (total (endAt (now (buf .entry))) from + want ≡ total (endAt (now (buf .entry))) (r .at) + r .left) × (from ≤ r .at)

@@ -1,4 +1,4 @@
-// Streams of rising numbers scanned and read: the fast paths over forms and bytes, and the two functions that take them.
+// Streams of rising numbers scanned and read: the fast paths over forms and bytes, and the functions that take them.
 mod ends;
 mod fill;
 mod look;

@@ -68,8 +68,8 @@ fn look_five(buf: &[u8], from: usize, to: usize) -> bool
     most < 128
 }
 
-// The bytes of the longest form as far as it matters, 2, 3 or 5, and no less than those of the forms before, or 0 where a byte is 0 or a form
-// has more than five bytes.
+// The bytes of the longest form as far as it matters, 2, 3 or 5, and no less than those of the forms before, or 0 where a byte is 0 or a
+// form has more than five bytes.
 pub fn longest_form(buf: &[u8], from: usize, to: usize, before: usize) -> usize
     requires { ⌜ (4 ≤ from) × (from ≤ to) × (to ≤ length (now buf)) × (before ≤ 2 → twoBefore (now buf) from ≡ false)
         × (before ≤ 3 → threeBefore (now buf) from ≡ false) ⌝ }

@@ -79,7 +79,8 @@ pub fn one_byte_forms(buf: &[u8], n: usize) -> bool
 // Writes the sums of n forms of one byte each to the start of out, and tells their bytes.
 pub fn sum_bytes(buf: &[u8], n: usize, out: &mut [u64]) -> usize
     requires { ⌜ OneByteForms (now buf) n × (n ≤ length (now out)) ⌝ }
-    ensures { λ r. ⌜ (r ≡ n) × Quick r (now (out .entry)) (now (out .exit)) (decodeStream (length (now (out .entry))) n (now (buf .entry))) ⌝ }
+    ensures { λ r. ⌜ (r ≡ n)
+        × Quick r (now (out .entry)) (now (out .exit)) (decodeStream (length (now (out .entry))) n (now (buf .entry))) ⌝ }
 {
     let mut sum: u64 = 0;
     let mut k: usize = 0;

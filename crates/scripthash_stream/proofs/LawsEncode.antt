@@ -27,7 +27,8 @@ module _ {A : Type 0} where
   judged-rising prev [] after h = refl
   judged-rising prev (n ∷ ns) after h =
       refuse-no (eqb prev 0 && eqb n 0) _ _ (and-no (eqb prev 0) (eqb n 0) (ne-eqb n 0 (λ (e : n ≡ 0). omega arith)))
-      ∙ refuse-no (leb (2 ^ 63) n) _ _ (lt-leb (2 ^ 63) n (h .1)) ∙ refuse-no (leb n prev) _ _ (lt-leb n prev (h .0)) ∙ judged-rising n ns after (h .2)
+      ∙ refuse-no (leb (2 ^ 63) n) _ _ (lt-leb (2 ^ 63) n (h .1)) ∙ refuse-no (leb n prev) _ _ (lt-leb n prev (h .0))
+      ∙ judged-rising n ns after (h .2)
 
   -- an accepted list rises, and what comes after was accepted
   pub judged-accepted : (prev : ℕ) (ns : List ℕ) (after : Answer A) {x : A} → judged prev ns after ≡ accepted x
@@ -47,7 +48,8 @@ pub judged-refused : {A B : Type 0} (prev : ℕ) (ns : List ℕ) (x : A) (after 
 unfolding judged
 judged-refused prev [] x after e = absurd (refused≢accepted (sym e))
 judged-refused prev (n ∷ ns) x after e =
-    refused-alike (eqb prev 0 && eqb n 0) _ _ _ (refused-alike (leb (2 ^ 63) n) _ _ _ (refused-alike (leb n prev) _ _ _ (judged-refused n ns x after))) e
+    refused-alike (eqb prev 0 && eqb n 0) _ _ _
+    (refused-alike (leb (2 ^ 63) n) _ _ _ (refused-alike (leb n prev) _ _ _ (judged-refused n ns x after))) e
 
 -- ---- judging and measuring from the middle
 
@@ -78,7 +80,8 @@ measured-more len prev n ns {more} e =
 pub measured-refused : (len prev n : ℕ) (ns : List ℕ) {number : ℕ} → judged prev (n ∷ []) (accepted (ulebLen (n - prev))) ≡ refused number
     → measuredFrom len prev (n ∷ ns) ≡ refused number
 unfolding measuredFrom judged
-measured-refused len prev n ns e = judged-refused prev (n ∷ []) (ulebLen (n - prev)) (judged n ns (accepted (len + streamLenFrom prev (n ∷ ns)))) e
+measured-refused len prev n ns e = judged-refused prev (n ∷ []) (ulebLen (n - prev))
+    (judged n ns (accepted (len + streamLenFrom prev (n ∷ ns)))) e
 
 -- ---- writing a stream
 

@@ -25,7 +25,11 @@ pub stored-sum : (prev : ℕ) (d : Reading) → 0 < d .value → prev + d .value
     → storedNumber prev d ≡ accepted (record { value = prev + d .value; len = d .len })
 unfolding storedNumber refuseIf
 stored-sum prev d h k =
-    rw (ne-eqb (d .value) 0 (λ (e : d .value ≡ 0). omega arith), lt-leb (2 ^ 64) (prev + d .value) (omega arith), lt-leb (2 ^ 63) (prev + d .value) k)
+    rw (
+      ne-eqb (d .value) 0 (λ (e : d .value ≡ 0). omega arith),
+      lt-leb (2 ^ 64) (prev + d .value) (omega arith),
+      lt-leb (2 ^ 63) (prev + d .value) k,
+    )
 
 -- and no other difference is accepted
 stored-accepted : (prev : ℕ) (d r : Reading) → storedNumber prev d ≡ accepted r
@@ -35,8 +39,11 @@ stored-accepted prev d r e =
     let none = passed (eqb (d .value) 0) _ _ e in
     let over = passed (leb (2 ^ 64) (prev + d .value)) _ _ (none .1) in
     let flag = passed (leb (2 ^ 63) (prev + d .value)) _ _ (over .1) in
-    let ne : d .value ≡ 0 → ⊥ = eqb-false (d .value) 0 (none .0) in
-    (⊎-elim (λ (p : 0 < d .value). p) (λ (q : d .value ≤ 0). absurd (ne (omega arith))) (lt-or-ge 0 (d .value)), leb-false (2 ^ 63) (prev + d .value) (flag .0), accepted-inj (flag .1))
+    let ne : d .value ≡ 0 → ⊥ = eqb-false (d .value) 0 (none .0) in (
+      ⊎-elim (λ (p : 0 < d .value). p) (λ (q : d .value ≤ 0). absurd (ne (omega arith))) (lt-or-ge 0 (d .value)),
+      leb-false (2 ^ 63) (prev + d .value) (flag .0),
+      accepted-inj (flag .1),
+    )
 
 -- What is known of the next number of a stream: it was read as a difference, is above the one before, below 2 ^ 63, and takes bytes that
 -- are there.
@@ -138,7 +145,8 @@ pub record Scanned (prev k : ℕ) (bs : List ℕ) (s : Scan) : Type 0 where
 
 pub scan-accepted : (prev k : ℕ) (bs : List ℕ) (s : Scan) → scanFrom prev k bs ≡ accepted s → Scanned prev k bs s
 unfolding scanFrom Rising streamLenFrom
-scan-accepted prev zero bs s e = rw (sym (accepted-inj e)) (record { counted = refl; rising = tt; within = omega arith; at-least = omega arith })
+scan-accepted prev zero bs s e = rw (sym (accepted-inj e))
+    (record { counted = refl; rising = tt; within = omega arith; at-least = omega arith })
 scan-accepted prev (suc k) bs s e = behind (scan-step prev k bs s e) (λ r t f. scan-accepted (r .value) k (drop (r .len) bs) t f)
   where
     behind : (w : Step prev k bs s)
@@ -148,7 +156,8 @@ scan-accepted prev (suc k) bs s e = behind (scan-step prev k bs s e) (λ r t f. 
         let n = next-accepted prev bs (w .first) (w .next) in
         let t = ih (w .first) (w .rest) (w .more) in
         let inside : w .rest .taken ≤ length bs - w .first .len = simp length-drop at (t .within) in
-        let least : ulebLen (w .first .value - prev) ≤ w .first .len = read-least bs (record { value = w .first .value - prev; len = w .first .len }) (n .read) in
+        let least : ulebLen (w .first .value - prev) ≤ w .first .len =
+        read-least bs (record { value = w .first .value - prev; len = w .first .len }) (n .read) in
         rw (w .whole) (record {
           counted = ap suc (t .counted);
           rising = (n .above, n .below, t .rising);
@@ -164,12 +173,15 @@ scan-same prev zero bs rest s e = e
 scan-same prev (suc k) bs rest s e = behind (scan-step prev k bs s e) (λ r t more f. scan-same (r .value) k (drop (r .len) bs) more t f)
   where
     behind : (w : Step prev k bs s) → ((r : Reading) (t : Scan) (more : List ℕ) → scanFrom (r .value) k (drop (r .len) bs) ≡ accepted t
-        → scanFrom (r .value) k (take (t .taken) (drop (r .len) bs) ++ more) ≡ accepted t) → scanFrom prev (suc k) (take (s .taken) bs ++ rest) ≡ accepted s
+        → scanFrom (r .value) k (take (t .taken) (drop (r .len) bs) ++ more) ≡ accepted t)
+        → scanFrom prev (suc k) (take (s .taken) bs ++ rest) ≡ accepted s
     behind w ih =
         let l = w .first .len in
         let n = next-accepted prev bs (w .first) (w .next) in
         let tail = take (w .rest .taken) (drop l bs) ++ rest in
         let split : take (s .taken) bs ++ rest ≡ take l bs ++ tail = rw (w .whole, take-add l (w .rest .taken) bs, append-assoc) in
         let after : drop l (take l bs ++ tail) ≡ tail = drop-at (take l bs) tail l (length-take-le l bs (n .len-within)) in
-        let ih-here : scanFrom (w .first .value) k (drop l (take l bs ++ tail)) ≡ accepted (w .rest) = rw after (ih (w .first) (w .rest) rest (w .more)) in
-        rw split (scan-cons prev k (take l bs ++ tail) (w .first) (w .rest) (next-same prev bs tail (w .first) (w .next)) ih-here ∙ ap accepted (sym (w .whole)))
+        let ih-here : scanFrom (w .first .value) k (drop l (take l bs ++ tail)) ≡ accepted (w .rest) =
+        rw after (ih (w .first) (w .rest) rest (w .more)) in
+        rw split (scan-cons prev k (take l bs ++ tail) (w .first) (w .rest) (next-same prev bs tail (w .first) (w .next)) ih-here
+        ∙ ap accepted (sym (w .whole)))

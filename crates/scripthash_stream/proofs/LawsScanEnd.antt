@@ -56,7 +56,8 @@ ends-parts off prev zero m bs s e = rw (sym (accepted-inj e), add-zero off, zero
 ends-parts off prev (suc k) m bs s e = behind (scan-step prev k bs s e) (λ o r t f. ends-parts o (r .value) k m (drop (r .len) bs) t f)
   where
     behind : (w : Step prev k bs s) → ((o : ℕ) (r : Reading) (t : Scan) → scanFrom (r .value) k (drop (r .len) bs) ≡ accepted t
-        → endsFrom o (r .value) (k + m) (drop (r .len) bs) ≡ endsFrom (o + t .taken) (lastFrom (r .value) (t .numbers)) m (drop (t .taken) (drop (r .len) bs)))
+        → endsFrom o (r .value) (k + m) (drop (r .len) bs)
+        ≡ endsFrom (o + t .taken) (lastFrom (r .value) (t .numbers)) m (drop (t .taken) (drop (r .len) bs)))
         → endsFrom off prev (suc k + m) bs ≡ endsFrom (off + s .taken) (lastFrom prev (s .numbers)) m (drop (s .taken) bs)
     behind w ih =
         let r = w .first in

@@ -15,7 +15,17 @@ use Rattle.error.proofs.LawsAnswer.{passed}
 use Rattle.compact.specs.Uleb128.{Reading, readUleb, ulebLen, shortest}
 use Rattle.compact.proofs.LawsLength.{length-shortest, len-at-most}
 use Rattle.compact.proofs.LawsRead.{read-shortest}
-use Rattle.scripthash_stream.specs.Stream.{Rising, lastFrom, streamFrom, streamLenFrom, judged, nextNumber, storedNumber, Scan, scanFrom}
+use Rattle.scripthash_stream.specs.Stream.{
+  Rising,
+  lastFrom,
+  streamFrom,
+  streamLenFrom,
+  judged,
+  nextNumber,
+  storedNumber,
+  Scan,
+  scanFrom,
+}
 use Rattle.scripthash_stream.proofs.LawsScan.{stored-sum, next-is, scan-cons}
 
 -- ---- lists
@@ -66,7 +76,8 @@ stream-len-append prev (m ∷ ms) ns = rw (stream-len-append m ms ns, add-assoc)
 pub stream-snoc : (prev : ℕ) (ns : List ℕ) (n : ℕ)
     → streamFrom prev (ns ++ (n ∷ [])) ≡ streamFrom prev ns ++ shortest (n - lastFrom prev ns)
 unfolding streamFrom
-stream-snoc prev ns n = stream-append prev ns (n ∷ []) ∙ ap (λ (l : List ℕ). streamFrom prev ns ++ l) (append-nil (shortest (n - lastFrom prev ns)))
+stream-snoc prev ns n = stream-append prev ns (n ∷ []) ∙ ap (λ (l : List ℕ). streamFrom prev ns ++ l)
+    (append-nil (shortest (n - lastFrom prev ns)))
 
 -- a stream reads as its list, with its length, whatever follows
 pub scan-stream : (prev : ℕ) (ns rest : List ℕ) → Rising (2 ^ 63) prev ns
@@ -79,8 +90,10 @@ scan-stream prev (n ∷ ns) rest h =
     let back : prev + d ≡ n = omega arith in
     let read : readUleb bs ≡ accepted (record { value = d; len = ulebLen d }) = read-shortest d (streamFrom n ns ++ rest) (omega arith) in
     let sum = stored-sum prev (record { value = d; len = ulebLen d }) (omega arith) (omega arith) in
-    let next : nextNumber prev bs ≡ accepted (record { value = n; len = ulebLen d }) = rw back at (next-is prev bs (record { value = d; len = ulebLen d }) read ∙ sum) in
-    let after : drop (ulebLen d) bs ≡ streamFrom n ns ++ rest = drop-at (shortest d) (streamFrom n ns ++ rest) (ulebLen d) (length-shortest d) in
+    let next : nextNumber prev bs ≡ accepted (record { value = n; len = ulebLen d }) =
+    rw back at (next-is prev bs (record { value = d; len = ulebLen d }) read ∙ sum) in
+    let after : drop (ulebLen d) bs ≡ streamFrom n ns ++ rest =
+    drop-at (shortest d) (streamFrom n ns ++ rest) (ulebLen d) (length-shortest d) in
     rw (append-assoc)
     (scan-cons prev (length ns) bs (record { value = n; len = ulebLen d }) (record { numbers = ns; taken = streamLenFrom n ns }) next
     (rw after (scan-stream n ns rest (h .2))))

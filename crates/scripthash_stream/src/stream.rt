@@ -145,7 +145,8 @@ pub fn scan_by_number(buf: &[u8], n: usize) -> ScanStream
 // Writes the n numbers of a stream to the start of out; where the stream doesn't scan, it stops at the first number that it can't read.
 fn fill_fks(buf: &[u8], n: usize, out: &mut [u64])
     requires { ⌜ n ≤ length (now out) ⌝ }
-    ensures { λ _. ⌜ ((s : Scan) → scan n (now (buf .entry)) ≡ accepted s → now (out .exit) ≡ overwrite (now (out .entry)) 0 (s .numbers)) ⌝ }
+    ensures { λ _. ⌜ ((s : Scan) → scan n (now (buf .entry)) ≡ accepted s
+        → now (out .exit) ≡ overwrite (now (out .entry)) 0 (s .numbers)) ⌝ }
 {
     let mut prev: u64 = 0;
     let mut off: usize = 0;

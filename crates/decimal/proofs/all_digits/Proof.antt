@@ -36,7 +36,8 @@ returns : tie.Need-returns Inv-loop μ-loop
 returns c =
     let l = c .before .before .before .before in
     let digit = sym (c .before .is-digit .ensures) ∙ not-true (c .before .is-digit .result) (c .if1 .taken) in
-    sym (sym (l .loop .inv .1) ∙ digits-step (l .before .before .args .word .now) (l .loop .i) (c .before .before .before .loop-test .taken) ∙ simp digit)
+    sym (sym (l .loop .inv .1) ∙ digits-step (l .before .before .args .word .now) (l .loop .i) (c .before .before .before .loop-test .taken)
+    ∙ simp digit)
 
 add-i : tie.Need-add-i Inv-loop μ-loop
 add-i c = search needs
@@ -49,7 +50,8 @@ loop-again c =
     let l = c .before .before .before .before in
     let digit = sym (c .before .is-digit .ensures) ∙ not-false (c .before .is-digit .result) (c .if1 .left) in (
       omega arith,
-      sym (digits-step (l .before .before .args .word .now) (l .loop .i) (c .before .before .before .loop-test .taken) ∙ simp digit) ∙ l .loop .inv .1,
+      sym (digits-step (l .before .before .args .word .now) (l .loop .i) (c .before .before .before .loop-test .taken) ∙ simp digit)
+          ∙ l .loop .inv .1,
     )
 
 returns-2 : tie.Need-returns-2 Inv-loop μ-loop

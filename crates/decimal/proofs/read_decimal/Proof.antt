@@ -7,7 +7,7 @@ use native.Mathlib.Omega.{arith}
 use borrow.Author.Needs.{needs}
 use borrow.Author.Tests.{not-true, not-false}
 use lib.ListN.{length}
-use Rattle.decimal.specs.Decimal.{allDigits, isNumber, valueOf, fitting, readDecimal}
+use Rattle.decimal.specs.Decimal.{allDigits, isNumber, valueOf, in64Bits, readDecimal}
 use Rattle.decimal.specs.declared.ReadDecimal.the-variants.{NotANumber}
 use Rattle.decimal.proofs.read_decimal.Statement.{statement}
 use Rattle.decimal.proofs.read_decimal.Tie as tie
@@ -20,10 +20,10 @@ empty (b ∷ bs) h = absurd (omega arith)
 
 -- what isn't empty is a number where each byte is a digit
 others : (word : List ℕ) (t : Bool) → (length word ≡ 0 → ⊥) → allDigits word ≡ t
-    → readDecimal word ≡ cond t (fitting (valueOf word)) NotANumber
+    → readDecimal word ≡ cond t (in64Bits (valueOf word)) NotANumber
 unfolding readDecimal isNumber
 others [] t h e = absurd (h refl)
-others (b ∷ bs) t h e = ap (λ (u : Bool). cond u (fitting (valueOf (b ∷ bs))) NotANumber) e
+others (b ∷ bs) t h e = ap (λ (u : Bool). cond u (in64Bits (valueOf (b ∷ bs))) NotANumber) e
 
 all-digits-requires : tie.Need-all-digits-requires
 all-digits-requires c κs = search needs

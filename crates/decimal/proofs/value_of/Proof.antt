@@ -5,7 +5,7 @@ use mathlib.Core.Path.{_≡_, refl, sym, ap, _∙_}
 use native.Mathlib.Omega.{arith}
 use borrow.Author.Needs.{needs}
 use lib.ListN.{length, drop, drop-of-length-le, getD}
-use Rattle.decimal.specs.Decimal.{valueFrom, valueOf, fitting}
+use Rattle.decimal.specs.Decimal.{valueFrom, valueOf, in64Bits}
 use Rattle.decimal.specs.declared.ReadDecimal.the-variants.{Number}
 use Rattle.decimal.proofs.LawsDecimal.{value-step, value-grows, fits, passes}
 use Rattle.decimal.proofs.value_of.Statement.{statement}
@@ -34,10 +34,13 @@ module _ (c : tie.After-digit-of Inv-loop μ-loop) where
   small = omega (arith, c .digit-of .ensures, c .before .shared-slice-known2 .given (loc .loop .i))
 
   -- the value with this digit, and those behind it
-  next : valueFrom (loc .loop .value * 10 + digit) (drop (loc .loop .i + 1) (loc .before .before .args .word .now)) ≡ valueOf (loc .before .before .args .word .now)
+  next : valueFrom (loc .loop .value * 10 + digit) (drop (loc .loop .i + 1) (loc .before .before .args .word .now))
+      ≡ valueOf (loc .before .before .args .word .now)
   next =
-      ap (λ (d : ℕ). valueFrom (loc .loop .value * 10 + d) (drop (loc .loop .i + 1) (loc .before .before .args .word .now))) (c .digit-of .ensures)
-      ∙ (sym (value-step (loc .before .before .args .word .now) (loc .loop .value) (loc .loop .i) (c .before .before .loop-test .taken)) ∙ loc .loop .inv .1)
+      ap (λ (d : ℕ). valueFrom (loc .loop .value * 10 + d) (drop (loc .loop .i + 1) (loc .before .before .args .word .now)))
+      (c .digit-of .ensures)
+      ∙ (sym (value-step (loc .before .before .args .word .now) (loc .loop .value) (loc .loop .i) (c .before .before .loop-test .taken))
+      ∙ loc .loop .inv .1)
 
 loop-holds : tie.Need-loop-holds Inv-loop μ-loop
 loop-holds c = (omega arith, refl, omega arith)

@@ -9,7 +9,8 @@ use Rattle.histories.proofs.replay_file.Reads as replay-file-reads
 
 abbrev Inv-loop : tie.InvT-loop
 Inv-loop text₀ body₀ wanted₀ words₀ k₀ text body wanted words k =
-    (length text ≡ length text₀) × (length body ≡ length body₀) × (length wanted ≡ length wanted₀) × (length words ≡ length words₀) × (k ≤ 10)
+    (length text ≡ length text₀) × (length body ≡ length body₀) × (length wanted ≡ length wanted₀) × (length words ≡ length words₀)
+    × (k ≤ 10)
 
 abbrev μ-loop : tie.MeasureT-loop
 μ-loop text₀ body₀ wanted₀ words₀ k₀ text body wanted words k = 10 - k

@@ -23,7 +23,8 @@ returns c b body e =
     let a = c .before .before .before .before .before .args in
     record {
       told = refl;
-      left = ap (λ (h : List ℕ). bookOf body h (a .state)) (c .before .before .put-head .ensures ∙ ap (λ (h : List ℕ). set h (a .key) (headWord (a .place))) (sym e));
+      left = ap (λ (h : List ℕ). bookOf body h (a .state)) (c .before .before .put-head .ensures
+          ∙ ap (λ (h : List ℕ). set h (a .key) (headWord (a .place))) (sym e));
     }
 
 pub accept-append-spec : {M : Type 1} → statement M

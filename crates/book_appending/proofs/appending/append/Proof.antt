@@ -14,7 +14,15 @@ use Rattle.book.specs.Book.{Book}
 use Rattle.book.specs.Answers.{bookOf}
 use Rattle.book.specs.Appends.{appends}
 use Rattle.book.specs.Steps.{ToAppend}
-use Rattle.book_appending.proofs.LawsAppend.{does-as, judged-yes, judged-no, append-shape, append-beyond, append-number, append-unsound}
+use Rattle.book_appending.proofs.LawsAppend.{
+  does-as,
+  judged-yes,
+  judged-no,
+  append-shape,
+  append-beyond,
+  append-number,
+  append-unsound,
+}
 use Rattle.book_appending.proofs.LawsAppend.{append-at}
 use Rattle.book_appending.proofs.appending.append.Statement.{statement}
 use Rattle.book_appending.proofs.appending.append.Tie as tie
@@ -51,7 +59,13 @@ module _ (c : tie.Else3) where
 
   -- so an append where the key stands may begin
   known : ToAppend (b from) (from .args .key) (from .args .n)
-  known = record { shape = shape-holds (b from .space) (length (b from .heads)) (shape in-shape) .0; keyed = within; above = fine .0; low = fine .1 }
+  known = record {
+    shape = shape-holds (b from .space) (length (b from .heads)) (shape in-shape) .0;
+    keyed = within;
+    above = fine .0;
+    low =
+        fine .1;
+  }
 
 shape-broken-requires : tie.Need-shape-broken-requires
 shape-broken-requires c κs = search needs
@@ -67,7 +81,8 @@ returns c =
     let t = c .before .before in
     let s = t .before .before .before .before in
     let a = s .args in
-    let d = c .refuse-append .ensures (a .body .now) (a .heads .now) (appends (b s) (a .key) (a .n)) (append-shape (b s) (a .key) (a .n) (sym (t .shape-broken .ensures) ∙ c .before .if1 .taken)) in
+    let d = c .refuse-append .ensures (a .body .now) (a .heads .now) (appends (b s) (a .key) (a .n))
+    (append-shape (b s) (a .key) (a .n) (sym (t .shape-broken .ensures) ∙ c .before .if1 .taken)) in
     (d .told, d .left)
 
 refuse-append-requires-2 : tie.Need-refuse-append-requires-2
@@ -81,7 +96,8 @@ returns-2 c =
     let e = c .before .before in
     let s = start e in
     let a = s .args in
-    let d = c .refuse-append2 .ensures (a .body .now) (a .heads .now) (appends (b s) (a .key) (a .n)) (append-beyond (b s) (a .key) (a .n) (shape e) (c .before .if2 .taken)) in
+    let d = c .refuse-append2 .ensures (a .body .now) (a .heads .now) (appends (b s) (a .key) (a .n))
+    (append-beyond (b s) (a .key) (a .n) (shape e) (c .before .if2 .taken)) in
     (d .told, d .left)
 
 judge-number-requires : tie.Need-judge-number-requires
@@ -99,8 +115,10 @@ returns-3 c =
     let e = j .before .before in
     let s = start e in
     let a = s .args in
-    let is = judged-no (offeredNumber true 0 (a .n) (accepted 0)) (j .judge-number .result) (j .judge-number .ensures) (c .before .if3 .taken) in
-    let d = c .refuse-append3 .ensures (a .body .now) (a .heads .now) (appends (b s) (a .key) (a .n)) (append-number (b s) (a .key) (a .n) (shape e) (j .before .if2 .left) 0 is) in
+    let is = judged-no (offeredNumber true 0 (a .n) (accepted 0)) (j .judge-number .result) (j .judge-number .ensures)
+    (c .before .if3 .taken) in
+    let d = c .refuse-append3 .ensures (a .body .now) (a .heads .now) (appends (b s) (a .key) (a .n))
+    (append-number (b s) (a .key) (a .n) (shape e) (j .before .if2 .left) 0 is) in
     (d .told, d .left)
 
 mul-unpack8 : tie.Need-mul-unpack8

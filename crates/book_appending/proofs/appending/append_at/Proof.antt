@@ -55,7 +55,8 @@ returns : tie.Need-returns
 returns c =
     let t = c .before .before .before .before in
     let s = t .before .before .before .before in
-    does-as (placed s (t .enum-told .given .1) ∙ at-empty (b s) (s .args .key) (s .args .n)) (c .before .before .accept-append .ensures (b s) (s .args .body .now) refl)
+    does-as (placed s (t .enum-told .given .1) ∙ at-empty (b s) (s .args .key) (s .args .n))
+    (c .before .before .accept-append .ensures (b s) (s .args .body .now) refl)
 
 same-length-2 : tie.Need-same-length-2
 same-length-2 c = search needs

@@ -12,7 +12,16 @@ use Rattle.book.specs.Book.{Book}
 use Rattle.book.specs.Answers.{bookOf}
 use Rattle.book.specs.Appends.{appendAt}
 use Rattle.book.specs.Steps.{placeAnswer}
-use Rattle.book_appending.proofs.LawsAppend.{does-as, does-from, placesFor, placed-at, placed-none, inline-low, inline-yes, inline-no}
+use Rattle.book_appending.proofs.LawsAppend.{
+  does-as,
+  does-from,
+  placesFor,
+  placed-at,
+  placed-none,
+  inline-low,
+  inline-yes,
+  inline-no,
+}
 use Rattle.book_appending.proofs.appending.append_inline.Statement.{statement}
 use Rattle.book_appending.proofs.appending.append_inline.Tie as tie
 
@@ -77,7 +86,8 @@ returns-2 c used =
     let s = start p in
     let a = s .args in
     let told = p .move-list .ensures in
-    let here = placed-at (b s .space) (after p) (placesFor (b s .space) (list p)) (told .0) (told .1) (ap placeAnswer (k .before .answer .given .1)) in
+    let here = placed-at (b s .space) (after p) (placesFor (b s .space) (list p)) (told .0) (told .1)
+    (ap placeAnswer (k .before .answer .given .1)) in
     does-as (inline-yes (b s) (a .key) (a .n) (a .entry) used (omega (arith, p .before .before .before .if1 .left)) here)
     (c .before .before .accept-append .ensures (b s) (p .move-list .last .0) refl)
 
@@ -91,7 +101,8 @@ returns-3 c used =
     let s = start p in
     let a = s .args in
     let told = p .move-list .ensures in
-    let none = placed-none (b s .space) (after p) (placesFor (b s .space) (list p)) (told .0) (told .1) (ap placeAnswer (k .before .answer2 .given .1)) in
+    let none = placed-none (b s .space) (after p) (placesFor (b s .space) (list p)) (told .0) (told .1)
+    (ap placeAnswer (k .before .answer2 .given .1)) in
     does-from (none .1)
     (c .refuse-append2 .ensures (p .move-list .last .0) (a .heads .now) (appendAt (b s) (a .key) (a .n) (Inline (a .entry) used))
     (inline-no (b s) (a .key) (a .n) (a .entry) used (omega (arith, p .before .before .before .if1 .left)) (none .0)))

@@ -12,7 +12,16 @@ use Rattle.book_keys.proofs.LawsPages.{page-inside}
 use Rattle.book.specs.Book.{Book}
 use Rattle.book.specs.Answers.{bookOf}
 use Rattle.book.specs.Appends.{appendAt}
-use Rattle.book_appending.proofs.LawsAppend.{TailTold, tail-told, tail-untold, SoundTail, tail-sound, does-as, page-unsound, page-low}
+use Rattle.book_appending.proofs.LawsAppend.{
+  TailTold,
+  tail-told,
+  tail-untold,
+  SoundTail,
+  tail-sound,
+  does-as,
+  page-unsound,
+  page-low,
+}
 use Rattle.book_appending.proofs.LawsAppend.{page-stays, page-full}
 use Rattle.book_appending.proofs.appending.append_page.Statement.{statement}
 use Rattle.book_appending.proofs.appending.append_page.Tie as tie
@@ -46,7 +55,8 @@ module _ (k : tie.After-known-told) where
   told : TailTold (b start .space) (start .args .last) taken fk first creates
   told =
       let a = start .args in
-      tail-told (a .body .now) (a .state .mark) (a .state .free) (a .last) (ended .tail-end .ensures) (ap tailAnswer (k .before .end .given .1))
+      tail-told (a .body .now) (a .state .mark) (a .state .free) (a .last) (ended .tail-end .ensures)
+      (ap tailAnswer (k .before .end .given .1))
 
   -- what is known of it then
   sound : SoundTail (b start .space) (start .args .last) (told .tail)
@@ -76,8 +86,10 @@ returns c =
     let t = c .before .before .before in
     let s = t .before .before .before .before in
     let a = s .args in
-    let is = tail-untold (a .body .now) (a .state .mark) (a .state .free) (a .last) (t .tail-end .ensures) (ap tailAnswer (c .before .enum-told .given .1)) in
-    c .refuse-append .ensures (a .body .now) (a .heads .now) (appendAt (b s) (a .key) (a .n) (Extent (a .last))) (page-unsound (b s) (a .key) (a .n) (a .last) (is .1))
+    let is = tail-untold (a .body .now) (a .state .mark) (a .state .free) (a .last) (t .tail-end .ensures)
+    (ap tailAnswer (c .before .enum-told .given .1)) in
+    c .refuse-append .ensures (a .body .now) (a .heads .now) (appendAt (b s) (a .key) (a .n) (Extent (a .last)))
+    (page-unsound (b s) (a .key) (a .n) (a .last) (is .1))
 
 refuse-append-requires-2 : tie.Need-refuse-append-requires-2
 refuse-append-requires-2 c κs = search needs
@@ -110,8 +122,11 @@ grow-chain-requires : tie.Need-grow-chain-requires
 grow-chain-requires c κs =
     let l = c .before .before .before in
     let k = l .before .before in
-    let a = start k .args in
-    (start k .pre, page-full (b (start k)) (a .key) (a .n) (a .last) (told k) (omega (arith, l .before .if1 .left)) (omega (arith, l .uleb128-len .ensures, c .before .before .if2 .taken)))
+    let a = start k .args in (
+      start k .pre,
+      page-full (b (start k)) (a .key) (a .n) (a .last) (told k) (omega (arith, l .before .if1 .left))
+          (omega (arith, l .uleb128-len .ensures, c .before .before .if2 .taken)),
+    )
 
 same-length-3 : tie.Need-same-length-3
 same-length-3 c = search needs
@@ -151,7 +166,8 @@ returns-4 c =
     let k = l .before .before in
     let a = start k .args in
     does-as
-    (page-stays (b (start k)) (a .key) (a .n) (a .last) (told k) (omega (arith, l .before .if1 .left)) (omega (arith, l .uleb128-len .ensures, g .before .before .if2 .left))
+    (page-stays (b (start k)) (a .key) (a .n) (a .last) (told k) (omega (arith, l .before .if1 .left))
+    (omega (arith, l .uleb128-len .ensures, g .before .before .if2 .left))
     (g .grow-page .last .0) (g .grow-page .ensures))
     (c .before .before .accept-append .ensures (b (start k)) (g .grow-page .last .0) refl)
 

@@ -17,7 +17,16 @@ use Rattle.book_keys.proofs.LawsSlab.{SoundSlab, slab-sound}
 use Rattle.book.specs.Book.{Book}
 use Rattle.book.specs.Answers.{bookOf}
 use Rattle.book.specs.Appends.{appendAt}
-use Rattle.book_appending.proofs.LawsAppend.{SlabTold, slab-told, slab-untold, does-as, slab-unsound, slab-low, slab-stays, slab-leaves}
+use Rattle.book_appending.proofs.LawsAppend.{
+  SlabTold,
+  slab-told,
+  slab-untold,
+  does-as,
+  slab-unsound,
+  slab-low,
+  slab-stays,
+  slab-leaves,
+}
 use Rattle.book_appending.proofs.appending.append_slab.Statement.{statement}
 use Rattle.book_appending.proofs.appending.append_slab.Tie as tie
 
@@ -67,7 +76,8 @@ module _ (t : tie.After-stays) where
   test : {holds : Bool} → t .stays .result ≡ holds
       → stays (start known .args .class) (start known .args .used + 1) (taken known + more) ≡ holds
   test e =
-      sym (t .stays .ensures ∙ ap (λ (len : ℕ). stays (start known .args .class) (start known .args .used + 1) (taken known + len)) (t .before .uleb128-len .ensures)) ∙ e
+      sym (t .stays .ensures ∙ ap (λ (len : ℕ). stays (start known .args .class) (start known .args .used + 1) (taken known + len))
+      (t .before .uleb128-len .ensures)) ∙ e
 
   -- it is above the last
   above : last known < start known .args .n
@@ -105,7 +115,8 @@ returns c =
     let t = c .before .before .before in
     let s = t .before .before .before .before in
     let a = s .args in
-    let is = slab-untold (a .body .now) (a .state .mark) (a .state .free) (a .class) (a .used) (a .off) (t .slab-end .ensures) (ap scanAnswer (c .before .enum-told .given .1)) in
+    let is = slab-untold (a .body .now) (a .state .mark) (a .state .free) (a .class) (a .used) (a .off) (t .slab-end .ensures)
+    (ap scanAnswer (c .before .enum-told .given .1)) in
     c .refuse-append .ensures (a .body .now) (a .heads .now) (appendAt (b s) (a .key) (a .n) (Slab (a .class) (a .used) (a .off)))
     (slab-unsound (b s) (a .key) (a .n) (a .class) (a .used) (a .off) (is .1))
 
@@ -138,8 +149,16 @@ add-stays-2 c =
 
 stays-requires : tie.Need-stays-requires
 stays-requires c κs =
-    let k = c .before .before in
-    (sound k .class-to-7, omega (arith, few k, c .uleb128-len .ensures, len-at-most (start k .args .n - last k) (omega (arith, start k .pre .low))))
+    let k = c .before .before in (
+      sound k .class-to-7,
+      omega (
+        arith,
+        few k,
+        c .uleb128-len .ensures,
+        len-at-most (start k .args .n - last k)
+            (omega (arith, start k .pre .low)),
+      ),
+    )
 
 slab-bytes-requires : tie.Need-slab-bytes-requires
 slab-bytes-requires c κs = search needs
@@ -174,7 +193,8 @@ returns-3 c =
     let d = g .before .before in
     let a = from d .args in
     does-as
-    (slab-stays (b (from d)) (a .key) (a .n) (a .class) (a .used) (a .off) (told (known (staying d))) (above (staying d)) (test (staying d) (d .before .if2 .taken))
+    (slab-stays (b (from d)) (a .key) (a .n) (a .class) (a .used) (a .off) (told (known (staying d))) (above (staying d))
+    (test (staying d) (d .before .if2 .taken))
     (d .slab-bytes .result) (size d) (g .grow-slab .last .0) (g .grow-slab .ensures))
     (c .before .before .accept-append .ensures (b (from d)) (g .grow-slab .last .0) refl)
 
@@ -182,8 +202,11 @@ move-slab-requires : tie.Need-move-slab-requires
 move-slab-requires c κs =
     let t = c .before .before .before in
     let s = start (known t) in
-    let a = s .args in
-    (s .pre, slab-leaves (b s) (a .key) (a .n) (a .class) (a .used) (a .off) (told (known t)) (above t) (test t (c .before .before .if2 .left)))
+    let a = s .args in (
+      s .pre,
+      slab-leaves (b s) (a .key) (a .n) (a .class) (a .used) (a .off) (told (known t)) (above t)
+          (test t (c .before .before .if2 .left)),
+    )
 
 same-length-5 : tie.Need-same-length-5
 same-length-5 c = search needs

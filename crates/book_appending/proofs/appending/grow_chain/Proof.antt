@@ -126,10 +126,12 @@ returns-2 c =
     let t = taking k in
     let a = start t .args in
     does-as
-    (chain-yes (b t) (a .key) (a .n) (a .last) (a .first) (a .creates) (start t .pre .1) (linked .link-page .last .0) (written .put-last-page .last .0) (took k)
+    (chain-yes (b t) (a .key) (a .n) (a .last) (a .first) (a .creates) (start t .pre .1) (linked .link-page .last .0)
+    (written .put-last-page .last .0) (took k)
     (linked .link-page .ensures)
     (written .put-last-page .ensures
-    ∙ ap (λ (n : ℕ). overwrite (linked .link-page .last .0) (off k) (lastPageOf (a .first) (off k) 1 n (a .n ∷ []))) (total .total-with .ensures)))
+    ∙ ap (λ (n : ℕ). overwrite (linked .link-page .last .0) (off k) (lastPageOf (a .first) (off k) 1 n (a .n ∷ [])))
+    (total .total-with .ensures)))
     (c .before .before .accept-append .ensures (b t) (written .put-last-page .last .0) refl)
 
 pub grow-chain-spec : {M : Type 1} → statement M

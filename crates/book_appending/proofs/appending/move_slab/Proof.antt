@@ -18,7 +18,16 @@ use Rattle.book.specs.Book.{Book}
 use Rattle.book.specs.Answers.{bookOf}
 use Rattle.book.specs.Appends.{appendAt}
 use Rattle.book.specs.Steps.{placeAnswer}
-use Rattle.book_appending.proofs.LawsAppend.{slab-free, does-as, does-from, placesFor, placed-at, placed-none, list-behind, rises-behind}
+use Rattle.book_appending.proofs.LawsAppend.{
+  slab-free,
+  does-as,
+  does-from,
+  placesFor,
+  placed-at,
+  placed-none,
+  list-behind,
+  rises-behind,
+}
 use Rattle.book_appending.proofs.LawsAppend.{slab-moved, slab-unmoved}
 use Rattle.book_appending.proofs.appending.move_slab.Statement.{statement}
 use Rattle.book_appending.proofs.appending.move_slab.Tie as tie
@@ -57,7 +66,8 @@ module _ (r : tie.After-slab-into) where
 
   -- what is placed is the list and the number
   list-is : list ≡ numbers ++ (start .args .n ∷ [])
-  list-is = list-behind (replicate 257 0) _ numbers (start .args .n) (start .args .used) (sound start .counted) (omega (arith, few, sound start .counted)) read-is
+  list-is = list-behind (replicate 257 0) _ numbers (start .args .n) (start .args .used) (sound start .counted)
+      (omega (arith, few, sound start .counted)) read-is
 
   -- the array stays as long
   room : length (set (r .slab-into .last .1 .1 .1 .0) (start .args .used) (start .args .n)) ≡ 257
@@ -145,7 +155,8 @@ returns c =
     let r = read p in
     let a = start r .args in
     let told = p .move-list .ensures in
-    let here = placed-at (b (start r) .space) (after p) (placesFor (b (start r) .space) (list r)) (told .0) (told .1) (ap placeAnswer (k .before .answer .given .1)) in
+    let here = placed-at (b (start r) .space) (after p) (placesFor (b (start r) .space) (list r)) (told .0) (told .1)
+    (ap placeAnswer (k .before .answer .given .1)) in
     does-as
     (slab-moved (b (start r)) (a .key) (a .n) (a .class) (a .used) (a .off) (start r .pre .1) (list r) (list-is r)
     (spaceOf (f .release-block .last .0) (f .release-block .result)) here (f .release-block .ensures))
@@ -161,9 +172,11 @@ returns-2 c =
     let r = read p in
     let a = start r .args in
     let told = p .move-list .ensures in
-    let none = placed-none (b (start r) .space) (after p) (placesFor (b (start r) .space) (list r)) (told .0) (told .1) (ap placeAnswer (k .before .answer2 .given .1)) in
+    let none = placed-none (b (start r) .space) (after p) (placesFor (b (start r) .space) (list r)) (told .0) (told .1)
+    (ap placeAnswer (k .before .answer2 .given .1)) in
     does-from (none .1)
-    (c .refuse-append .ensures (p .move-list .last .0) (a .heads .now) (appendAt (b (start r)) (a .key) (a .n) (Slab (a .class) (a .used) (a .off)))
+    (c .refuse-append .ensures (p .move-list .last .0) (a .heads .now)
+    (appendAt (b (start r)) (a .key) (a .n) (Slab (a .class) (a .used) (a .off)))
     (slab-unmoved (b (start r)) (a .key) (a .n) (a .class) (a .used) (a .off) (start r .pre .1) (list r) (list-is r) (none .0)))
 
 pub move-slab-spec : {M : Type 1} → statement M

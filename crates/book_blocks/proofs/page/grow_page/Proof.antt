@@ -51,7 +51,8 @@ returns c =
     (length-pageWith page (record { at = streamOff page + a .taken; difference = a .difference }) (a .creates)
     (length-part body (a .last) 4096 (s .pre .0)) (omega (arith, stream-off-extent page (s .pre .1), s .pre .3)))
     (c .before .before .append-last .ensures
-    ∙ ap (λ (b : List ℕ). pageWith b (record { at = streamOff b + a .taken; difference = a .difference }) (a .creates)) (lent-is body (a .last) 4096))
+    ∙ ap (λ (b : List ℕ). pageWith b (record { at = streamOff b + a .taken; difference = a .difference }) (a .creates))
+    (lent-is body (a .last) 4096))
 
 pub grow-page-spec : {M : Type 1} → statement M
 grow-page-spec =

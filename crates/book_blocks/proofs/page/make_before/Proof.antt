@@ -28,7 +28,8 @@ returns c =
     let linked = c .before .before .before .before .before .before in
     c .before .before .put-u32 .ensures
     ∙ ap (λ (b : List ℕ). overwrite b 20 (bytesOf 4 0))
-    (linked .put-u40 .ensures ∙ ap (λ (l : ℕ). overwrite (linked .before .before .before .before .args .page .now) 3 (bytesOf 5 l)) (linked .before .link-to .ensures))
+    (linked .put-u40 .ensures ∙ ap (λ (l : ℕ). overwrite (linked .before .before .before .before .args .page .now) 3 (bytesOf 5 l))
+    (linked .before .link-to .ensures))
 
 pub make-before-spec : {M : Type 1} → statement M
 make-before-spec =

@@ -26,7 +26,8 @@ returns c =
     let s = packed .before .before .before .before in
     let a = s .args in
     last-written (a .page .now) (a .fks .now) _ _ _ (a .first) (a .base) (a .extents) (a .creates) _ (s .pre .0) (s .pre .1)
-    (packed .sh-page-pack-extent-last-fks .ensures .1) (linked .before .link-to .ensures) (linked .put-u40 .ensures) (c .before .before .put-u32 .ensures)
+    (packed .sh-page-pack-extent-last-fks .ensures .1) (linked .before .link-to .ensures) (linked .put-u40 .ensures)
+    (c .before .before .put-u32 .ensures)
 
 pub make-last-spec : {M : Type 1} → statement M
 make-last-spec =

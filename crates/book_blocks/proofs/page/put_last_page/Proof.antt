@@ -27,7 +27,8 @@ returns : tie.Need-returns
 returns c =
     let s = c .before .before .before .before .before .before in
     let a = s .args in
-    block-back (a .body .now) (a .off) 4096 (c .before .before .make-last .last .0) (lastPageOf (a .first) (a .base) (a .extents) (a .creates) (a .fks .now))
+    block-back (a .body .now) (a .off) 4096 (c .before .before .make-last .last .0)
+    (lastPageOf (a .first) (a .base) (a .extents) (a .creates) (a .fks .now))
     (length-lastPage (a .first) (a .base) (a .extents) (a .creates) (a .fks .now) (s .pre .1 .numbers .fits))
     (c .before .before .make-last .ensures)
 

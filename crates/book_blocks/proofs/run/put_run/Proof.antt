@@ -39,7 +39,8 @@ module _ (c : tie.In-loop Inv-loop μ-loop) where
   abbrev to : ℕ
   to = getD (getD (start .args .ranges .now) (c .before .loop .k) []) 1 0
 
-  turn : RunTurn fks (take (start .args .count) (start .args .ranges .now)) (c .before .loop .k) from to (drop (c .before .loop .k) (cutting fks))
+  turn : RunTurn fks (take (start .args .count) (start .args .ranges .now)) (c .before .loop .k) from to
+      (drop (c .before .loop .k) (cutting fks))
   turn =
       let l = c .before .loop in
       let few : 1 < length (drop (l .k) (cutting fks)) = simp length-drop (omega (arith, start .pre .parts)) in
@@ -61,7 +62,8 @@ module _ (c : tie.After-loop Inv-loop μ-loop) where
   ends : RunEnd (entry .args .fks .now) (c .before .loop .from) (drop (c .before .loop .k) (cutting (entry .args .fks .now)))
   ends =
       let l = c .before .loop in
-      let one : length (drop (l .k) (cutting (entry .args .fks .now))) ≡ 1 = simp length-drop (omega (arith, entry .pre .parts, l .inv .0)) in
+      let one : length (drop (l .k) (cutting (entry .args .fks .now))) ≡ 1 =
+      simp length-drop (omega (arith, entry .pre .parts, l .inv .0)) in
       run-end (entry .args .fks .now) (take (entry .args .count) (entry .args .ranges .now)) (l .k) (l .from) _ one (l .inv .3)
 
   -- what is left is lent whole
@@ -143,7 +145,8 @@ loop-again c =
       ap length (put .ensures) ∙ length-overwrite (l .body) (l .off) page (omega (arith, long, room d)) ∙ l .inv .1,
       omega (arith, l .inv .2),
       rw behind at (t .left),
-      ap (λ (b : List ℕ). writeRun (a .start) (a .count) (length (fks d)) b (l .off + pageSize) (drop (l .k + 1) (cutting (fks d)))) (put .ensures)
+      ap (λ (b : List ℕ). writeRun (a .start) (a .count) (length (fks d)) b (l .off + pageSize) (drop (l .k + 1) (cutting (fks d))))
+          (put .ensures)
           ∙ ap (writeRun (a .start) (a .count) (length (fks d)) (overwrite (l .body) (l .off) page) (l .off + pageSize)) (sym behind)
           ∙ sym (t .writes (a .start) (a .count) (length (fks d)) (l .body) (l .off)) ∙ l .inv .4,
     )

@@ -43,7 +43,8 @@ module _ (c : tie.After-walked) where
   abbrev end : Walked
   end = record { length = c .walked .given .0 .0; pages = c .walked .given .0 .1 .0 }
 
-  chain : (w : Chain) × (soundly (walk (s told .mark / pageSize) (s told) (last told) 0 (head told .first)) ≡ accepted w) × (walkedFrom 0 0 w ≡ end)
+  chain : (w : Chain) × (soundly (walk (s told .mark / pageSize) (s told) (last told) 0 (head told .first)) ≡ accepted w)
+      × (walkedFrom 0 0 w ≡ end)
   chain = was-accepted (walkedFrom 0 0) _ (sym (c .before .before .walk-pages .ensures) ∙ ap walkAnswer (c .walked .given .1))
 
   walks : walk (s told .mark / pageSize) (s told) (last told) 0 (head told .first) ≡ accepted (chain .0)
@@ -101,7 +102,8 @@ returns-4 c =
     let w = c .before .before .before in
     let d = told w in
     let k = chain w .0 in
-    ap (λ (f : ℕ). accepted (record { first = f; length = end w .length; pages = end w .pages })) (sym (walk-first _ (s d) (last d) 0 (head d .first) k (walks w)))
+    ap (λ (f : ℕ). accepted (record { first = f; length = end w .length; pages = end w .pages }))
+    (sym (walk-first _ (s d) (last d) 0 (head d .first) k (walks w)))
     ∙ ap (λ (n : ℕ). accepted (record { first = getD (k .offs) 0 0; length = n; pages = end w .pages })) (sym (length-is w))
     ∙ ap (λ (n : ℕ). accepted (record { first = getD (k .offs) 0 0; length = length (k .numbers); pages = n })) (sym (pages-is w))
     ∙ let-through chainEndOf _

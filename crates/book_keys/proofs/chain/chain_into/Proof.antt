@@ -90,7 +90,12 @@ module _ (c : tie.After-got Inv-loop μ-loop) where
   told = record { count = c .got .given .0 .0; next = c .got .given .0 .1 .0 }
 
   fits : at back + c .got .given .0 .0 ≤ length (out back)
-  fits = omega (arith, back .page-into .ensures .within told (ap sliceAnswer (c .got .given .1)), room back, turn back .before .loop .inv .1)
+  fits = omega (
+    arith,
+    back .page-into .ensures .within told (ap sliceAnswer (c .got .given .1)),
+    room back,
+    turn back .before .loop .inv .1,
+  )
 
   -- what is left of the chain that the whole walk gives begins with that page
   module _ (w : Chain) (e : walk (most back) (s back) (start back .args .last) 0 (start back .args .first) ≡ accepted w)
@@ -113,8 +118,13 @@ module _ (c : tie.After-got Inv-loop μ-loop) where
 
 loop-holds : tie.Need-loop-holds Inv-loop μ-loop
 loop-holds c =
-    let a = c .before .before .args in
-    (omega arith, zero-le, refl, λ w e h. fill-start (a .mark / 4096) (keySpace (a .body .now) (a .mark)) (a .last) (a .out .now) w (a .first) e h)
+    let a = c .before .before .args in (
+      omega arith,
+      zero-le,
+      refl,
+      λ w e h. fill-start (a .mark / 4096) (keySpace (a .body .now) (a .mark)) (a .last) (a .out .now) w
+          (a .first) e h,
+    )
 
 mul-page-into : tie.Need-mul-page-into Inv-loop μ-loop
 mul-page-into c = search needs
@@ -174,7 +184,8 @@ loop-again c =
     let d = c .before .before in
     let b = back d in
     let h = fits d in
-    let length-same : length (putBack (out b) (at b) (part b)) ≡ length (out b) = length-put (out b) (at b) (part b) (turn b .before .loop .inv .1) (size b) in (
+    let length-same : length (putBack (out b) (at b) (part b)) ≡ length (out b) =
+    length-put (out b) (at b) (part b) (turn b .before .loop .inv .1) (size b) in (
       omega arith,
       subst (λ (n : ℕ). at b + told d .count ≤ n) (sym length-same) h,
       length-same ∙ turn b .before .loop .inv .2,

@@ -19,7 +19,12 @@ counts : (c : tie.After-get-u16) → c .get-u16 .result ≡ countOf (c .before .
 counts c = c .get-u16 .ensures ∙ field-read (c .before .before .before .args .page .now) 1 2
 
 within : (c : tie.After-stream-off) → c .stream-off .result ≤ length (c .before .before .before .before .before .args .page .now)
-within c = omega (arith, c .stream-off .ensures, stream-off-within (c .before .before .before .before .before .args .page .now), c .before .before .before .before .before .pre)
+within c = omega (
+  arith,
+  c .stream-off .ensures,
+  stream-off-within (c .before .before .before .before .before .args .page .now),
+  c .before .before .before .before .before .pre,
+)
 
 get-u16-requires : tie.Need-get-u16-requires
 get-u16-requires c κs = search needs

@@ -41,7 +41,8 @@ is-page-requires c κs = search needs
 returns : tie.Need-returns
 returns c =
     let a = c .before .before .before .args in
-    sym (soundly-no _ (last-off (keySpace (a .body .now) (a .mark)) (a .last) (sym (c .before .is-page .ensures) ∙ not-true _ (c .if1 .taken))))
+    sym (soundly-no _ (last-off (keySpace (a .body .now) (a .mark)) (a .last)
+    (sym (c .before .is-page .ensures) ∙ not-true _ (c .if1 .taken))))
 
 add-read-last : tie.Need-add-read-last
 add-read-last c = let h = inside c in omega arith

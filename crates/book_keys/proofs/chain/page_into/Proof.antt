@@ -70,7 +70,8 @@ returns-2 c =
     let out = at d .args .out .now in
     let room = length out in
     let bytes = span (at d .args .body .now) (off d) pageSize pageSize refl in
-    filled-as _ out _ bytes (ap (λ (bs : List ℕ). pageEntries room bs) bytes ∙ sym (into-on room (s d) (off d) (stands d))) (c .before .before .fill-page .ensures)
+    filled-as _ out _ bytes (ap (λ (bs : List ℕ). pageEntries room bs) bytes ∙ sym (into-on room (s d) (off d) (stands d)))
+    (c .before .before .fill-page .ensures)
 
 pub page-into-spec : {M : Type 1} → statement M
 page-into-spec =

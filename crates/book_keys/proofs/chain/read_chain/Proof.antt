@@ -54,7 +54,8 @@ returns-2 : tie.Need-returns-2
 returns-2 c =
     let g = c .before .before in
     let k = held g in
-    read-short (start g .args .out .now) _ _ (inPages (k .0)) (soundly-yes _ (content-pages (s g) (start g .args .last) (k .0) (was-sound _ (k .1))))
+    read-short (start g .args .out .now) _ _ (inPages (k .0))
+    (soundly-yes _ (content-pages (s g) (start g .args .last) (k .0) (was-sound _ (k .1))))
     (omega (arith, c .if1 .taken, size g)) refl
 
 chain-into-requires : tie.Need-chain-into-requires
@@ -69,7 +70,8 @@ returns-3 c =
     let g = f .before .before in
     let k = held g in
     let fits : length (k .0 .numbers) ≤ length (start g .args .out .now) = omega (arith, f .if1 .left, size g) in
-    read-listed (start g .args .out .now) _ _ (inPages (k .0)) (soundly-yes _ (content-pages (s g) (start g .args .last) (k .0) (was-sound _ (k .1)))) _
+    read-listed (start g .args .out .now) _ _ (inPages (k .0))
+    (soundly-yes _ (content-pages (s g) (start g .args .last) (k .0) (was-sound _ (k .1)))) _
     (ap (λ (x : ChainEndOf). record { length = x .length; pages = x .pages }) (k .2)) fits
     (c .before .before .chain-into .ensures (k .0) (k .1) (sym (ap (λ (x : ChainEndOf). x .first) (k .2))) fits)
 

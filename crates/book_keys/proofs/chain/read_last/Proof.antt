@@ -68,7 +68,8 @@ returns-2 c =
     let d = c .before .before .before in
     let p = page d in
     sym (soundly-no _ (last-none p (extent d)
-    (first-untold p (d .before .before .before .pre) (sym (c .before .before .sh-page-first-off .ensures) ∙ ap offsetAnswer (c .enum-told .given .1)))))
+    (first-untold p (d .before .before .before .pre) (sym (c .before .before .sh-page-first-off .ensures)
+    ∙ ap offsetAnswer (c .enum-told .given .1)))))
 
 get-u64-requires : tie.Need-get-u64-requires
 get-u64-requires c κs = search needs

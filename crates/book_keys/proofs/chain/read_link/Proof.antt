@@ -11,7 +11,7 @@ use Rattle.error.specs.Refusal.{accepted, refused}
 use Rattle.error.proofs.LawsAnswer.{refused≢accepted, accepted-inj, was-accepted, was-refused}
 use Rattle.buffer.proofs.LawsBytes.{part-to-end}
 use Rattle.compact.specs.Uleb128.{Reading, readUleb}
-use Rattle.compact.specs.Answers.{readAnswer}
+use Rattle.compact.specs.Answers.{readUlebAnswer}
 use Rattle.scripthash_stream.specs.Stream.{Scan, lastFrom, End, endFrom}
 use Rattle.scripthash_stream.specs.Answers.{scanAnswer}
 use Rattle.scripthash_fields.specs.Page.{linkOf, isLastLink, linkOffset, streamOf}
@@ -48,7 +48,8 @@ module _ (c : tie.Else1) where
   sound : soundLast (lastFrom 0 (got (c .before) .0 .numbers)) ≡ true
   sound = last-is (c .before) ∙ not-false _ (c .if1 .left)
 
-  first : (len : ℕ) × (readUleb (streamOf (page (c .before))) ≡ accepted (record { value = getD (got (c .before) .0 .numbers) 0 0; len = len }))
+  first : (len : ℕ) × (readUleb (streamOf (page (c .before)))
+      ≡ accepted (record { value = getD (got (c .before) .0 .numbers) 0 0; len = len }))
   first = page-first (page (c .before)) (got (c .before) .0) (got (c .before) .1) (some-last (got (c .before) .0 .numbers) sound)
 
 -- its first number was read
@@ -56,7 +57,8 @@ module _ (c : tie.After-read-uleb128) where
   abbrev back : tie.Else1
   back = c .before .before .before
 
-  read : readAnswer (c .read-uleb128 .result) ≡ accepted (record { value = getD (got (back .before) .0 .numbers) 0 0; len = first back .0 })
+  read : readUlebAnswer (c .read-uleb128 .result)
+      ≡ accepted (record { value = getD (got (back .before) .0 .numbers) 0 0; len = first back .0 })
   read =
       c .read-uleb128 .ensures ∙ ap readUleb (part-to-end (page (back .before)) (c .before .before .stream-off .result))
       ∙ ap (λ (o : ℕ). readUleb (drop o (page (back .before)))) (c .before .before .stream-off .ensures) ∙ first back .1
@@ -66,7 +68,7 @@ module _ (c : tie.After-form) where
   seen = c .before .before
 
   value-is : c .form .given .0 .0 ≡ getD (got (back seen .before) .0 .numbers) 0 0
-  value-is = ap (λ (r : Reading). r .value) (accepted-inj (sym (ap readAnswer (c .form .given .1)) ∙ read seen))
+  value-is = ap (λ (r : Reading). r .value) (accepted-inj (sym (ap readUlebAnswer (c .form .given .1)) ∙ read seen))
 
 -- its link was read
 module _ (c : tie.After-sh-page-read-packed) where
@@ -76,7 +78,8 @@ module _ (c : tie.After-sh-page-read-packed) where
   abbrev start : tie.After-sound-last
   start = back (seen form) .before
 
-  link : linkAnswer (c .sh-page-read-packed .result) ≡ accepted (record { last = isLastLink (linkOf (page start)); off = linkOffset (linkOf (page start)) })
+  link : linkAnswer (c .sh-page-read-packed .result)
+      ≡ accepted (record { last = isLastLink (linkOf (page start)); off = linkOffset (linkOf (page start)) })
   link = c .sh-page-read-packed .ensures ∙ sym (read-link (page start) (at start .pre) (linkOf (page start)) refl)
 
   yes-read : linkRead (at start .args .prev) (page start) ≡ accepted (got start .0)
@@ -105,7 +108,8 @@ sound-last-requires c κs = search needs
 returns-2 : tie.Need-returns-2
 returns-2 c =
     let d = c .before in
-    turned-back (linkEndOf (page d)) _ (link-unsound (page d) (at d .args .prev) (got d .0) (got d .1) (last-is d ∙ not-true _ (c .if1 .taken)))
+    turned-back (linkEndOf (page d)) _ (link-unsound (page d) (at d .args .prev) (got d .0) (got d .1)
+    (last-is d ∙ not-true _ (c .if1 .taken)))
 
 stream-off-requires : tie.Need-stream-off-requires
 stream-off-requires c κs = search needs
@@ -132,7 +136,7 @@ enum-told-2 : tie.Need-enum-told-2
 enum-told-2 c = search needs
 
 returns-3 : tie.Need-returns-3
-returns-3 c = absurd (refused≢accepted (sym (ap readAnswer (c .enum-told2 .given .1)) ∙ read (c .before .before)))
+returns-3 c = absurd (refused≢accepted (sym (ap readUlebAnswer (c .enum-told2 .given .1)) ∙ read (c .before .before)))
 
 returns-4 : tie.Need-returns-4
 returns-4 c =
@@ -167,10 +171,18 @@ returns-6 c =
     let d = start k in
     let s = got d .0 in
     let named = accepted-inj (sym (ap linkAnswer (l .link .given .1)) ∙ link k) in
-    let counted : c .get-u16 .result ≡ length (s .numbers) = c .get-u16 .ensures ∙ field-read (page d) 1 2 ∙ sym (page-read (page d) s (got d .1) .counted) in
+    let counted : c .get-u16 .result ≡ length (s .numbers) = c .get-u16 .ensures ∙ field-read (page d) 1 2
+    ∙ sym (page-read (page d) s (got d .1) .counted) in
     ap (λ (n : ℕ). accepted (record { count = n; fk = end d .last; last = l .link .given .0 .0; next = l .link .given .0 .1 .0 })) counted
-    ∙ ap (λ (e : End). accepted (record { count = length (s .numbers); fk = e .last; last = l .link .given .0 .0; next = l .link .given .0 .1 .0 })) (sym (got d .2))
-    ∙ ap (λ (w : Link). accepted (record { count = length (s .numbers); fk = lastFrom 0 (s .numbers); last = w .last; next = w .off })) named
+    ∙ ap (λ (e : End). accepted (record {
+      count = length (s .numbers);
+      fk = e .last;
+      last = l .link .given .0 .0;
+      next =
+          l .link .given .0 .1 .0;
+    })) (sym (got d .2))
+    ∙ ap (λ (w : Link). accepted (record { count = length (s .numbers); fk = lastFrom 0 (s .numbers); last = w .last; next = w .off }))
+    named
     ∙ let-through (linkEndOf (page d)) _ (yes-read k)
 
 pub read-link-spec : {M : Type 1} → statement M

@@ -83,7 +83,8 @@ returns-3 : tie.Need-returns-3
 returns-3 c =
     let d = c .before .before in
     turned-back tailEndOf _
-    (fine d ∙ then-no (lastSound (scanned d)) _ (end-refused (scanned d) (sym (d .sh-page-stream-tail .ensures) ∙ ap scanAnswer (c .enum-told2 .given .1))))
+    (fine d ∙ then-no (lastSound (scanned d)) _
+    (end-refused (scanned d) (sym (d .sh-page-stream-tail .ensures) ∙ ap scanAnswer (c .enum-told2 .given .1))))
 
 sound-last-requires : tie.Need-sound-last-requires
 sound-last-requires c κs = search needs
@@ -93,14 +94,16 @@ returns-4 c =
     let d = c .before in
     let b = back d in
     turned-back tailEndOf _
-    (fine b ∙ then-no (lastSound (scanned b)) _ (end-unsound (scanned b) (end d) (end-is d) (sym (d .sound-last .ensures) ∙ not-true _ (c .if2 .taken))))
+    (fine b ∙ then-no (lastSound (scanned b)) _
+    (end-unsound (scanned b) (end d) (end-is d) (sym (d .sound-last .ensures) ∙ not-true _ (c .if2 .taken))))
 
 returns-5 : tie.Need-returns-5
 returns-5 c =
     let d = c .before in
     let b = back d in
     let got = end-sound (scanned b) (end d) (end-is d) (sym (d .sound-last .ensures) ∙ not-false _ (c .if2 .left)) in
-    ap (λ (e : End). accepted (record { taken = e .taken; fk = e .last; first = head (at b) .first; creates = head (at b) .creates })) (sym (got .3))
+    ap (λ (e : End). accepted (record { taken = e .taken; fk = e .last; first = head (at b) .first; creates = head (at b) .creates }))
+    (sym (got .3))
     ∙ let-through tailEndOf _ (fine b ∙ then-yes (lastSound (scanned b)) _ (got .2))
 
 pub read-tail-spec : {M : Type 1} → statement M

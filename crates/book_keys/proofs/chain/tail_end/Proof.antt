@@ -42,7 +42,8 @@ is-page-requires c κs = search needs
 returns : tie.Need-returns
 returns c =
     let a = c .before .before .before .args in
-    turned-back tailEndOf _ (tail-off (keySpace (a .body .now) (a .mark)) (a .last) (sym (c .before .is-page .ensures) ∙ not-true _ (c .if1 .taken)))
+    turned-back tailEndOf _ (tail-off (keySpace (a .body .now) (a .mark)) (a .last)
+    (sym (c .before .is-page .ensures) ∙ not-true _ (c .if1 .taken)))
 
 add-read-tail : tie.Need-add-read-tail
 add-read-tail c = let h = inside c in omega arith

@@ -22,7 +22,8 @@ use Rattle.book_keys.proofs.chain.walk_pages.Tie as tie
 abbrev Inv-loop : tie.InvT-loop
 Inv-loop body mark first last most off₀ prev₀ length₀ pages₀ off prev length pages =
     (pages ≤ most) × (length ≤ 4096 * pages)
-    × (told length pages (most - pages) (keySpace body mark) last prev off ≡ answered (walkedFrom 0 0) (soundly (walk most (keySpace body mark) last 0 first)))
+    × (told length pages (most - pages) (keySpace body mark) last prev off
+    ≡ answered (walkedFrom 0 0) (soundly (walk most (keySpace body mark) last 0 first)))
 
 abbrev μ-loop : tie.MeasureT-loop
 μ-loop body mark first last most off₀ prev₀ length₀ pages₀ off prev length pages = most - pages
@@ -65,7 +66,8 @@ module _ (c : tie.After-got Inv-loop μ-loop) where
       }
 
   page : (p : Scan) × (soundly (linkScan (s turn) (prev turn) (off turn)) ≡ accepted p) × (linkEndOf (pageAt (s turn) (off turn)) p ≡ end)
-  page = was-accepted (linkEndOf (pageAt (s turn) (off turn))) _ (sym (c .before .before .link-end .ensures) ∙ ap linkEndAnswer (c .got .given .1))
+  page = was-accepted (linkEndOf (pageAt (s turn) (off turn))) _ (sym (c .before .before .link-end .ensures)
+      ∙ ap linkEndAnswer (c .got .given .1))
 
   is : linkScan (s turn) (prev turn) (off turn) ≡ accepted (page .0)
   is = was-sound _ (page .1)
@@ -74,10 +76,12 @@ module _ (c : tie.After-got Inv-loop μ-loop) where
   count-is = ap (λ (e : LinkEndOf). e .count) (page .2)
 
   few : end .count ≤ 4096
-  few = let k = link-sound (s turn) (prev turn) (off turn) (page .0) is .read in let e = count-is in omega (arith, k .counted, k .count-fits)
+  few = let k = link-sound (s turn) (prev turn) (off turn) (page .0) is .read in let e = count-is in
+      omega (arith, k .counted, k .count-fits)
 
 loop-holds : tie.Need-loop-holds Inv-loop μ-loop
-loop-holds c = let a = c .before .args in (omega arith, omega arith, told-start (a .mark / 4096) (keySpace (a .body .now) (a .mark)) (a .last) (a .first))
+loop-holds c = let a = c .before .args in
+    (omega arith, omega arith, told-start (a .mark / 4096) (keySpace (a .body .now) (a .mark)) (a .last) (a .first))
 
 link-end-requires : tie.Need-link-end-requires Inv-loop μ-loop
 link-end-requires c κs = search needs
@@ -92,7 +96,8 @@ returns : tie.Need-returns Inv-loop μ-loop
 returns c =
     let t = c .before .before .before in
     told-refused (count t) (pages t) (most t) (s t) (at t .args .last) (prev t) (off t) (t .loop-test .taken)
-    (was-refused (linkEndOf (pageAt (s t) (off t))) _ (sym (c .before .before .link-end .ensures) ∙ ap linkEndAnswer (c .enum-told .given .1)))
+    (was-refused (linkEndOf (pageAt (s t) (off t))) _ (sym (c .before .before .link-end .ensures)
+    ∙ ap linkEndAnswer (c .enum-told .given .1)))
     ∙ t .before .loop .inv .2
 
 add-length : tie.Need-add-length Inv-loop μ-loop
@@ -106,14 +111,16 @@ returns-2 c =
     let d = c .before .before in
     let t = turn d in
     ap (λ (n : ℕ). accepted (record { length = count t + n; pages = pages t + 1 })) (sym (count-is d))
-    ∙ told-last (count t) (pages t) (most t) (s t) (at t .args .last) (prev t) (off t) (t .loop-test .taken) (page d .0) (is d) (c .if1 .taken)
+    ∙ told-last (count t) (pages t) (most t) (s t) (at t .args .last) (prev t) (off t) (t .loop-test .taken) (page d .0) (is d)
+    (c .if1 .taken)
     ∙ t .before .loop .inv .2
 
 returns-3 : tie.Need-returns-3 Inv-loop μ-loop
 returns-3 c =
     let d = c .before .before .before in
     let t = turn d in
-    told-flagged (count t) (pages t) (most t) (s t) (at t .args .last) (prev t) (off t) (t .loop-test .taken) (page d .0) (is d) (c .before .if1 .left)
+    told-flagged (count t) (pages t) (most t) (s t) (at t .args .last) (prev t) (off t) (t .loop-test .taken) (page d .0) (is d)
+    (c .before .if1 .left)
     (ap (λ (e : LinkEndOf). e .last) (page d .2) ∙ c .if2 .taken)
     ∙ t .before .loop .inv .2
 
@@ -130,14 +137,16 @@ loop-again c =
     (ap (λ (e : LinkEndOf). e .last) (page d .2) ∙ c .if2 .left) in (
       omega arith,
       let h = few d in omega arith,
-      sym (ap (λ (e : LinkEndOf). told (count t + e .count) (pages t + 1) (most t - (pages t + 1)) (s t) last (e .fk) (e .next)) (page d .2)) ∙ more ∙ t .before .loop .inv .2,
+      sym (ap (λ (e : LinkEndOf). told (count t + e .count) (pages t + 1) (most t - (pages t + 1)) (s t) last (e .fk) (e .next))
+          (page d .2)) ∙ more ∙ t .before .loop .inv .2,
     )
 
 returns-4 : tie.Need-returns-4 Inv-loop μ-loop
 returns-4 c =
     let a = c .before .before .before .args in
     let l = c .before .loop in
-    told-none (l .length) (l .pages) (a .mark / pageSize) (keySpace (a .body .now) (a .mark)) (a .last) (l .prev) (l .off) (c .loop-test .left) ∙ l .inv .2
+    told-none (l .length) (l .pages) (a .mark / pageSize) (keySpace (a .body .now) (a .mark)) (a .last) (l .prev) (l .off)
+    (c .loop-test .left) ∙ l .inv .2
 
 pub walk-pages-spec : {M : Type 1} → statement M
 walk-pages-spec =

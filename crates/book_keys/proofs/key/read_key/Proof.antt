@@ -25,7 +25,8 @@ returns : tie.Need-returns
 returns c =
     let a = c .before .before .before .before .before .args in
     read-unsound (a .out .now) _ _
-    (content-nowhere (keySpace (a .body .now) (a .mark)) (a .word) (sym (c .before .before .unpack8 .ensures) ∙ ap unpackAnswer (c .enum-told .given .1))) refl
+    (content-nowhere (keySpace (a .body .now) (a .mark)) (a .word) (sym (c .before .before .unpack8 .ensures)
+    ∙ ap unpackAnswer (c .enum-told .given .1))) refl
 
 read-place-requires : tie.Need-read-place-requires
 read-place-requires c κs = search needs
@@ -38,7 +39,8 @@ returns-2 c =
     let g = c .before .before .before .before .before in
     let a = g .before .before .before .before .before .args in
     let r = c .before .before .read-place in
-    let told = content-at (keySpace (a .body .now) (a .mark)) (a .word) (g .got .given .0 .0) (sym (g .before .before .unpack8 .ensures) ∙ ap unpackAnswer (g .got .given .1)) in
+    let told = content-at (keySpace (a .body .now) (a .mark)) (a .word) (g .got .given .0 .0) (sym (g .before .before .unpack8 .ensures)
+    ∙ ap unpackAnswer (g .got .given .1)) in
     subst (λ (x : Answer Content). KeyRead (countsAnswer (r .result)) (a .out .now) (r .last .1 .1 .1 .0) x) (sym told) (r .ensures)
 
 pub read-key-spec : {M : Type 1} → statement M

@@ -50,7 +50,8 @@ returns : tie.Need-returns
 returns c =
     let a = c .before .before .before .before .args in
     by-place (spaceOf (c .before .before .before .before)) _ (a .out .now) _ (c .enum-told .given .1)
-    (read-listed (a .out .now) _ _ _ (soundly-yes _ (content-empty (spaceOf (c .before .before .before .before)))) _ refl (omega arith) (sym (overwrite-nil (a .out .now) 0)))
+    (read-listed (a .out .now) _ _ _ (soundly-yes _ (content-empty (spaceOf (c .before .before .before .before)))) _ refl (omega arith)
+    (sym (overwrite-nil (a .out .now) 0)))
 
 same-length : tie.Need-same-length
 same-length c = search needs
@@ -58,7 +59,8 @@ same-length c = search needs
 returns-2 : tie.Need-returns-2
 returns-2 c =
     let t = c .before .before .before .before .before .before .before .before .before in
-    by-place (spaceOf t) _ (t .args .out .now) _ (c .before .before .before .before .before .place .given .1) (c .before .before .read-inline .ensures (spaceOf t) _)
+    by-place (spaceOf t) _ (t .args .out .now) _ (c .before .before .before .before .before .place .given .1)
+    (c .before .before .read-inline .ensures (spaceOf t) _)
 
 same-length-2 : tie.Need-same-length-2
 same-length-2 c = search needs
@@ -66,7 +68,8 @@ same-length-2 c = search needs
 returns-3 : tie.Need-returns-3
 returns-3 c =
     let t = c .before .before .before .before .before .before .before .before .before in
-    by-place (spaceOf t) _ (t .args .out .now) _ (c .before .before .before .before .before .place2 .given .1) (c .before .before .read-stored .ensures)
+    by-place (spaceOf t) _ (t .args .out .now) _ (c .before .before .before .before .before .place2 .given .1)
+    (c .before .before .read-stored .ensures)
 
 same-length-3 : tie.Need-same-length-3
 same-length-3 c = search needs
@@ -74,7 +77,8 @@ same-length-3 c = search needs
 returns-4 : tie.Need-returns-4
 returns-4 c =
     let t = c .before .before .before .before .before .before .before .before .before in
-    by-place (spaceOf t) _ (t .args .out .now) _ (c .before .before .before .before .before .place3 .given .1) (c .before .before .read-chain .ensures)
+    by-place (spaceOf t) _ (t .args .out .now) _ (c .before .before .before .before .before .place3 .given .1)
+    (c .before .before .read-chain .ensures)
 
 pub read-place-spec : {M : Type 1} → statement M
 read-place-spec =

@@ -90,7 +90,8 @@ sound-last-requires c κs = search needs
 returns-4 : tie.Need-returns-4
 returns-4 c =
     let d = c .before in
-    turned-back (endFrom 0) _ (is (back d) ∙ end-unsound (scanned (back d)) (end d) (end-is d) (sym (d .sound-last .ensures) ∙ not-true _ (c .if3 .taken)))
+    turned-back (endFrom 0) _ (is (back d) ∙ end-unsound (scanned (back d)) (end d) (end-is d)
+    (sym (d .sound-last .ensures) ∙ not-true _ (c .if3 .taken)))
 
 returns-5 : tie.Need-returns-5
 returns-5 c =

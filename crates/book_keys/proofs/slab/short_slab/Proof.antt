@@ -46,7 +46,8 @@ returns-3 c =
     let told = d .read-short-stream .result in
     let after = d .read-short-stream .last .1 .1 .1 .0 in
     short-slab (a .slab .now) (a .used) told (a .out .now) after (f .if1 .left) (sym (g .get-u16 .ensures) ∙ e .if2 .left) (t .pre)
-    (subst (λ (bs : List ℕ). ShortRead told (2 ^ 62) (a .out .now) after (scan (a .used) bs)) (part-to-end (a .slab .now) 2) (d .read-short-stream .ensures))
+    (subst (λ (bs : List ℕ). ShortRead told (2 ^ 62) (a .out .now) after (scan (a .used) bs)) (part-to-end (a .slab .now) 2)
+    (d .read-short-stream .ensures))
 
 pub short-slab-spec : {M : Type 1} → statement M
 short-slab-spec =

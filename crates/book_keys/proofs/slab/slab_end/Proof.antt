@@ -56,7 +56,8 @@ returns : tie.Need-returns
 returns c =
     let a = c .before .before .before .args in
     turned-back (endFrom 0) _
-    (slab-no (keySpace (a .body .now) (a .mark)) (a .class) (a .used) (a .off) (sym (c .before .slab-stands .ensures) ∙ not-true _ (c .if1 .taken)))
+    (slab-no (keySpace (a .body .now) (a .mark)) (a .class) (a .used) (a .off) (sym (c .before .slab-stands .ensures)
+    ∙ not-true _ (c .if1 .taken)))
 
 slab-bytes-requires : tie.Need-slab-bytes-requires
 slab-bytes-requires c κs = search needs
@@ -83,7 +84,8 @@ returns-2 : tie.Need-returns-2
 returns-2 c =
     let d = c .before .before in
     c .read-slab .ensures
-    ∙ ap (λ (bs : List ℕ). answered (endFrom 0) (soundly (slabRead bs (at d .args .used)))) (span (body d) (off d) (d .slab-bytes .result) (slabBytes (class d)) (size d))
+    ∙ ap (λ (bs : List ℕ). answered (endFrom 0) (soundly (slabRead bs (at d .args .used))))
+    (span (body d) (off d) (d .slab-bytes .result) (slabBytes (class d)) (size d))
     ∙ ap (λ a. answered (endFrom 0) (soundly a)) (sym (slab-yes (s d) (class d) (at d .args .used) (off d) (stands d)))
 
 pub slab-end-spec : {M : Type 1} → statement M

@@ -56,7 +56,8 @@ returns c mark used read e h =
     let a = at d .args in
     let there = slab-there (keySpace (a .body .now) mark) (a .class) used (a .off) (was-sound _ e) in
     c .before .before .fill-slab .ensures used read
-    (ap (λ (bs : List ℕ). slabRead bs used) (span (a .body .now) (a .off) (d .slab-bytes .result) (slabBytes (a .class)) (size d)) ∙ there .1) h
+    (ap (λ (bs : List ℕ). slabRead bs used) (span (a .body .now) (a .off) (d .slab-bytes .result) (slabBytes (a .class)) (size d))
+    ∙ there .1) h
 
 pub slab-into-spec : {M : Type 1} → statement M
 slab-into-spec =

@@ -16,7 +16,8 @@ use Rattle.book_keys.proofs.slab.slab_list.Statement.{statement}
 use Rattle.book_keys.proofs.slab.slab_list.Tie as tie
 
 -- a try that told that it didn't read
-kept : (d : tie.After-short-slab) → d .short-slab .result ≡ false → d .short-slab .last .1 .1 .0 ≡ d .before .before .before .before .args .out .now
+kept : (d : tie.After-short-slab) → d .short-slab .result ≡ false → d .short-slab .last .1 .1 .0
+    ≡ d .before .before .before .before .args .out .now
 kept d e =
     short-left (d .short-slab .result) (d .before .before .before .before .args .out .now) _ _ (d .short-slab .ensures) e
 
@@ -63,7 +64,8 @@ returns-3 c s class off at =
     let a = d .before .before .before .before .args in
     let got = was-accepted (endFrom 0) _ (sym (r .read-slab .ensures) ∙ ap scanAnswer (c .before .enum-told .given .1)) in
     let stays = kept d (r .before .if1 .left) in
-    slab-too-long s class (a .used) off (a .slab .now) (a .out .now) _ at (got .0) (was-sound _ (got .1)) (omega (arith, c .if2 .taken, ap length stays)) stays
+    slab-too-long s class (a .used) off (a .slab .now) (a .out .now) _ at (got .0) (was-sound _ (got .1))
+    (omega (arith, c .if2 .taken, ap length stays)) stays
 
 fill-slab-requires : tie.Need-fill-slab-requires
 fill-slab-requires c κs = search needs
@@ -84,7 +86,8 @@ returns-4 c s class off at =
     let size = slab-counted s class (a .used) off (a .slab .now) (a .out .now) (a .out .now) at (got .0) is in
     let fits : length (got .0 .numbers) ≤ length (a .out .now) = omega (arith, f .if2 .left, ap length stays, size) in
     slab-listed s class (a .used) off (a .slab .now) (a .out .now) _ at (got .0) is fits
-    (w .fill-slab .ensures (a .used) (got .0) is (omega (arith, f .if2 .left, size)) ∙ ap (λ (l : List ℕ). overwrite l 0 (got .0 .numbers)) stays)
+    (w .fill-slab .ensures (a .used) (got .0) is (omega (arith, f .if2 .left, size)) ∙ ap (λ (l : List ℕ). overwrite l 0 (got .0 .numbers))
+    stays)
 
 pub slab-list-spec : {M : Type 1} → statement M
 slab-list-spec =

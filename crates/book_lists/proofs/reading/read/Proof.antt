@@ -8,7 +8,7 @@ use Rattle.error.specs.Refusal.{Answer, answered}
 use Rattle.book_space.specs.Space.{shapeBroken}
 use Rattle.book_space.proofs.LawsShape.{shape-holds}
 use Rattle.book_keys.specs.Keys.{Content, content}
-use Rattle.book_keys.specs.Steps.{keySpace, fitting}
+use Rattle.book_keys.specs.Steps.{keySpace, inRoom}
 use Rattle.book_keys.specs.Answers.{countsAnswer}
 use Rattle.book_keys.proofs.LawsFree.{content-free}
 use Rattle.book.specs.Book.{Book, wordOf}
@@ -57,10 +57,10 @@ module _ (c : tie.After-read-key) where
   abbrev call : tie.Start
   call = at (there .before)
 
-  is : reads (book call) (call .args .key) (room call) ≡ answered (λ k. reading k (book call)) (fitting (room call) (held call))
+  is : reads (book call) (call .args .key) (room call) ≡ answered (λ k. reading k (book call)) (inRoom (room call) (held call))
   is =
       read-key (book call) (call .args .key) (room call) (whole (there .before)) (there .if2 .left)
-      ∙ ap (λ (a : Answer Content). answered (λ k. reading k (book call)) (fitting (room call) a)) (bare call)
+      ∙ ap (λ (a : Answer Content). answered (λ k. reading k (book call)) (inRoom (room call) a)) (bare call)
 
 shape-broken-requires : tie.Need-shape-broken-requires
 shape-broken-requires c κs = search needs

@@ -5,7 +5,7 @@ use native.Mathlib.Omega.{arith}
 use borrow.Author.Needs.{needs}
 use mathlib.Core.List.{List, _∷_}
 use lib.ListN.{length}
-use Rattle.decimal.specs.Words.{word, wordsFrom, takeWords}
+use Rattle.decimal.specs.Words.{wordAt, wordsFrom, takeWords}
 use Rattle.decimal.proofs.LawsWords.{words-end, words-next, taken-none, taken-word, stopped, went-on}
 use Rattle.decimal.proofs.words.numbers_into.Statement.{statement}
 use Rattle.decimal.proofs.words.numbers_into.Tie as tie
@@ -68,7 +68,7 @@ module _ (p : tie.After-put-word Inv-loop μ-loop) where
   line = here .before .before .before .args .line .now
 
   next : wordsFrom line (here .loop .at)
-      ≡ word (begun .skip-spaces .result) (ended .word-end .result) ∷ wordsFrom line (ended .word-end .result)
+      ≡ wordAt (begun .skip-spaces .result) (ended .word-end .result) ∷ wordsFrom line (ended .word-end .result)
   next =
       words-next line (here .loop .at) (begun .skip-spaces .result) (ended .word-end .result) (begun .skip-spaces .ensures)
       (omega (arith, begun .skip-spaces .ensures .inside, ended .before .if1 .left)) (ended .word-end .ensures)
@@ -90,12 +90,24 @@ enum-told c = search needs
 add-count : tie.Need-add-count Inv-loop μ-loop
 add-count c =
     let p = c .before .before .before .before in
-    omega (arith, here p .loop .inv, begun p .skip-spaces .ensures .after, ended p .word-end .ensures .after, ended p .word-end .ensures .inside)
+    omega (
+      arith,
+      here p .loop .inv,
+      begun p .skip-spaces .ensures .after,
+      ended p .word-end .ensures .after,
+      ended p .word-end .ensures .inside,
+    )
 
 loop-less : tie.Need-loop-less Inv-loop μ-loop
 loop-less c =
     let p = c .before .before .before .before in
-    omega (arith, here p .loop .inv, begun p .skip-spaces .ensures .after, ended p .word-end .ensures .after, ended p .word-end .ensures .inside)
+    omega (
+      arith,
+      here p .loop .inv,
+      begun p .skip-spaces .ensures .after,
+      ended p .word-end .ensures .after,
+      ended p .word-end .ensures .inside,
+    )
 
 loop-again : tie.Need-loop-again Inv-loop μ-loop
 loop-again c =
@@ -105,7 +117,8 @@ loop-again c =
       ended p .word-end .ensures .inside,
       omega (arith, l .loop .inv, begun p .skip-spaces .ensures .after, ended p .word-end .ensures .after),
       went-on _ _ _ _ (c .enum-told .given .1)
-          (taken-word _ (line p) (l .loop .list) _ (l .loop .count) (begun p .skip-spaces .result) (ended p .word-end .result) _ _ _ (next p)
+          (taken-word _ (line p) (l .loop .list) _ (l .loop .count) (begun p .skip-spaces .result) (ended p .word-end .result) _ _ _
+          (next p)
           (l .loop .inv .3) (p .put-word .ensures .0)),
     )
 
@@ -116,7 +129,8 @@ returns-3 : tie.Need-returns-3 Inv-loop μ-loop
 returns-3 c =
     let l = c .before in
     let a = l .before .before .before .args in
-    taken-none _ (a .line .now) (l .loop .list) (l .loop .count) _ (words-end (a .line .now) (l .loop .at) (omega (arith, c .loop-test .left)))
+    taken-none _ (a .line .now) (l .loop .list) (l .loop .count) _
+    (words-end (a .line .now) (l .loop .at) (omega (arith, c .loop-test .left)))
     (l .loop .inv .3)
 
 pub numbers-into-spec : {M : Type 1} → statement M

@@ -18,7 +18,8 @@ returns c =
     let r = c .before .before in
     let s = r .before .before .before .before .before .args in
     let e = sym (r .before .before .read-decimal .ensures) ∙ r .read .given .1 in (
-      λ more. word-full (readDecimal (s .word .now)) (s .start) (s .end) (s .list .now) (s .count) more (r .read .given .0 .0) e (c .if1 .taken),
+      λ more. word-full (readDecimal (s .word .now)) (s .start) (s .end) (s .list .now) (s .count) more (r .read .given .0 .0) e
+          (c .if1 .taken),
       refl,
     )
 
@@ -42,7 +43,8 @@ returns-2 c =
     let r = c .before .before in
     let s = r .before .before .before .before .before .args in
     let e = sym (r .before .before .read-decimal .ensures) ∙ r .read .given .1 in (
-      λ more. word-put (readDecimal (s .word .now)) (s .start) (s .end) (s .list .now) (s .count) more (r .read .given .0 .0) e (c .if1 .left),
+      λ more. word-put (readDecimal (s .word .now)) (s .start) (s .end) (s .list .now) (s .count) more (r .read .given .0 .0) e
+          (c .if1 .left),
       length-set (s .list .now) (s .count) (r .read .given .0 .0),
     )
 

@@ -22,7 +22,13 @@ shared-slice-read-if1 : tie.Need-shared-slice-read-if1 Inv-loop μ-loop
 shared-slice-read-if1 c = search needs
 
 returns : tie.Need-returns Inv-loop μ-loop
-returns c = record { after = omega arith; inside = omega arith; same = c .before .before .before .loop .inv .2; begins = λ h. c .if1 .taken }
+returns c = record {
+  after = omega arith;
+  inside = omega arith;
+  same = c .before .before .before .loop .inv .2;
+  begins =
+      λ h. c .if1 .taken;
+}
 
 add-i : tie.Need-add-i Inv-loop μ-loop
 add-i c = search needs
@@ -40,7 +46,13 @@ loop-again c =
 
 returns-2 : tie.Need-returns-2 Inv-loop μ-loop
 returns-2 c =
-    record { after = omega arith; inside = omega arith; same = c .before .loop .inv .2; begins = λ h. absurd (omega (arith, h, c .loop-test .left)) }
+    record {
+      after = omega arith;
+      inside = omega arith;
+      same = c .before .loop .inv .2;
+      begins =
+          λ h. absurd (omega (arith, h, c .loop-test .left));
+    }
 
 pub skip-spaces-spec : {M : Type 1} → statement M
 skip-spaces-spec =

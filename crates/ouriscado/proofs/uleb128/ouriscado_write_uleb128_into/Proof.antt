@@ -2,7 +2,7 @@
 use mathlib.Core.Path.{sym, _∙_, ap}
 use Rattle.error.specs.Refusal.{refusalOf}
 use Rattle.error.proofs.LawsOut.{number-accepted, told-accepted, told-refused}
-use Rattle.compact.specs.Answers.{writeAnswer}
+use Rattle.compact.specs.Answers.{writeUlebAnswer}
 use borrow.Author.Needs.{needs}
 use Rattle.ouriscado.proofs.uleb128.ouriscado_write_uleb128_into.Statement.{statement}
 use Rattle.ouriscado.proofs.uleb128.ouriscado_write_uleb128_into.Tie as tie
@@ -25,7 +25,7 @@ same-length c = search needs
 returns : tie.Need-returns
 returns c =
     let e = c .before .before .before .before .before .write-uleb128-into .ensures in
-    let no = sym (e .0) ∙ ap writeAnswer (c .before .enum-told .given .1) in
+    let no = sym (e .0) ∙ ap writeUlebAnswer (c .before .enum-told .given .1) in
     (c .refusal .ensures ∙ ap refusalOf (e .0), (e .1, told-refused (λ x. x) _ no))
 
 same-length-2 : tie.Need-same-length-2
@@ -34,7 +34,7 @@ same-length-2 c = search needs
 returns-2 : tie.Need-returns-2
 returns-2 c =
     let e = c .before .before .before .before .before .write-uleb128-into .ensures in
-    let yes = sym (e .0) ∙ ap writeAnswer (c .before .got .given .1) in
+    let yes = sym (e .0) ∙ ap writeUlebAnswer (c .before .got .given .1) in
     (number-accepted yes, (e .1, told-accepted (λ x. x) _ yes))
 
 pub ouriscado-write-uleb128-into-spec : {M : Type 1} → statement M

@@ -3,7 +3,7 @@ use mathlib.Core.Path.{sym, ap, _∙_}
 use borrow.Author.Needs.{needs}
 use lib.ListN.{drop}
 use Rattle.buffer.proofs.LawsBytes.{part-to-end}
-use Rattle.compact.specs.Answers.{readAnswer}
+use Rattle.compact.specs.Answers.{readUlebAnswer}
 use Rattle.scripthash_forms.proofs.LawsForms.{quick-form-none, quick-form}
 use Rattle.scripthash_forms.proofs.forms.any_form.Statement.{statement}
 use Rattle.scripthash_forms.proofs.forms.any_form.Tie as tie
@@ -34,7 +34,7 @@ returns-2 c =
     let told = c .before .got .given in
     let a = c .before .before .before .before .before .before .args in
     let read = rw (part-to-end (a .buf .now) (a .i)) at (c .before .before .before .read-uleb128 .ensures) in
-    quick-form (told .0 .0) (told .0 .1 .0) (drop (a .i) (a .buf .now)) (sym read ∙ ap readAnswer (told .1))
+    quick-form (told .0 .0) (told .0 .1 .0) (drop (a .i) (a .buf .now)) (sym read ∙ ap readUlebAnswer (told .1))
 
 pub any-form-spec : {M : Type 1} → statement M
 any-form-spec =

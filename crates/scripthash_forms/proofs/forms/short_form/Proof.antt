@@ -66,7 +66,8 @@ with-last-requires c κs = search needs
 returns-2 : tie.Need-returns-2
 returns-2 c =
     let a = c .before .before .before .before .before .args in
-    form-last (form-start (a .buf .now) (a .i)) (add-zero (a .i)) (omega arith) (omega arith) (c .with-last .result .value) (c .with-last .result .len) (omega arith)
+    form-last (form-start (a .buf .now) (a .i)) (add-zero (a .i)) (omega arith) (omega arith) (c .with-last .result .value)
+    (c .with-last .result .len) (omega arith)
     (omega (arith, c .with-last .ensures .0)) (c .with-last .ensures .1)
 
 with-more-requires : tie.Need-with-more-requires
@@ -84,7 +85,8 @@ with-last-requires-2 c κs = search needs
 returns-3 : tie.Need-returns-3
 returns-3 c =
     let r = c .with-last2 in
-    form-last (carried-1 (c .before .before .before)) refl (omega arith) (omega arith) (r .result .value) (r .result .len) (omega arith) (r .ensures .0) (r .ensures .1)
+    form-last (carried-1 (c .before .before .before)) refl (omega arith) (omega arith) (r .result .value) (r .result .len) (omega arith)
+    (r .ensures .0) (r .ensures .1)
 
 with-more-requires-2 : tie.Need-with-more-requires-2
 with-more-requires-2 c κs = search needs
@@ -101,7 +103,8 @@ with-last-requires-3 c κs = search needs
 returns-4 : tie.Need-returns-4
 returns-4 c =
     let r = c .with-last3 in
-    form-last (carried-2 (c .before .before .before)) refl (omega arith) (omega arith) (r .result .value) (r .result .len) (omega arith) (r .ensures .0) (r .ensures .1)
+    form-last (carried-2 (c .before .before .before)) refl (omega arith) (omega arith) (r .result .value) (r .result .len) (omega arith)
+    (r .ensures .0) (r .ensures .1)
 
 with-more-requires-3 : tie.Need-with-more-requires-3
 with-more-requires-3 c κs = search needs
@@ -118,7 +121,8 @@ with-last-requires-4 c κs = search needs
 returns-5 : tie.Need-returns-5
 returns-5 c =
     let r = c .with-last4 in
-    form-last (carried-3 (c .before .before .before)) refl (omega arith) (omega arith) (r .result .value) (r .result .len) (omega arith) (r .ensures .0) (r .ensures .1)
+    form-last (carried-3 (c .before .before .before)) refl (omega arith) (omega arith) (r .result .value) (r .result .len) (omega arith)
+    (r .ensures .0) (r .ensures .1)
 
 with-more-requires-4 : tie.Need-with-more-requires-4
 with-more-requires-4 c κs = search needs
@@ -135,7 +139,8 @@ with-last-requires-5 c κs = search needs
 returns-6 : tie.Need-returns-6
 returns-6 c =
     let r = c .with-last5 in
-    form-last (carried-4 (c .before .before .before)) refl (omega arith) (omega arith) (r .result .value) (r .result .len) (omega arith) (r .ensures .0) (r .ensures .1)
+    form-last (carried-4 (c .before .before .before)) refl (omega arith) (omega arith) (r .result .value) (r .result .len) (omega arith)
+    (r .ensures .0) (r .ensures .1)
 
 any-form-requires-2 : tie.Need-any-form-requires-2
 any-form-requires-2 c κs = search needs

@@ -39,7 +39,8 @@ module _ (c : tie.After-struct-known3 Inv-loop μ-loop) where
   got = record { value = loc .loop .sum + read .short-form .result .value; len = read .short-form .result .len }
 
   is : nextNumber (loc .loop .sum) (drop (loc .loop .i) bytes) ≡ accepted got
-  is = next-sum (loc .loop .sum) (read .short-form .result .value) (got .len) (drop (loc .loop .i) bytes) (read .short-form .ensures) (omega arith) (omega arith)
+  is = next-sum (loc .loop .sum) (read .short-form .result .value) (got .len) (drop (loc .loop .i) bytes) (read .short-form .ensures)
+      (omega arith) (omega arith)
 
   number : Next (loc .loop .sum) (drop (loc .loop .i) bytes) got
   number = next-accepted (loc .loop .sum) (drop (loc .loop .i) bytes) got is

@@ -12,7 +12,8 @@ use Rattle.scripthash_scan.proofs.ends.ends_in.Tie as tie
 
 abbrev Inv-loop : tie.InvT-loop
 Inv-loop buf from to count₀ i₀ count i =
-    (from ≤ i) × (i ≤ to) × (to ≤ length buf) × (to ≤ from + 240) × (from + count ≤ i) × (total (endAt buf) from + count ≡ total (endAt buf) i)
+    (from ≤ i) × (i ≤ to) × (to ≤ length buf) × (to ≤ from + 240) × (from + count ≤ i)
+    × (total (endAt buf) from + count ≡ total (endAt buf) i)
 
 abbrev μ-loop : tie.MeasureT-loop
 μ-loop buf from to count₀ i₀ count i = to - i

@@ -66,7 +66,8 @@ returns-4 c s e h =
     let a = q .before .before .before .before .before .before .before .args in
     let part = q .sum-forms .last .1 .1 .1 .1 .0 in
     let size : length part ≡ a .n = search needs in
-    filled-front (q .sum-forms .result .taken) (q .sum-forms .result .last) (a .n) (a .buf .now) (a .out .now) part s e (q .sum-forms .ensures) (omega (arith, c .if3 .left)) size
+    filled-front (q .sum-forms .result .taken) (q .sum-forms .result .last) (a .n) (a .buf .now) (a .out .now) part s e
+    (q .sum-forms .ensures) (omega (arith, c .if3 .left)) size
 
 pub fill-fk-delta-stream-spec : {M : Type 1} → statement M
 fill-fk-delta-stream-spec =

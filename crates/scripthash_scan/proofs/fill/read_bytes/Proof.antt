@@ -25,7 +25,8 @@ returns-2 c =
     let a = t .args in
     let told = d .sum-bytes .ensures .0 in
     short-told (a .n) (e .before .sum-of-bytes .result) (d .sum-bytes .result) (a .n) (a .top) (a .buf .now) (a .out .now) _
-    (e .before .sum-of-bytes .ensures) (t .pre .0 .some) (e .if1 .left) (t .pre .1) (omega (arith, t .pre .0 .some)) (d .sum-bytes .ensures .1)
+    (e .before .sum-of-bytes .ensures) (t .pre .0 .some) (e .if1 .left) (t .pre .1) (omega (arith, t .pre .0 .some))
+    (d .sum-bytes .ensures .1)
 
 pub read-bytes-spec : {M : Type 1} → statement M
 read-bytes-spec =

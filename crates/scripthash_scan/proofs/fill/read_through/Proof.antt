@@ -35,7 +35,8 @@ returns-3 c =
     let f = e .before .before in
     let q = f .before .before .before .before in
     let a = q .before .before .before .before .before .args in
-    short-summed (q .sum-forms .result .taken) (q .sum-forms .result .last) (a .n) (a .buf .now) _ (q .sum-forms .ensures) (omega (arith, f .if1 .left)) (omega arith)
+    short-summed (q .sum-forms .result .taken) (q .sum-forms .result .last) (a .n) (a .buf .now) _ (q .sum-forms .ensures)
+    (omega (arith, f .if1 .left)) (omega arith)
     (a .top) (a .out .now) _ (e .if2 .left) (omega arith) (c .before .before .copy-fks .ensures)
 
 pub read-through-spec : {M : Type 1} → statement M

@@ -72,7 +72,8 @@ loop-again c =
       l .inv .1,
       l .inv .2,
       l .inv .3,
-      one-more buf (l .low) (l .high) (l .k) (c .before .smaller .result) (c .larger .result) (l .inv .4) (c .before .smaller .ensures .0, c .before .smaller .ensures .1) (c .larger .ensures),
+      one-more buf (l .low) (l .high) (l .k) (c .before .smaller .result) (c .larger .result) (l .inv .4)
+          (c .before .smaller .ensures .0, c .before .smaller .ensures .1) (c .larger .ensures),
     )
 
 returns-5 : tie.Need-returns-5 Inv-loop μ-loop

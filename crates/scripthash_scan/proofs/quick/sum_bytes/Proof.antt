@@ -16,7 +16,8 @@ use Rattle.scripthash_scan.proofs.quick.sum_bytes.Tie as tie
 
 abbrev Inv-loop : tie.InvT-loop
 Inv-loop buf n out₀ sum₀ k₀ out sum k =
-    (k ≤ n) × OneByteForms buf n × (n ≤ length out₀) × (length out ≡ length out₀) × (sum ≤ 127 * k) × (drop k out ≡ drop k out₀) × Summed buf 0 0 n out sum k k
+    (k ≤ n) × OneByteForms buf n × (n ≤ length out₀) × (length out ≡ length out₀) × (sum ≤ 127 * k) × (drop k out ≡ drop k out₀)
+    × Summed buf 0 0 n out sum k k
 
 abbrev μ-loop : tie.MeasureT-loop
 μ-loop buf n out₀ sum₀ k₀ out sum k = n - k
@@ -71,7 +72,8 @@ loop-again c =
       l .inv .2,
       simp length-set (l .inv .3),
       most c,
-      drop-set-lt (l .k + 1) (l .out) (l .k) x (omega arith) ∙ sym (drop-drop 1 (l .k) (l .out)) ∙ ap (drop 1) (l .inv .5) ∙ drop-drop 1 (l .k) (a .out .now),
+      drop-set-lt (l .k + 1) (l .out) (l .k) x (omega arith) ∙ sym (drop-drop 1 (l .k) (l .out)) ∙ ap (drop 1) (l .inv .5)
+          ∙ drop-drop 1 (l .k) (a .out .now),
       summed-next (a .buf .now) 0 0 (a .n) (l .out) (l .sum) (l .k) (l .k) (l .inv .6) _ next (omega arith),
     )
 
@@ -83,10 +85,12 @@ returns c =
     let l = c .before .loop in
     let a = c .before .before .before .before .args in
     let done : l .k ≡ a .n = omega arith in
-    let sums = rw done at (summed-end (a .buf .now) 0 0 (a .n) (l .out) (l .sum) (l .k) (l .k) (l .inv .6) (sym done) (omega (arith, l .inv .1 .within)) (omega (arith, l .inv .1 .few))) in (
+    let sums = rw done at (summed-end (a .buf .now) 0 0 (a .n) (l .out) (l .sum) (l .k) (l .k) (l .inv .6) (sym done)
+    (omega (arith, l .inv .1 .within)) (omega (arith, l .inv .1 .few))) in (
       refl,
       rw (written (a .out .now) (l .out) (a .n) (omega arith) (rw done at (l .inv .5)))
-          (quick-all (a .n) (a .buf .now) (a .out .now) _ (sym (scan-at-start (a .n) (a .buf .now)) ∙ sums .numbers (omega arith) (l .inv .1 .some)) (omega arith) (l .inv .1 .some)),
+          (quick-all (a .n) (a .buf .now) (a .out .now) _ (sym (scan-at-start (a .n) (a .buf .now))
+          ∙ sums .numbers (omega arith) (l .inv .1 .some)) (omega arith) (l .inv .1 .some)),
     )
 
 pub sum-bytes-spec : {M : Type 1} → statement M

@@ -13,7 +13,8 @@ use Rattle.scripthash_scan.proofs.quick.sum_of_bytes.Statement.{stateme
 use Rattle.scripthash_scan.proofs.quick.sum_of_bytes.Tie as tie
 
 abbrev Inv-loop : tie.InvT-loop
-Inv-loop buf n sum₀ k₀ sum k = (k ≤ n) × OneByteForms buf n × (sum ≤ 127 * k) × (endsFrom k sum (n - k) (drop k buf) ≡ answered (endFrom 0) (scan n buf))
+Inv-loop buf n sum₀ k₀ sum k = (k ≤ n) × OneByteForms buf n × (sum ≤ 127 * k) × (endsFrom k sum (n - k) (drop k buf)
+    ≡ answered (endFrom 0) (scan n buf))
 
 abbrev μ-loop : tie.MeasureT-loop
 μ-loop buf n sum₀ k₀ sum k = n - k
@@ -67,4 +68,5 @@ returns c h =
     rw done at (sym (l .inv .3) ∙ ends-now (a .n) (l .k) (l .sum) (l .k) (drop (l .k) (a .buf .now)) (omega arith))
 
 pub sum-of-bytes-spec : {M : Type 1} → statement M
-sum-of-bytes-spec = tie.close (tie.spec Inv-loop μ-loop loop-holds shared-slice-read-wide wide-requires add-sum add-k loop-less loop-again returns)
+sum-of-bytes-spec = tie.close (tie.spec Inv-loop μ-loop loop-holds shared-slice-read-wide wide-requires add-sum add-k loop-less loop-again
+    returns)

@@ -7,7 +7,17 @@ use native.Mathlib.Omega.{arith}
 use borrow.Author.Needs.{needs}
 use lib.ListN.{length, getD}
 use Rattle.compact.specs.Uleb128.{goesOn}
-use Rattle.scripthash_scan.specs.Weights.{pieceIf, twoBefore, threeBefore, fourBefore, pieceAt, behindOne, behindTwo, behindThree, behindFour}
+use Rattle.scripthash_scan.specs.Weights.{
+  pieceIf,
+  twoBefore,
+  threeBefore,
+  fourBefore,
+  pieceAt,
+  behindOne,
+  behindTwo,
+  behindThree,
+  behindFour,
+}
 use Rattle.scripthash_scan.proofs.LawsTotals.{Adds, adds-start, adds-next}
 use Rattle.scripthash_scan.proofs.weigh.weigh_five.Statement.{statement}
 use Rattle.scripthash_scan.proofs.weigh.weigh_five.Tie as tie
@@ -33,7 +43,8 @@ module _ (c : tie.After-piece-behind5 Inv-loop μ-loop) where
   two = c .before .before .before .before .before .before .before .before .before .smaller .ensures .2
 
   three : goesOn (c .before .before .before .before .before .before .before .smaller2 .result) ≡ threeBefore bytes (loc .loop .i)
-  three = c .before .before .before .before .before .before .before .smaller2 .ensures .2 ∙ ap (λ (g : Bool). g && goesOn (getD bytes (loc .loop .i - 3) 0)) two
+  three = c .before .before .before .before .before .before .before .smaller2 .ensures .2
+      ∙ ap (λ (g : Bool). g && goesOn (getD bytes (loc .loop .i - 3) 0)) two
 
   four : goesOn (c .before .smaller3 .result) ≡ fourBefore bytes (loc .loop .i)
   four = c .before .smaller3 .ensures .2 ∙ ap (λ (g : Bool). g && goesOn (getD bytes (loc .loop .i - 4) 0)) three
@@ -92,19 +103,31 @@ piece-behind-requires-2 : tie.Need-piece-behind-requires-2 Inv-loop μ-loop
 piece-behind-requires-2 c κs = search needs
 
 add-a1 : tie.Need-add-a1 Inv-loop μ-loop
-add-a1 c = omega (arith, c .piece-behind2 .ensures .1, c .before .before .before .before .before .before .before .before .before .loop .inv .6 .most)
+add-a1 c = omega (
+  arith,
+  c .piece-behind2 .ensures .1,
+  c .before .before .before .before .before .before .before .before .before .loop .inv .6 .most,
+)
 
 piece-behind-requires-3 : tie.Need-piece-behind-requires-3 Inv-loop μ-loop
 piece-behind-requires-3 c κs = search needs
 
 add-a2 : tie.Need-add-a2 Inv-loop μ-loop
-add-a2 c = omega (arith, c .piece-behind3 .ensures .1, c .before .before .before .before .before .before .before .before .before .before .loop .inv .7 .most)
+add-a2 c = omega (
+  arith,
+  c .piece-behind3 .ensures .1,
+  c .before .before .before .before .before .before .before .before .before .before .loop .inv .7 .most,
+)
 
 piece-behind-requires-4 : tie.Need-piece-behind-requires-4 Inv-loop μ-loop
 piece-behind-requires-4 c κs = search needs
 
 add-a3 : tie.Need-add-a3 Inv-loop μ-loop
-add-a3 c = omega (arith, c .piece-behind4 .ensures .1, c .before .before .before .before .before .before .before .before .before .before .before .loop .inv .8 .most)
+add-a3 c = omega (
+  arith,
+  c .piece-behind4 .ensures .1,
+  c .before .before .before .before .before .before .before .before .before .before .before .loop .inv .8 .most,
+)
 
 sub-smaller-3 : tie.Need-sub-smaller-3 Inv-loop μ-loop
 sub-smaller-3 c = search needs
@@ -119,7 +142,11 @@ piece-behind-requires-5 : tie.Need-piece-behind-requires-5 Inv-loop μ-loop
 piece-behind-requires-5 c κs = search needs
 
 add-a4 : tie.Need-add-a4 Inv-loop μ-loop
-add-a4 c = omega (arith, c .piece-behind5 .ensures .1, c .before .before .before .before .before .before .before .before .before .before .before .before .before .before .loop .inv .9 .most)
+add-a4 c = omega (
+  arith,
+  c .piece-behind5 .ensures .1,
+  c .before .before .before .before .before .before .before .before .before .before .before .before .before .before .loop .inv .9 .most,
+)
 
 add-i : tie.Need-add-i Inv-loop μ-loop
 add-i c = search needs
@@ -136,10 +163,14 @@ loop-again c =
       search needs,
       l .inv .3,
       l .inv .4,
-      adds-next (l .inv .5) (c .before .before .before .before .before .before .piece-behind .ensures .0) (c .before .before .before .before .before .before .piece-behind .ensures .1),
-      adds-next (l .inv .6) (c .before .before .before .before .before .piece-behind2 .ensures .0) (c .before .before .before .before .before .piece-behind2 .ensures .1),
-      adds-next (l .inv .7) (c .before .before .before .before .piece-behind3 .ensures .0 ∙ ap behind (two c)) (c .before .before .before .before .piece-behind3 .ensures .1),
-      adds-next (l .inv .8) (c .before .before .before .piece-behind4 .ensures .0 ∙ ap behind (three c)) (c .before .before .before .piece-behind4 .ensures .1),
+      adds-next (l .inv .5) (c .before .before .before .before .before .before .piece-behind .ensures .0)
+          (c .before .before .before .before .before .before .piece-behind .ensures .1),
+      adds-next (l .inv .6) (c .before .before .before .before .before .piece-behind2 .ensures .0)
+          (c .before .before .before .before .before .piece-behind2 .ensures .1),
+      adds-next (l .inv .7) (c .before .before .before .before .piece-behind3 .ensures .0 ∙ ap behind (two c))
+          (c .before .before .before .before .piece-behind3 .ensures .1),
+      adds-next (l .inv .8) (c .before .before .before .piece-behind4 .ensures .0 ∙ ap behind (three c))
+          (c .before .before .before .piece-behind4 .ensures .1),
       adds-next (l .inv .9) (c .piece-behind5 .ensures .0 ∙ ap behind (four c)) (c .piece-behind5 .ensures .1),
     )
 
@@ -171,7 +202,13 @@ mul-result-3 : tie.Need-mul-result-3 Inv-loop μ-loop
 mul-result-3 c = omega (arith, c .summed4 .ensures .1)
 
 add-result-3 : tie.Need-add-result-3 Inv-loop μ-loop
-add-result-3 c = omega (arith, c .before .before .before .summed .ensures .1, c .before .before .summed2 .ensures .1, c .before .summed3 .ensures .1, c .summed4 .ensures .1)
+add-result-3 c = omega (
+  arith,
+  c .before .before .before .summed .ensures .1,
+  c .before .before .summed2 .ensures .1,
+  c .before .summed3 .ensures .1,
+  c .summed4 .ensures .1,
+)
 
 summed-requires-5 : tie.Need-summed-requires-5 Inv-loop μ-loop
 summed-requires-5 c κs = search needs
@@ -180,7 +217,14 @@ mul-result-4 : tie.Need-mul-result-4 Inv-loop μ-loop
 mul-result-4 c = omega (arith, c .summed5 .ensures .1)
 
 add-result-4 : tie.Need-add-result-4 Inv-loop μ-loop
-add-result-4 c = omega (arith, c .before .before .before .before .summed .ensures .1, c .before .before .before .summed2 .ensures .1, c .before .before .summed3 .ensures .1, c .before .summed4 .ensures .1, c .summed5 .ensures .1)
+add-result-4 c = omega (
+  arith,
+  c .before .before .before .before .summed .ensures .1,
+  c .before .before .before .summed2 .ensures .1,
+  c .before .before .summed3 .ensures .1,
+  c .before .summed4 .ensures .1,
+  c .summed5 .ensures .1,
+)
 
 returns : tie.Need-returns Inv-loop μ-loop
 returns c =
@@ -195,8 +239,10 @@ returns c =
     let s1 = c .before .before .before .summed2 .ensures .0 in
     let s2 = c .before .before .summed3 .ensures .0 in
     let s3 = c .before .summed4 .ensures .0 in
-    let s4 = c .summed5 .ensures .0 in
-    (omega (arith, t0, t1, t2, t3, t4, s0, s1, s2, s3, s4), omega (arith, done, s0, s1, s2, s3, s4, l .inv .5 .most, l .inv .6 .most, l .inv .7 .most, l .inv .8 .most, l .inv .9 .most))
+    let s4 = c .summed5 .ensures .0 in (
+      omega (arith, t0, t1, t2, t3, t4, s0, s1, s2, s3, s4),
+      omega (arith, done, s0, s1, s2, s3, s4, l .inv .5 .most, l .inv .6 .most, l .inv .7 .most, l .inv .8 .most, l .inv .9 .most),
+    )
 
 pub weigh-five-spec : {M : Type 1} → statement M
 weigh-five-spec =

@@ -80,7 +80,11 @@ piece-behind-requires-3 : tie.Need-piece-behind-requires-3 Inv-loop μ-loop
 piece-behind-requires-3 c κs = search needs
 
 add-a2 : tie.Need-add-a2 Inv-loop μ-loop
-add-a2 c = omega (arith, c .piece-behind3 .ensures .1, c .before .before .before .before .before .before .before .before .loop .inv .7 .most)
+add-a2 c = omega (
+  arith,
+  c .piece-behind3 .ensures .1,
+  c .before .before .before .before .before .before .before .before .loop .inv .7 .most,
+)
 
 add-i : tie.Need-add-i Inv-loop μ-loop
 add-i c = search needs
@@ -97,7 +101,8 @@ loop-again c =
       search needs,
       l .inv .3,
       l .inv .4,
-      adds-next (l .inv .5) (c .before .before .before .before .piece-behind .ensures .0) (c .before .before .before .before .piece-behind .ensures .1),
+      adds-next (l .inv .5) (c .before .before .before .before .piece-behind .ensures .0)
+          (c .before .before .before .before .piece-behind .ensures .1),
       adds-next (l .inv .6) (c .before .before .before .piece-behind2 .ensures .0) (c .before .before .before .piece-behind2 .ensures .1),
       adds-next (l .inv .7) (c .piece-behind3 .ensures .0 ∙ ap behind (two c)) (c .piece-behind3 .ensures .1),
     )

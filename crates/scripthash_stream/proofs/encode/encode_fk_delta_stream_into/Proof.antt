@@ -9,7 +9,14 @@ use Rattle.error.specs.Refusal.{accepted, refused}
 use Rattle.error.proofs.LawsAnswer.{accepted-inj}
 use Rattle.scripthash_stream.specs.Stream.{Rising, streamLen, judged, encodeStream}
 use Rattle.scripthash_stream.specs.Answers.{bytesAnswer}
-use Rattle.scripthash_stream.proofs.LawsEncode.{judged-accepted, encode-refused, encode-fits, encode-short, after-encode-no, after-encode-yes}
+use Rattle.scripthash_stream.proofs.LawsEncode.{
+  judged-accepted,
+  encode-refused,
+  encode-fits,
+  encode-short,
+  after-encode-no,
+  after-encode-yes,
+}
 use Rattle.scripthash_stream.proofs.encode.encode_fk_delta_stream_into.Statement.{statement}
 use Rattle.scripthash_stream.proofs.encode.encode_fk_delta_stream_into.Tie as tie
 
@@ -66,8 +73,11 @@ returns-3 : tie.Need-returns-3
 returns-3 c =
     let d = c .before .before .before .before .before in
     let out = args d .args .out .now in
-    let answer = encode-fits (length out) (fks d) (rises d) (omega (arith, long d)) in
-    (ap accepted (sym (long d)) ∙ sym answer, c .before .before .put-fks .ensures ∙ sym (after-encode-yes out (fks d) (encodeStream (length out) (fks d)) answer))
+    let answer = encode-fits (length out) (fks d) (rises d) (omega (arith, long d)) in (
+      ap accepted (sym (long d)) ∙ sym answer,
+      c .before .before .put-fks .ensures
+          ∙ sym (after-encode-yes out (fks d) (encodeStream (length out) (fks d)) answer),
+    )
 
 pub encode-fk-delta-stream-into-spec : {M : Type 1} → statement M
 encode-fk-delta-stream-into-spec =

@@ -13,7 +13,14 @@ use Rattle.compact.proofs.LawsLength.{len-at-most}
 use Rattle.scripthash_stream.specs.Stream.{Rising, streamLen, judged}
 use Rattle.scripthash_stream.specs.Answers.{bytesAnswer}
 use Rattle.scripthash_stream.proofs.LawsStream.{front}
-use Rattle.scripthash_stream.proofs.LawsEncode.{measuredFrom, measured-start, measured-end, measured-more, measured-refused, judged-accepted}
+use Rattle.scripthash_stream.proofs.LawsEncode.{
+  measuredFrom,
+  measured-start,
+  measured-end,
+  measured-more,
+  measured-refused,
+  judged-accepted,
+}
 use Rattle.scripthash_stream.proofs.encode.measure_fks.Statement.{statement}
 use Rattle.scripthash_stream.proofs.encode.measure_fks.Tie as tie
 
@@ -75,7 +82,8 @@ returns c =
     let fks = l .before .before .args .fks .now in
     let told = c .enum-told .given in
     let stop = sym (c .before .before .offered-number .ensures) ∙ ap bytesAnswer (told .1) in
-    ap bytesAnswer (told .1) ∙ sym (measured-refused (l .loop .len) (l .loop .prev) (getD fks (l .loop .k) 0) (drop (l .loop .k + 1) fks) stop)
+    ap bytesAnswer (told .1) ∙ sym (measured-refused (l .loop .len) (l .loop .prev) (getD fks (l .loop .k) 0) (drop (l .loop .k + 1) fks)
+    stop)
     ∙ (rw (front fks (l .loop .k) (omega arith)) at (l .loop .inv .3))
 
 add-len : tie.Need-add-len Inv-loop μ-loop

@@ -24,7 +24,11 @@ returns-2 : tie.Need-returns-2
 unfolding judged refuseIf
 returns-2 c =
     let a = c .before .before .args in
-    rw (ne-eqb (a .prev) 0 (λ (e : a .prev ≡ 0). omega arith), lt-leb (2 ^ 63) (a .fk) (omega arith), le-leb (a .fk) (a .prev) (omega arith))
+    rw (
+      ne-eqb (a .prev) 0 (λ (e : a .prev ≡ 0). omega arith),
+      lt-leb (2 ^ 63) (a .fk) (omega arith),
+      le-leb (a .fk) (a .prev) (omega arith),
+    )
 
 returns-3 : tie.Need-returns-3
 unfolding judged refuseIf
@@ -42,7 +46,8 @@ returns-4 : tie.Need-returns-4
 unfolding Rising
 returns-4 c =
     let a = c .before .before .before .args in
-    ap accepted (c .uleb128-len .ensures) ∙ sym (judged-rising (a .prev) (a .fk ∷ []) (accepted (ulebLen (a .fk - a .prev))) (omega arith, omega arith, tt))
+    ap accepted (c .uleb128-len .ensures) ∙ sym (judged-rising (a .prev) (a .fk ∷ []) (accepted (ulebLen (a .fk - a .prev)))
+    (omega arith, omega arith, tt))
 
 pub offered-number-spec : {M : Type 1} → statement M
 offered-number-spec =

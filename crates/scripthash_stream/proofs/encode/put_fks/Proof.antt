@@ -18,7 +18,8 @@ use Rattle.scripthash_stream.proofs.encode.put_fks.Tie as tie
 
 abbrev Inv-loop : tie.InvT-loop
 Inv-loop out₀ fks prev₀ off₀ k₀ out prev off k =
-    (k ≤ length fks) × Rising (2 ^ 63) prev (drop k fks) × (length out ≡ length out₀) × (off + streamLenFrom prev (drop k fks) ≤ length out₀)
+    (k ≤ length fks) × Rising (2 ^ 63) prev (drop k fks) × (length out ≡ length out₀)
+    × (off + streamLenFrom prev (drop k fks) ≤ length out₀)
     × (overwrite out off (streamFrom prev (drop k fks)) ≡ overwrite out₀ 0 (stream fks))
 
 abbrev μ-loop : tie.MeasureT-loop
@@ -31,7 +32,8 @@ record Turn (fks out : List ℕ) (prev off k : ℕ) : Type 0 where
   after : Rising (2 ^ 63) (getD fks k 0) (drop (k + 1) fks)
   fits : off + ulebLen (getD fks k 0 - prev) + streamLenFrom (getD fks k 0) (drop (k + 1) fks) ≤ length out
   makes : overwrite out off (streamFrom prev (drop k fks))
-      ≡ overwrite (overwrite out off (shortest (getD fks k 0 - prev))) (off + ulebLen (getD fks k 0 - prev)) (streamFrom (getD fks k 0) (drop (k + 1) fks))
+      ≡ overwrite (overwrite out off (shortest (getD fks k 0 - prev))) (off + ulebLen (getD fks k 0 - prev))
+      (streamFrom (getD fks k 0) (drop (k + 1) fks))
 
 turn : (fks out : List ℕ) (prev off k : ℕ) → k < length fks → Rising (2 ^ 63) prev (drop k fks)
     → off + streamLenFrom prev (drop k fks) ≤ length out
@@ -46,7 +48,8 @@ turn fks out prev off k h rises fits =
       room = omega arith;
       after = r .2;
       fits = omega arith;
-      makes = rw (first, ← (length-shortest (getD fks k 0 - prev))) (sym (overwrite-adjoin out off (shortest (getD fks k 0 - prev)) (streamFrom (getD fks k 0) (drop (k + 1) fks)) (omega arith)));
+      makes = rw (first, ← (length-shortest (getD fks k 0 - prev)))
+          (sym (overwrite-adjoin out off (shortest (getD fks k 0 - prev)) (streamFrom (getD fks k 0) (drop (k + 1) fks)) (omega arith)));
     }
 
 -- the next number in a turn of the loop
@@ -95,7 +98,8 @@ loop-again c =
       same ∙ l .inv .2,
       omega (arith, t .fits, f .ensures .0),
       ap (λ (o : ℕ). overwrite (f .last .0) (l .off + o) (streamFrom fk rest)) (f .ensures .0)
-          ∙ ap (λ (d : List ℕ). overwrite d (l .off + ulebLen (fk - l .prev)) (streamFrom fk rest)) (f .ensures .1) ∙ sym (t .makes) ∙ l .inv .4,
+          ∙ ap (λ (d : List ℕ). overwrite d (l .off + ulebLen (fk - l .prev)) (streamFrom fk rest)) (f .ensures .1) ∙ sym (t .makes)
+          ∙ l .inv .4,
     )
 
 same-length : tie.Need-same-length Inv-loop μ-loop

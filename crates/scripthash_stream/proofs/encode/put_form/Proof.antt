@@ -30,7 +30,8 @@ module _ (at : tie.Start) where
 
   -- the whole with the form in that part
   written : {part : List ℕ} → part ≡ overwrite lent 0 (shortest (at .args .d))
-      → take (at .args .off) bytes ++ (part ++ drop room (drop (at .args .off) bytes)) ≡ overwrite bytes (at .args .off) (shortest (at .args .d))
+      → take (at .args .off) bytes ++ (part ++ drop room (drop (at .args .off) bytes))
+      ≡ overwrite bytes (at .args .off) (shortest (at .args .d))
   written e =
       let h = at .pre in
       let long = length-shortest (at .args .d) in
@@ -50,8 +51,11 @@ same-length c = search needs
 returns : tie.Need-returns
 returns c =
     let a = c .before .before .args in
-    let one = len-small (a .d) (omega arith) in
-    (sym one, sym (ap (overwrite (a .out .now) (a .off)) (shortest-small (a .d) (omega arith)) ∙ overwrite-one (a .out .now) (a .off) (a .d) (omega arith)))
+    let one = len-small (a .d) (omega arith) in (
+      sym one,
+      sym (ap (overwrite (a .out .now) (a .off)) (shortest-small (a .d) (omega arith)) ∙ overwrite-one (a .out .now) (a .off) (a .d)
+          (omega arith)),
+    )
 
 cast-out-2 : tie.Need-cast-out-2
 cast-out-2 c = search needs

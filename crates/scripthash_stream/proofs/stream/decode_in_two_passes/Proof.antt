@@ -18,8 +18,10 @@ module _ (c : tie.After-known-told) where
   abbrev args : tie.Start
   args = c .before .before .before .before .before .before
 
-  found : (s : Scan) × (scan (args .args .n) (args .args .buf .now) ≡ accepted s) × (endFrom 0 s ≡ record { taken = c .before .got .given .0 .0; last = c .before .got .given .0 .1 .0 })
-  found = was-accepted (endFrom 0) (scan (args .args .n) (args .args .buf .now)) (sym (c .before .before .before .scan-by-number .ensures) ∙ ap scanAnswer (c .before .got .given .1))
+  found : (s : Scan) × (scan (args .args .n) (args .args .buf .now) ≡ accepted s)
+      × (endFrom 0 s ≡ record { taken = c .before .got .given .0 .0; last = c .before .got .given .0 .1 .0 })
+  found = was-accepted (endFrom 0) (scan (args .args .n) (args .args .buf .now)) (sym (c .before .before .before .scan-by-number .ensures)
+      ∙ ap scanAnswer (c .before .got .given .1))
 
 scan-by-number-requires : tie.Need-scan-by-number-requires
 scan-by-number-requires c κs = search needs
@@ -37,9 +39,11 @@ returns : tie.Need-returns
 returns c =
     let told = c .before .enum-told .given in
     let a = c .before .before .before .before .before .before .args in
-    let stop = was-refused (endFrom 0) (scan (a .n) (a .buf .now)) (sym (c .before .before .before .scan-by-number .ensures) ∙ ap scanAnswer (told .1)) in
+    let stop = was-refused (endFrom 0) (scan (a .n) (a .buf .now)) (sym (c .before .before .before .scan-by-number .ensures)
+    ∙ ap scanAnswer (told .1)) in
     let answer = decode-refused (length (a .out .now)) (a .n) (a .buf .now) stop in (
-      ap refused (c .refusal .ensures ∙ ap (λ (g : ScanStream). refusalOf (scanAnswer g)) (told .1)) ∙ sym (answered-no (λ s. s .taken) _ answer),
+      ap refused (c .refusal .ensures ∙ ap (λ (g : ScanStream). refusalOf (scanAnswer g)) (told .1))
+          ∙ sym (answered-no (λ s. s .taken) _ answer),
       sym (after-refused (a .out .now) _ answer),
     )
 

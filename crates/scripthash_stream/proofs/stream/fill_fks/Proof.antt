@@ -108,7 +108,8 @@ returns c s e =
     let l = c .before .before .before .before in
     let a = l .before .before .before .args in
     let stop = sym (c .before .before .next-fk .ensures) ∙ ap nextAnswer (c .enum-told .given .1) in
-    absurd (left-read (a .buf .now) (a .n) (a .out .now) (l .loop .out) (l .loop .prev) (l .loop .off) (l .loop .k) s (omega arith) (l .loop .inv .5 s e) stop)
+    absurd (left-read (a .buf .now) (a .n) (a .out .now) (l .loop .out) (l .loop .prev) (l .loop .off) (l .loop .k) s (omega arith)
+    (l .loop .inv .5 s e) stop)
 
 mul-out : tie.Need-mul-out Inv-loop μ-loop
 mul-out c = search needs
@@ -134,7 +135,8 @@ loop-again c =
       simp length-set (l .inv .2),
       inside c,
       number c .below,
-      λ s e. left-next (bytes c) (a .n) (a .out .now) (l .out) (l .prev) (l .off) (l .k) s (omega arith) (l .inv .5 s e) (got c) (is c) (omega arith),
+      λ s e. left-next (bytes c) (a .n) (a .out .now) (l .out) (l .prev) (l .off) (l .k) s (omega arith) (l .inv .5 s e) (got c) (is c)
+          (omega arith),
     )
 
 same-length-2 : tie.Need-same-length-2 Inv-loop μ-loop

@@ -6,7 +6,7 @@ use lib.ListN.{drop, getD}
 use Rattle.error.specs.Refusal.{accepted, refused, refusalOf}
 use Rattle.buffer.proofs.LawsBytes.{part-to-end}
 use Rattle.compact.specs.Uleb128.{readUleb}
-use Rattle.compact.specs.Answers.{readAnswer}
+use Rattle.compact.specs.Answers.{readUlebAnswer}
 use Rattle.compact.specs.declared.ReadUleb128.{ReadUleb128}
 use Rattle.compact.proofs.LawsReadFrom.{read-byte-at, read-two-at}
 use Rattle.scripthash_stream.specs.Stream.{storedNumber}
@@ -63,7 +63,8 @@ returns-2 c =
     let y = getD (a .buf .now) (a .off + 1) 0 in
     let two : readUleb (drop (a .off) (a .buf .now)) ≡ accepted (record { value = x % 128 + 128 * y; len = 2 }) =
     read-two-at (a .buf .now) (a .off) (omega arith) (omega (arith, w .wide .ensures)) (omega (arith, c .before .before .wide2 .ensures)) in
-    let same : w .wide .result % 128 + 128 * c .before .before .wide2 .result ≡ x % 128 + 128 * y = omega (arith, w .wide .ensures, c .before .before .wide2 .ensures) in
+    let same : w .wide .result % 128 + 128 * c .before .before .wide2 .result ≡ x % 128 + 128 * y =
+    omega (arith, w .wide .ensures, c .before .before .wide2 .ensures) in
     c .stored-number2 .ensures
     ∙ ap (λ (d : ℕ). storedNumber (a .prev) (record { value = d; len = 2 })) same
     ∙ sym (next-is (a .prev) (drop (a .off) (a .buf .now)) (record { value = x % 128 + 128 * y; len = 2 }) two)
@@ -94,8 +95,8 @@ returns-3 c =
     let told = c .before .enum-told .given in
     let a = c .before .before .before .before .before .before .before .args in
     let read = rw (part-to-end (a .buf .now) (a .off)) at (c .before .before .before .read-uleb128 .ensures) in
-    ap refused (c .refusal .ensures ∙ ap (λ (g : ReadUleb128). refusalOf (readAnswer g)) (told .1))
-    ∙ sym (next-refused (a .prev) (drop (a .off) (a .buf .now)) (sym read ∙ ap readAnswer (told .1)))
+    ap refused (c .refusal .ensures ∙ ap (λ (g : ReadUleb128). refusalOf (readUlebAnswer g)) (told .1))
+    ∙ sym (next-refused (a .prev) (drop (a .off) (a .buf .now)) (sym read ∙ ap readUlebAnswer (told .1)))
 
 stored-number-requires-3 : tie.Need-stored-number-requires-3
 stored-number-requires-3 c κs = search needs
@@ -106,7 +107,8 @@ returns-4 c =
     let a = c .before .before .before .before .before .before .before .before .args in
     let read = rw (part-to-end (a .buf .now) (a .off)) at (c .before .before .before .before .read-uleb128 .ensures) in
     c .stored-number3 .ensures
-    ∙ sym (next-is (a .prev) (drop (a .off) (a .buf .now)) (record { value = told .0 .0; len = told .0 .1 .0 }) (sym read ∙ ap readAnswer (told .1)))
+    ∙ sym (next-is (a .prev) (drop (a .off) (a .buf .now)) (record { value = told .0 .0; len = told .0 .1 .0 })
+    (sym read ∙ ap readUlebAnswer (told .1)))
 
 pub next-fk-spec : {M : Type 1} → statement M
 next-fk-spec =

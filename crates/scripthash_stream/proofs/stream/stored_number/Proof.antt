@@ -36,7 +36,11 @@ returns-4 : tie.Need-returns-4
 unfolding storedNumber refuseIf
 returns-4 c =
     let a = c .before .before .before .args in
-    rw (ne-eqb (a .d) 0 (λ (e : a .d ≡ 0). omega arith), lt-leb (2 ^ 64) (a .prev + a .d) (omega arith), le-leb (2 ^ 63) (a .prev + a .d) (omega arith))
+    rw (
+      ne-eqb (a .d) 0 (λ (e : a .d ≡ 0). omega arith),
+      lt-leb (2 ^ 64) (a .prev + a .d) (omega arith),
+      le-leb (2 ^ 63) (a .prev + a .d) (omega arith),
+    )
 
 add-t6 : tie.Need-add-t6
 add-t6 c = search needs
