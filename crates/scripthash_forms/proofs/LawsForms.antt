@@ -2,8 +2,8 @@
 use Prim.Native.Nat.{ℕ, _+_, _-_, _*_, _%_, _^_, _≤_, _<_}
 use mathlib.Core.Bool.{false}
 use mathlib.Core.List.{List}
-use mathlib.Core.Path.{_≡_, sym, ap, _∙_}
-use native.Mathlib.Nat.{not-suc-le-zero}
+use mathlib.Core.Path.{_≡_, refl, sym, ap, _∙_, subst}
+use native.Mathlib.Nat.{not-suc-le-zero, add-zero}
 use native.Mathlib.Omega.{arith}
 use borrow.Author.Tests.{le-ltb, ne-eqb}
 use lib.ListN.{length, drop, getD, length-drop}
@@ -11,7 +11,7 @@ use lib.Seq.{getD-drop}
 use Rattle.error.specs.Refusal.{accepted}
 use Rattle.compact.specs.Uleb128.{piece, passes, readUleb}
 use Rattle.compact.proofs.LawsReadFrom.{readFrom, from-start, at-last, at-more}
-use Rattle.scripthash_forms.specs.Quick.{QuickForm}
+use Rattle.scripthash_forms.specs.Quick.{ThreeGoOn, QuickForm}
 
 -- a form of which nothing is told
 pub quick-form-none : (len : ℕ) (bs : List ℕ) → QuickForm 0 len bs
@@ -64,3 +64,30 @@ module _ {buf : List ℕ} {off j acc place : ℕ} (m : Carried buf off j acc) (i
         quick-form value len (drop off buf)
         (sym (m .reads) ∙ (rw (here, piece, ← e, ← l)
         at (at-last (drop off buf) j acc inside (stays (getD (drop off buf) j 0)) (rw here g))))
+
+-- the piece of a byte that goes on is what it has above 128
+piece-on : (b : ℕ) → 128 ≤ b → b < 256 → b % 128 ≡ b - 128
+piece-on b g t = omega arith
+
+-- three bytes that were read, each of which goes on
+pub three-read : (buf : List ℕ) (off v0 v1 v2 : ℕ) → off + 3 ≤ length buf
+    → (128 ≤ getD buf off 0) × (getD buf off 0 < 256) × (v0 ≡ 0 + (getD buf off 0 - 128) * 1)
+    → (128 ≤ getD buf (off + 1) 0) × (getD buf (off + 1) 0 < 256) × (v1 ≡ v0 + (getD buf (off + 1) 0 - 128) * 128)
+    → (128 ≤ getD buf (off + 2) 0) × (getD buf (off + 2) 0 < 256) × (v2 ≡ v1 + (getD buf (off + 2) 0 - 128) * 16384)
+    → ThreeGoOn buf off v2
+three-read buf off v0 v1 v2 l (a, p, e) (b, q, f) (c, r, g) = record {
+  within = l;
+  first = a;
+  second = b;
+  third = c;
+  carries = rw (piece-on _ a p, piece-on _ b q, piece-on _ c r) (omega (arith, e, f, g));
+}
+
+-- three bytes that go on carry what their pieces add up to
+pub three-carried : {buf : List ℕ} {off value : ℕ} → ThreeGoOn buf off value → Carried buf off 3 value
+three-carried {buf} {off} {value} t =
+    let within = t .within in
+    let one = form-on (form-start buf off) (add-zero off) (omega arith) (omega arith) (t .first) in
+    let two = form-on one refl (omega arith) (omega arith) (t .second) in
+    let three = form-on two refl (omega arith) (omega arith) (t .third) in
+    subst (λ (v : ℕ). Carried buf off 3 v) (omega (arith, t .carries)) three

@@ -1,12 +1,12 @@
 -- What the steps of reading a stream quickly promise each other: no answer of a public function is defined here.
-use Prim.Native.Nat.{ℕ, _+_, _^_, _≤_, _<_}
+use Prim.Native.Nat.{ℕ, _+_, _*_, _^_, _≤_, _<_}
 use mathlib.Core.List.{List}
 use mathlib.Core.Logic.{_⊎_}
 use mathlib.Core.Path.{_≡_}
 use lib.ListN.{length, getD, take, drop}
 use Rattle.error.specs.Refusal.{Answer, accepted, answered}
 use Rattle.buffer.specs.Bytes.{overwrite}
-use Rattle.compact.specs.Uleb128.{readUleb}
+use Rattle.compact.specs.Uleb128.{piece, readUleb}
 use Rattle.scripthash_stream.specs.Stream.{maxOffered, lastFrom, Scan, scanFrom, End, endsFrom, afterDecode}
 
 -- The first n bytes, of some but no more than are ever offered, are forms of one byte each, and none is 0.
@@ -15,6 +15,14 @@ pub record OneByteForms (bs : List ℕ) (n : ℕ) : Type 0 where
   pub few : n ≤ maxOffered
   pub within : n ≤ length bs
   pub each : (i : ℕ) → i < n → (0 < getD bs i 0) × (getD bs i 0 < 128)
+
+-- The first three bytes of the form at an offset go on, and their pieces add up to a value.
+pub record ThreeGoOn (bs : List ℕ) (off value : ℕ) : Type 0 where
+  pub within : off + 3 ≤ length bs
+  pub first : 128 ≤ getD bs off 0
+  pub second : 128 ≤ getD bs (off + 1) 0
+  pub third : 128 ≤ getD bs (off + 2) 0
+  pub carries : value ≡ piece (getD bs off 0) + piece (getD bs (off + 1) 0) * 128 + piece (getD bs (off + 2) 0) * 16384
 
 -- What is told of the form at the start of some bytes: nothing where its value is told as 0, else its value and the bytes that it takes.
 unfoldable pub QuickForm : ℕ → ℕ → List ℕ → Type 0

@@ -1,8 +1,8 @@
-// Forms of a stream read one by one and summed up, with short paths for forms of up to five bytes.
+// Forms of a stream read one by one and summed up, with short paths for forms of up to six bytes.
 ghost use mathlib.Core.Path.{_≡_};
 ghost use Prim.Native.Nat.{_+_, _-_, _*_, _^_, _≤_, _<_};
 ghost use lib.ListN.{length, drop, set};
-ghost use Rattle.scripthash_forms.specs.Quick.{QuickForm, QuickSum};
+ghost use Rattle.scripthash_forms.specs.Quick.{ThreeGoOn, QuickForm, QuickSum};
 use compact::ReadUleb128;
 use scripthash_stream::BIT_63;
 use scripthash_stream::wide;
@@ -33,7 +33,7 @@ fn any_form(buf: &[u8], i: usize) -> Form
 
 // The value of a form's bytes up to b, which goes on: that of the bytes before it, and its piece, which has a weight.
 fn with_more(value: u64, b: u8, weight: u64) -> u64
-    requires { ⌜ (value < weight) × (weight ≤ 2 ^ 28) × (128 ≤ b) ⌝ }
+    requires { ⌜ (value < weight) × (weight ≤ 2 ^ 35) × (128 ≤ b) ⌝ }
     ensures { λ r. ⌜ (r ≡ value + (b - 128) * weight) × (r < 128 * weight) ⌝ }
 {
     value + (wide(b) - 128) * weight
@@ -41,7 +41,7 @@ fn with_more(value: u64, b: u8, weight: u64) -> u64
 
 // The form of so many bytes whose last is b: the value of the bytes before it, and its piece, which has a weight.
 fn with_last(value: u64, b: u8, weight: u64, len: usize) -> Form
-    requires { ⌜ (value < weight) × (weight ≤ 2 ^ 28) × (b < 128) ⌝ }
+    requires { ⌜ (value < weight) × (weight ≤ 2 ^ 35) × (b < 128) ⌝ }
     ensures { λ r. ⌜ (r .value ≡ value + b * weight) × (r .len ≡ len) ⌝ }
 {
     Form {
@@ -50,13 +50,61 @@ fn with_last(value: u64, b: u8, weight: u64, len: usize) -> Form
     }
 }
 
-// The form at an offset, with short paths for up to five bytes: each byte has 128 times the weight of the one before.
+// The form at an offset with fewer than three bytes from there on: told where it ends with them.
+fn last_form(buf: &[u8], i: usize) -> Form
+    requires { ⌜ i ≤ length (now buf) ⌝ }
+    ensures { λ r. ⌜ QuickForm (r .value) (r .len) (drop i (now (buf .entry))) ⌝ }
+{
+    if buf.len() - i < 1 {
+        return Form { value: 0, len: 0 };
+    }
+    let b0 = buf[i];
+    if b0 < 128 {
+        return with_last(0, b0, 1, 1);
+    }
+    if buf.len() - i < 2 {
+        return Form { value: 0, len: 0 };
+    }
+    let v0 = with_more(0, b0, 1);
+    let b1 = buf[i + 1];
+    if b1 < 128 {
+        return with_last(v0, b1, 128, 2);
+    }
+    Form { value: 0, len: 0 }
+}
+
+// The form at an offset whose first three bytes go on and carry a value, with short paths for four to six bytes, as first numbers have.
+fn long_form(buf: &[u8], i: usize, v2: u64) -> Form
+    requires { ⌜ ThreeGoOn (now buf) i v2 ⌝ }
+    ensures { λ r. ⌜ QuickForm (r .value) (r .len) (drop i (now (buf .entry))) ⌝ }
+{
+    if buf.len() - i < 6 {
+        return any_form(buf, i);
+    }
+    let b3 = buf[i + 3];
+    if b3 < 128 {
+        return with_last(v2, b3, 2097152, 4);
+    }
+    let v3 = with_more(v2, b3, 2097152);
+    let b4 = buf[i + 4];
+    if b4 < 128 {
+        return with_last(v3, b4, 268435456, 5);
+    }
+    let v4 = with_more(v3, b4, 268435456);
+    let b5 = buf[i + 5];
+    if b5 < 128 {
+        return with_last(v4, b5, 34359738368, 6);
+    }
+    any_form(buf, i)
+}
+
+// The form at an offset, with short paths for up to six bytes: each byte has 128 times the weight of the one before.
 fn short_form(buf: &[u8], i: usize) -> Form
     requires { ⌜ i ≤ length (now buf) ⌝ }
     ensures { λ r. ⌜ QuickForm (r .value) (r .len) (drop i (now (buf .entry))) ⌝ }
 {
-    if buf.len() - i < 5 {
-        return any_form(buf, i);
+    if buf.len() - i < 3 {
+        return last_form(buf, i);
     }
     let b0 = buf[i];
     if b0 < 128 {
@@ -73,16 +121,7 @@ fn short_form(buf: &[u8], i: usize) -> Form
         return with_last(v1, b2, 16384, 3);
     }
     let v2 = with_more(v1, b2, 16384);
-    let b3 = buf[i + 3];
-    if b3 < 128 {
-        return with_last(v2, b3, 2097152, 4);
-    }
-    let v3 = with_more(v2, b3, 2097152);
-    let b4 = buf[i + 4];
-    if b4 < 128 {
-        return with_last(v3, b4, 268435456, 5);
-    }
-    any_form(buf, i)
+    long_form(buf, i, v2)
 }
 
 // Keeps a number at index k of a list, where the list has that index.

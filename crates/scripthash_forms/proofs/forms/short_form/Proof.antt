@@ -4,7 +4,7 @@ use mathlib.Core.Path.{refl}
 use native.Mathlib.Nat.{add-zero}
 use native.Mathlib.Omega.{arith}
 use borrow.Author.Needs.{needs}
-use Rattle.scripthash_forms.proofs.LawsForms.{Carried, form-start, form-more, form-last}
+use Rattle.scripthash_forms.proofs.LawsForms.{Carried, form-start, form-more, form-last, three-read}
 use Rattle.scripthash_forms.proofs.forms.short_form.Statement.{statement}
 use Rattle.scripthash_forms.proofs.forms.short_form.Tie as tie
 
@@ -28,31 +28,11 @@ module _ (c : tie.After-with-more2) where
       form-more (carried-1 (c .before .before .before)) refl (omega arith) (omega arith) (c .with-more2 .result) (omega arith)
       (omega (arith, c .before .before .shared-slice-known3 .given (start-2 .args .i + 1))) (c .with-more2 .ensures .0)
 
--- three bytes go on
-module _ (c : tie.After-with-more3) where
-  abbrev start-3 : tie.Start
-  start-3 = start-2 (c .before .before .before)
-
-  carried-3 : Carried (start-3 .args .buf .now) (start-3 .args .i) 3 (c .with-more3 .result)
-  carried-3 =
-      form-more (carried-2 (c .before .before .before)) refl (omega arith) (omega arith) (c .with-more3 .result) (omega arith)
-      (omega (arith, c .before .before .shared-slice-known4 .given (start-3 .args .i + 2))) (c .with-more3 .ensures .0)
-
--- four bytes go on
-module _ (c : tie.After-with-more4) where
-  abbrev start-4 : tie.Start
-  start-4 = start-3 (c .before .before .before)
-
-  carried-4 : Carried (start-4 .args .buf .now) (start-4 .args .i) 4 (c .with-more4 .result)
-  carried-4 =
-      form-more (carried-3 (c .before .before .before)) refl (omega arith) (omega arith) (c .with-more4 .result) (omega arith)
-      (omega (arith, c .before .before .shared-slice-known5 .given (start-4 .args .i + 3))) (c .with-more4 .ensures .0)
-
 sub-if1 : tie.Need-sub-if1
 sub-if1 c = search needs
 
-any-form-requires : tie.Need-any-form-requires
-any-form-requires c κs = search needs
+last-form-requires : tie.Need-last-form-requires
+last-form-requires c κs = search needs
 
 returns : tie.Need-returns
 returns c = search needs
@@ -109,51 +89,25 @@ returns-4 c =
 with-more-requires-3 : tie.Need-with-more-requires-3
 with-more-requires-3 c κs = search needs
 
-add-b3 : tie.Need-add-b3
-add-b3 c = search needs
-
-shared-slice-read-b3 : tie.Need-shared-slice-read-b3
-shared-slice-read-b3 c = search needs
-
-with-last-requires-4 : tie.Need-with-last-requires-4
-with-last-requires-4 c κs = search needs
+long-form-requires : tie.Need-long-form-requires
+long-form-requires c κs =
+    let second = c .before .before .before in
+    let first = second .before .before .before in
+    let a = start-1 first .args in
+    three-read (a .buf .now) (a .i) (first .with-more .result) (second .with-more2 .result) (c .with-more3 .result) (omega arith)
+    (omega arith, omega (arith, first .before .before .shared-slice-known2 .given (a .i)), first .with-more .ensures .0)
+    (omega arith, omega (arith, second .before .before .shared-slice-known3 .given (a .i + 1)), second .with-more2 .ensures .0)
+    (omega arith, omega (arith, c .before .before .shared-slice-known4 .given (a .i + 2)), c .with-more3 .ensures .0)
 
 returns-5 : tie.Need-returns-5
-returns-5 c =
-    let r = c .with-last4 in
-    form-last (carried-3 (c .before .before .before)) refl (omega arith) (omega arith) (r .result .value) (r .result .len) (omega arith)
-    (r .ensures .0) (r .ensures .1)
-
-with-more-requires-4 : tie.Need-with-more-requires-4
-with-more-requires-4 c κs = search needs
-
-add-b4 : tie.Need-add-b4
-add-b4 c = search needs
-
-shared-slice-read-b4 : tie.Need-shared-slice-read-b4
-shared-slice-read-b4 c = search needs
-
-with-last-requires-5 : tie.Need-with-last-requires-5
-with-last-requires-5 c κs = search needs
-
-returns-6 : tie.Need-returns-6
-returns-6 c =
-    let r = c .with-last5 in
-    form-last (carried-4 (c .before .before .before)) refl (omega arith) (omega arith) (r .result .value) (r .result .len) (omega arith)
-    (r .ensures .0) (r .ensures .1)
-
-any-form-requires-2 : tie.Need-any-form-requires-2
-any-form-requires-2 c κs = search needs
-
-returns-7 : tie.Need-returns-7
-returns-7 c = search needs
+returns-5 c = search needs
 
 pub short-form-spec : {M : Type 1} → statement M
 short-form-spec =
     tie.close
     (tie.spec
     sub-if1
-    any-form-requires
+    last-form-requires
     returns
     shared-slice-read-b0
     with-last-requires
@@ -169,14 +123,5 @@ short-form-spec =
     with-last-requires-3
     returns-4
     with-more-requires-3
-    add-b3
-    shared-slice-read-b3
-    with-last-requires-4
-    returns-5
-    with-more-requires-4
-    add-b4
-    shared-slice-read-b4
-    with-last-requires-5
-    returns-6
-    any-form-requires-2
-    returns-7)
+    long-form-requires
+    returns-5)
