@@ -124,7 +124,16 @@ pub fn sum_of_bytes(buf: &[u8], n: usize) -> u64
     sum
 }
 
-// Whether a stream of n numbers is worth weighing: it is long, or a third of its first bytes end forms, or half where it is short.
+// Whether forms of one byte and of two are mixed in 16 bytes, of which so many end forms: whoever reads them one by one guesses wrong often.
+fn mixed(ends: usize) -> bool {
+    if ends <= 8 {
+        return false;
+    }
+    ends < 16
+}
+
+// Whether a stream of n numbers is worth weighing: it is long, or a third of its early bytes end forms, or it is short and its forms are
+// mixed.
 fn weighs(buf: &[u8], n: usize) -> bool
     ensures { λ r. ⌜ (r ≡ true → 4 ≤ n) ⌝ }
 {
@@ -136,7 +145,7 @@ fn weighs(buf: &[u8], n: usize) -> bool
     }
     let ends = crate::ends::ends_early(buf);
     if n < MORE {
-        return 8 < ends;
+        return mixed(ends);
     }
     5 <= ends
 }
