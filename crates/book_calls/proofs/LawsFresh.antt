@@ -43,7 +43,8 @@ same-unshaped b other (c ∷ cs) e f =
     ∙ ap (λ (l : List (Answer Told)). refused shapeBad ∷ l) (same-unshaped b other cs e f)
     ∙ sym (ap (λ (a : Answer Outcome). answerOf a ∷ answers (bookAfter other a) cs) (bytes-unshaped other c f))
 
-module _ (body heads : List ℕ) (s : State) (made : Book) (is : made ≡ madeAfter (bookOf body heads s) (makesFresh (bookOf body heads s))) where
+module _ (body heads : List ℕ) (s : State) (made : Book)
+    (is : made ≡ madeAfter (bookOf body heads s) (makesFresh (bookOf body heads s))) where
   -- in shape it is a fresh book, and else it is as it was
   made-fresh : outOfShape (length body) (length heads) ≡ false → made ≡ fresh body (length heads)
   unfolding makesFresh madeAfter refuseIf
@@ -61,7 +62,8 @@ module _ (body heads : List ℕ) (s : State) (made : Book) (is : made ≡ madeAf
           → answers made cs ≡ plainAnswers (plainFresh (length body) (length heads)) cs
       by true e =
           ap (λ (b : Book). answers b cs) (made-still e)
-          ∙ same-unshaped (bookOf body heads s) (fresh body (length heads)) cs e (ap (outOfShape (length body)) (length-replicate (length heads) 0) ∙ e)
+          ∙ same-unshaped (bookOf body heads s) (fresh body (length heads)) cs e
+          (ap (outOfShape (length body)) (length-replicate (length heads) 0) ∙ e)
           ∙ demand-3 body (length heads) cs .0
       by false e = ap (λ (b : Book). answers b cs) (made-fresh e) ∙ demand-3 body (length heads) cs .0
 
@@ -69,12 +71,18 @@ module _ (body heads : List ℕ) (s : State) (made : Book) (is : made ≡ madeAf
   pub made-records : (cs : List Call) (left : Book) → left ≡ after made cs → outOfShape (length body) (length heads) ≡ false
       → (key room : ℕ) → key < length heads
       → length (recorded key cs (plainAnswers (plainFresh (length body) (length heads)) cs) []) ≤ room
-      → (pages : ℕ) × (answerOf (reads left key room) ≡ accepted (listed (record { numbers = recorded key cs (plainAnswers (plainFresh (length body) (length heads)) cs) []; pages = pages })))
+      → (pages : ℕ)
+      × (answerOf (reads left key room)
+      ≡ accepted (listed (record {
+        numbers = recorded key cs (plainAnswers (plainFresh (length body) (length heads)) cs) [];
+        pages = pages;
+      })))
   unfolding answered
   made-records cs left l e key room within fits =
       let plain = plainFresh (length body) (length heads) in
       let then = plainAfter plain cs in
-      let stands : Standing then left = subst (Standing then) (sym (l ∙ ap (λ (b : Book). after b cs) (made-fresh e))) (demand-3 body (length heads) cs .1) in
+      let is-after : left ≡ after (fresh body (length heads)) cs = l ∙ ap (λ (b : Book). after b cs) (made-fresh e) in
+      let stands : Standing then left = subst (Standing then) (sym is-after) (demand-3 body (length heads) cs .1) in
       let list = recorded-fresh (length body) (length heads) key cs in
       let (size, keys) = shapes-kept plain cs in
       let count : length (then .keys) ≡ length heads = keys ∙ length-replicate (length heads) _ in
@@ -105,7 +113,10 @@ module _ (body heads calls out : List ℕ) where
         answer = rw (e, l);
         words = rw (e, l);
         still = λ u. (refl, refl);
-        records = λ ds f fits. absurd (true≢false (sym (le-leb (answersRoom ds) (length out) fits) ∙ ap (λ (x : List Call). leb (answersRoom x) (length out)) (some-inj (sym f ∙ e)) ∙ l));
+        records =
+            λ ds f fits. absurd
+            (true≢false (sym (le-leb (answersRoom ds) (length out) fits)
+            ∙ ap (λ (x : List Call). leb (answersRoom x) (length out)) (some-inj (sym f ∙ e)) ∙ l));
       }
 
   pub all-ran : (s left : State) (made : Book) (cs : List Call) (body' heads' out' : List ℕ) (len : ℕ) → callsOf calls ≡ some cs

@@ -19,7 +19,8 @@ pub three-words : (b : List ℕ) (x y z : ℕ) → 3 ≤ length b → set (set (
 three-words b x y z h =
     let one = length-set b 0 x in
     let two = length-set (set b 0 x) 1 y in
-    sym (overwrite-step b 0 x (y ∷ z ∷ []) (omega arith) ∙ overwrite-step (set b 0 x) 1 y (z ∷ []) (omega arith) ∙ overwrite-one (set (set b 0 x) 1 y) 2 z (omega arith))
+    sym (overwrite-step b 0 x (y ∷ z ∷ []) (omega arith) ∙ overwrite-step (set b 0 x) 1 y (z ∷ []) (omega arith)
+    ∙ overwrite-one (set (set b 0 x) 1 y) 2 z (omega arith))
 
 pub four-words : (b : List ℕ) (x y z w : ℕ) → 4 ≤ length b → set (set (set (set b 0 x) 1 y) 2 z) 3 w ≡ overwrite b 0 (x ∷ y ∷ z ∷ w ∷ [])
 four-words b x y z w h =
@@ -69,7 +70,9 @@ append-put b mid rewritten place h e =
     let four = place-words place in
     let same : length mid ≡ length b = ap length e ∙ length-overwrite b 0 (0 ∷ 1 ∷ rewritten ∷ []) (omega arith) in
     record {
-      words = overwrite-part mid 3 (length mid - 3) 0 (spellPlace place) (omega arith) (omega arith)
-          ∙ ap (λ (l : List ℕ). overwrite l 3 (spellPlace place)) e ∙ overwrite-adjoin b 0 (0 ∷ 1 ∷ rewritten ∷ []) (spellPlace place) (omega arith);
+      words =
+          overwrite-part mid 3 (length mid - 3) 0 (spellPlace place) (omega arith) (omega arith)
+          ∙ ap (λ (l : List ℕ). overwrite l 3 (spellPlace place)) e
+          ∙ overwrite-adjoin b 0 (0 ∷ 1 ∷ rewritten ∷ []) (spellPlace place) (omega arith);
       count = omega (arith, four);
     }

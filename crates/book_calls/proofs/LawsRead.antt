@@ -30,25 +30,34 @@ pub data ReadsAs (b : Book) (room : ℕ) : Answer Outcome → Type 0 where
   turned : {number : ℕ} → ReadsAs b room (refused number)
   told : (l : List-told) → length (l .numbers) ≤ room → ReadsAs b room (accepted (record { told = listed l; book = b }))
 
+-- what a read tells of a key's content, and the book, which it leaves
+abbrev listing : Book → Content → Outcome
+listing b c = record { told = listed (record { numbers = c .numbers; pages = c .pages }); book = b }
+
+-- that, or the refusal of a list that is too short
+abbrev inRoom : Book → ℕ → Content → Answer Outcome
+inRoom b room c = refuseIf (ltb room (length (c .numbers))) listTooShort (accepted (listing b c))
+
 pub reads-as : (b : Book) (key room : ℕ) → ReadsAs b room (reads b key room)
 unfolding reads onKey refuseIf andThen
 reads-as b key room = shape (shapeBroken (b .space) (length (b .heads)))
   where
     fits : (c : Content) (t : Bool) → ltb room (length (c .numbers)) ≡ t
-        → ReadsAs b room (refuseIf t listTooShort (accepted (record { told = listed (record { numbers = c .numbers; pages = c .pages }); book = b })))
+        → ReadsAs b room (refuseIf t listTooShort (accepted (listing b c)))
     fits c true e = turned
     fits c false e = told (record { numbers = c .numbers; pages = c .pages }) (ltb-false room (length (c .numbers)) e)
 
-    held : (a : Answer Content)
-        → ReadsAs b room (andThen a (λ c. refuseIf (ltb room (length (c .numbers))) listTooShort (accepted (record { told = listed (record { numbers = c .numbers; pages = c .pages }); book = b }))))
+    held : (a : Answer Content) → ReadsAs b room (andThen a (λ c. inRoom b room c))
     held (accepted c) = fits c (ltb room (length (c .numbers))) refl
     held (refused number) = turned
 
-    within : (t : Bool) → ReadsAs b room (refuseIf t keyBeyond (andThen (content (b .space) (wordOf key b)) (λ c. refuseIf (ltb room (length (c .numbers))) listTooShort (accepted (record { told = listed (record { numbers = c .numbers; pages = c .pages }); book = b })))))
+    within : (t : Bool) → ReadsAs b room (refuseIf t keyBeyond (andThen (content (b .space) (wordOf key b)) (λ c. inRoom b room c)))
     within true = turned
     within false = held (content (b .space) (wordOf key b))
 
-    shape : (t : Bool) → ReadsAs b room (refuseIf t shapeBad (refuseIf (leb (length (b .heads)) key) keyBeyond (andThen (content (b .space) (wordOf key b)) (λ c. refuseIf (ltb room (length (c .numbers))) listTooShort (accepted (record { told = listed (record { numbers = c .numbers; pages = c .pages }); book = b }))))))
+    shape : (t : Bool)
+        → ReadsAs b room (refuseIf t shapeBad (refuseIf (leb (length (b .heads)) key) keyBeyond
+        (andThen (content (b .space) (wordOf key b)) (λ c. inRoom b room c))))
     shape true = turned
     shape false = within (leb (length (b .heads)) key)
 
@@ -95,10 +104,11 @@ module _ (b : Book) (key room : ℕ) (out : List ℕ) (h : 4 + room ≤ length o
       let all : 4 + count ≡ length (0 ∷ 2 ∷ l .pages ∷ length (l .numbers) ∷ l .numbers) = omega (arith, counts) in
       let placed : putMid 4 (4 + room - 4) out part ≡ overwrite out 4 (l .numbers) =
       ap (putMid 4 (4 + room - 4) out) p ∙ overwrite-part out 4 (4 + room - 4) 0 (l .numbers) (omega arith) (omega arith) in
+      let spelled = before-words out (l .numbers) 0 2 (l .pages) (length (l .numbers)) (omega arith) in
       record {
         same = ap length placed ∙ length-overwrite out 4 (l .numbers) (omega arith);
         long = omega (arith, counts);
-        said = λ len s. record { words = rw (placed, counts, walked) (before-words out (l .numbers) 0 2 (l .pages) (length (l .numbers)) (omega arith)); count = s ∙ all };
+        said = λ len s. record { words = rw (placed, counts, walked) spelled; count = s ∙ all };
       }
   put-told l (NotRead m) part fits e p = let z : _≡_ {A = ℕ} 0 1 = cc in absurd (omega arith)
 
@@ -113,5 +123,6 @@ module _ (b : Book) (key room : ℕ) (out : List ℕ) (h : 4 + room ≤ length o
       → part ≡ listAfter mid (reads b key (length mid))
       → Put (reads b key room) answer part
   put-reads answer part e p =
-      put-as (reads b key room) (reads-as b key room) answer part (e ∙ ap (λ (n : ℕ). answered countedOf (answerOf (reads b key n))) mid-room)
+      put-as (reads b key room) (reads-as b key room) answer part
+      (e ∙ ap (λ (n : ℕ). answered countedOf (answerOf (reads b key n))) mid-room)
       (p ∙ ap (λ (n : ℕ). listAfter mid (reads b key n)) mid-room)

@@ -118,12 +118,17 @@ module _ {calls : List ℕ} {at room : ℕ} (h : CallHere calls at room) where
     where
       low : kind < 3 → ⊥
       low p =
-          ⊎-elim (λ (q : kind < 1). n0 (omega arith)) (λ (q : 1 ≤ kind). ⊎-elim (λ (r : kind < 2). n1 (omega arith)) (λ (r : 2 ≤ kind). n2 (omega arith)) (lt-or-ge kind 2)) (lt-or-ge kind 1)
+          ⊎-elim (λ (q : kind < 1). n0 (omega arith))
+          (λ (q : 1 ≤ kind). ⊎-elim (λ (r : kind < 2). n1 (omega arith)) (λ (r : 2 ≤ kind). n2 (omega arith)) (lt-or-ge kind 2))
+          (lt-or-ge kind 1)
+
+      beyond : 4 ≤ kind → ⊥
+      beyond p = none≢some (sym (of-other kind key third rest (omega arith)) ∙ here-of)
 
       three : kind ≡ 3
       three =
           ⊎-elim (λ (p : kind < 3). absurd (low p))
-          (λ (q : 3 ≤ kind). ⊎-elim (λ (r : kind < 4). omega arith) (λ (r : 4 ≤ kind). absurd (none≢some (sym (of-other kind key third rest (omega arith)) ∙ here-of))) (lt-or-ge kind 4))
+          (λ (q : 3 ≤ kind). ⊎-elim (λ (r : kind < 4). omega arith) (λ (r : 4 ≤ kind). absurd (beyond r)) (lt-or-ge kind 4))
           (lt-or-ge kind 3)
 
   -- what holds of the call here holds of the call that the words begin with
@@ -197,9 +202,11 @@ here-in {calls} {at} out to h =
 -- nothing is run yet
 pub runs-start : (b : Book) (cs : List Call) (calls out : List ℕ) → callsOf calls ≡ some cs → answersRoom cs ≤ length out
     → Running b cs calls out b out 0 0
-runs-start b cs calls out e h = record { left = cs; spelled = e; room = omega arith; same = refl; words = refl; count = zero-add _; book = refl }
+runs-start b cs calls out e h =
+    record { left = cs; spelled = e; room = omega arith; same = refl; words = refl; count = zero-add _; book = refl }
 
-module _ {first : Book} {cs : List Call} {calls out₀ : List ℕ} {b : Book} {out : List ℕ} {at to : ℕ} (r : Running first cs calls out₀ b out at to) where
+module _ {first : Book} {cs : List Call} {calls out₀ : List ℕ} {b : Book} {out : List ℕ} {at to : ℕ}
+    (r : Running first cs calls out₀ b out at to) where
   -- all are run
   pub runs-end : length calls ≤ at → AllDone first cs out₀ b out to
   unfolding spellAll answersTo afterCalls
@@ -207,7 +214,9 @@ module _ {first : Book} {cs : List Call} {calls out₀ : List ℕ} {b : Book} {o
       let none-left : r .left ≡ [] = some-inj (sym (r .spelled) ∙ spelled-end calls at h) in
       record {
         left-is = sym (ap (after b) none-left) ∙ r .book;
-        words = sym (overwrite-nil out to) ∙ ap (λ (l : List Call). overwrite out to (spellAnswers (answers b l))) (sym none-left) ∙ r .words;
+        words =
+            sym (overwrite-nil out to) ∙ ap (λ (l : List Call). overwrite out to (spellAnswers (answers b l))) (sym none-left)
+            ∙ r .words;
         count = sym (add-zero to) ∙ ap (λ (l : List Call). to + length (spellAnswers (answers b l))) (sym none-left) ∙ r .count;
       }
 
@@ -217,7 +226,8 @@ module _ {first : Book} {cs : List Call} {calls out₀ : List ℕ} {b : Book} {o
 
   module _ (h : at < length calls) (next : ℕ) (n : NextIs calls at (callAt (behind at calls)) (At next)) where
     -- the call here, and those behind it
-    pub runs-split : (x : Begins Call) × (callAt (behind at calls) ≡ some x) × ((ds : List Call) × (callsOf (behind next calls) ≡ some ds) × (x .first ∷ ds ≡ r .left))
+    pub runs-split : (x : Begins Call) × (callAt (behind at calls) ≡ some x)
+        × ((ds : List Call) × (callsOf (behind next calls) ≡ some ds) × (x .first ∷ ds ≡ r .left))
     runs-split =
         let (x, e, s) = spelled-on calls at h next n in
         let (ds, o, is) = was-before (x .first) (callsOf (behind next calls)) (r .left) (sym s ∙ r .spelled) in
@@ -254,11 +264,16 @@ module _ {first : Book} {cs : List Call} {calls out₀ : List ℕ} {b : Book} {o
           ∙ overwrite-part out to (length out - to) 0 said (omega (arith, r .room)) (omega (arith, r .room, room-split, d .short))
           ∙ ap (λ (o : ℕ). overwrite out o said) (add-zero to)
 
+      -- it is as long as before
+      kept : length (putMid to (length out - to) out part) ≡ length out
+      kept = ap length placed ∙ length-overwrite out to said (omega (arith, r .room, room-split, d .short))
+
       -- the answers of what was left are this one, and those behind
       answers-split : said ++ behind-it ≡ spellAnswers (answers b (r .left))
       unfolding spellAll answersTo
       answers-split =
-          ap (λ (x : Book). said ++ spellAnswers (answers x (runs-split .2 .0))) (d .left) ∙ ap (λ (l : List Call). spellAnswers (answers b l)) (runs-split .2 .2)
+          ap (λ (x : Book). said ++ spellAnswers (answers x (runs-split .2 .0))) (d .left)
+          ∙ ap (λ (l : List Call). spellAnswers (answers b l)) (runs-split .2 .2)
 
       books-split : after b' (runs-split .2 .0) ≡ after b (r .left)
       unfolding afterCalls
@@ -266,7 +281,6 @@ module _ {first : Book} {cs : List Call} {calls out₀ : List ℕ} {b : Book} {o
 
       pub runs-step : Running first cs calls out₀ b' (putMid to (length out - to) out part) next (to + len)
       runs-step =
-          let kept : length (putMid to (length out - to) out part) ≡ length out = ap length placed ∙ length-overwrite out to said (omega (arith, r .room, room-split, d .short)) in
           let many : to + len ≡ to + length said = ap (λ (k : ℕ). to + k) (d .said .count) in
           record {
             left = runs-split .2 .0;
@@ -274,7 +288,8 @@ module _ {first : Book} {cs : List Call} {calls out₀ : List ℕ} {b : Book} {o
             room = omega (arith, r .room, room-split, d .short, d .said .count, kept);
             same = kept ∙ r .same;
             words =
-                ap (λ (l : List ℕ). overwrite l (to + len) behind-it) placed ∙ ap (λ (k : ℕ). overwrite (overwrite out to said) k behind-it) many
+                ap (λ (l : List ℕ). overwrite l (to + len) behind-it) placed
+                ∙ ap (λ (k : ℕ). overwrite (overwrite out to said) k behind-it) many
                 ∙ overwrite-adjoin out to said behind-it (omega (arith, r .room)) ∙ ap (overwrite out to) answers-split ∙ r .words;
             count = omega (arith, many, length-append said behind-it, ap length answers-split, r .count);
             book = books-split ∙ r .book;

@@ -67,7 +67,12 @@ module _ (kind key third : ℕ) (rest : List ℕ) where
   pub of-other : 3 < kind → callOf kind key third rest ≡ none
   unfolding callOf
   of-other h =
-      rw (ne-eqb kind 0 (λ (e : kind ≡ 0). omega arith), ne-eqb kind 1 (λ (e : kind ≡ 1). omega arith), ne-eqb kind 2 (λ (e : kind ≡ 2). omega arith), ne-eqb kind 3 (λ (e : kind ≡ 3). omega arith))
+      rw (
+        ne-eqb kind 0 (λ (e : kind ≡ 0). omega arith),
+        ne-eqb kind 1 (λ (e : kind ≡ 1). omega arith),
+        ne-eqb kind 2 (λ (e : kind ≡ 2). omega arith),
+        ne-eqb kind 3 (λ (e : kind ≡ 3). omega arith),
+      )
 
 -- The index behind the call at an index, by its words.
 module _ (calls : List ℕ) (at : ℕ) (three : at + 3 ≤ length calls) where
@@ -95,7 +100,8 @@ module _ (calls : List ℕ) (at : ℕ) (three : at + 3 ≤ length calls) where
 
   pub next-load : kind ≡ 0 → third ≤ length calls - (at + 3) → NextIs calls at (callAt (behind at calls)) (At (at + 3 + third))
   next-load e l =
-      somewhere calls at (at + 3 + third) (record { first = load key (firstOf third rest); rest = behind third rest }) (call-at calls at three ∙ of-load kind key third rest e ∙ rw (le-leb third (length rest) (omega (arith, words-left))))
+      somewhere calls at (at + 3 + third) (record { first = load key (firstOf third rest); rest = behind third rest })
+      (call-at calls at three ∙ of-load kind key third rest e ∙ rw (le-leb third (length rest) (omega (arith, words-left))))
       (drop-drop third (at + 3) calls) (omega arith) (omega arith)
 
   pub next-other : 3 < kind → NextIs calls at (callAt (behind at calls)) Nowhere
@@ -105,19 +111,28 @@ module _ (calls : List ℕ) (at : ℕ) (three : at + 3 ≤ length calls) where
   next-drop-bad e n = next-unspelled (of-drop kind key third rest e ∙ rw (ne-eqb third 0 n))
 
   pub next-drop : kind ≡ 3 → third ≡ 0 → NextIs calls at (callAt (behind at calls)) (At (at + 3))
-  next-drop e z = somewhere calls at (at + 3) (record { first = drop key; rest = rest }) (call-at calls at three ∙ of-drop kind key third rest e ∙ rw (eq-eqb third 0 z)) refl (omega arith) (omega arith)
+  next-drop e z =
+      somewhere calls at (at + 3) (record { first = drop key; rest = rest })
+      (call-at calls at three ∙ of-drop kind key third rest e ∙ rw (eq-eqb third 0 z)) refl (omega arith) (omega arith)
 
   pub next-plain : (kind ≡ 0 → ⊥) → kind ≤ 3 → (kind ≡ 3 → ⊥) → NextIs calls at (callAt (behind at calls)) (At (at + 3))
-  next-plain n l m =
-      ⊎-elim (λ (h : kind < 2). somewhere calls at (at + 3) _ (call-at calls at three ∙ of-append kind key third rest (low h)) refl (omega arith) (omega arith))
-      (λ (h : 2 ≤ kind). somewhere calls at (at + 3) _ (call-at calls at three ∙ of-read kind key third rest (high h)) refl (omega arith) (omega arith))
-      (lt-or-ge kind 2)
+  next-plain n l m = ⊎-elim appends reads (lt-or-ge kind 2)
     where
       low : kind < 2 → kind ≡ 1
       low h = ⊎-elim (λ (p : kind < 1). absurd (n (omega arith))) (λ (q : 1 ≤ kind). omega arith) (lt-or-ge kind 1)
 
       high : 2 ≤ kind → kind ≡ 2
       high h = ⊎-elim (λ (p : kind < 3). omega arith) (λ (q : 3 ≤ kind). absurd (m (omega arith))) (lt-or-ge kind 3)
+
+      appends : kind < 2 → NextIs calls at (callAt (behind at calls)) (At (at + 3))
+      appends h =
+          let is = call-at calls at three ∙ of-append kind key third rest (low h) in
+          somewhere calls at (at + 3) _ is refl (omega arith) (omega arith)
+
+      reads : 2 ≤ kind → NextIs calls at (callAt (behind at calls)) (At (at + 3))
+      reads h =
+          let is = call-at calls at three ∙ of-read kind key third rest (high h) in
+          somewhere calls at (at + 3) _ is refl (omega arith) (omega arith)
 
 -- ---- the room for an answer
 
@@ -132,11 +147,19 @@ pub room-of : (k key third : ℕ) (rest : List ℕ) (b : Begins Call) → callOf
 unfolding needOf answerRoom
 room-of k key third rest b e =
     ⊎-elim (λ (h : k < 2). ⊎-elim (λ (p : k < 1). loads (omega arith)) (λ (q : 1 ≤ k). appends (omega arith)) (lt-or-ge k 1))
-    (λ (h : 2 ≤ k). ⊎-elim (λ (p : k < 3). reads (omega arith)) (λ (q : 3 ≤ k). ⊎-elim (λ (z : k < 4). drops (omega arith)) (λ (z : 4 ≤ k). absurd (none≢some (sym (of-other k key third rest (omega arith)) ∙ e))) (lt-or-ge k 4)) (lt-or-ge k 3))
+    (λ (h : 2 ≤ k). ⊎-elim (λ (p : k < 3). reads (omega arith)) (λ (q : 3 ≤ k). drops (three q)) (lt-or-ge k 3))
     (lt-or-ge k 2)
   where
+    beyond : 4 ≤ k → ⊥
+    beyond h = none≢some (sym (of-other k key third rest (omega arith)) ∙ e)
+
+    three : 3 ≤ k → k ≡ 3
+    three h = ⊎-elim (λ (p : k < 4). omega arith) (λ (q : 4 ≤ k). absurd (beyond q)) (lt-or-ge k 4)
+
     loads : k ≡ 0 → answerRoom (b .first) ≡ needOf k third
-    loads z = ap (λ (x : Begins Call). answerRoom (x .first)) (sym (only (leb third (length rest)) _ b (sym (of-load k key third rest z) ∙ e))) ∙ rw z
+    loads z =
+        ap (λ (x : Begins Call). answerRoom (x .first)) (sym (only (leb third (length rest)) _ b (sym (of-load k key third rest z) ∙ e)))
+        ∙ rw z
 
     appends : k ≡ 1 → answerRoom (b .first) ≡ needOf k third
     appends z = ap (λ (x : Begins Call). answerRoom (x .first)) (sym (some-inj (sym (of-append k key third rest z) ∙ e))) ∙ rw z
@@ -193,7 +216,8 @@ module _ (calls : List ℕ) (at : ℕ) (inside : at < length calls) where
   spelled-nowhere n = calls-none (behind at calls) left-words (was-nowhere calls at _ n)
 
   pub spelled-on : (next : ℕ) → NextIs calls at (callAt (behind at calls)) (At next)
-      → (b : Begins Call) × (callAt (behind at calls) ≡ some b) × (callsOf (behind at calls) ≡ before (b .first) (callsOf (behind next calls)))
+      → (b : Begins Call) × (callAt (behind at calls) ≡ some b)
+      × (callsOf (behind at calls) ≡ before (b .first) (callsOf (behind next calls)))
   spelled-on next n =
       let (b, e, r, l, m) = was-somewhere calls at next _ n in
       (b, e, calls-some (behind at calls) b left-words e ∙ ap (λ (ws : List ℕ). before (b .first) (callsOf ws)) r)
@@ -243,7 +267,8 @@ module _ {calls : List ℕ} {room at left : ℕ} {cs : List Call} (f : Fitting c
         let (b, e, s) = spelled-on calls at h next n in
         let (b', e', r, l, m) = was-somewhere calls at next _ n in
         let (ds, o, is) = was-before (b .first) (callsOf (behind next calls)) (f .rest) (sym s ∙ f .spelled) in
-        let words : answerRoom (b .first) ≡ need = room-of _ (getD calls (at + 1) 0) _ (behind (at + 3) calls) b (sym (call-at calls at (omega arith)) ∙ e) in
+        let read-as = sym (call-at calls at (omega arith)) ∙ e in
+        let words : answerRoom (b .first) ≡ need = room-of _ (getD calls (at + 1) 0) _ (behind (at + 3) calls) b read-as in
         (ds, o, ap answersRoom (sym is) ∙ ap (λ (k : ℕ). k + answersRoom ds) words)
 
     -- the answer may be too long

@@ -3,8 +3,9 @@ ghost use mathlib.Core.List.{List};
 ghost use mathlib.Core.Path.{_≡_};
 ghost use Prim.Native.Nat.{_+_, _≤_};
 ghost use mathlib.Core.Option.{some};
-ghost use lib.ListN.{length, drop as behind};
-ghost use Rattle.book_rules.specs.Calls.{Call, load, append, drop, answerOf};
+ghost use lib.ListN.{length, drop};
+ghost use Rattle.book_rules.specs.Calls as Calls;
+ghost use Rattle.book_rules.specs.Calls.{Call, answerOf};
 ghost use Rattle.book.specs.Reads.{reads};
 ghost use Rattle.book.specs.Answers.{bookOf};
 ghost use Rattle.book_words.specs.Words.{Begins};
@@ -37,7 +38,7 @@ fn run_load(
     out: &mut [u64],
 ) -> AfterCall
     requires { ⌜ 3 ≤ length (now out) ⌝ }
-    ensures { λ r. ⌜ Done (bookOf (now (body .entry)) (now (heads .entry)) state) (load key (now (numbers .entry))) (now (out .entry))
+    ensures { λ r. ⌜ Done (bookOf (now (body .entry)) (now (heads .entry)) state) (Calls.load key (now (numbers .entry))) (now (out .entry))
         (bookOf (now (body .exit)) (now (heads .exit)) (r .state)) (now (out .exit)) (r .len) ⌝ }
 {
     let after = book_lists::load(body, heads, state, key, numbers);
@@ -57,7 +58,7 @@ fn run_append(
     out: &mut [u64],
 ) -> AfterCall
     requires { ⌜ 7 ≤ length (now out) ⌝ }
-    ensures { λ r. ⌜ Done (bookOf (now (body .entry)) (now (heads .entry)) state) (append key n) (now (out .entry))
+    ensures { λ r. ⌜ Done (bookOf (now (body .entry)) (now (heads .entry)) state) (Calls.append key n) (now (out .entry))
         (bookOf (now (body .exit)) (now (heads .exit)) (r .state)) (now (out .exit)) (r .len) ⌝ }
 {
     let after = book_appending::append(body, heads, state, key, n);
@@ -76,7 +77,7 @@ fn run_drop(
     out: &mut [u64],
 ) -> AfterCall
     requires { ⌜ 3 ≤ length (now out) ⌝ }
-    ensures { λ r. ⌜ Done (bookOf (now (body .entry)) (now (heads .entry)) state) (drop key) (now (out .entry))
+    ensures { λ r. ⌜ Done (bookOf (now (body .entry)) (now (heads .entry)) state) (Calls.drop key) (now (out .entry))
         (bookOf (now (body .exit)) (now (heads .exit)) (r .state)) (now (out .exit)) (r .len) ⌝ }
 {
     let after = book_lists::drop(body, heads, state, key);
@@ -114,7 +115,7 @@ fn run_call(
     out: &mut [u64],
 ) -> AfterCall
     requires { ⌜ CallHere (now calls) at (length (now out)) ⌝ }
-    ensures { λ r. ⌜ ((b : Begins Call) → callAt (behind at (now (calls .entry))) ≡ some b
+    ensures { λ r. ⌜ ((b : Begins Call) → callAt (drop at (now (calls .entry))) ≡ some b
         → Done (bookOf (now (body .entry)) (now (heads .entry)) state) (b .first) (now (out .entry))
         (bookOf (now (body .exit)) (now (heads .exit)) (r .state)) (now (out .exit)) (r .len)) ⌝ }
 {

@@ -29,10 +29,12 @@ same-length c = search needs
 
 returns : tie.Need-returns
 returns c =
-    let s = c .before .before .before .before .before .before .before .before .before in
-    let mid = c .before .before .before .before .before .before .put-three .last .0 in
+    let three = c .before .before .before .before .before .before in
+    let start = three .before .before .before in
+    let args = start .args in
+    let mid = three .put-three .last .0 in
     re-written (ap (λ (l : List ℕ). putMid 3 (length mid - 3) mid l) (c .before .before .put-place .ensures))
-    (append-put (s .args .out .now) mid (s .args .to .rewritten) (s .args .to .place) (s .pre) (c .before .before .before .before .before .before .put-three .ensures))
+    (append-put (args .out .now) mid (args .to .rewritten) (args .to .place) (start .pre) (three .put-three .ensures))
 
 pub put-appended-spec : {M : Type 1} → statement M
 put-appended-spec =

@@ -13,7 +13,9 @@ slice-write-out-2 : tie.Need-slice-write-out-2
 slice-write-out-2 c = omega (arith, length-set (c .args .out .now) 0 (c .args .a))
 
 slice-write-out-3 : tie.Need-slice-write-out-3
-slice-write-out-3 c = omega (arith, length-set (c .args .out .now) 0 (c .args .a), length-set (set (c .args .out .now) 0 (c .args .a)) 1 (c .args .b))
+slice-write-out-3 c =
+    let args = c .args in
+    omega (arith, length-set (args .out .now) 0 (args .a), length-set (set (args .out .now) 0 (args .a)) 1 (args .b))
 
 slice-write-out-4 : tie.Need-slice-write-out-4
 slice-write-out-4 c = search needs

@@ -22,13 +22,17 @@ same-length : tie.Need-same-length
 same-length c = search needs
 
 returns : tie.Need-returns
-returns c = re-said (ap loadAnswer (c .before .before .before .before .before .answer .given .1)) (load-put _ _ _ (c .before .before .put-three .ensures))
+returns c =
+    let told = c .before .before .before .before .before .answer .given .1 in
+    re-said (ap loadAnswer told) (load-put _ _ _ (c .before .before .put-three .ensures))
 
 same-length-2 : tie.Need-same-length-2
 same-length-2 c = search needs
 
 returns-2 : tie.Need-returns-2
-returns-2 c = re-said (ap loadAnswer (c .before .before .before .before .before .answer2 .given .1)) (c .before .before .put-refusal .ensures)
+returns-2 c =
+    let told = c .before .before .before .before .before .answer2 .given .1 in
+    re-said (ap loadAnswer told) (c .before .before .put-refusal .ensures)
 
 pub put-load-spec : {M : Type 1} → statement M
 put-load-spec =

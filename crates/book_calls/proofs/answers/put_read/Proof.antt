@@ -1,5 +1,7 @@
 -- `put_read` meets its contract. Assumes nothing.
-use mathlib.Core.Path.{sym, ap, _∙_}
+use Prim.Native.Nat.{ℕ}
+use mathlib.Core.List.{List}
+use mathlib.Core.Path.{_≡_, refl, sym, ap, _∙_}
 use native.Mathlib.Omega.{arith}
 use Rattle.buffer.specs.Bytes.{overwrite}
 use Rattle.book.specs.declared.answers.BookRead.{BookRead}
@@ -9,6 +11,12 @@ use borrow.Author.Needs.{needs}
 use Rattle.book_calls.proofs.answers.put_read.Statement.{statement}
 use Rattle.book_calls.proofs.answers.put_read.Tie as tie
 
+-- words and length of the answer that is told
+as-told : (b : List ℕ) {out : List ℕ} {len : ℕ} {answer other : BookRead} → answer ≡ other → out ≡ overwrite b 0 (readWords other)
+    → len ≡ readLen other
+    → (out ≡ overwrite b 0 (readWords answer)) × (len ≡ readLen answer)
+as-told b e words count = (words ∙ ap (λ (a : BookRead). overwrite b 0 (readWords a)) (sym e), count ∙ sym (ap readLen e))
+
 enum-known-answer : tie.Need-enum-known-answer
 enum-known-answer c = search needs
 
@@ -16,7 +24,9 @@ put-four-requires : tie.Need-put-four-requires
 put-four-requires c κs = search needs
 
 add-result : tie.Need-add-result
-add-result c = omega (arith, ap readLen (c .before .before .before .before .before .answer .given .1), c .before .before .before .before .before .before .before .before .pre .1)
+add-result c =
+    let told = c .before .before .before .before .before in
+    omega (arith, ap readLen (told .answer .given .1), told .before .before .before .pre .1)
 
 enum-known-answer-2 : tie.Need-enum-known-answer-2
 enum-known-answer-2 c = search needs
@@ -28,14 +38,16 @@ same-length : tie.Need-same-length
 same-length c = search needs
 
 returns : tie.Need-returns
-returns c = (c .before .before .put-four .ensures ∙ ap (λ (a : BookRead). overwrite (c .before .before .before .before .before .before .before .before .args .out .now) 0 (readWords a)) (sym (c .before .before .before .before .before .answer .given .1)), sym (ap readLen (c .before .before .before .before .before .answer .given .1)))
+returns c = as-told _ (c .before .before .before .before .before .answer .given .1) (c .before .before .put-four .ensures) refl
 
 same-length-2 : tie.Need-same-length-2
 same-length-2 c = search needs
 
 returns-2 : tie.Need-returns-2
 unfolding spellAnswer
-returns-2 c = (c .before .before .put-refusal .ensures .words ∙ ap (λ (a : BookRead). overwrite (c .before .before .before .before .before .before .before .before .args .out .now) 0 (readWords a)) (sym (c .before .before .before .before .before .answer2 .given .1)), c .before .before .put-refusal .ensures .count ∙ sym (ap readLen (c .before .before .before .before .before .answer2 .given .1)))
+returns-2 c =
+    let put = c .before .before .put-refusal .ensures in
+    as-told _ (c .before .before .before .before .before .answer2 .given .1) (put .words) (put .count)
 
 pub put-read-spec : {M : Type 1} → statement M
 put-read-spec =

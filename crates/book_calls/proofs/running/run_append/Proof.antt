@@ -8,6 +8,11 @@ use borrow.Author.Needs.{needs}
 use Rattle.book_calls.proofs.running.run_append.Statement.{statement}
 use Rattle.book_calls.proofs.running.run_append.Tie as tie
 
+-- where the append is done, and the words of its answer are written
+module _ (c : tie.After-slice-known6) where
+  abbrev appended : tie.After-append
+  appended = c .before .before .before .before .before .before .before .before .before
+
 append-requires : tie.Need-append-requires
 append-requires c κs = search needs
 
@@ -25,7 +30,12 @@ same-length-3 c = search needs
 
 returns : tie.Need-returns
 unfolding does answerRoom
-returns c = record { left = c .before .before .before .before .before .before .before .before .before .append .ensures .1; said = re-said (sym (c .before .before .before .before .before .before .before .before .before .append .ensures .0)) (c .before .before .put-append .ensures); short = short-as (c .before .before .before .before .before .before .before .before .before .append .ensures .0) (append-short (c .before .before .before .before .before .before .before .before .before .append .result .answer)) }
+returns c =
+    record {
+      left = appended c .append .ensures .1;
+      said = re-said (sym (appended c .append .ensures .0)) (c .before .before .put-append .ensures);
+      short = short-as (appended c .append .ensures .0) (append-short (appended c .append .result .answer));
+    }
 
 pub run-append-spec : {M : Type 1} → statement M
 run-append-spec =

@@ -9,6 +9,35 @@ use borrow.Author.Needs.{needs}
 use Rattle.book_calls.proofs.running.run_call.Statement.{statement}
 use Rattle.book_calls.proofs.running.run_call.Tie as tie
 
+-- the three words of the call are read
+module _ (c : tie.After-shared-slice-known4) where
+  abbrev start : tie.Start
+  start = c .before .before .before .before .before .before .before
+
+-- it is a load
+module _ (c : tie.Then1) where
+  abbrev at-load : tie.Start
+  at-load = start (c .before)
+
+  -- its numbers end within the words
+  load-end : at-load .args .at + 3 + getD (at-load .args .calls .now) (at-load .args .at + 2) 0 ≤ length (at-load .args .calls .now)
+  load-end = here-load (at-load .pre) (c .if1 .taken) .0
+
+-- it is an append
+module _ (c : tie.Then2) where
+  abbrev at-append : tie.Start
+  at-append = start (c .before .before)
+
+-- it is a read
+module _ (c : tie.Then3) where
+  abbrev at-read : tie.Start
+  at-read = start (c .before .before .before)
+
+-- it is a drop, since it is none of these
+module _ (c : tie.Else3) where
+  abbrev at-drop : tie.Start
+  at-drop = start (c .before .before .before)
+
 mul-kind : tie.Need-mul-kind
 mul-kind c = search needs
 
@@ -36,12 +65,6 @@ shared-slice-read-third c = search needs
 add-from : tie.Need-add-from
 add-from c = search needs
 
--- a load's numbers end within the words
-load-end : (c : tie.Then1)
-    → c .before .before .before .before .before .before .before .before .args .at + 3 + getD (c .before .before .before .before .before .before .before .before .args .calls .now) (c .before .before .before .before .before .before .before .before .args .at + 2) 0
-    ≤ length (c .before .before .before .before .before .before .before .before .args .calls .now)
-load-end c = here-load (c .before .before .before .before .before .before .before .before .pre) (c .if1 .taken) .0
-
 add-end : tie.Need-add-end
 add-end c = omega (arith, load-end c)
 
@@ -58,7 +81,7 @@ part-run-load-end : tie.Need-part-run-load-end
 part-run-load-end c = search (needs, load-end (c .before .before))
 
 run-load-requires : tie.Need-run-load-requires
-run-load-requires c κs = here-load-room (c .before .before .before .before .before .before .before .before .before .before .before .before .pre) (c .before .before .before .before .if1 .taken)
+run-load-requires c κs = let loads = c .before .before .before .before in here-load-room (at-load loads .pre) (loads .if1 .taken)
 
 same-length : tie.Need-same-length
 same-length c = search needs
@@ -70,10 +93,14 @@ same-length-3 : tie.Need-same-length-3
 same-length-3 c = search needs
 
 returns : tie.Need-returns
-returns c = λ b e. let h = c .before .before .before .before .before .before .before .before .before .before .before .before .before .before .before .before .before .before .before .pre in re-done (here-is h b e ∙ here-part h (c .before .before .before .before .before .before .before .before .before .before .before .if1 .taken)) (c .before .before .before .before .before .before .run-load .ensures)
+returns c =
+    let done = c .before .before .before .before .before .before in
+    let loads = done .before .before .before .before .before in
+    let h = at-load loads .pre in
+    λ b e. re-done (here-is h b e ∙ here-part h (loads .if1 .taken)) (done .run-load .ensures)
 
 run-append-requires : tie.Need-run-append-requires
-run-append-requires c κs = here-append-room (c .before .before .before .before .before .before .before .before .before .before .before .before .pre) (c .before .before .before .if2 .taken)
+run-append-requires c κs = let appends = c .before .before .before in here-append-room (at-append appends .pre) (appends .if2 .taken)
 
 same-length-4 : tie.Need-same-length-4
 same-length-4 c = search needs
@@ -85,10 +112,14 @@ same-length-6 : tie.Need-same-length-6
 same-length-6 c = search needs
 
 returns-2 : tie.Need-returns-2
-returns-2 c = λ b e. let h = c .before .before .before .before .before .before .before .before .before .before .before .before .before .before .before .before .before .before .before .pre in re-done (here-is h b e ∙ here-append h (c .before .before .before .before .before .before .before .before .before .before .if2 .taken)) (c .before .before .before .before .before .before .run-append .ensures)
+returns-2 c =
+    let done = c .before .before .before .before .before .before in
+    let appends = done .before .before .before .before in
+    let h = at-append appends .pre in
+    λ b e. re-done (here-is h b e ∙ here-append h (appends .if2 .taken)) (done .run-append .ensures)
 
 run-read-requires : tie.Need-run-read-requires
-run-read-requires c κs = here-read-room (c .before .before .before .before .before .before .before .before .before .before .before .before .before .pre) (c .before .before .before .if3 .taken)
+run-read-requires c κs = let reads = c .before .before .before in here-read-room (at-read reads .pre) (reads .if3 .taken)
 
 same-length-7 : tie.Need-same-length-7
 same-length-7 c = search needs
@@ -100,10 +131,16 @@ same-length-9 : tie.Need-same-length-9
 same-length-9 c = search needs
 
 returns-3 : tie.Need-returns-3
-returns-3 c = λ b e. let h = c .before .before .before .before .before .before .before .before .before .before .before .before .before .before .before .before .pre in re-done (here-is h b e ∙ here-read h (c .before .before .before .before .before .before .if3 .taken)) (read-done _ _ _ (c .before .before .run-read .ensures))
+returns-3 c =
+    let done = c .before .before in
+    let reads = done .before .before .before .before in
+    let h = at-read reads .pre in
+    λ b e. re-done (here-is h b e ∙ here-read h (reads .if3 .taken)) (read-done _ _ _ (done .run-read .ensures))
 
 run-drop-requires : tie.Need-run-drop-requires
-run-drop-requires c κs = here-drop-room (c .before .before .before .before .before .before .before .before .before .before .before .before .before .pre) (c .before .before .before .before .before .if1 .left) (c .before .before .before .before .if2 .left) (c .before .before .before .if3 .left)
+run-drop-requires c κs =
+    let drops = c .before .before .before in
+    here-drop-room (at-drop drops .pre) (drops .before .before .if1 .left) (drops .before .if2 .left) (drops .if3 .left)
 
 same-length-10 : tie.Need-same-length-10
 same-length-10 c = search needs
@@ -115,7 +152,12 @@ same-length-12 : tie.Need-same-length-12
 same-length-12 c = search needs
 
 returns-4 : tie.Need-returns-4
-returns-4 c = λ b e. let h = c .before .before .before .before .before .before .before .before .before .before .before .before .before .before .before .before .before .before .before .before .pre in re-done (here-is h b e ∙ here-drop h (c .before .before .before .before .before .before .before .before .before .before .before .before .if1 .left) (c .before .before .before .before .before .before .before .before .before .before .before .if2 .left) (c .before .before .before .before .before .before .before .before .before .before .if3 .left)) (c .before .before .before .before .before .before .run-drop .ensures)
+returns-4 c =
+    let done = c .before .before .before .before .before .before in
+    let drops = done .before .before .before .before in
+    let h = at-drop drops .pre in
+    let is = here-drop h (drops .before .before .if1 .left) (drops .before .if2 .left) (drops .if3 .left) in
+    λ b e. re-done (here-is h b e ∙ is) (done .run-drop .ensures)
 
 pub run-call-spec : {M : Type 1} → statement M
 run-call-spec =

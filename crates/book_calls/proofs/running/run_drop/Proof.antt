@@ -8,6 +8,11 @@ use borrow.Author.Needs.{needs}
 use Rattle.book_calls.proofs.running.run_drop.Statement.{statement}
 use Rattle.book_calls.proofs.running.run_drop.Tie as tie
 
+-- where the drop is done, and the words of its answer are written
+module _ (c : tie.After-slice-known6) where
+  abbrev dropped : tie.After-drop
+  dropped = c .before .before .before .before .before .before .before .before .before
+
 drop-requires : tie.Need-drop-requires
 drop-requires c κs = search needs
 
@@ -25,7 +30,12 @@ same-length-3 c = search needs
 
 returns : tie.Need-returns
 unfolding does answerRoom
-returns c = record { left = c .before .before .before .before .before .before .before .before .before .drop .ensures .1; said = re-said (sym (c .before .before .before .before .before .before .before .before .before .drop .ensures .0)) (c .before .before .put-drop .ensures); short = short-as (c .before .before .before .before .before .before .before .before .before .drop .ensures .0) (drop-short (c .before .before .before .before .before .before .before .before .before .drop .result .answer)) }
+returns c =
+    record {
+      left = dropped c .drop .ensures .1;
+      said = re-said (sym (dropped c .drop .ensures .0)) (c .before .before .put-drop .ensures);
+      short = short-as (dropped c .drop .ensures .0) (drop-short (dropped c .drop .result .answer));
+    }
 
 pub run-drop-spec : {M : Type 1} → statement M
 run-drop-spec =

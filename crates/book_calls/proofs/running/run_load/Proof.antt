@@ -8,6 +8,11 @@ use borrow.Author.Needs.{needs}
 use Rattle.book_calls.proofs.running.run_load.Statement.{statement}
 use Rattle.book_calls.proofs.running.run_load.Tie as tie
 
+-- where the load is done, and the words of its answer are written
+module _ (c : tie.After-slice-known6) where
+  abbrev loaded : tie.After-load
+  loaded = c .before .before .before .before .before .before .before .before .before
+
 load-requires : tie.Need-load-requires
 load-requires c κs = search needs
 
@@ -25,7 +30,12 @@ same-length-3 c = search needs
 
 returns : tie.Need-returns
 unfolding does answerRoom
-returns c = record { left = c .before .before .before .before .before .before .before .before .before .load .ensures .1; said = re-said (sym (c .before .before .before .before .before .before .before .before .before .load .ensures .0)) (c .before .before .put-load .ensures); short = short-as (c .before .before .before .before .before .before .before .before .before .load .ensures .0) (load-short (c .before .before .before .before .before .before .before .before .before .load .result .answer)) }
+returns c =
+    record {
+      left = loaded c .load .ensures .1;
+      said = re-said (sym (loaded c .load .ensures .0)) (c .before .before .put-load .ensures);
+      short = short-as (loaded c .load .ensures .0) (load-short (loaded c .load .result .answer));
+    }
 
 pub run-load-spec : {M : Type 1} → statement M
 run-load-spec =

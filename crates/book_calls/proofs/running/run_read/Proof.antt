@@ -1,4 +1,6 @@
 -- `run_read` meets its contract: the read's own, into the part behind four words, and then these words. Assumes nothing.
+use Prim.Native.Nat.{ℕ}
+use mathlib.Core.List.{List}
 use native.Mathlib.Omega.{arith}
 use Rattle.book.specs.Book.{Book}
 use Rattle.book.specs.Reads.{reads}
@@ -17,8 +19,20 @@ module _ (c : tie.After-read) where
   abbrev book : Book
   book = bookOf (start .args .body .now) (start .args .heads .now) (start .args .state)
 
-  done : Put book (start .args .key) (start .args .room) (start .args .out .now) (start .pre) (reads book (start .args .key) (start .args .room)) (c .read .result) (c .read .last .1 .1 .1 .1 .0)
-  done = put-reads book (start .args .key) (start .args .room) (start .args .out .now) (start .pre) (c .read .result) (c .read .last .1 .1 .1 .1 .0) (c .read .ensures .0) (c .read .ensures .1)
+  abbrev key : ℕ
+  key = start .args .key
+
+  abbrev room : ℕ
+  room = start .args .room
+
+  abbrev out : List ℕ
+  out = start .args .out .now
+
+  abbrev part : List ℕ
+  part = c .read .last .1 .1 .1 .1 .0
+
+  done : Put book key room out (start .pre) (reads book key room) (c .read .result) part
+  done = put-reads book key room out (start .pre) (c .read .result) part (c .read .ensures .0) (c .read .ensures .1)
 
 add-end : tie.Need-add-end
 add-end c = search needs
@@ -44,7 +58,8 @@ same-length c = search needs
 returns : tie.Need-returns
 returns c =
     let p = done (c .before .before .before .before .before .before) in
-    re-written (c .before .before .put-read .ensures .0) (p .said (c .before .before .put-read .result) (c .before .before .put-read .ensures .1))
+    let put = c .before .before .put-read in
+    re-written (put .ensures .0) (p .said (put .result) (put .ensures .1))
 
 pub run-read-spec : {M : Type 1} → statement M
 run-read-spec =

@@ -1,5 +1,5 @@
 -- `run_spelled` meets its contract. Invariant: what is left of the words gives the rest of the answers. Assumes nothing.
-use Prim.Native.Nat.{ℕ, _+_, _-_, _≤_}
+use Prim.Native.Nat.{ℕ, _+_, _-_, _≤_, _<_}
 use mathlib.Core.List.{List}
 use mathlib.Core.Option.{some}
 use mathlib.Core.Path.{_≡_, refl, subst}
@@ -8,6 +8,7 @@ use borrow.Author.Needs.{needs}
 use borrow.Rule.Slice.PartMut.{putMid}
 use lib.ListN.{length, drop}
 use Rattle.book_rules.specs.Calls.{Call}
+use Rattle.book.specs.Book.{Book}
 use Rattle.book.specs.Answers.{bookOf}
 use Rattle.book_words.specs.SpellCalls.{callAt, callsOf}
 use Rattle.book_calls.specs.Steps.{NextIs}
@@ -21,7 +22,8 @@ use Rattle.book_calls.proofs.running.run_spelled.Tie as tie
 abbrev Inv-loop : tie.InvT-loop
 Inv-loop body₀ heads₀ calls out₀ current₀ at₀ to₀ body heads out current at to =
     (length body ≡ length body₀) × (length heads ≡ length heads₀) × (length out ≡ length out₀) × (at ≤ length calls) × (to ≤ length out)
-    × ((cs : List Call) → callsOf calls ≡ some cs → Running (bookOf body₀ heads₀ current₀) cs calls out₀ (bookOf body heads current) out at to)
+    × ((cs : List Call) → callsOf calls ≡ some cs
+    → Running (bookOf body₀ heads₀ current₀) cs calls out₀ (bookOf body heads current) out at to)
 
 abbrev μ-loop : tie.MeasureT-loop
 μ-loop body₀ heads₀ calls out₀ current₀ at₀ to₀ body heads out current at to = length calls - at
@@ -37,6 +39,19 @@ module _ (k : tie.After-known-told Inv-loop μ-loop) where
   abbrev words : List ℕ
   words = start .args .calls .now
 
+  abbrev first : Book
+  first = bookOf (start .args .body .now) (start .args .heads .now) (start .args .state)
+
+  abbrev out : List ℕ
+  out = loc .loop .out
+
+  abbrev to : ℕ
+  to = loc .loop .to
+
+  -- words are left
+  more : loc .loop .at < length words
+  more = k .before .before .before .before .loop-test .taken
+
   begun : NextIs words (loc .loop .at) (callAt (drop (loc .loop .at) words)) (At (k .before .next .given .0 .0))
   begun = subst (NextIs _ _ _) (k .before .next .given .1) (k .before .before .before .next-call .ensures)
 
@@ -46,18 +61,24 @@ module _ (d : tie.After-run-call Inv-loop μ-loop) where
   known = d .before .before .before .before
 
   stepped : (cs : List Call) → callsOf (words known) ≡ some cs
-      → Running (bookOf (start known .args .body .now) (start known .args .heads .now) (start known .args .state)) cs (words known) (start known .args .out .now)
+      → Running (first known) cs (words known) (start known .args .out .now)
       (bookOf (d .run-call .last .0) (d .run-call .last .1 .0) (d .run-call .result .state))
-      (putMid (loc known .loop .to) (length (loc known .loop .out) - loc known .loop .to) (loc known .loop .out) (d .run-call .last .1 .1 .1 .1 .1 .0))
-      (known .before .next .given .0 .0) (loc known .loop .to + d .run-call .result .len)
+      (putMid (to known) (length (out known) - to known) (out known) (d .run-call .last .1 .1 .1 .1 .1 .0))
+      (known .before .next .given .0 .0) (to known + d .run-call .result .len)
   stepped cs e =
       let r = loc known .loop .inv .5 cs e in
-      let t = known .before .before .before .before .loop-test .taken in
-      let x = runs-split r t _ (begun known) in
-      runs-step r t _ (begun known) _ _ _ (d .run-call .ensures (x .0) (x .1))
+      let x = runs-split r (more known) _ (begun known) in
+      runs-step r (more known) _ (begun known) _ _ _ (d .run-call .ensures (x .0) (x .1))
+
+-- and the words of its answer are written
+module _ (c : tie.After-struct-known Inv-loop μ-loop) where
+  abbrev ran : tie.After-run-call Inv-loop μ-loop
+  ran = c .before .before .before .before .before .before .before .before
 
 loop-holds : tie.Need-loop-holds Inv-loop μ-loop
-loop-holds c = let s = c .before .before .before .before .pre in (refl, refl, refl, omega arith, omega arith, λ cs e. runs-start _ cs _ _ e (spelled-room s cs e))
+loop-holds c =
+    let s = c .before .before .before .before .pre in
+    (refl, refl, refl, omega arith, omega arith, λ cs e. runs-start _ cs _ _ e (spelled-room s cs e))
 
 next-call-requires : tie.Need-next-call-requires Inv-loop μ-loop
 next-call-requires c κs = search needs
@@ -78,7 +99,10 @@ same-length-3 : tie.Need-same-length-3 Inv-loop μ-loop
 same-length-3 c = search needs
 
 returns : tie.Need-returns Inv-loop μ-loop
-returns c = λ cs e. absurd (runs-nowhere (c .before .before .before .before .loop .inv .5 cs e) (c .before .before .before .loop-test .taken) (subst (NextIs _ _ _) (c .enum-told .given .1) (c .before .before .next-call .ensures)))
+returns c =
+    let l = c .before .before .before .before in
+    let told = subst (NextIs _ _ _) (c .enum-told .given .1) (c .before .before .next-call .ensures) in
+    λ cs e. absurd (runs-nowhere (l .loop .inv .5 cs e) (c .before .before .before .loop-test .taken) told)
 
 mul-run-call : tie.Need-mul-run-call Inv-loop μ-loop
 mul-run-call c = search needs
@@ -96,21 +120,21 @@ run-call-requires : tie.Need-run-call-requires Inv-loop μ-loop
 run-call-requires c κs =
     let k = c .before .before .before in
     let s = start k .pre in
-    here-in (loc k .loop .out) (loc k .loop .to) (runs-here (loc k .loop .inv .5 (s .list) (s .is)) (k .before .before .before .before .loop-test .taken) _ (begun k))
+    here-in (out k) (to k) (runs-here (loc k .loop .inv .5 (s .list) (s .is)) (more k) _ (begun k))
 
 add-to : tie.Need-add-to Inv-loop μ-loop
 add-to c =
-    let d = c .before .before .before .before .before .before .before .before in
+    let d = ran c in
     let s = start (known d) .pre in
     let r = stepped d (s .list) (s .is) in
     omega (arith, r .room, r .same, start (known d) .good)
 
 loop-less : tie.Need-loop-less Inv-loop μ-loop
-loop-less c = let (b, e, r, l, m) = was-somewhere _ _ _ _ (begun (c .before .before .before .before .before .before .before .before .before .before .before .before)) in omega (arith, l, m)
+loop-less c = let (b, e, r, l, m) = was-somewhere _ _ _ _ (begun (known (ran c))) in omega (arith, l, m)
 
 loop-again : tie.Need-loop-again Inv-loop μ-loop
 loop-again c =
-    let d = c .before .before .before .before .before .before .before .before in
+    let d = ran c in
     let s = start (known d) .pre in
     let r = stepped d (s .list) (s .is) in
     let (b, e, t, l, m) = was-somewhere _ _ _ _ (begun (known d)) in

@@ -15,14 +15,29 @@ use Rattle.book_calls.proofs.runs.run_calls.Statement.{statement}
 use Rattle.book_calls.proofs.runs.run_calls.Tie as tie
 
 -- the words spell calls
-spelled : (c : tie.Else1) → isSome (callsOf (c .before .before .before .before .before .before .args .calls .now)) ≡ true
-spelled c = sym (c .before .calls-spelled .ensures) ∙ not-false (c .before .calls-spelled .result) (c .if1 .left)
+module _ (c : tie.Else1) where
+  abbrev start : tie.Start
+  start = c .before .before .before .before .before .before
+
+  spelled : isSome (callsOf (start .args .calls .now)) ≡ true
+  spelled = sym (c .before .calls-spelled .ensures) ∙ not-false (c .before .calls-spelled .result) (c .if1 .left)
 
 -- and their answers have room
-fit : (c : tie.Else2) (cs : List Call)
-    → callsOf (c .before .before .before .before .before .before .before .before .args .calls .now) ≡ some cs
-    → leb (answersRoom cs) (length (c .before .before .before .before .before .before .before .before .args .answers .now)) ≡ true
-fit c cs e = sym (c .before .calls-fit .ensures cs e) ∙ not-false (c .before .calls-fit .result) (c .if2 .left)
+module _ (c : tie.Else2) where
+  abbrev told : tie.Else1
+  told = c .before .before
+
+  fit : (cs : List Call) → callsOf (start told .args .calls .now) ≡ some cs
+      → leb (answersRoom cs) (length (start told .args .answers .now)) ≡ true
+  fit cs e = sym (c .before .calls-fit .ensures cs e) ∙ not-false (c .before .calls-fit .result) (c .if2 .left)
+
+-- the book is made, and the calls are to be run on it
+module _ (c : tie.After-run-spelled-arg3) where
+  abbrev made : tie.After-fresh
+  made = c .before .before .before .before .before .before
+
+  abbrev fitting : tie.Else2
+  fitting = made .before .before .before
 
 calls-spelled-requires : tie.Need-calls-spelled-requires
 calls-spelled-requires c κs = search needs
@@ -44,8 +59,9 @@ fresh-requires c κs = search needs
 
 run-spelled-requires : tie.Need-run-spelled-requires
 run-spelled-requires c κs =
-    let (cs, e) = was-some _ (spelled (c .before .before .before .before .before .before .before .before .before .before .before)) in
-    record { list = cs; is = e; fits = leb-true _ _ (fit (c .before .before .before .before .before .before .before .before .before) cs e) }
+    let f = fitting c in
+    let (cs, e) = was-some _ (spelled (told f)) in
+    record { list = cs; is = e; fits = leb-true _ _ (fit f cs e) }
 
 same-length : tie.Need-same-length
 same-length c = search needs
@@ -58,8 +74,10 @@ same-length-3 c = search needs
 
 returns-3 : tie.Need-returns-3
 returns-3 c =
-    let (cs, e) = was-some _ (spelled (c .before .before .before .before .before .before .before .before .before .before .before .before .before .before .before .before .before .before .before)) in
-    all-ran _ _ _ _ _ _ _ cs _ _ _ _ e (fit (c .before .before .before .before .before .before .before .before .before .before .before .before .before .before .before .before .before) cs e) (c .before .before .before .before .before .before .before .before .before .before .before .before .before .before .fresh .ensures .1) (c .before .before .before .before .before .before .before .run-spelled .ensures cs e)
+    let ran = c .before .before .before .before .before .before .before in
+    let f = fitting (ran .before) in
+    let (cs, e) = was-some _ (spelled (told f)) in
+    all-ran _ _ _ _ _ _ _ cs _ _ _ _ e (fit f cs e) (made (ran .before) .fresh .ensures .1) (ran .run-spelled .ensures cs e)
 
 pub run-calls-spec : {M : Type 1} → statement M
 run-calls-spec =

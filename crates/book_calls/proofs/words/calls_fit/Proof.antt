@@ -1,5 +1,5 @@
 -- `calls_fit` meets its contract. Invariant: what the calls from here on may need, and what is left of the room. Assumes nothing.
-use Prim.Native.Nat.{ℕ, _+_, _-_, _≤_}
+use Prim.Native.Nat.{ℕ, _+_, _-_, _≤_, _<_}
 use mathlib.Core.List.{List}
 use mathlib.Core.Option.{some}
 use mathlib.Core.Path.{_≡_, subst}
@@ -32,8 +32,17 @@ module _ (k : tie.After-known-told Inv-loop μ-loop) where
   begun : NextIs words (loc .loop .at) (callAt (drop (loc .loop .at) words)) (At (k .before .next .given .0 .0))
   begun = subst (NextIs _ _ _) (k .before .next .given .1) (k .before .before .before .next-call .ensures)
 
+  -- words are left
+  more : loc .loop .at < length words
+  more = k .before .before .before .before .loop-test .taken
+
   inside : loc .loop .at + 3 ≤ length words
   inside = let (b, e, r, l, m) = was-somewhere _ _ _ _ begun in omega (arith, l, m)
+
+-- and its answer has room
+module _ (c : tie.After-known-told2 Inv-loop μ-loop) where
+  abbrev known : tie.After-known-told Inv-loop μ-loop
+  known = c .before .before .before .before .before .before
 
 loop-holds : tie.Need-loop-holds Inv-loop μ-loop
 loop-holds c = (omega arith, λ cs e. fit-starts _ _ cs e)
@@ -48,7 +57,10 @@ enum-told : tie.Need-enum-told Inv-loop μ-loop
 enum-told c = search needs
 
 returns : tie.Need-returns Inv-loop μ-loop
-returns c = λ cs e. absurd (fit-nowhere (c .before .before .before .before .loop .inv .1 cs e) (c .before .before .before .loop-test .taken) (subst (NextIs _ _ _) (c .enum-told .given .1) (c .before .before .next-call .ensures)))
+returns c =
+    let l = c .before .before .before .before in
+    let told = subst (NextIs _ _ _) (c .enum-told .given .1) (c .before .before .next-call .ensures) in
+    λ cs e. absurd (fit-nowhere (l .loop .inv .1 cs e) (c .before .before .before .loop-test .taken) told)
 
 mul-room-behind : tie.Need-mul-room-behind Inv-loop μ-loop
 mul-room-behind c = search needs
@@ -76,17 +88,21 @@ enum-told-2 c = search needs
 
 returns-2 : tie.Need-returns-2 Inv-loop μ-loop
 unfolding RoomIs
-returns-2 c = λ cs e. let k = c .before .before .before .before .before in fit-short (loc k .loop .inv .1 cs e) (k .before .before .before .before .loop-test .taken) _ (begun k) (subst (RoomIs _ _) (c .enum-told2 .given .1) (c .before .before .room-behind .ensures))
+returns-2 c =
+    let k = c .before .before .before .before .before in
+    let little = subst (RoomIs _ _) (c .enum-told2 .given .1) (c .before .before .room-behind .ensures) in
+    λ cs e. fit-short (loc k .loop .inv .1 cs e) (more k) _ (begun k) little
 
 loop-less : tie.Need-loop-less Inv-loop μ-loop
-loop-less c = let k = c .before .before .before .before .before .before in let (b, e, r, l, m) = was-somewhere _ _ _ _ (begun k) in omega (arith, l, m)
+loop-less c = let (b, e, r, l, m) = was-somewhere _ _ _ _ (begun (known c)) in omega (arith, l, m)
 
 loop-again : tie.Need-loop-again Inv-loop μ-loop
 unfolding RoomIs
 loop-again c =
-    let k = c .before .before .before .before .before .before in
+    let k = known c in
     let (b, e, r, l, m) = was-somewhere _ _ _ _ (begun k) in
-    (m, λ cs e. fit-goes (loc k .loop .inv .1 cs e) (k .before .before .before .before .loop-test .taken) _ (begun k) _ (subst (RoomIs _ _) (c .before .answered .given .1) (c .before .before .before .room-behind .ensures)))
+    let left = subst (RoomIs _ _) (c .before .answered .given .1) (c .before .before .before .room-behind .ensures) in
+    (m, λ cs e. fit-goes (loc k .loop .inv .1 cs e) (more k) _ (begun k) _ left)
 
 returns-3 : tie.Need-returns-3 Inv-loop μ-loop
 returns-3 c = λ cs e. fit-ends (c .before .loop .inv .1 cs e) (omega arith)

@@ -1,5 +1,6 @@
 -- `calls_spelled` meets its contract. Invariant: the words from here on spell calls just where all do. Assumes nothing.
 use Prim.Native.Nat.{ℕ, _-_, _≤_}
+use mathlib.Core.List.{List}
 use mathlib.Core.Path.{_≡_, refl, sym, ap, subst, _∙_}
 use native.Mathlib.Omega.{arith}
 use borrow.Author.Needs.{needs}
@@ -18,15 +19,29 @@ Inv-loop calls at₀ at = (at ≤ length calls) × (isSome (callsOf (drop at cal
 abbrev μ-loop : tie.MeasureT-loop
 μ-loop calls at₀ at = length calls - at
 
--- what was told where no call begins
-told-next : (c : tie.After-enum-told Inv-loop μ-loop)
-    → NextIs (c .before .before .before .before .before .before .args .calls .now) (c .before .before .before .before .loop .at) (callAt (drop (c .before .before .before .before .loop .at) (c .before .before .before .before .before .before .args .calls .now))) Nowhere
-told-next c = subst (NextIs _ _ _) (c .enum-told .given .1) (c .before .before .next-call .ensures)
+-- a turn of the loop
+module _ (l : tie.At-loop Inv-loop μ-loop) where
+  abbrev words : List ℕ
+  words = l .before .before .args .calls .now
 
--- what was told where a call begins
-begun : (c : tie.After-known-told Inv-loop μ-loop)
-    → NextIs (c .before .before .before .before .before .before .before .args .calls .now) (c .before .before .before .before .before .loop .at) (callAt (drop (c .before .before .before .before .before .loop .at) (c .before .before .before .before .before .before .before .args .calls .now))) (At (c .before .next .given .0 .0))
-begun c = subst (NextIs _ _ _) (c .before .next .given .1) (c .before .before .before .next-call .ensures)
+  abbrev at : ℕ
+  at = l .loop .at
+
+-- no call begins at the index
+module _ (c : tie.After-enum-told Inv-loop μ-loop) where
+  abbrev stopped : tie.At-loop Inv-loop μ-loop
+  stopped = c .before .before .before .before
+
+  told-next : NextIs (words stopped) (at stopped) (callAt (drop (at stopped) (words stopped))) Nowhere
+  told-next = subst (NextIs _ _ _) (c .enum-told .given .1) (c .before .before .next-call .ensures)
+
+-- a call begins at the index
+module _ (c : tie.After-known-told Inv-loop μ-loop) where
+  abbrev loc : tie.At-loop Inv-loop μ-loop
+  loc = c .before .before .before .before .before
+
+  begun : NextIs (words loc) (at loc) (callAt (drop (at loc) (words loc))) (At (c .before .next .given .0 .0))
+  begun = subst (NextIs _ _ _) (c .before .next .given .1) (c .before .before .before .next-call .ensures)
 
 loop-holds : tie.Need-loop-holds Inv-loop μ-loop
 loop-holds c = (omega arith, refl)
@@ -42,9 +57,8 @@ enum-told c = search needs
 
 returns : tie.Need-returns Inv-loop μ-loop
 returns c =
-    let l = c .before .before .before .before in
-    let w = l .before .before .args .calls .now in
-    let none-here = spelled-nowhere w (l .loop .at) (c .before .before .before .loop-test .taken) (told-next c) in
+    let l = stopped c in
+    let none-here = spelled-nowhere (words l) (at l) (c .before .before .before .loop-test .taken) (told-next c) in
     sym (ap isSome none-here) ∙ l .loop .inv .1
 
 loop-less : tie.Need-loop-less Inv-loop μ-loop
@@ -52,15 +66,14 @@ loop-less c = let (b, e, r, l, m) = was-somewhere _ _ _ _ (begun c) in omega (ar
 
 loop-again : tie.Need-loop-again Inv-loop μ-loop
 loop-again c =
-    let k = c .before .before .before .before .before in
-    let w = k .before .before .args .calls .now in
+    let k = loc c in
     let (b, e, r, l, m) = was-somewhere _ _ _ _ (begun c) in
-    (m, sym (spelled-next w (k .loop .at) (c .before .before .before .before .loop-test .taken) _ (begun c)) ∙ k .loop .inv .1)
+    (m, sym (spelled-next (words k) (at k) (c .before .before .before .before .loop-test .taken) _ (begun c)) ∙ k .loop .inv .1)
 
 returns-2 : tie.Need-returns-2 Inv-loop μ-loop
 returns-2 c =
-    let w = c .before .before .before .args .calls .now in
-    sym (ap isSome (spelled-end w (c .before .loop .at) (omega arith))) ∙ c .before .loop .inv .1
+    let l = c .before in
+    sym (ap isSome (spelled-end (words l) (at l) (omega arith))) ∙ l .loop .inv .1
 
 pub calls-spelled-spec : {M : Type 1} → statement M
 calls-spelled-spec =

@@ -1,4 +1,6 @@
 -- `next_call` meets its contract: a law for each way out. Assumes nothing.
+use Prim.Native.Nat.{ℕ}
+use mathlib.Core.List.{List}
 use native.Mathlib.Omega.{arith}
 use borrow.Author.Needs.{needs}
 use Rattle.book_words.proofs.LawsCalls.{call-short}
@@ -6,11 +8,24 @@ use Rattle.book_calls.proofs.LawsSteps.{nowhere, next-load-short, next-
 use Rattle.book_calls.proofs.words.next_call.Statement.{statement}
 use Rattle.book_calls.proofs.words.next_call.Tie as tie
 
+-- the words, and the index
+module _ (c : tie.Start) where
+  abbrev calls : List ℕ
+  calls = c .args .calls .now
+
+  abbrev at : ℕ
+  at = c .args .at
+
+-- its first word and its third are read
+module _ (c : tie.After-shared-slice-known2) where
+  abbrev start : tie.Start
+  start = c .before .before .before
+
 sub-if1 : tie.Need-sub-if1
 sub-if1 c = search needs
 
 returns : tie.Need-returns
-returns c = nowhere (c .before .args .calls .now) (c .before .args .at) (call-short (c .before .args .calls .now) (c .before .args .at) (omega arith))
+returns c = let s = c .before in nowhere (calls s) (at s) (call-short (calls s) (at s) (omega arith))
 
 mul-kind : tie.Need-mul-kind
 mul-kind c = search needs
@@ -34,25 +49,31 @@ sub-if3 : tie.Need-sub-if3
 sub-if3 c = search needs
 
 returns-2 : tie.Need-returns-2
-returns-2 c = next-load-short (c .before .before .before .before .before .args .calls .now) (c .before .before .before .before .before .args .at) (omega arith) (c .before .if2 .taken) (c .if3 .taken)
+returns-2 c = let s = start (c .before .before) in next-load-short (calls s) (at s) (omega arith) (c .before .if2 .taken) (c .if3 .taken)
 
 add-t13 : tie.Need-add-t13
 add-t13 c = search needs
 
 returns-3 : tie.Need-returns-3
-returns-3 c = next-load (c .before .before .before .before .before .args .calls .now) (c .before .before .before .before .before .args .at) (omega arith) (c .before .if2 .taken) (c .if3 .left)
+returns-3 c = let s = start (c .before .before) in next-load (calls s) (at s) (omega arith) (c .before .if2 .taken) (c .if3 .left)
 
 returns-4 : tie.Need-returns-4
-returns-4 c = next-other (c .before .before .before .before .before .args .calls .now) (c .before .before .before .before .before .args .at) (omega arith) (c .if4 .taken)
+returns-4 c = let s = start (c .before .before) in next-other (calls s) (at s) (omega arith) (c .if4 .taken)
 
 returns-5 : tie.Need-returns-5
-returns-5 c = next-drop-bad (c .before .before .before .before .before .before .before .args .calls .now) (c .before .before .before .before .before .before .before .args .at) (omega arith) (c .before .if5 .taken) (c .if6 .taken)
+returns-5 c =
+    let s = start (c .before .before .before .before) in
+    next-drop-bad (calls s) (at s) (omega arith) (c .before .if5 .taken) (c .if6 .taken)
 
 returns-6 : tie.Need-returns-6
-returns-6 c = next-drop (c .before .before .before .before .before .before .before .args .calls .now) (c .before .before .before .before .before .before .before .args .at) (omega arith) (c .before .if5 .taken) (c .if6 .left)
+returns-6 c =
+    let s = start (c .before .before .before .before) in
+    next-drop (calls s) (at s) (omega arith) (c .before .if5 .taken) (c .if6 .left)
 
 returns-7 : tie.Need-returns-7
-returns-7 c = next-plain (c .before .before .before .before .before .before .args .calls .now) (c .before .before .before .before .before .before .args .at) (omega arith) (c .before .before .if2 .left) (c .before .if4 .left) (c .if5 .left)
+returns-7 c =
+    let s = start (c .before .before .before) in
+    next-plain (calls s) (at s) (omega arith) (c .before .before .if2 .left) (c .before .if4 .left) (c .if5 .left)
 
 pub next-call-spec : {M : Type 1} → statement M
 next-call-spec =
