@@ -35,8 +35,8 @@ abbrev listing : Book → Content → Outcome
 listing b c = record { told = listed (record { numbers = c .numbers; pages = c .pages }); book = b }
 
 -- that, or the refusal of a list that is too short
-abbrev inRoom : Book → ℕ → Content → Answer Outcome
-inRoom b room c = refuseIf (ltb room (length (c .numbers))) listTooShort (accepted (listing b c))
+abbrev listedIn : Book → ℕ → Content → Answer Outcome
+listedIn b room c = refuseIf (ltb room (length (c .numbers))) listTooShort (accepted (listing b c))
 
 pub reads-as : (b : Book) (key room : ℕ) → ReadsAs b room (reads b key room)
 unfolding reads onKey refuseIf andThen
@@ -47,17 +47,17 @@ reads-as b key room = shape (shapeBroken (b .space) (length (b .heads)))
     fits c true e = turned
     fits c false e = told (record { numbers = c .numbers; pages = c .pages }) (ltb-false room (length (c .numbers)) e)
 
-    held : (a : Answer Content) → ReadsAs b room (andThen a (λ c. inRoom b room c))
+    held : (a : Answer Content) → ReadsAs b room (andThen a (λ c. listedIn b room c))
     held (accepted c) = fits c (ltb room (length (c .numbers))) refl
     held (refused number) = turned
 
-    within : (t : Bool) → ReadsAs b room (refuseIf t keyBeyond (andThen (content (b .space) (wordOf key b)) (λ c. inRoom b room c)))
+    within : (t : Bool) → ReadsAs b room (refuseIf t keyBeyond (andThen (content (b .space) (wordOf key b)) (λ c. listedIn b room c)))
     within true = turned
     within false = held (content (b .space) (wordOf key b))
 
     shape : (t : Bool)
         → ReadsAs b room (refuseIf t shapeBad (refuseIf (leb (length (b .heads)) key) keyBeyond
-        (andThen (content (b .space) (wordOf key b)) (λ c. inRoom b room c))))
+        (andThen (content (b .space) (wordOf key b)) (λ c. listedIn b room c))))
     shape true = turned
     shape false = within (leb (length (b .heads)) key)
 
