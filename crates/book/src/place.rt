@@ -58,7 +58,7 @@ pub fn place_in_slab(body: &mut [u8], state: State, fks: &[u64], class: u8) -> A
 }
 
 // Writes a list to a taken page, the only one of its key.
-pub fn place_in_page(body: &mut [u8], state: State, fks: &[u64]) -> AfterPlace
+fn place_in_page(body: &mut [u8], state: State, fks: &[u64]) -> AfterPlace
     requires { ⌜ InShape (spaceOf (now body) state) × (length (now fks) ≤ 257) × Rising (2 ^ 62) 0 (now fks) × (streamLen (now fks) ≤ 4072)
         ⌝ }
     ensures answer { λ r. ⌜ placeAnswer (r .answer)

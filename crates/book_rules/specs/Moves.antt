@@ -1,4 +1,4 @@
--- How often a key is moved, and how many of its records moves rewrite, from empty to drop.
+-- How often a key is moved, and how many of its records moves rewrite, since it was last empty.
 use Prim.Native.Nat.{ℕ, suc, _+_}
 use mathlib.Core.Bool.{cond}
 use mathlib.Core.List.{List, [], _∷_}
