@@ -1,2 +1,3 @@
 pub mod LawsPlace
 pub mod LawsKey
+pub mod LawsChain
