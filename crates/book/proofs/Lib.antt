@@ -1,3 +1,2 @@
 pub mod LawsPlace
 pub mod LawsKey
-pub mod LawsChain

@@ -1,5 +1,5 @@
 -- A drop: what its definition says of a key at its place, and the pages of a sound chain given back one after the other. Assumes nothing.
-use Prim.Native.Nat.{ℕ, zero, suc, _+_, _-_, _%_, _≤_, _<_}
+use Prim.Native.Nat.{ℕ, zero, suc, _+_, _-_, _%_, _/_, _≤_, _<_}
 use mathlib.Core.Bool.{Bool, true, false}
 use mathlib.Core.List.{List, [], _∷_}
 use mathlib.Core.Logic.{_⊎_, inl, inr, ⊎-elim}
@@ -8,25 +8,31 @@ use native.Mathlib.Nat.{eq-or-lt-of-le}
 use native.Mathlib.Omega.{arith}
 use borrow.Author.Tests.{ltb-true, ltb-false}
 use lib.Dec.{ltb}
-use lib.ListN.{length, drop}
+use lib.ListN.{length, take, drop, take-append-drop}
+use lib.Seq.{drop-drop}
 use Rattle.error.specs.Refusal.{Answer, accepted, refused, andThen, shapeBad, keyBeyond, keyUnsound}
 use Rattle.error.proofs.LawsAnswer.{refused≢accepted, then-yes, then-no}
-use Rattle.scripthash_layout.specs.Sizes.{pageClass}
+use Rattle.buffer.specs.Bytes.{part}
+use Rattle.buffer.specs.LittleEndian.{littleEndian}
+use Rattle.buffer.proofs.LawsOverwrite.{length-part, part-left}
+use Rattle.scripthash_layout.specs.Sizes.{pageClass, pageSize}
 use Rattle.scripthash_layout.specs.Head.{unpackHead, packHead}
 use Rattle.scripthash_layout.specs.declared.head.ShHeadValue.{ShHeadValue}
 use Rattle.scripthash_layout.specs.declared.head.ShHeadValue.the-variants.{Empty}
 use Rattle.scripthash_stream.specs.Stream.{Scan, lastFrom}
-use Rattle.scripthash_fields.specs.Page.{linkOf, linkOffset}
+use Rattle.scripthash_fields.specs.Page.{field, linkOf, linkOffset}
 use Rattle.scripthash_free.specs.FreeList.{isBlock, Within}
 use Rattle.scripthash_free.proofs.LawsBlock.{block-stands}
 use Rattle.book_rules.specs.Calls.{dropped}
 use Rattle.book_space.specs.Space.{Space, shapeBroken, release}
 use Rattle.book_space.proofs.LawsLists.{stands-further, each-one}
 use Rattle.book_space.proofs.LawsTake.{InBody, release-none, release-first, release-mark, release-size, release-outside}
-use Rattle.book_keys.specs.Keys.{soundly, pageAt, linkScan, pageThen, Chain, walk, Content, pageBlocks, contentAt, content}
+use Rattle.book_keys.specs.Keys.{soundly, pageAt, linkScan, pageThen, Chain, walk, chainAt, Content, pageBlocks, contentAt, content}
+use Rattle.book_keys.specs.Steps.{ChainEndOf, chainEndOf}
 use Rattle.book_keys.proofs.LawsSound.{soundly-yes, soundly-no}
 use Rattle.book_keys.proofs.LawsPages.{link-sound}
 use Rattle.book_keys.proofs.LawsWalk.{Ends, GoesOn, walk-step}
+use Rattle.book_keys.proofs.LawsChain.{chain-sound}
 use Rattle.book_keys.proofs.LawsContent.{content-at, content-nowhere}
 use Rattle.book_keys.proofs.LawsDistinct.{page-once, SameBehind, walk-same}
 use Rattle.book.specs.Book.{Book, wordOf, headWord, placing}
@@ -122,6 +128,26 @@ module _ (s : Space) (within : s .mark ≤ length (s .body)) (prev off : ℕ) (c
           release-outside _ s off (off + 4096) (each-one (Within off (off + 4096)) _ (omega arith, omega arith)) (here .ends) o 4096
           (apart-pages o off (there .aligned) (here .aligned) (page-once s prev off c is later o d e h))
 
+-- All pages of a sound chain are left, from its first on.
+pub chain-left : (s : Space) (last : ℕ) (c : Chain) (end : ChainEndOf) → s .mark ≤ length (s .body) → chainAt s last ≡ accepted c
+    → chainEndOf c ≡ end
+    → PagesLeft s (end .first) (end .pages) (c .offs)
+chain-left s last c end within e told =
+    let k = chain-sound s last c e in
+    let first : k .header .first ≡ end .first = sym (k .begins) ∙ ap (λ (x : ChainEndOf). x .first) told in
+    record {
+      within = within;
+      count = ap (λ (x : ChainEndOf). x .pages) told;
+      rest = λ h. record {
+        most = s .mark / pageSize;
+        last = last;
+        prev = 0;
+        chain = c;
+        walks = rw first at (k .walks);
+        met = refl;
+      };
+    }
+
 -- A turn of giving back the pages that are left: the first stands within the body, and the pages behind it are left in the space after it.
 pub record Turn (s : Space) (off left : ℕ) (offs : List ℕ) : Type 0 where
   pub stands : isBlock pageClass off (length (s .body)) ≡ true
@@ -205,3 +231,17 @@ giving-end s off left done z g = sym (none (g .offs) (g .pages .count ∙ z)) �
     none : (offs : List ℕ) → length offs ≡ 0 → release (pageBlocks offs) s ≡ s
     none [] e = no-pages s
     none (o ∷ os) e = absurd (omega arith)
+
+-- Some bytes of a part are bytes of the whole.
+part-inner : (b : List ℕ) (o k i n : ℕ) → o + k ≤ length b → i + n ≤ k → part (part b o k) i n ≡ part b (o + i) n
+unfolding part
+part-inner b o k i n within h =
+    let long = length-part b o k within in
+    sym (part-left (take k (drop o b)) (drop k (drop o b)) i n (omega arith))
+    ∙ ap (λ (l : List ℕ). take n (drop i l)) (take-append-drop k (drop o b))
+    ∙ ap (take n) (drop-drop i o b)
+
+-- A page's link, as it is read from the body.
+pub link-read : (body : List ℕ) (off : ℕ) → off + 4096 ≤ length body → littleEndian (part body (off + 3) 5) ≡ linkOf (part body off 4096)
+unfolding field
+link-read body off within = ap littleEndian (sym (part-inner body off 4096 3 5 within (omega arith)))

@@ -6,6 +6,7 @@ mod making;
 mod reading;
 
 pub use dropping::drop;
+pub use dropping::next_page;
 pub use loading::load;
 pub use making::fresh;
 pub use reading::read;

@@ -39,7 +39,7 @@ fn claim_pages(body: &[u8], mark: u64, work: &mut [u8], first: u64, pages: u64) 
         if !claim_block(work, SH_PAGE_SLAB_CLASS, off) {
             return Claiming::Shared;
         }
-        off = book::next_page(body, off);
+        off = book_lists::next_page(body, off);
         left -= 1;
     }
     Claiming::Done

@@ -16,8 +16,7 @@ use Rattle.book.specs.Book.{Book}
 use Rattle.book.specs.Answers.{bookOf}
 use Rattle.book.specs.Steps.{PagesLeft}
 use Rattle.book.proofs.LawsKey.{does-same}
-use Rattle.book_lists.proofs.LawsDrop.{drop-no, drop-yes}
-use Rattle.book.proofs.LawsChain.{chain-left}
+use Rattle.book_lists.proofs.LawsDrop.{drop-no, drop-yes, chain-left}
 use Rattle.book_lists.proofs.dropping.drop_chain.Statement.{statement}
 use Rattle.book_lists.proofs.dropping.drop_chain.Tie as tie
 

@@ -8,9 +8,9 @@ use Rattle.buffer.specs.Bytes.{part}
 use Rattle.buffer.proofs.LawsLittleEndian.{littleEndian-below, part-bytes}
 use Rattle.buffer.proofs.LawsOverwrite.{length-part}
 use Rattle.scripthash_fields.specs.Page.{linkOffset}
-use Rattle.book.proofs.LawsChain.{link-inside}
-use Rattle.book.proofs.chain.next_page.Statement.{statement}
-use Rattle.book.proofs.chain.next_page.Tie as tie
+use Rattle.book_lists.proofs.LawsDrop.{link-read}
+use Rattle.book_lists.proofs.dropping.next_page.Statement.{statement}
+use Rattle.book_lists.proofs.dropping.next_page.Tie as tie
 
 add-get-u40 : tie.Need-add-get-u40
 add-get-u40 c = search needs
@@ -29,7 +29,7 @@ mul-result c =
     omega (arith, c .get-u40 .ensures)
 
 returns : tie.Need-returns
-returns c = let a = c .before .before .args in ap linkOffset (c .get-u40 .ensures ∙ link-inside (a .body .now) (a .off) (omega arith))
+returns c = let a = c .before .before .args in ap linkOffset (c .get-u40 .ensures ∙ link-read (a .body .now) (a .off) (omega arith))
 
 pub next-page-spec : {M : Type 1} → statement M
 next-page-spec = tie.close (tie.spec add-get-u40 get-u40-requires mul-result returns)
