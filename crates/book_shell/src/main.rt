@@ -63,10 +63,7 @@ fn look(asked: Asked, list: &mut [u64], body: &[u8], heads: &[u64], state: State
         Command::Read => calls::read(body, heads, state, asked.first, list, asked.second),
         Command::Places => book_script::places(heads),
         Command::Check => calls::check(body, heads, state),
-        _ => {
-            let free = state.free;
-            book_script::space(body, state.mark, free)
-        }
+        _ => book_script::space(body, state),
     }
 }
 
