@@ -9,7 +9,7 @@ use lib.ListN.{length}
 use Rattle.error.specs.Refusal.{Answer, accepted, refused, answered, noRoom}
 use Rattle.error.proofs.LawsAnswer.{refuse-yes, refuse-no, then-yes, then-no, was-accepted, was-refused}
 use Rattle.scripthash_layout.specs.Sizes.{slabBytes, pageClass}
-use Rattle.scripthash_free.specs.FreeList.{Lists, Pop, isBlock, pushFree, popFree, pushAll, after, headsAfter}
+use Rattle.scripthash_free.specs.FreeList.{Lists, Pop, isBlock, pushFree, popFree, pushAll, listsAfter, headsAfter}
 use Rattle.scripthash_free.proofs.LawsFree.{after-accepted, heads-accepted, push-yes}
 use Rattle.book_space.specs.Space.{Space, space, listsOf, withLists, Taken, takeMark, takeRun, takeFresh, takePopped, takeBlock}
 use Rattle.book_space.specs.Space.{spaceAfter, release}
@@ -76,7 +76,7 @@ module _ (class : ℕ) (s : Space) where
 
 -- The free lists after pushing a block that stands within the body are those after it is given back.
 pub release-pushed : (class off : ℕ) (s : Space) (l : Lists) → isBlock class off (length (s .body)) ≡ true
-    → l ≡ after (pushFree class off (listsOf s)) (listsOf s)
+    → l ≡ listsAfter (pushFree class off (listsOf s)) (listsOf s)
     → withLists l s ≡ release (record { class = class; off = off } ∷ []) s
 unfolding release pushAll
 release-pushed class off s l good e =

@@ -14,7 +14,20 @@ use Rattle.error.proofs.LawsAnswer.{accepted-inj, passed, went-on}
 use Rattle.buffer.specs.Bytes.{part}
 use Rattle.scripthash_layout.specs.Sizes.{slabBytes, pageClass, pageSize}
 use Rattle.scripthash_layout.specs.Head.{payloadStart}
-use Rattle.scripthash_free.specs.FreeList.{Lists, Block, Pop, isBlock, isGap, gapBlocks, carveGap, pushAll, popFree, after, Each, Within}
+use Rattle.scripthash_free.specs.FreeList.{
+  Lists,
+  Block,
+  Pop,
+  isBlock,
+  isGap,
+  gapBlocks,
+  carveGap,
+  pushAll,
+  popFree,
+  listsAfter,
+  Each,
+  Within,
+}
 use Rattle.scripthash_free.proofs.LawsBlock.{block-stands, stands-block, slab-stands, lies-gap}
 use Rattle.scripthash_free.proofs.LawsFree.{after-accepted, carve-yes}
 use Rattle.scripthash_free.proofs.LawsGap.{gap-filled, adjoin-within, each-map}
@@ -94,7 +107,7 @@ rounded-mark s = refl
 -- A run of pages at the mark of a space in shape, rounded up.
 module _ (pages : ℕ) (s : Space) (i : InShape s) where
   -- One that fits is taken, with the free lists after carving the gap.
-  pub run-yes : (l : Lists) → l ≡ after (carveGap (s .mark) (pageAfter (s .mark)) (listsOf s)) (listsOf s)
+  pub run-yes : (l : Lists) → l ≡ listsAfter (carveGap (s .mark) (pageAfter (s .mark)) (listsOf s)) (listsOf s)
       → pageAfter (s .mark) + pages * pageSize ≤ length (s .body)
       → takeRun pages s ≡ accepted
       (record { off = pageAfter (s .mark); space = space (l .body) (pageAfter (s .mark) + pages * pageSize) (l .heads) })

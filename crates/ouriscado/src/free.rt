@@ -1,7 +1,7 @@
 // Free lists: a lent body, and the free heads of the classes 0 to 8, each the offset of the class's first freed block, or 0.
 ghost use mathlib.Core.Path.{_≡_};
 ghost use Rattle.error.specs.Refusal.{refusalOf, told};
-ghost use Rattle.scripthash_free.specs.FreeList.{lists, pushFree, popFree, carveGap, relocClass, after, headsAfter};
+ghost use Rattle.scripthash_free.specs.FreeList.{lists, pushFree, popFree, carveGap, relocClass, listsAfter, headsAfter};
 ghost use Rattle.scripthash_free.specs.Answers.{classAnswer, popAnswer};
 ghost use mathlib.Core.Option.{Option·getD};
 ghost use Rattle.ouriscado.specs.OutClass.{hasClass};
@@ -65,7 +65,8 @@ pub extern "C" fn ouriscado_push_free_head(
 ) -> u32
     ensures number { λ r. ⌜ r ≡ refusalOf (pushFree class off (lists (now (body .entry)) (now (heads .entry)))) ⌝ }
     ensures lists { λ r. ⌜ lists (now (body .exit)) (now (heads .exit))
-        ≡ after (pushFree class off (lists (now (body .entry)) (now (heads .entry)))) (lists (now (body .entry)) (now (heads .entry))) ⌝ }
+        ≡ listsAfter (pushFree class off (lists (now (body .entry)) (now (heads .entry))))
+        (lists (now (body .entry)) (now (heads .entry))) ⌝ }
 {
     let answer = scripthash_free::push_lent(body, heads, class, off);
     answer.refusal()
@@ -100,7 +101,8 @@ pub extern "C" fn ouriscado_carve_gap_into_freelist(
 ) -> u32
     ensures number { λ r. ⌜ r ≡ refusalOf (carveGap from to (lists (now (body .entry)) (now (heads .entry)))) ⌝ }
     ensures lists { λ r. ⌜ lists (now (body .exit)) (now (heads .exit))
-        ≡ after (carveGap from to (lists (now (body .entry)) (now (heads .entry)))) (lists (now (body .entry)) (now (heads .entry))) ⌝ }
+        ≡ listsAfter (carveGap from to (lists (now (body .entry)) (now (heads .entry))))
+        (lists (now (body .entry)) (now (heads .entry))) ⌝ }
 {
     let answer = scripthash_free::carve_lent(body, heads, from, to);
     answer.refusal()

@@ -11,16 +11,16 @@ use Rattle.error.specs.Refusal.{Answer, accepted, refused, freeHeadBad}
 use Rattle.error.proofs.LawsAnswer.{refuse-yes, refuse-no}
 use Rattle.scripthash_free.specs.FreeList.{Lists, Pop, firstFreed, nextOf, isBlock, pushed, pushFree, popFree, gapBlocks, pushAll}
 use Rattle.scripthash_free.specs.FreeList.{isGap}
-use Rattle.scripthash_free.specs.FreeList.{carveGap, after, headsAfter}
+use Rattle.scripthash_free.specs.FreeList.{carveGap, listsAfter, headsAfter}
 
 -- What is accepted stands afterwards.
-pub after-accepted : (a : Answer Lists) (before : Lists) {l : Lists} → a ≡ accepted l → after a before ≡ l
-unfolding after
+pub after-accepted : (a : Answer Lists) (before : Lists) {l : Lists} → a ≡ accepted l → listsAfter a before ≡ l
+unfolding listsAfter
 after-accepted a before e = rw e
 
 -- What was there stays where a call is refused.
-pub after-refused : (a : Answer Lists) (before : Lists) {number : ℕ} → a ≡ refused number → after a before ≡ before
-unfolding after
+pub after-refused : (a : Answer Lists) (before : Lists) {number : ℕ} → a ≡ refused number → listsAfter a before ≡ before
+unfolding listsAfter
 after-refused a before e = rw e
 
 -- The heads that an accepted pop gives stand afterwards.

@@ -108,9 +108,9 @@ unfoldable pub carveGap : ℕ → ℕ → Lists → Answer Lists
 carveGap from to l = refuseIf (not (isGap from to (length (l .body)))) freeHeadBad (accepted (pushAll (gapBlocks from to) l))
 
 -- The body and the heads after a call that gives them anew, or as they were where it is refused.
-unfoldable pub after : Answer Lists → Lists → Lists
-after (accepted l) before = l
-after (refused number) before = before
+unfoldable pub listsAfter : Answer Lists → Lists → Lists
+listsAfter (accepted l) before = l
+listsAfter (refused number) before = before
 
 -- The heads after a pop, or as they were where it is refused.
 unfoldable pub headsAfter : Answer Pop → List ℕ → List ℕ

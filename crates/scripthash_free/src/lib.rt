@@ -7,7 +7,7 @@ ghost use lib.ListN.{length};
 ghost use Rattle.error.specs.Refusal.{answered, refusalOf};
 ghost use Rattle.scripthash_layout.specs.Sizes.{maxSlabClass, pageClass};
 ghost use Rattle.scripthash_free.specs.FreeList.{Pop, lists, isBlock, pushed, pushFree, popFree, relocClass, gapBlocks, pushAll};
-ghost use Rattle.scripthash_free.specs.FreeList.{isGap, carveGap, after, headsAfter};
+ghost use Rattle.scripthash_free.specs.FreeList.{isGap, carveGap, listsAfter, headsAfter};
 ghost use Rattle.scripthash_free.specs.Answers.{classAnswer, pushAnswer, popAnswer, wasDone};
 use error::Refusal;
 use scripthash_layout::SH_MAX_SLAB_CLASS;
@@ -171,7 +171,8 @@ fn put_free_head(body: &mut [u8], heads: &mut [u64; 9], class: u8, off: u64)
 pub fn push_lent(body: &mut [u8], heads: &mut [u64; 9], class: u8, off: u64) -> PushFree
     ensures answer { λ r. ⌜ pushAnswer r ≡ answered wasDone (pushFree class off (lists (now (body .entry)) (now (heads .entry)))) ⌝ }
     ensures lists { λ r. ⌜ lists (now (body .exit)) (now (heads .exit))
-        ≡ after (pushFree class off (lists (now (body .entry)) (now (heads .entry)))) (lists (now (body .entry)) (now (heads .entry))) ⌝ }
+        ≡ listsAfter (pushFree class off (lists (now (body .entry)) (now (heads .entry))))
+        (lists (now (body .entry)) (now (heads .entry))) ⌝ }
 {
     if is_block(class, off, body.len() as u64) {
         put_free_head(body, heads, class, off);
@@ -184,7 +185,7 @@ pub fn push_lent(body: &mut [u8], heads: &mut [u64; 9], class: u8, off: u64) -> 
 pub fn push_free_head(body: &mut [u8], free: FreeHeads, class: u8, off: u64) -> AfterPush
     ensures answer { λ r. ⌜ pushAnswer (r .answer) ≡ answered wasDone (pushFree class off (lists (now (body .entry)) (free .heads))) ⌝ }
     ensures lists { λ r. ⌜ lists (now (body .exit)) (r .free .heads)
-        ≡ after (pushFree class off (lists (now (body .entry)) (free .heads))) (lists (now (body .entry)) (free .heads)) ⌝ }
+        ≡ listsAfter (pushFree class off (lists (now (body .entry)) (free .heads))) (lists (now (body .entry)) (free .heads)) ⌝ }
 {
     let mut heads = free.heads;
     let answer = push_lent(body, &mut heads, class, off);
@@ -285,7 +286,8 @@ fn push_smaller(body: &mut [u8], heads: &mut [u64; 9], from: u64, to: u64)
 pub fn carve_lent(body: &mut [u8], heads: &mut [u64; 9], from: u64, to: u64) -> PushFree
     ensures answer { λ r. ⌜ pushAnswer r ≡ answered wasDone (carveGap from to (lists (now (body .entry)) (now (heads .entry)))) ⌝ }
     ensures lists { λ r. ⌜ lists (now (body .exit)) (now (heads .exit))
-        ≡ after (carveGap from to (lists (now (body .entry)) (now (heads .entry)))) (lists (now (body .entry)) (now (heads .entry))) ⌝ }
+        ≡ listsAfter (carveGap from to (lists (now (body .entry)) (now (heads .entry))))
+        (lists (now (body .entry)) (now (heads .entry))) ⌝ }
 {
     if !is_gap(from, to, body.len() as u64) {
         return PushFree::Refused(error::FREE_HEAD_BAD);
@@ -302,7 +304,7 @@ pub fn carve_lent(body: &mut [u8], heads: &mut [u64; 9], from: u64, to: u64) -> 
 pub fn carve_gap_into_freelist(body: &mut [u8], free: FreeHeads, from: u64, to: u64) -> AfterPush
     ensures answer { λ r. ⌜ pushAnswer (r .answer) ≡ answered wasDone (carveGap from to (lists (now (body .entry)) (free .heads))) ⌝ }
     ensures lists { λ r. ⌜ lists (now (body .exit)) (r .free .heads)
-        ≡ after (carveGap from to (lists (now (body .entry)) (free .heads))) (lists (now (body .entry)) (free .heads)) ⌝ }
+        ≡ listsAfter (carveGap from to (lists (now (body .entry)) (free .heads))) (lists (now (body .entry)) (free .heads)) ⌝ }
 {
     let mut heads = free.heads;
     let answer = carve_lent(body, &mut heads, from, to);

@@ -23,7 +23,7 @@ use Rattle.scripthash_stream.specs.Stream.{Rising, lastFrom, streamFrom, stream
 use Rattle.scripthash_stream.proofs.LawsScan.{next-accepted, next-same, scan-step, scan-cons, scan-accepted}
 use Rattle.scripthash_stream.proofs.LawsStream.{scan-stream}
 use Rattle.scripthash_fields.specs.Page.{field, setField, versionOf, countOf, namesExtent, streamOff}
-use Rattle.scripthash_pages.specs.Entries.{Place, streamPlace, pageScan, lastOf, Spot, oneMore, withAppended}
+use Rattle.scripthash_pages.specs.Entries.{StreamAt, streamPlace, pageScan, lastOf, Spot, oneMore, withAppended}
 use Rattle.scripthash_pages.proofs.LawsEntries.{version-byte, placeBy, place-by, extent-place, delta-place, place-accepted}
 use Rattle.scripthash_pages.proofs.LawsEntries.{scan-placed, scan-yes}
 use Rattle.scripthash_pages.proofs.LawsAppend.{eitherOf, count-read, length-one-more, Roomy, scan-ends}
@@ -179,7 +179,7 @@ module _ (page : List ℕ) (fk : ℕ) (w : Spot) (r : Roomy page fk w) where
       ∙ ap (λ (b : List ℕ). part b o n) counted
       ∙ part-after first 1 more more-fits o n (omega arith) ∙ part-after page 0 (bytesOf 1 version) first-fits o n (omega arith)
 
-  abbrev place : Place
+  abbrev place : StreamAt
   place = record { off = streamOff page; count = countOf page + 1 }
 
   known : scan (countOf page) (drop (streamOff page) page) ≡ accepted s

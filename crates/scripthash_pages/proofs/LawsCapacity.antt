@@ -19,11 +19,11 @@ use Rattle.scripthash_layout.specs.Sizes.{pageSize}
 use Rattle.scripthash_stream.specs.Stream.{Scan, scan, scanFrom, lastFrom, nextNumber, storedNumber}
 use Rattle.scripthash_stream.proofs.LawsScan.{scan-accepted, next-refused, scan-stops}
 use Rattle.scripthash_fields.specs.Page.{versionOf, countOf, namesExtent, streamCap}
-use Rattle.scripthash_pages.specs.Entries.{Place, streamPlace, pageScan, pageEntries, lastOf, appendSpot}
+use Rattle.scripthash_pages.specs.Entries.{StreamAt, streamPlace, pageScan, pageEntries, lastOf, appendSpot}
 use Rattle.scripthash_pages.proofs.LawsEntries.{place-accepted, scan-yes, scan-placed}
 
 -- the stream handed to the reader is as long as the page's capacity
-pub stream-handed : (page : List ℕ) (p : Place) → streamPlace page ≡ accepted p → length (drop (p .off) page) ≡ streamCap page
+pub stream-handed : (page : List ℕ) (p : StreamAt) → streamPlace page ≡ accepted p → length (drop (p .off) page) ≡ streamCap page
 stream-handed page p e =
     let placed = place-accepted page p e in
     omega (arith, length-drop (p .off) page, placed .long, placed .off-is)
@@ -50,7 +50,7 @@ pub retired-19 : (page : List ℕ)
 unfolding pageScan andThen
 retired-19 page = go (streamPlace page) refl
   where
-    go : (a : Answer Place) → streamPlace page ≡ a
+    go : (a : Answer StreamAt) → streamPlace page ≡ a
         → andThen a
         (λ p. andThen (scan (p .count) (drop (p .off) page)) (λ s. refuseIf (ltb (pageSize - p .off) (s .taken)) 19 (accepted s)))
         ≡ andThen a (λ p. scan (p .count) (drop (p .off) page))
@@ -62,7 +62,7 @@ retired-19 page = go (streamPlace page) refl
 
 -- a number that would end beyond the capacity, whatever bytes stood behind the page, is cut short or overflows: k numbers of the page scan,
 -- and the form behind them is longer than what is left of the page
-pub past-capacity : (page : List ℕ) (p : Place) → streamPlace page ≡ accepted p
+pub past-capacity : (page : List ℕ) (p : StreamAt) → streamPlace page ≡ accepted p
     → (k : ℕ) (s : Scan) → k < p .count → scan k (drop (p .off) page) ≡ accepted s
     → (behind : List ℕ) → streamCap page < s .taken + length (formAt (drop (s .taken) (drop (p .off) page) ++ behind))
     → (pageScan page ≡ refused ulebCutShort) ⊎ (pageScan page ≡ refused ulebOverflow)

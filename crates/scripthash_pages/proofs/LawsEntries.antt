@@ -20,7 +20,7 @@ use Rattle.scripthash_fields.specs.Page.{field, versionOf, countOf, linkOf, nex
 use Rattle.scripthash_fields.proofs.LawsPage.{field-byte}
 use Rattle.scripthash_fields.proofs.LawsFields.{stream-off-within}
 use Rattle.scripthash_pages.specs.EntryAnswers.{PageRead}
-use Rattle.scripthash_pages.specs.Entries.{Place, streamPlace, pageScan, pageEntries, pageReadOf}
+use Rattle.scripthash_pages.specs.Entries.{StreamAt, streamPlace, pageScan, pageEntries, pageReadOf}
 
 -- ---- the stream's place
 
@@ -29,7 +29,7 @@ pub version-byte : (page : List ℕ) → 0 < length page → versionOf page ≡ 
 version-byte page h = field-byte page 0 (omega arith)
 
 -- The place of the stream of a page with a version and a count.
-abbrev pub placeBy : ℕ → ℕ → Answer Place
+abbrev pub placeBy : ℕ → ℕ → Answer StreamAt
 placeBy v n =
     refuseIf (ltb (pageSize - cond (eqb v 2) 24 8) n) countAboveCapacity
     (refuseIf (not (eqb v 1 || eqb v 2 || (eqb v 0 && eqb n 0))) versionBad (accepted (record { off = cond (eqb v 2) 24 8; count = n })))
@@ -75,22 +75,22 @@ other-version v n h0 h1 h2 k =
     rw (ne-eqb v 0 h0, ne-eqb v 1 h1, ne-eqb v 2 h2) (refuse-no (ltb 4088 n) _ _ (le-ltb 4088 n k) ∙ refuse-yes true _ _ refl)
 
 -- What is known of a stream's place.
-pub record Placed (page : List ℕ) (p : Place) : Type 0 where
+pub record Placed (page : List ℕ) (p : StreamAt) : Type 0 where
   pub long : length page ≡ pageSize
   pub off-is : streamOff page ≡ p .off
   pub count-is : countOf page ≡ p .count
   pub counted : p .count ≤ pageSize - p .off
   pub early : p .off ≤ 24
 
-pub place-accepted : (page : List ℕ) (p : Place) → streamPlace page ≡ accepted p → Placed page p
+pub place-accepted : (page : List ℕ) (p : StreamAt) → streamPlace page ≡ accepted p → Placed page p
 unfolding streamPlace
 place-accepted page p e =
     let l = passed (not (eqb (length page) pageSize)) _ _ e in
     let m = passed (ltb (streamCap page) (countOf page)) _ _ (l .1) in
     let k = passed (not (eqb (versionOf page) 1 || namesExtent page || (eqb (versionOf page) 0 && eqb (countOf page) 0))) _ _ (m .1) in
     let is = accepted-inj (k .1) in
-    let off-is : streamOff page ≡ p .off = ap (λ (q : Place). q .off) is in
-    let count-is : countOf page ≡ p .count = ap (λ (q : Place). q .count) is in
+    let off-is : streamOff page ≡ p .off = ap (λ (q : StreamAt). q .off) is in
+    let count-is : countOf page ≡ p .count = ap (λ (q : StreamAt). q .count) is in
     let within : countOf page ≤ pageSize - streamOff page = ltb-false (streamCap page) (countOf page) (m .0) in
     record {
       long = eqb-true (length page) pageSize (not-false (eqb (length page) pageSize) (l .0));
@@ -108,13 +108,13 @@ unfolding pageScan
 scan-no page e = then-no (streamPlace page) _ e
 
 -- and else the stream's scan decides
-pub scan-yes : (page : List ℕ) (p : Place) → streamPlace page ≡ accepted p → pageScan page ≡ scan (p .count) (drop (p .off) page)
+pub scan-yes : (page : List ℕ) (p : StreamAt) → streamPlace page ≡ accepted p → pageScan page ≡ scan (p .count) (drop (p .off) page)
 unfolding pageScan
 scan-yes page p e = then-yes (streamPlace page) _ e
 
 -- a page that scans has a place
 pub scan-placed : (page : List ℕ) (s : Scan) → pageScan page ≡ accepted s
-    → (p : Place) × (streamPlace page ≡ accepted p) × (scan (p .count) (drop (p .off) page) ≡ accepted s)
+    → (p : StreamAt) × (streamPlace page ≡ accepted p) × (scan (p .count) (drop (p .off) page) ≡ accepted s)
 unfolding pageScan
 scan-placed page s e =
     let got = went-on (streamPlace page) _ e in
@@ -135,7 +135,7 @@ unfolding pageEntries
 entries-no room page e = then-no (pageScan page) _ (scan-no page e)
 
 -- and else the stream's reading decides
-pub entries-yes : (room : ℕ) (page : List ℕ) (p : Place) → streamPlace page ≡ accepted p
+pub entries-yes : (room : ℕ) (page : List ℕ) (p : StreamAt) → streamPlace page ≡ accepted p
     → pageEntries room page ≡ decodeStream room (p .count) (drop (p .off) page)
 unfolding pageEntries decodeStream
 entries-yes room page p e =

@@ -11,7 +11,7 @@ use Rattle.scripthash_stream.specs.Stream.{Rising, stream, streamLen, scan}
 use Rattle.scripthash_stream.proofs.LawsStream.{scan-stream}
 use Rattle.scripthash_fields.specs.Page.{versionOf, countOf, streamOff}
 use Rattle.scripthash_fields.proofs.LawsFields.{stream-off-extent, stream-off-other}
-use Rattle.scripthash_pages.specs.Entries.{Place, streamPlace, pageScan}
+use Rattle.scripthash_pages.specs.Entries.{StreamAt, streamPlace, pageScan}
 use Rattle.scripthash_pages.proofs.LawsEntries.{version-byte, placeBy, place-by, scan-yes}
 use Rattle.scripthash_pages.proofs.LawsAppend.{eitherOf, count-read}
 use Rattle.scripthash_pages.proofs.LawsAppended.{count-least, kept-place}

@@ -9,7 +9,7 @@ use Rattle.error.proofs.LawsAnswer.{refused≢accepted, refused-alike, passed, 
 use Rattle.scripthash_layout.specs.Sizes.{pageSize}
 use Rattle.scripthash_fields.specs.Page.{countOf, streamOff}
 use Rattle.scripthash_fields.specs.Fields.{requireDelta}
-use Rattle.scripthash_pages.specs.Entries.{Place, streamPlace}
+use Rattle.scripthash_pages.specs.Entries.{StreamAt, streamPlace}
 
 -- a page that is refused has no place for a stream
 pub place-refused : (page : List ℕ) {number : ℕ} → requireDelta page ≡ refused number → streamPlace page ≡ refused number

@@ -16,12 +16,12 @@ use Rattle.scripthash_fields.specs.Page.{setField, countOf, nextOff, deltaVersi
 use Rattle.scripthash_fields.specs.Page.{onDelta}
 
 -- Where the stream of a page starts, and how many numbers it has.
-pub record Place : Type 0 where
+pub record StreamAt : Type 0 where
   pub off : ℕ
   pub count : ℕ
 
 -- The stream's place in a page that passes the tests.
-unfoldable pub streamPlace : List ℕ → Answer Place
+unfoldable pub streamPlace : List ℕ → Answer StreamAt
 streamPlace page = onPage page (onDelta page (accepted (record { off = streamOff page; count = countOf page })))
 
 -- Scanning the stream of a page.

@@ -13,7 +13,7 @@ use Rattle.scripthash_stream.specs.Answers.{bytesAnswer}
 use Rattle.scripthash_stream.specs.declared.stream.StreamBytes.{StreamBytes}
 use Rattle.scripthash_stream.proofs.LawsScan.{scan-accepted}
 use Rattle.scripthash_stream.proofs.LawsDecode.{decode-accepted, after-refused}
-use Rattle.scripthash_pages.specs.Entries.{Place, streamPlace, pageEntries, readCount}
+use Rattle.scripthash_pages.specs.Entries.{StreamAt, streamPlace, pageEntries, readCount}
 use Rattle.scripthash_pages.specs.Answers.{streamPlaceAnswer}
 use Rattle.scripthash_pages.specs.declared.entries.StreamPlace.{StreamPlace}
 use Rattle.scripthash_pages.proofs.LawsEntries.{Placed, place-accepted, entries-no, entries-yes}
@@ -25,7 +25,7 @@ module _ (c : tie.After-known-told) where
   abbrev page : List ℕ
   page = c .before .before .before .before .before .before .args .page .now
 
-  abbrev place : Place
+  abbrev place : StreamAt
   place = record { off = c .before .place .given .0 .0; count = c .before .place .given .0 .1 .0 }
 
   is : streamPlace page ≡ accepted place

@@ -9,7 +9,7 @@ use Rattle.error.specs.Refusal.{accepted, refused, refusalOf, answered}
 use Rattle.error.proofs.LawsAnswer.{answered-no}
 use Rattle.buffer.proofs.LawsBytes.{part-to-end}
 use Rattle.scripthash_stream.specs.Stream.{endFrom, scan}
-use Rattle.scripthash_pages.specs.Entries.{Place, streamPlace, pageScan}
+use Rattle.scripthash_pages.specs.Entries.{StreamAt, streamPlace, pageScan}
 use Rattle.scripthash_pages.specs.Answers.{streamPlaceAnswer}
 use Rattle.scripthash_pages.specs.declared.entries.StreamPlace.{StreamPlace}
 use Rattle.scripthash_pages.proofs.LawsEntries.{Placed, place-accepted, scan-no, scan-yes}
@@ -21,7 +21,7 @@ module _ (c : tie.After-known-told) where
   abbrev page : List ℕ
   page = c .before .before .before .before .before .args .page .now
 
-  abbrev place : Place
+  abbrev place : StreamAt
   place = record { off = c .before .place .given .0 .0; count = c .before .place .given .0 .1 .0 }
 
   is : streamPlace page ≡ accepted place
