@@ -14,7 +14,7 @@ h1 { font-size: 1.6em } h2 { font-size: 1.3em; border-top: 1px solid #111; paddi
 h4 { font-size: 1em; margin-bottom: .3em }
 blockquote { border-left: 3px solid #777; font-style: italic; margin-left: 0; padding-left: 1em }
 li { margin: .45em 0 }
-table { border-collapse: collapse; font-size: .9em; margin: 1em 0 }
+table { border-collapse: collapse; font-size: .9em; margin: 1em 0; max-width: calc(100% - 2px) }
 th, td { border: 1px solid #999; overflow-wrap: anywhere; padding: .25em .5em; text-align: left; vertical-align: top } th { background: #eee }
 td.number, th.number { text-align: right }
 code, pre { font: .82em/1.4 'DejaVu Sans Mono', Menlo, Consolas, monospace }
