@@ -11,7 +11,7 @@ use lib.Dec.{ltb}
 use lib.ListN.{length, getD, set, take, drop, length-append, length-drop, take-append-drop}
 use lib.Seq.{drop-drop, set-getD, getD-drop, take-append-seam, drop-append-seam}
 use Rattle.error.specs.Refusal.{accepted}
-use Rattle.error.proofs.LawsAnswer.{accepted-inj, passed, answered-yes}
+use Rattle.error.proofs.LawsAnswer.{accepted-inj, passed}
 use Rattle.buffer.specs.Bytes.{part, overwrite}
 use Rattle.buffer.specs.LittleEndian.{littleEndian, bytesOf}
 use Rattle.buffer.proofs.LawsBytes.{length-overwrite, overwrite-part}
@@ -19,11 +19,11 @@ use Rattle.buffer.proofs.LawsOverwrite.{length-part}
 use Rattle.compact.specs.Uleb128.{ulebLen, shortest}
 use Rattle.compact.proofs.LawsLength.{length-shortest}
 use Rattle.scripthash_layout.specs.Sizes.{pageSize}
-use Rattle.scripthash_stream.specs.Stream.{Rising, stream, streamLen, maxOffered}
+use Rattle.scripthash_stream.specs.Stream.{Rising, stream, streamLen}
 use Rattle.scripthash_stream.proofs.LawsStream.{length-stream}
-use Rattle.scripthash_stream.proofs.LawsEncode.{encode-fits}
-use Rattle.scripthash_slabs.specs.Slab.{slabPayload, encodeSlab, afterEncodeSlab}
-use Rattle.scripthash_slabs.proofs.LawsSlab.{slab-as-stream, after-slab-yes}
+use Rattle.scripthash_stream.proofs.LawsLent.{lent, putBack}
+use Rattle.scripthash_slabs.specs.Slab.{slabPayload}
+use Rattle.scripthash_slabs.proofs.LawsSlab.{payload-written}
 use Rattle.scripthash_fields.specs.Page.{setField, versionOf, streamOff, linkTo, deltaHeader, extentHeader, pageOf}
 use Rattle.scripthash_fields.specs.Fields.{afterSet}
 use Rattle.scripthash_fields.proofs.LawsPage.{length-setField, length-delta, length-extent}
@@ -79,13 +79,14 @@ pub length-payload : (ns : List ℕ) → length (slabPayload ns) ≡ 2 + streamL
 unfolding slabPayload
 length-payload ns = omega (arith, length-stream 0 ns)
 
--- a list that rises and fits is written as its payload
-pub slab-written : (out ns : List ℕ) → length ns ≤ maxOffered → 2 + streamLen ns ≤ length out → Rising (2 ^ 63) 0 ns
-    → afterEncodeSlab out ns (encodeSlab (length out) ns) ≡ overwrite out 0 (slabPayload ns)
-slab-written out ns few fits rises =
-    after-slab-yes out ns (encodeSlab (length out) ns)
-    (slab-as-stream (length out) ns few (omega arith)
-    ∙ answered-yes (λ len. 2 + len) _ (encode-fits (length out - 2) ns rises (omega arith)))
+-- a stream written into the part of a block behind its first two bytes, and then the count, is the payload
+pub payload-back : (block ns out : List ℕ) → 2 + streamLen ns ≤ length block → out ≡ overwrite (lent block 2) 0 (stream ns)
+    → overwrite (putBack block 2 out) 0 (bytesOf 2 (length ns)) ≡ overwrite block 0 (slabPayload ns)
+payload-back block ns out fits is =
+    let size = length-stream 0 ns in
+    ap (λ (b : List ℕ). overwrite b 0 (bytesOf 2 (length ns)))
+    (ap (putBack block 2) is ∙ overwrite-part block 2 (length block - 2) 0 (stream ns) (omega arith) (omega arith))
+    ∙ payload-written block ns (omega arith)
 
 -- a slab with one number more is as long as before
 pub length-slabWith : (block : List ℕ) (used taken difference : ℕ) → 2 + taken + ulebLen difference ≤ length block

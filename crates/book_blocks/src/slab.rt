@@ -8,6 +8,16 @@ ghost use Rattle.scripthash_stream.specs.Stream.{Rising, streamLen, maxOffered}
 ghost use Rattle.scripthash_slabs.specs.Slab.{slabPayload};
 ghost use Rattle.book_blocks.specs.Blocks.{slabWith};
 
+// Writes the payload of a list that rises and fits to the start of a block: the stream goes into the part after the count. Whoever calls
+// has judged and measured the list, which isn't done again.
+fn put_payload(block: &mut [u8], fks: &[u64])
+    requires { ⌜ (2 + streamLen (now fks) ≤ length (now block)) × (length (now fks) ≤ maxOffered) × Rising (2 ^ 63) 0 (now fks) ⌝ }
+    ensures { λ _. ⌜ now (block .exit) ≡ overwrite (now (block .entry)) 0 (slabPayload (now (fks .entry))) ⌝ }
+{
+    scripthash_stream::put_fks(&mut block[2..], fks);
+    buffer::put_u16(block, 0, fks.len() as u16);
+}
+
 // Writes the payload of a list to the block of a size at an offset of a body. What stands behind the payload stays.
 pub fn put_slab(body: &mut [u8], off: usize, size: usize, fks: &[u64])
     requires { ⌜ (off + size ≤ length (now body)) × (2 + streamLen (now fks) ≤ size) × (length (now fks) ≤ maxOffered)
@@ -15,7 +25,7 @@ pub fn put_slab(body: &mut [u8], off: usize, size: usize, fks: &[u64])
     ensures { λ _. ⌜ now (body .exit) ≡ overwrite (now (body .entry)) off (slabPayload (now (fks .entry))) ⌝ }
 {
     let end = off + size;
-    scripthash_slabs::encode_slab_payload_into(&mut body[off..end], fks);
+    put_payload(&mut body[off..end], fks);
 }
 
 // Counts one number more in a slab's block that had some numbers in some bytes, and writes its form behind them.

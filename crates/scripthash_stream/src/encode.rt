@@ -67,7 +67,7 @@ pub fn put_form(out: &mut [u8], off: usize, d: u64) -> usize
 }
 
 // Writes the stream of a rising list that fits to the start of out.
-fn put_fks(out: &mut [u8], fks: &[u64])
+pub fn put_fks(out: &mut [u8], fks: &[u64])
     requires { ⌜ Rising (2 ^ 63) 0 (now fks) × (streamLen (now fks) ≤ length (now out)) ⌝ }
     ensures { λ r. ⌜ now (out .exit) ≡ overwrite (now (out .entry)) 0 (stream (now (fks .entry))) ⌝ }
 {

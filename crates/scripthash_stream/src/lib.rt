@@ -3,6 +3,7 @@ mod encode;
 mod stream;
 
 pub use encode::encode_fk_delta_stream_into;
+pub use encode::put_fks;
 pub use encode::put_form;
 pub use stream::BIT_63;
 pub use stream::MAX_OFFERED;
