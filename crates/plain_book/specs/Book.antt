@@ -68,8 +68,7 @@ loads b key ns =
     (andThen (loadPlace (b .size) ns (b .space))
     (λ p. accepted (record {
       told = loaded (record { pages = pagesOf (p .place) });
-      book =
-          withKey key ns (p .place) true (p .space) b;
+      book = withKey key ns (p .place) true (p .space) b;
     }))))))
 
 -- A list with one number more.

@@ -30,44 +30,42 @@ pub record Carried (buf : List ℕ) (off j acc : ℕ) : Type 0 where
 pub form-start : (buf : List ℕ) (off : ℕ) → Carried buf off 0 0
 form-start buf off = record { reads = from-start (drop off buf) }
 
--- its byte j, at `place`, which is one of the first nine
-module _ {buf : List ℕ} {off j acc place : ℕ} (m : Carried buf off j acc) (is : off + j ≡ place) (h : place < length buf) (early : j < 9)
-  where
-    here : getD (drop off buf) j 0 ≡ getD buf place 0
-    here = getD-drop off buf j 0 ∙ ap (λ (p : ℕ). getD buf p 0) is
-
-    inside : j < length (drop off buf)
-    inside = simp length-drop (omega arith)
-
-    stays : (b : ℕ) → passes j b ≡ false
-    stays b = rw (le-ltb 9 j (omega arith), ne-eqb j 9 (λ (e : j ≡ 9). omega arith))
-
-    -- goes on
-    pub form-on : 128 ≤ getD buf place 0 → Carried buf off (j + 1) (acc + piece (getD buf place 0) * 2 ^ (7 * j))
-    form-on g = record {
-      reads = sym (rw here at (at-more (drop off buf) j acc inside (stays (getD (drop off buf) j 0)) (rw here g)))
-          ∙ m .reads;
-    }
-
-    -- the same for a byte, whose piece is what it has above 128
-    pub form-more : (value : ℕ) → 128 ≤ getD buf place 0 → getD buf place 0 < 256 → value ≡ acc + (getD buf place 0 - 128) * 2 ^ (7 * j)
-        → Carried buf off (j + 1) value
-    form-more value g t e =
-        let above : getD buf place 0 % 128 ≡ getD buf place 0 - 128 = omega arith in
-        rw (e, ← above) (form-on g)
-
-    -- is its last
-    pub form-last : (value len : ℕ) → getD buf place 0 < 128 → value ≡ acc + getD buf place 0 * 2 ^ (7 * j) → len ≡ j + 1
-        → QuickForm value len (drop off buf)
-    form-last value len g e l =
-        let piece : getD buf place 0 % 128 ≡ getD buf place 0 = omega arith in
-        quick-form value len (drop off buf)
-        (sym (m .reads) ∙ (rw (here, piece, ← e, ← l)
-        at (at-last (drop off buf) j acc inside (stays (getD (drop off buf) j 0)) (rw here g))))
-
 -- the piece of a byte that goes on is what it has above 128
 piece-on : (b : ℕ) → 128 ≤ b → b < 256 → b % 128 ≡ b - 128
 piece-on b g t = omega arith
+
+-- its byte j, at `place`, which is one of the first nine
+module _ {buf : List ℕ} {off j acc place : ℕ} (m : Carried buf off j acc) (is : off + j ≡ place) (h : place < length buf)
+    (early : j < 9) where
+  here : getD (drop off buf) j 0 ≡ getD buf place 0
+  here = getD-drop off buf j 0 ∙ ap (λ (p : ℕ). getD buf p 0) is
+
+  inside : j < length (drop off buf)
+  inside = simp length-drop (omega arith)
+
+  stays : (b : ℕ) → passes j b ≡ false
+  stays b = rw (le-ltb 9 j (omega arith), ne-eqb j 9 (λ (e : j ≡ 9). omega arith))
+
+  -- goes on
+  pub form-on : 128 ≤ getD buf place 0 → Carried buf off (j + 1) (acc + piece (getD buf place 0) * 2 ^ (7 * j))
+  form-on g = record {
+    reads = sym (rw here at (at-more (drop off buf) j acc inside (stays (getD (drop off buf) j 0)) (rw here g)))
+        ∙ m .reads;
+  }
+
+  -- the same for a byte, whose piece is what it has above 128
+  pub form-more : (value : ℕ) → 128 ≤ getD buf place 0 → getD buf place 0 < 256 → value ≡ acc + (getD buf place 0 - 128) * 2 ^ (7 * j)
+      → Carried buf off (j + 1) value
+  form-more value g t e = rw (e, ← piece-on (getD buf place 0) g t) (form-on g)
+
+  -- is its last
+  pub form-last : (value len : ℕ) → getD buf place 0 < 128 → value ≡ acc + getD buf place 0 * 2 ^ (7 * j) → len ≡ j + 1
+      → QuickForm value len (drop off buf)
+  form-last value len g e l =
+      let piece : getD buf place 0 % 128 ≡ getD buf place 0 = omega arith in
+      quick-form value len (drop off buf)
+      (sym (m .reads) ∙ (rw (here, piece, ← e, ← l)
+      at (at-last (drop off buf) j acc inside (stays (getD (drop off buf) j 0)) (rw here g))))
 
 -- three bytes that were read, each of which goes on
 pub three-read : (buf : List ℕ) (off v0 v1 v2 : ℕ) → off + 3 ≤ length buf
