@@ -1,6 +1,6 @@
 -- The longest form of some bytes: what is known of the bytes that were looked at, and what it tells. Assumes nothing.
 use Prim.Native.Nat.{ℕ, _+_, _-_, _≤_, _<_}
-use mathlib.Core.Bool.{Bool, false, _&&_}
+use mathlib.Core.Bool.{Bool, false}
 use mathlib.Core.List.{List}
 use mathlib.Core.Logic.{⊎-elim}
 use mathlib.Core.Path.{_≡_, sym, _∙_}
@@ -90,13 +90,14 @@ module _ (buf : List ℕ) (from to : ℕ) where
   pub longest-five : Lacks buf (fiveGoOn buf) from to → Longest buf from to 5
   longest-five l = record { each = l; two = λ m. absurd (omega arith); three = λ m. absurd (omega arith) }
 
--- where no form has three bytes, no byte is behind two; where none has four, none is behind three, nor behind four
-module _ (buf : List ℕ) (from to longest : ℕ) (l : Longest buf from to longest) (h : from ≤ to) where
-  pub no-thirds : longest ≤ 2 → total (behindTwo buf) from ≡ total (behindTwo buf) to
-  no-thirds m = total-same (behindTwo buf) from to h (λ i p q. rw (l .two m i p (omega arith)))
+-- where no form has three bytes, no byte is behind two, as far as one looks; where none has four, none is behind three, nor behind four
+module _ (buf : List ℕ) (from to longest at : ℕ) (l : Longest buf from to longest) (h : from ≤ at) (k : at ≤ to) where
+  pub no-thirds : longest ≤ 2 → total (behindTwo buf) from ≡ total (behindTwo buf) at
+  no-thirds m = total-same (behindTwo buf) from at h (λ i p q. rw (l .two m i p (omega arith)))
 
-  pub no-fourths : longest ≤ 3 → total (behindThree buf) from ≡ total (behindThree buf) to
-  no-fourths m = total-same (behindThree buf) from to h (λ i p q. rw (l .three m i p (omega arith)))
-
-  pub no-fifths : longest ≤ 3 → total (behindFour buf) from ≡ total (behindFour buf) to
-  no-fifths m = total-same (behindFour buf) from to h (λ i p q. rw (l .three m i p (omega arith)))
+  pub no-fourths : longest ≤ 3
+      → (total (behindThree buf) from ≡ total (behindThree buf) at) × (total (behindFour buf) from ≡ total (behindFour buf) at)
+  no-fourths m = (
+    total-same (behindThree buf) from at h (λ i p q. rw (l .three m i p (omega arith))),
+    total-same (behindFour buf) from at h (λ i p q. rw (l .three m i p (omega arith))),
+  )

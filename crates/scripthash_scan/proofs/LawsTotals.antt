@@ -1,10 +1,14 @@
 -- Totals over the places of some bytes: the next place, and places that add nothing. Assumes nothing.
 use Prim.Native.Nat.{ℕ, zero, suc, _+_, _-_, _*_, _≤_, _<_}
-use mathlib.Core.Path.{_≡_, refl, ap, _∙_, sym}
+use mathlib.Core.Bool.{Bool, true, false, cond, _&&_}
+use mathlib.Core.List.{List}
+use mathlib.Core.Path.{_≡_, refl, ap, _∙_}
 use native.Mathlib.Nat.{add-zero}
 use native.Mathlib.Numerals.{add-one}
 use native.Mathlib.Omega.{arith}
-use Rattle.scripthash_scan.specs.Weights.{total}
+use lib.ListN.{getD}
+use Rattle.compact.specs.Uleb128.{goesOn, piece}
+use Rattle.scripthash_scan.specs.Weights.{total, pieceIf}
 
 -- what holds at a place, and at each next one where it holds at the one before, up to another
 places : (P : ℕ → Type 0) (from to : ℕ) → ((i : ℕ) → from ≤ i → i < to → P i → P (i + 1)) → P from → (d : ℕ) → from + d ≤ to → P (from + d)
@@ -60,3 +64,37 @@ adds-start f from = record { most = omega arith; is = add-zero (total f from) }
 
 pub adds-next : {f : ℕ → ℕ} {from i sum more : ℕ} → Adds f from i sum → more ≡ f i → more ≤ 127 → Adds f from (i + 1) (sum + more)
 adds-next {f} {from} {i} a e m = record { most = omega (arith, a .most); is = omega (arith, a .is, total-next f i) }
+
+-- The same for two places at a time: from a place up to i, and as many from the middle on, which is half of all places further.
+pub record AddsBoth (f : ℕ → ℕ) (from half i sum : ℕ) : Type 0 where
+  pub most : sum + 254 * from ≤ 254 * i
+  pub is : total f from + total f (from + half) + sum ≡ total f i + total f (i + half)
+
+pub both-start : (f : ℕ → ℕ) (from half : ℕ) → AddsBoth f from half from 0
+both-start f from half = record { most = omega arith; is = add-zero (total f from + total f (from + half)) }
+
+pub both-next : {f : ℕ → ℕ} {from half i sum a b : ℕ} → AddsBoth f from half i sum → a ≡ f i → b ≡ f (i + half) → a + b ≤ 254
+    → AddsBoth f from half (i + 1) (sum + (a + b))
+both-next {f} {from} {half} {i} s e d m =
+    let place : i + 1 + half ≡ i + half + 1 = omega arith in
+    record { most = omega (arith, s .most); is = rw place (omega (arith, s .is, e, d, total-next f i, total-next f (i + half))) }
+
+-- up to the middle
+pub both-all : {f : ℕ → ℕ} {from half i sum : ℕ} → AddsBoth f from half i sum → i ≡ from + half
+    → total f from + sum ≡ total f (from + 2 * half)
+both-all {f} {from} {half} {i} s e =
+    let place : from + half + half ≡ from + 2 * half = omega arith in
+    let all = rw (e, place) at (s .is) in
+    omega (arith, all)
+
+-- a piece behind bytes that go on, and behind one byte more
+behind-both : (g h : Bool) (x : ℕ) → cond h (cond g x 0) 0 ≡ cond (g && h) x 0
+behind-both true h x = refl
+behind-both false true x = refl
+behind-both false false x = refl
+
+pub behind-next : (bs : List ℕ) (i k : ℕ) (g : Bool) {r x : ℕ} → r ≡ cond (goesOn (getD bs (i - k) 0)) x 0 → x ≡ pieceIf g (getD bs i 0)
+    → r ≡ pieceIf (g && goesOn (getD bs (i - k) 0)) (getD bs i 0)
+behind-next bs i k g e d =
+    let before = goesOn (getD bs (i - k) 0) in
+    e ∙ ap (λ z. cond before z 0) d ∙ behind-both g before (piece (getD bs i 0))

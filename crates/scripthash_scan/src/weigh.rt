@@ -1,13 +1,15 @@
 // Streams scanned without reading each form by itself: where many forms end, how long they are and what they add up to is found by plain
 // loops over bytes, each with one simple job, of which the compiler makes loops over many bytes at a time.
 ghost use mathlib.Core.Path.{_≡_};
+ghost use mathlib.Core.Bool.{cond};
 ghost use Prim.Native.Nat.{_+_, _-_, _*_, _^_, _≤_, _<_};
 ghost use lib.ListN.{length, drop, getD};
 ghost use Rattle.error.specs.Refusal.{answered};
 ghost use Rattle.compact.specs.Uleb128.{goesOn};
 ghost use Rattle.scripthash_stream.specs.Stream.{scan, endFrom, endsFrom};
 ghost use Rattle.scripthash_forms.specs.Quick.{QuickEnd};
-ghost use Rattle.scripthash_scan.specs.Weights.{pieceIf, weighedTwo, weighedThree, weighed, fiveGoOn, Lacks, Longest};
+ghost use Rattle.scripthash_scan.specs.Weights.{pieceAt, behindOne, behindTwo, weighedTwo, weighedThree, weighed};
+ghost use Rattle.scripthash_scan.specs.Weights.{fiveGoOn, Lacks, Longest};
 use crate::ends::end_of;
 use crate::look::longest_form;
 use crate::quick::smaller;
@@ -24,14 +26,40 @@ struct Weighed {
     longest: usize,
 }
 
-// The piece of a byte where the one before it, or the least of some before it, goes on; else 0.
-fn piece_behind(b: u8, before: u8) -> u16
-    ensures { λ r. ⌜ (r ≡ pieceIf (goesOn before) b) × (r ≤ 127) ⌝ }
+// What the byte at a place adds: its piece; the same where it is not the first byte of its form, else 0; where it is not the second either.
+struct Pieces {
+    any: u8,
+    second: u8,
+    third: u8,
+}
+
+// A piece where a byte before it goes on, else 0.
+fn behind(piece: u8, before: u8) -> u8
+    ensures { λ r. ⌜ (r ≡ cond (goesOn before) piece 0) × (r ≤ piece) ⌝ }
 {
     if before < 128 {
         return 0;
     }
-    (b % 128) as u16
+    piece
+}
+
+// The pieces of the byte at a place.
+fn pieces_at(buf: &[u8], i: usize) -> Pieces
+    requires { ⌜ (4 ≤ i) × (i < length (now buf)) ⌝ }
+    ensures { λ r. ⌜ (r .any ≡ pieceAt (now (buf .entry)) i) × (r .second ≡ behindOne (now (buf .entry)) i)
+        × (r .third ≡ behindTwo (now (buf .entry)) i) × (r .any ≤ 127) × (r .second ≤ 127) × (r .third ≤ 127) ⌝ }
+{
+    let any = buf[i] % 128;
+    let second = behind(any, buf[i - 1]);
+    let third = behind(second, buf[i - 2]);
+    Pieces { any, second, third }
+}
+
+// One or two pieces, to be summed up.
+fn added(pieces: u8) -> u16
+    ensures { λ r. ⌜ r ≡ pieces ⌝ }
+{
+    pieces as u16
 }
 
 // A sum of pieces.
@@ -50,29 +78,31 @@ fn weigh_two(buf: &[u8], from: usize, to: usize) -> u64
     let mut a1: u16 = 0;
     let mut i = from;
     while i < to {
-        let b = buf[i];
-        a0 += piece_behind(b, 255);
-        a1 += piece_behind(b, buf[i - 1]);
+        let p = pieces_at(buf, i);
+        a0 += added(p.any);
+        a1 += added(p.second);
         i += 1;
     }
     summed(a0) + 127 * summed(a1)
 }
 
-// The weights of at most 512 bytes of forms of up to three bytes.
-fn weigh_three(buf: &[u8], from: usize, to: usize) -> u64
-    requires { ⌜ (4 ≤ from) × (from ≤ to) × (to ≤ length (now buf)) × (to ≤ from + 512) ⌝ }
-    ensures { λ r. ⌜ (weighedThree (now (buf .entry)) from + r ≡ weighedThree (now (buf .entry)) to) × (r + 2 ^ 35 * from ≤ 2 ^ 35 * to) ⌝ }
+// The weights of two halves, at most 512 bytes, of forms of up to three bytes: a byte of each half at a time, so that two pieces are summed
+// up in one byte.
+fn weigh_three(buf: &[u8], from: usize, half: usize) -> u64
+    requires { ⌜ (4 ≤ from) × (from + 2 * half ≤ length (now buf)) × (half ≤ 256) ⌝ }
+    ensures { λ r. ⌜ (weighedThree (now (buf .entry)) from + r ≡ weighedThree (now (buf .entry)) (from + 2 * half))
+        × (r ≤ 2 ^ 36 * half) ⌝ }
 {
     let mut a0: u16 = 0;
     let mut a1: u16 = 0;
     let mut a2: u16 = 0;
     let mut i = from;
-    while i < to {
-        let b = buf[i];
-        let b1 = buf[i - 1];
-        a0 += piece_behind(b, 255);
-        a1 += piece_behind(b, b1);
-        a2 += piece_behind(b, smaller(b1, buf[i - 2]));
+    while i < from + half {
+        let p = pieces_at(buf, i);
+        let q = pieces_at(buf, i + half);
+        a0 += added(p.any + q.any);
+        a1 += added(p.second + q.second);
+        a2 += added(p.third + q.third);
         i += 1;
     }
     summed(a0) + 127 * summed(a1) + 16256 * summed(a2)
@@ -90,15 +120,13 @@ fn weigh_five(buf: &[u8], from: usize, to: usize) -> u64
     let mut a4: u16 = 0;
     let mut i = from;
     while i < to {
-        let b = buf[i];
-        let b1 = buf[i - 1];
-        let m2 = smaller(b1, buf[i - 2]);
-        let m3 = smaller(m2, buf[i - 3]);
-        a0 += piece_behind(b, 255);
-        a1 += piece_behind(b, b1);
-        a2 += piece_behind(b, m2);
-        a3 += piece_behind(b, m3);
-        a4 += piece_behind(b, smaller(m3, buf[i - 4]));
+        let p = pieces_at(buf, i);
+        let p3 = behind(p.third, buf[i - 3]);
+        a0 += added(p.any);
+        a1 += added(p.second);
+        a2 += added(p.third);
+        a3 += added(p3);
+        a4 += added(behind(p3, buf[i - 4]));
         i += 1;
     }
     summed(a0)
@@ -108,7 +136,8 @@ fn weigh_five(buf: &[u8], from: usize, to: usize) -> u64
         + 266338304 * summed(a4)
 }
 
-// The weights of at most 512 bytes of forms, by the longest.
+// The weights of at most 512 bytes of forms, by the longest. Forms of up to three bytes are weighed in two halves, and a last byte that is
+// left over by itself.
 fn weigh_block(buf: &[u8], from: usize, to: usize, longest: usize) -> u64
     requires { ⌜ (4 ≤ from) × (from ≤ to) × (to ≤ length (now buf)) × (to ≤ from + 512) × Longest (now buf) from to longest ⌝ }
     ensures { λ r. ⌜ (weighed (now (buf .entry)) from + r ≡ weighed (now (buf .entry)) to) × (r + 2 ^ 35 * from ≤ 2 ^ 35 * to) ⌝ }
@@ -116,10 +145,16 @@ fn weigh_block(buf: &[u8], from: usize, to: usize, longest: usize) -> u64
     if longest <= 2 {
         return weigh_two(buf, from, to);
     }
-    if longest <= 3 {
-        return weigh_three(buf, from, to);
+    if 3 < longest {
+        return weigh_five(buf, from, to);
     }
-    weigh_five(buf, from, to)
+    let half = (to - from) / 2;
+    let sum = weigh_three(buf, from, half);
+    let even = from + 2 * half;
+    if even == to {
+        return sum;
+    }
+    sum + weigh_five(buf, even, to)
 }
 
 // Where a block of at most 512 bytes ends.
@@ -133,15 +168,23 @@ fn block_end(from: usize, to: usize) -> usize
     from + 512
 }
 
-// The weights of forms, the sum of their differences, with the longest form of the last block, 0 where they can't be weighed. Each block is
-// weighed by its own longest form, or that of the one before it.
-fn weigh_all(buf: &[u8], from: usize, to: usize) -> Weighed
+// The longest form to look for first: where forms take more than two bytes each, one of them has three.
+fn likely(bytes: usize, count: usize) -> usize {
+    if bytes / 2 <= count {
+        return 2;
+    }
+    3
+}
+
+// The weights of so many forms, the sum of their differences, with the longest form of the last block, 0 where they can't be weighed. Each
+// block is weighed by its own longest form, or that of the one before it.
+fn weigh_all(buf: &[u8], from: usize, to: usize, count: usize) -> Weighed
     requires { ⌜ (4 ≤ from) × (from ≤ to) × (to ≤ length (now buf)) × (to ≤ from + 2 ^ 20) × (getD (now buf) (from - 1) 0 < 128) ⌝ }
     ensures { λ r. ⌜ (0 < r .longest → (weighed (now (buf .entry)) from + r .sum ≡ weighed (now (buf .entry)) to)
         × Lacks (now (buf .entry)) (fiveGoOn (now (buf .entry))) from to) ⌝ }
 {
     let mut sum: u64 = 0;
-    let mut longest: usize = 2;
+    let mut longest = likely(to - from, count);
     let mut i = from;
     while i < to {
         let end = block_end(i, to);
@@ -170,7 +213,7 @@ fn scan_rest(buf: &[u8], from: usize, prev: u64, count: usize) -> StreamEnd
     if 128 <= buf[to - 1] {
         return StreamEnd { taken: 0, last: 0 };
     }
-    let more = weigh_all(buf, from, to);
+    let more = weigh_all(buf, from, to, count);
     if more.longest == 0 {
         return StreamEnd { taken: 0, last: 0 };
     }

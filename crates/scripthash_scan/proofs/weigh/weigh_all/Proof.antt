@@ -1,6 +1,6 @@
 -- `weigh_all` meets its contract. Invariant: the sum is that of the blocks so far, and what the last of them tells of the bytes before the
 -- next. Assumes nothing.
-use Prim.Native.Nat.{_+_, _-_, _*_, _^_, _≤_, _<_}
+use Prim.Native.Nat.{_+_, _-_, _*_, _^_, _≤_}
 use mathlib.Core.Bool.{false}
 use mathlib.Core.Path.{_≡_}
 use native.Mathlib.Nat.{add-zero, le-refl, not-suc-le-zero}
@@ -13,17 +13,23 @@ use Rattle.scripthash_scan.proofs.weigh.weigh_all.Statement.{statement}
 use Rattle.scripthash_scan.proofs.weigh.weigh_all.Tie as tie
 
 abbrev Inv-loop : tie.InvT-loop
-Inv-loop buf from to sum₀ longest₀ i₀ sum longest i =
+Inv-loop buf from to count sum₀ longest₀ i₀ sum longest i =
     (4 ≤ from) × (from ≤ i) × (i ≤ to) × (to ≤ length buf) × (to ≤ from + 2 ^ 20) × (sum + 2 ^ 35 * from ≤ 2 ^ 35 * i)
     × (weighed buf from + sum ≡ weighed buf i) × Lacks buf (fiveGoOn buf) from i × (longest ≤ 2 → twoBefore buf i ≡ false)
     × (longest ≤ 3 → threeBefore buf i ≡ false)
 
 abbrev μ-loop : tie.MeasureT-loop
-μ-loop buf from to sum₀ longest₀ i₀ sum longest i = to - i
+μ-loop buf from to count sum₀ longest₀ i₀ sum longest i = to - i
+
+sub-likely : tie.Need-sub-likely Inv-loop μ-loop
+sub-likely c = search needs
+
+likely-requires : tie.Need-likely-requires Inv-loop μ-loop
+likely-requires c κs = search needs
 
 loop-holds : tie.Need-loop-holds Inv-loop μ-loop
 loop-holds c =
-    let s = c .before in
+    let s = c .before .before in
     let none = none-before (s .args .buf .now) (s .args .from) (s .pre .4) in (
       search needs,
       search needs,
@@ -65,7 +71,7 @@ loop-less c = omega (arith, c .before .before .before .block-end .ensures)
 loop-again : tie.Need-loop-again Inv-loop μ-loop
 loop-again c =
     let l = c .before .before .before .before .before .loop in
-    let a = c .before .before .before .before .before .before .before .args in
+    let a = c .before .before .before .before .before .before .before .before .args in
     let to = c .before .before .before .block-end .result in
     let end = c .before .before .before .block-end .ensures in
     let long = c .before .before .longest-form .ensures (omega arith) in
@@ -85,7 +91,7 @@ loop-again c =
 returns-2 : tie.Need-returns-2 Inv-loop μ-loop
 returns-2 c h =
     let l = c .before .loop in
-    let done : l .i ≡ c .before .before .before .args .to = omega arith in
+    let done : l .i ≡ c .before .before .before .before .args .to = omega arith in
     (rw done at (l .inv .6), rw done at (l .inv .7))
 
 pub weigh-all-spec : {M : Type 1} → statement M
@@ -94,6 +100,8 @@ weigh-all-spec =
     (tie.spec
     Inv-loop
     μ-loop
+    sub-likely
+    likely-requires
     loop-holds
     block-end-requires
     longest-form-requires

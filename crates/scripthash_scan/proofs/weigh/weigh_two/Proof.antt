@@ -1,13 +1,10 @@
 -- `weigh_two` meets its contract. Invariant: each sum adds what it should. Assumes nothing.
-use Prim.Native.Nat.{ℕ, _+_, _-_, _≤_}
-use mathlib.Core.Bool.{Bool, _&&_}
-use mathlib.Core.List.{List}
-use mathlib.Core.Path.{_≡_, ap, _∙_}
+use Prim.Native.Nat.{_+_, _-_, _≤_}
+use mathlib.Core.Path.{_≡_, _∙_}
 use native.Mathlib.Omega.{arith}
 use borrow.Author.Needs.{needs}
-use lib.ListN.{length, getD}
-use Rattle.compact.specs.Uleb128.{goesOn}
-use Rattle.scripthash_scan.specs.Weights.{pieceIf, pieceAt, behindOne}
+use lib.ListN.{length}
+use Rattle.scripthash_scan.specs.Weights.{pieceAt, behindOne}
 use Rattle.scripthash_scan.proofs.LawsTotals.{Adds, adds-start, adds-next}
 use Rattle.scripthash_scan.proofs.weigh.weigh_two.Statement.{statement}
 use Rattle.scripthash_scan.proofs.weigh.weigh_two.Tie as tie
@@ -20,48 +17,35 @@ Inv-loop buf from to a0₀ a1₀ i₀ a0 a1 i =
 abbrev μ-loop : tie.MeasureT-loop
 μ-loop buf from to a0₀ a1₀ i₀ a0 a1 i = to - i
 
--- what a turn read: each of the bytes before goes on where their least does
-module _ (c : tie.After-piece-behind2 Inv-loop μ-loop) where
-  abbrev loc : tie.At-loop Inv-loop μ-loop
-  loc = c .before .before .before .before .before
-
-  abbrev bytes : List ℕ
-  bytes = loc .before .before .args .buf .now
-
 loop-holds : tie.Need-loop-holds Inv-loop μ-loop
 loop-holds c =
     let a = c .before .args in
-    let start : (f : ℕ → ℕ) → Adds f (a .from) (a .from) 0 = λ f. adds-start f (a .from) in
     let buf = a .buf .now in (
       search needs,
       search needs,
       search needs,
       search needs,
       search needs,
-      start (pieceAt buf),
-      start (behindOne buf),
+      adds-start (pieceAt buf) (a .from),
+      adds-start (behindOne buf) (a .from),
     )
 
-shared-slice-read-b : tie.Need-shared-slice-read-b Inv-loop μ-loop
-shared-slice-read-b c = search needs
+pieces-at-requires : tie.Need-pieces-at-requires Inv-loop μ-loop
+pieces-at-requires c κs = search needs
 
-piece-behind-requires : tie.Need-piece-behind-requires Inv-loop μ-loop
-piece-behind-requires c κs = search needs
+added-requires : tie.Need-added-requires Inv-loop μ-loop
+added-requires c κs = search needs
 
 add-a0 : tie.Need-add-a0 Inv-loop μ-loop
-add-a0 c = omega (arith, c .piece-behind .ensures .1, c .before .before .before .loop .inv .5 .most)
+add-a0 c = omega (arith, c .added .ensures, c .before .pieces-at .ensures .3, c .before .before .before .loop .inv .5 .most)
 
-sub-piece-behind : tie.Need-sub-piece-behind Inv-loop μ-loop
-sub-piece-behind c = search needs
-
-shared-slice-read-piece-behind : tie.Need-shared-slice-read-piece-behind Inv-loop μ-loop
-shared-slice-read-piece-behind c = search needs
-
-piece-behind-requires-2 : tie.Need-piece-behind-requires-2 Inv-loop μ-loop
-piece-behind-requires-2 c κs = search needs
+added-requires-2 : tie.Need-added-requires-2 Inv-loop μ-loop
+added-requires-2 c κs = search needs
 
 add-a1 : tie.Need-add-a1 Inv-loop μ-loop
-add-a1 c = omega (arith, c .piece-behind2 .ensures .1, c .before .before .before .before .before .loop .inv .6 .most)
+add-a1 c =
+    let l = c .before .before .before .before .loop in
+    omega (arith, c .added2 .ensures, c .before .before .pieces-at .ensures .4, l .inv .6 .most)
 
 add-i : tie.Need-add-i Inv-loop μ-loop
 add-i c = search needs
@@ -71,14 +55,15 @@ loop-less c = search needs
 
 loop-again : tie.Need-loop-again Inv-loop μ-loop
 loop-again c =
-    let l = loc c .loop in (
+    let l = c .before .before .before .before .loop in
+    let p = c .before .before .pieces-at .ensures in (
       l .inv .0,
       search needs,
       search needs,
       l .inv .3,
       l .inv .4,
-      adds-next (l .inv .5) (c .before .before .piece-behind .ensures .0) (c .before .before .piece-behind .ensures .1),
-      adds-next (l .inv .6) (c .piece-behind2 .ensures .0) (c .piece-behind2 .ensures .1),
+      adds-next (l .inv .5) (c .before .added .ensures ∙ p .0) (omega (arith, c .before .added .ensures, p .3)),
+      adds-next (l .inv .6) (c .added2 .ensures ∙ p .1) (omega (arith, c .added2 .ensures, p .4)),
     )
 
 summed-requires : tie.Need-summed-requires Inv-loop μ-loop
@@ -110,12 +95,10 @@ weigh-two-spec =
     Inv-loop
     μ-loop
     loop-holds
-    shared-slice-read-b
-    piece-behind-requires
+    pieces-at-requires
+    added-requires
     add-a0
-    sub-piece-behind
-    shared-slice-read-piece-behind
-    piece-behind-requires-2
+    added-requires-2
     add-a1
     add-i
     loop-less
