@@ -104,6 +104,5 @@ pub extern "C" fn ouriscado_carve_gap_into_freelist(
         ≡ listsAfter (carveGap from to (lists (now (body .entry)) (now (heads .entry))))
         (lists (now (body .entry)) (now (heads .entry))) ⌝ }
 {
-    let answer = scripthash_free::carve_lent(body, heads, from, to);
-    answer.refusal()
+    scripthash_free::carve_lent(body, heads, from, to)
 }

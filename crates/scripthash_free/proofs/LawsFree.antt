@@ -1,17 +1,18 @@
 -- Laws of free lists, each over the class: what the calls answer, what a list names after a push, a pop and a write apart from
 -- its blocks, and the blocks that a gap is carved into. By cases on the tests, and by induction on the list.
-use mathlib.Core.Path.{_≡_, ap}
-use mathlib.Core.Bool.{true, false, not}
+use mathlib.Core.Path.{_≡_, refl, sym, ap}
+use mathlib.Core.Bool.{Bool, true, false, not}
 use mathlib.Core.List.{List}
 use mathlib.Core.Option.{none, some}
 use Prim.Native.Nat.{ℕ, _≤_, _<_, min}
 use lib.ListN.{length, set}
 use borrow.Author.Tests.{lt-ltb, le-ltb, eq-eqb, ne-eqb}
-use Rattle.error.specs.Refusal.{Answer, accepted, refused, freeHeadBad}
-use Rattle.error.proofs.LawsAnswer.{refuse-yes, refuse-no}
+use Rattle.error.specs.Refusal.{Answer, accepted, refused, answered, refusalOf, freeHeadBad}
+use Rattle.error.proofs.LawsAnswer.{refuse-yes, refuse-no, answered-yes, answered-no}
 use Rattle.scripthash_free.specs.FreeList.{Lists, Pop, firstFreed, nextOf, isBlock, pushed, pushFree, popFree, gapBlocks, pushAll}
 use Rattle.scripthash_free.specs.FreeList.{isGap}
 use Rattle.scripthash_free.specs.FreeList.{carveGap, listsAfter, headsAfter}
+use Rattle.scripthash_free.specs.Answers.{wasDone, doneOr}
 
 -- What is accepted stands afterwards.
 pub after-accepted : (a : Answer Lists) (before : Lists) {l : Lists} → a ≡ accepted l → listsAfter a before ≡ l
@@ -77,3 +78,13 @@ carve-yes from to l e = refuse-no _ _ _ (ap not e)
 pub carve-no : (from to : ℕ) (l : Lists) → isGap from to (length (l .body)) ≡ false → carveGap from to l ≡ refused freeHeadBad
 unfolding carveGap
 carve-no from to l e = refuse-yes _ _ _ (ap not e)
+
+-- The number that carving tells is its whole answer.
+module _ (from to : ℕ) (l : Lists) where
+  carve-by : (b : Bool) → isGap from to (length (l .body)) ≡ b
+      → doneOr (refusalOf (carveGap from to l)) ≡ answered wasDone (carveGap from to l)
+  carve-by true e = rw (carve-yes from to l e) (sym (answered-yes wasDone _ refl))
+  carve-by false e = rw (carve-no from to l e) (sym (answered-no wasDone _ refl))
+
+  pub carve-told : doneOr (refusalOf (carveGap from to l)) ≡ answered wasDone (carveGap from to l)
+  carve-told = carve-by (isGap from to (length (l .body))) refl

@@ -1,6 +1,8 @@
 -- What the answers of the code mean: 01's number and values for each of their cases.
 use Prim.Native.Nat.{ℕ}
+use mathlib.Core.Bool.{cond}
 use mathlib.Core.Option.{Option, none, some}
+use lib.Dec.{eqb}
 use Rattle.error.specs.Refusal.{Answer, accepted, refused}
 use Rattle.scripthash_free.specs.FreeList.{Lists}
 use Rattle.scripthash_free.specs.declared.RelocClass.{RelocClass}
@@ -29,3 +31,7 @@ popAnswer (NotPopped number) = refused number
 -- That a call was done.
 abbrev pub wasDone : Lists → Unit {0}
 wasDone l = tt
+
+-- What the number of a refusal tells of a call with no value of its own: that it was done where the number is 0.
+abbrev pub doneOr : ℕ → Answer (Unit {0})
+doneOr number = cond (eqb number 0) (accepted tt) (refused number)

@@ -8,7 +8,7 @@ ghost use Rattle.error.specs.Refusal.{answered, refusalOf};
 ghost use Rattle.scripthash_layout.specs.Sizes.{maxSlabClass, pageClass};
 ghost use Rattle.scripthash_free.specs.FreeList.{Pop, lists, isBlock, pushed, pushFree, popFree, relocClass, gapBlocks, pushAll};
 ghost use Rattle.scripthash_free.specs.FreeList.{isGap, carveGap, listsAfter, headsAfter};
-ghost use Rattle.scripthash_free.specs.Answers.{classAnswer, pushAnswer, popAnswer, wasDone};
+ghost use Rattle.scripthash_free.specs.Answers.{classAnswer, pushAnswer, popAnswer, wasDone, doneOr};
 use error::Refusal;
 use scripthash_layout::SH_MAX_SLAB_CLASS;
 use scripthash_layout::SH_PAGE_BYTES;
@@ -283,21 +283,31 @@ fn push_smaller(body: &mut [u8], heads: &mut [u64; 9], from: u64, to: u64)
 
 // Carves the gap between two offsets into blocks, from its low end, the largest class up to 7 first, and pushes each, with the free heads
 // lent. A rest below 16 bytes is left. A gap that has bytes must begin at a multiple of 16 and lie between 4,096 and the body's end.
-pub fn carve_lent(body: &mut [u8], heads: &mut [u64; 9], from: u64, to: u64) -> PushFree
-    ensures answer { λ r. ⌜ pushAnswer r ≡ answered wasDone (carveGap from to (lists (now (body .entry)) (now (heads .entry)))) ⌝ }
+// Answers the refusal's number, and 0 where it was done.
+pub fn carve_lent(body: &mut [u8], heads: &mut [u64; 9], from: u64, to: u64) -> Refusal
+    ensures number { λ r. ⌜ r ≡ refusalOf (carveGap from to (lists (now (body .entry)) (now (heads .entry)))) ⌝ }
     ensures lists { λ r. ⌜ lists (now (body .exit)) (now (heads .exit))
         ≡ listsAfter (carveGap from to (lists (now (body .entry)) (now (heads .entry))))
         (lists (now (body .entry)) (now (heads .entry))) ⌝ }
 {
     if !is_gap(from, to, body.len() as u64) {
-        return PushFree::Refused(error::FREE_HEAD_BAD);
+        return error::FREE_HEAD_BAD;
     }
     if from < to {
         let rest = push_largest(body, heads, from, to);
         push_smaller(body, heads, rest, to);
+    }
+    0
+}
+
+// The answer whose number is this: done where it is 0.
+fn done_or(number: Refusal) -> PushFree
+    ensures { λ r. ⌜ pushAnswer r ≡ doneOr number ⌝ }
+{
+    if number == 0 {
         return PushFree::Pushed;
     }
-    PushFree::Pushed
+    PushFree::Refused(number)
 }
 
 // Carves the gap between two offsets into blocks, and pushes each, with the free heads by value.
@@ -307,9 +317,9 @@ pub fn carve_gap_into_freelist(body: &mut [u8], free: FreeHeads, from: u64, to: 
         ≡ listsAfter (carveGap from to (lists (now (body .entry)) (free .heads))) (lists (now (body .entry)) (free .heads)) ⌝ }
 {
     let mut heads = free.heads;
-    let answer = carve_lent(body, &mut heads, from, to);
+    let number = carve_lent(body, &mut heads, from, to);
     AfterPush {
-        answer,
+        answer: done_or(number),
         free: FreeHeads { heads },
     }
 }

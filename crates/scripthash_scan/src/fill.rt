@@ -74,7 +74,7 @@ fn read_many(buf: &[u8], n: usize, top: u64, out: &mut [u64]) -> usize
     read_through(buf, n, top, &mut space, out)
 }
 
-// The same for 256 forms at most, by the least list that holds them: a list is cleared before it is used. Each form has a byte.
+// The same for 256 forms at most, by the least list that holds them: a list is cleared before it is used. Each form has a byte at least.
 pub fn read_forms(buf: &[u8], n: usize, top: u64, out: &mut [u64]) -> usize
     requires { ⌜ (n ≤ 256) × (n ≤ length (now out)) ⌝ }
     ensures { λ r. ⌜ ShortRead r top (now (out .entry)) (now (out .exit)) (scan n (now (buf .entry))) ⌝ }

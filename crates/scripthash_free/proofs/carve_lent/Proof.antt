@@ -1,12 +1,11 @@
 -- `carve_lent` meets its contract: the test of the gap decides. Assumes nothing.
-use mathlib.Core.Path.{_≡_, sym, _∙_}
+use mathlib.Core.Path.{_≡_, sym, ap, _∙_}
 use mathlib.Core.Bool.{true}
 use native.Mathlib.Omega.{arith}
 use lib.ListN.{length}
 use borrow.Author.Tests.{not-true, not-false}
-use Rattle.error.proofs.LawsAnswer.{answered-yes, answered-no}
+use Rattle.error.specs.Refusal.{refusalOf}
 use Rattle.scripthash_free.specs.FreeList.{Lists, lists, isGap}
-use Rattle.scripthash_free.specs.Answers.{wasDone}
 use Rattle.scripthash_free.proofs.LawsBlock.{Gap, gap-lies}
 use Rattle.scripthash_free.proofs.LawsFree.{after-accepted, after-refused, carve-yes, carve-no}
 use Rattle.scripthash_free.proofs.LawsGap.{gap-left}
@@ -33,7 +32,7 @@ returns c =
     let a = c .before .before .before .args in
     let l = lists (a .body .now) (a .heads .now) in
     let answer = carve-no (a .from) (a .to) l (sym (c .before .is-gap .ensures) ∙ not-true _ (c .if1 .taken)) in
-    (sym (answered-no wasDone _ answer), sym (after-refused _ l answer))
+    (sym (ap refusalOf answer), sym (after-refused _ l answer))
 
 push-largest-requires : tie.Need-push-largest-requires
 push-largest-requires c κs =
@@ -57,7 +56,7 @@ returns-2 c =
     let p = c .before .before .before .before .before .before .before in
     let t = p .before .before .before .before in
     let answer = carve-yes (start t .args .from) (start t .args .to) (whole t) (passed t) in (
-      sym (answered-yes wasDone _ answer),
+      sym (ap refusalOf answer),
       c .before .before .push-smaller .ensures ∙ p .push-largest .ensures .1
           ∙ sym (after-accepted _ (whole t) answer),
     )
@@ -66,7 +65,7 @@ returns-3 : tie.Need-returns-3
 returns-3 c =
     let t = c .before in
     let answer = carve-yes (start t .args .from) (start t .args .to) (whole t) (passed t) in (
-      sym (answered-yes wasDone _ answer),
+      sym (ap refusalOf answer),
       sym (gap-left (start t .args .from) (start t .args .to) (whole t) (omega arith))
           ∙ sym (after-accepted _ (whole t) answer),
     )
