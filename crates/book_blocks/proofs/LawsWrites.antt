@@ -20,7 +20,7 @@ use Rattle.compact.specs.Uleb128.{ulebLen, shortest}
 use Rattle.compact.proofs.LawsLength.{length-shortest}
 use Rattle.scripthash_layout.specs.Sizes.{pageSize}
 use Rattle.scripthash_stream.specs.Stream.{Rising, stream, streamLen}
-use Rattle.scripthash_stream.proofs.LawsStream.{length-stream}
+use Rattle.scripthash_stream.proofs.LawsStream.{length-stream, rising-below}
 use Rattle.scripthash_stream.proofs.LawsLent.{lent, putBack}
 use Rattle.scripthash_slabs.specs.Slab.{slabPayload}
 use Rattle.scripthash_slabs.proofs.LawsSlab.{payload-written}
@@ -63,14 +63,6 @@ pub start-back : (b : List ℕ) (o k : ℕ) (out ys : List ℕ) → o + k ≤ le
 start-back b o k out ys h l is =
     ap (putMid o (o + k - o) b) is ∙ overwrite-part b o (o + k - o) 0 ys (omega arith) (omega arith)
     ∙ ap (λ (p : ℕ). overwrite b p ys) (add-zero o)
-
--- ---- numbers
-
--- numbers that stay below a limit stay below a higher one
-pub rising-below : (top higher prev : ℕ) (ns : List ℕ) → top ≤ higher → Rising top prev ns → Rising higher prev ns
-unfolding Rising
-rising-below top higher prev [] h r = tt
-rising-below top higher prev (n ∷ ns) h r = (r .0, omega (arith, r .1), rising-below top higher n ns h (r .2))
 
 -- ---- slabs
 

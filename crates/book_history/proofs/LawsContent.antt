@@ -16,7 +16,7 @@ use Rattle.scripthash_layout.specs.Sizes.{maxSlabClass, maxSlabCount, pageClass
 use Rattle.scripthash_layout.specs.Head.{unpackHead}
 use Rattle.scripthash_layout.specs.declared.head.ShHeadValue.{ShHeadValue}
 use Rattle.scripthash_stream.specs.Stream.{streamLen, Rising, lastFrom}
-use Rattle.scripthash_stream.proofs.LawsStream.{last-below}
+use Rattle.scripthash_stream.proofs.LawsStream.{last-below, rising-below}
 use Rattle.scripthash_cutting.specs.Cutting.{lastPageRoom}
 use Rattle.scripthash_free.specs.FreeList.{Block, isBlock}
 use Rattle.scripthash_free.proofs.LawsBlock.{block-stands}
@@ -48,7 +48,6 @@ use Rattle.plain_book.specs.Good.{GoodPlain}
 use Rattle.plain_book.proofs.LawsHeads.{head-told}
 use Rattle.plain_book.proofs.LawsOwners.{depthOf, atKey}
 use Rattle.plain_book.proofs.LawsChain.{pages-few, mark-most, list-few, last-any, part-rises, chain}
-use Rattle.plain_book.proofs.LawsSound.{rising-below}
 use Rattle.plain_book.proofs.LawsTotals.{total-most}
 use Rattle.book_space.specs.Space.{Space}
 use Rattle.book_keys.specs.Keys.{soundly, sure, goOn, goodExtent, blockAt, slabScan, linkScan, lastAt, pageThen, walk, totalGood, chainAt}

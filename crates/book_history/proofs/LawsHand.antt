@@ -16,7 +16,7 @@ use Rattle.buffer.specs.LittleEndian.{bytesOf}
 use Rattle.buffer.proofs.LawsLittleEndian.{length-bytesOf}
 use Rattle.scripthash_layout.specs.Sizes.{slabBytes, pageClass}
 use Rattle.scripthash_stream.specs.Stream.{maxOffered, Rising, stream, streamLen}
-use Rattle.scripthash_stream.proofs.LawsStream.{length-stream}
+use Rattle.scripthash_stream.proofs.LawsStream.{length-stream, rising-below}
 use Rattle.scripthash_slabs.specs.Slab.{slabPayload}
 use Rattle.scripthash_free.specs.FreeList.{Block}
 use Rattle.plain_book.specs.Space.{Space as PlainSpace}
@@ -25,7 +25,6 @@ use Rattle.plain_book.specs.Book.{Book as PlainBook, keyOf}
 use Rattle.plain_book.specs.Owners.{Owner, hand, stack, slabOf, pageOf, pageNo, slabAt, pageIn, has, places}
 use Rattle.plain_book.specs.Good.{Good}
 use Rattle.plain_book.proofs.LawsOwners.{some-inj, none-some, kindOf, atKey, key-slab, key-page, page-behind}
-use Rattle.plain_book.proofs.LawsSound.{rising-below}
 use Rattle.book_space.specs.Space.{Space, space}
 use Rattle.book_blocks.proofs.LawsReadsSlab.{slab-written}
 use Rattle.book_history.specs.Agrees.{SlabReads, PageReads, LastReads, ChainReads, SlabIn, PageIn, Contents, BlockReads, AgreesSpace}

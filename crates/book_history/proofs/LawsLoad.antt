@@ -24,7 +24,7 @@ use Rattle.scripthash_layout.specs.declared.head.ShHeadValue.{ShHeadValue}
 use Rattle.scripthash_layout.specs.declared.head.ShHeadValue.the-variants.{Empty, Slab, Extent}
 use Rattle.scripthash_layout.proofs.LawsWords.{empty-word}
 use Rattle.scripthash_stream.specs.Stream.{maxOffered, Rising, lastFrom, stream, streamLen}
-use Rattle.scripthash_stream.proofs.LawsStream.{length-stream}
+use Rattle.scripthash_stream.proofs.LawsStream.{length-stream, rising-below}
 use Rattle.scripthash_slabs.specs.Slab.{slabPayload}
 use Rattle.scripthash_cutting.specs.Cutting.{pageRoom, lastPageRoom, cutting, joined, Fit, AllowedCutting}
 use Rattle.scripthash_cutting.proofs.LawsPages.{pages-allowed}
@@ -47,7 +47,7 @@ use Rattle.plain_book.specs.Good.{Good, GoodPlain}
 use Rattle.plain_book.proofs.LawsApart.{apart-fewer}
 use Rattle.plain_book.proofs.LawsOwners.{some-inj, none-some, atKey, key-slab, key-page}
 use Rattle.plain_book.proofs.LawsCeilings.{run-length}
-use Rattle.plain_book.proofs.LawsSound.{rising-below, some-parts}
+use Rattle.plain_book.proofs.LawsSound.{some-parts}
 use Rattle.plain_book.proofs.LawsTaking.{good-taken, good-rounded, rounded-mark, took-mark}
 use Rattle.book_space.specs.Space.{Space, space, Taken, takeBlock as takes, takeRun}
 use Rattle.book_keys.specs.Keys.{goodExtent}

@@ -12,6 +12,7 @@ use Rattle.error.proofs.LawsAnswer.{accepted-inj, passed, went-on}
 use Rattle.scripthash_layout.specs.Sizes.{pageSize}
 use Rattle.scripthash_layout.specs.declared.head.ShHeadValue.the-variants.{Inline, Slab}
 use Rattle.scripthash_stream.specs.Stream.{Rising, streamLen}
+use Rattle.scripthash_stream.proofs.LawsStream.{rising-below}
 use Rattle.scripthash_slabs.specs.Slab.{slabPayload}
 use Rattle.scripthash_cutting.specs.Cutting.{cutting}
 use Rattle.scripthash_cutting.proofs.LawsPages.{pages-allowed}
@@ -25,7 +26,7 @@ use Rattle.book_space.specs.Space.{Space, space, InShape, Taken, takeBlock, tak
 use Rattle.book_space.proofs.LawsShape.{shape-holds}
 use Rattle.book_space.proofs.LawsTake.{run-ran}
 use Rattle.book_blocks.specs.Blocks.{writeRun}
-use Rattle.book_blocks.proofs.LawsWrites.{rising-below, length-payload}
+use Rattle.book_blocks.proofs.LawsWrites.{length-payload}
 use Rattle.book.specs.Book.{Book, Outcome, headWord, onKey, filled}
 use Rattle.book.specs.Loads.{loadInto, loadAt, loads}
 use Rattle.book_history.specs.Writes.{Named, CallNames, nothing, bytesAt, wordAnd, both, takingPages, filling, loadNames, names}

@@ -13,6 +13,7 @@ use Rattle.error.proofs.LawsAnswer.{refused≢accepted, refuse-yes, refuse-no, 
 use Rattle.scripthash_layout.specs.declared.head.ShHeadValue.{ShHeadValue}
 use Rattle.scripthash_layout.specs.declared.head.ShHeadValue.the-variants.{Inline, Slab, Extent}
 use Rattle.scripthash_stream.specs.Stream.{Rising, streamLen, maxOffered}
+use Rattle.scripthash_stream.proofs.LawsStream.{rising-below}
 use Rattle.scripthash_slabs.specs.Slab.{slabPayload}
 use Rattle.scripthash_cutting.specs.Cutting.{pageRoom, cutting, chunkRanges}
 use Rattle.scripthash_cutting.proofs.LawsPages.{pages-at-most}
@@ -23,7 +24,6 @@ use Rattle.book_rules.specs.Places.{loadsTo}
 use Rattle.book_rules.proofs.LawsOffered.{rising-all}
 use Rattle.book_blocks.specs.Blocks.{writeRun}
 use Rattle.book_blocks.specs.Steps.{Run}
-use Rattle.book_blocks.proofs.LawsWrites.{rising-below}
 use Rattle.book_space.specs.Space.{Space, space, InShape, takeBlock, takeRun, shapeBroken}
 use Rattle.book_space.proofs.LawsTake.{run-ran}
 use Rattle.book.specs.Book.{Book, Outcome, headWord, wordOf, onKey, filled}

@@ -13,6 +13,7 @@ use Rattle.error.specs.Refusal.{Answer, accepted, refused, answered}
 use Rattle.error.proofs.LawsAnswer.{went-on}
 use Rattle.scripthash_layout.specs.Sizes.{pageSize}
 use Rattle.scripthash_stream.specs.Stream.{streamLen}
+use Rattle.scripthash_stream.proofs.LawsStream.{rising-below}
 use Rattle.scripthash_cutting.specs.Cutting.{cutting, AllowedCutting}
 use Rattle.scripthash_cutting.proofs.LawsPages.{pages-optimal}
 use Rattle.plain_book.specs.Space.{Space, takeBlock, takeRun}
@@ -26,7 +27,7 @@ use Rattle.plain_book.specs.Sound.{Fits, SoundKey}
 use Rattle.plain_book.specs.Ceilings.{mostMoves, mostRewritten, FewestPages, EachFewest}
 use Rattle.plain_book.proofs.LawsMoves.{placed, Spent, spent-most, append-spent, load-spent}
 use Rattle.plain_book.proofs.LawsHistory.{load-did, fresh-key, KeptByCalls, kept-calls}
-use Rattle.plain_book.proofs.LawsSound.{rising-below, empty-sound, sound-kept}
+use Rattle.plain_book.proofs.LawsSound.{empty-sound, sound-kept}
 use Rattle.plain_book.proofs.LawsKept.{longer-numbers}
 
 -- A key that is not in use was never moved.

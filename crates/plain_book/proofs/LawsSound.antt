@@ -15,7 +15,7 @@ use Rattle.compact.specs.Uleb128.{divided, ulebLen}
 use Rattle.compact.proofs.LawsLength.{len-mono}
 use Rattle.scripthash_layout.specs.Sizes.{maxSlabCount, pageClass}
 use Rattle.scripthash_stream.specs.Stream.{Rising, lastFrom, streamLen, streamLenFrom}
-use Rattle.scripthash_stream.proofs.LawsStream.{rising-append}
+use Rattle.scripthash_stream.proofs.LawsStream.{rising-append, rising-below}
 use Rattle.scripthash_cutting.specs.Cutting.{pageRoom, lastPageRoom, cutting, replaceLast, joined, Fit}
 use Rattle.scripthash_cutting.proofs.LawsPages.{pages-allowed}
 use Rattle.scripthash_cutting.proofs.LawsRising.{rising-words}
@@ -44,12 +44,6 @@ len-below n prev h = len-mono (n - prev) 4611686018427387903 (omega arith)
 pub rises-snoc : (top : ℕ) (ns : List ℕ) (n : ℕ) → Rising top 0 ns → lastFrom 0 ns < n → n < top → Rising top 0 (ns ++ (n ∷ []))
 unfolding Rising
 rises-snoc top ns n r h t = rising-append top 0 ns (n ∷ []) r (h, t, tt)
-
--- and rises below a higher limit too
-pub rising-below : (top higher prev : ℕ) (ns : List ℕ) → top ≤ higher → Rising top prev ns → Rising higher prev ns
-unfolding Rising
-rising-below top higher prev [] h r = tt
-rising-below top higher prev (n ∷ ns) h (a, b, r) = (a, omega arith, rising-below top higher n ns h r)
 
 -- ---- pages
 

@@ -28,12 +28,14 @@ stream-handed page p e =
     let placed = place-accepted page p e in
     omega (arith, length-drop (p .off) page, placed .long, placed .off-is)
 
--- on every page, of every version and count, the scan takes at most the capacity
+-- on every page, of every version and count, the bytes taken are within the capacity after each number, whatever the number of those read
+pub within-after : (page : List ℕ) (p : StreamAt) → streamPlace page ≡ accepted p
+    → (k : ℕ) (s : Scan) → scan k (drop (p .off) page) ≡ accepted s → s .taken ≤ streamCap page
+within-after page p e k s f = omega (arith, scan-accepted 0 k (drop (p .off) page) s f .within, stream-handed page p e)
+
+-- so the scan of the whole page takes at most the capacity
 pub within-capacity : (page : List ℕ) (s : Scan) → pageScan page ≡ accepted s → s .taken ≤ streamCap page
-within-capacity page s e =
-    let got = scan-placed page s e in
-    let p = got .0 in
-    omega (arith, scan-accepted 0 (p .count) (drop (p .off) page) s (got .2) .within, stream-handed page p (got .1))
+within-capacity page s e = let (p, place, scanned) = scan-placed page s e in within-after page p place (p .count) s scanned
 
 -- a test behind a scan that never holds is idle
 idle-test : (cap number : ℕ) (a : Answer Scan) → ((s : Scan) → a ≡ accepted s → s .taken ≤ cap)
@@ -57,7 +59,7 @@ retired-19 page = go (streamPlace page) refl
     go (accepted p) e =
         let placed = place-accepted page p e in
         idle-test (pageSize - p .off) 19 (scan (p .count) (drop (p .off) page))
-        (λ s f. omega (arith, scan-accepted 0 (p .count) (drop (p .off) page) s f .within, stream-handed page p e, placed .off-is))
+        (λ s f. omega (arith, within-after page p e (p .count) s f, placed .off-is))
     go (refused number) e = refl
 
 -- a number that would end beyond the capacity, whatever bytes stood behind the page, is cut short or overflows: k numbers of the page scan,

@@ -1,13 +1,15 @@
 -- Pages cannot be mistaken, since streams cannot: pages of version 1 and of version 2. Assumes nothing.
-use Prim.Native.Nat.{ℕ, _+_, _-_}
+use Prim.Native.Nat.{ℕ, _+_, _-_, _^_}
 use mathlib.Core.List.{List, [], _++_, IsPrefix}
 use mathlib.Core.Path.{_≡_, refl, sym, ap, _∙_}
+use native.Mathlib.Omega.{arith}
 use lib.ListN.{length, take, replicate}
 use Rattle.error.specs.Refusal.{accepted}
 use Rattle.scripthash_layout.specs.Sizes.{pageSize}
 use Rattle.scripthash_stream.specs.Stream.{stream, Scan, scan}
 use Rattle.scripthash_prefix.specs.PrefixFree.{SameLength, PrefixFree}
 use Rattle.scripthash_stream.proofs.LawsEncode.{encode-accepted}
+use Rattle.scripthash_stream.proofs.LawsStream.{rising-below}
 use Rattle.scripthash_prefix.proofs.Streams.{framed-prefix-free, scan-fixed}
 use Rattle.scripthash_fields.specs.Page.{deltaHeader, extentHeader, pageOf, countOf, streamOf}
 use Rattle.scripthash_pages.specs.Entries.{pageScan}
@@ -39,8 +41,8 @@ pub packed-fixed : (header ms ns page : List ℕ) → packed header ms ≡ accep
 packed-fixed header ms ns page e d counts =
     let p = packed-accepted header ms page e in
     let q = packed-accepted header ns page d in
-    let first = encode-accepted (pageSize - length header) ms (p .fits) .0 in
-    let second = encode-accepted (pageSize - length header) ns (q .fits) .0 in
+    let first = rising-below (2 ^ 63) (2 ^ 64) 0 ms (omega arith) (encode-accepted (pageSize - length header) ms (p .fits) .0) in
+    let second = rising-below (2 ^ 63) (2 ^ 64) 0 ns (omega arith) (encode-accepted (pageSize - length header) ns (q .fits) .0) in
     let same : SameLength ms ns = record { first = first; second = second; counts = counts } in
     headed (λ n. header) .fixed ms ns [] [] same (ap (λ (l : List ℕ). l ++ []) (p .is ∙ sym (q .is))) .0
 

@@ -54,7 +54,7 @@ none-left prev ms ns xs ys (n ∷ more) l e d = absurd (omega (arith, length-app
 -- where streams begin the same bytes, the shorter list is the beginning of the longer
 pub stream-begins : (ms ns xs ys : List ℕ) → IsList ms → IsList ns → length ms ≤ length ns → stream ms ++ xs ≡ stream ns ++ ys
     → IsPrefix ms ns
-stream-begins ms ns xs ys h k l e = let w = longer (2 ^ 63) 0 ms ns xs ys h k l e in (w .more, w .list)
+stream-begins ms ns xs ys h k l e = let w = longer (2 ^ 64) 0 ms ns xs ys h k l e in (w .more, w .list)
 
 -- bytes that fix lists of the same length cannot be mistaken
 fixed-free : (bytes : List ℕ → List ℕ)
@@ -72,7 +72,7 @@ fixed-free bytes fixed =
 stream-fixed : (ms ns xs ys : List ℕ) → SameLength ms ns → stream ms ++ xs ≡ stream ns ++ ys → (ms ≡ ns) × (xs ≡ ys)
 stream-fixed ms ns xs ys same e =
     let count : length ms ≡ length ns = omega (arith, same .counts) in
-    let w = longer (2 ^ 63) 0 ms ns xs ys (same .first) (same .second) (omega arith) e in
+    let w = longer (2 ^ 64) 0 ms ns xs ys (same .first) (same .second) (omega arith) e in
     none-left 0 ms ns xs ys (w .more) count (w .list) (w .behind)
 
 -- The theorem: streams cannot be mistaken.
@@ -106,8 +106,8 @@ pub scan-fixed : (prev k : ℕ) (bs cs : List ℕ) (s t : Scan) → scanFrom pre
     → IsPrefix (take (s .taken) bs) cs → s ≡ t
 scan-fixed prev k bs cs s t e d (rest, begins) = accepted-inj (sym (scan-same prev k bs rest s e) ∙ ap (scanFrom prev k) begins ∙ d)
 
--- bytes that begin with a list's stream scan as that list alone
-pub scan-begun : (ns bs : List ℕ) (s : Scan) → IsList ns → IsPrefix (stream ns) bs → scan (length ns) bs ≡ accepted s
+-- bytes that begin with the stream of a list below 2^63, as stored numbers are, scan as that list alone
+pub scan-begun : (ns bs : List ℕ) (s : Scan) → Rising (2 ^ 63) 0 ns → IsPrefix (stream ns) bs → scan (length ns) bs ≡ accepted s
     → s ≡ record { numbers = ns; taken = streamLen ns }
 scan-begun ns bs s h (rest, begins) e = accepted-inj (sym e ∙ ap (scan (length ns)) (sym begins) ∙ scan-stream 0 ns rest h)
 

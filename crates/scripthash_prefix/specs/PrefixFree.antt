@@ -8,9 +8,9 @@ use lib.ListN.{length}
 use Rattle.error.specs.Refusal.{accepted}
 use Rattle.scripthash_stream.specs.Stream.{Rising, stream, scan}
 
--- A list of document 01: it rises strictly, from above 0, and stays below 2^63.
+-- A list of document 01: its numbers have 64 bits, the first is above 0, and they rise strictly.
 abbrev pub IsList : List ℕ → Type 0
-IsList ns = Rising (2 ^ 63) 0 ns
+IsList ns = Rising (2 ^ 64) 0 ns
 
 -- Two lists of the same length.
 pub record SameLength (ms ns : List ℕ) : Type 0 where

@@ -40,6 +40,12 @@ unfolding Rising lastFrom
 rising-append top prev [] ns h k = k
 rising-append top prev (m ∷ ms) ns h k = (h .0, h .1, rising-append top m ms ns (h .2) k)
 
+-- numbers that stay below a limit stay below a higher one
+pub rising-below : (top higher prev : ℕ) (ns : List ℕ) → top ≤ higher → Rising top prev ns → Rising higher prev ns
+unfolding Rising
+rising-below top higher prev [] h r = tt
+rising-below top higher prev (n ∷ ns) h r = (r .0, omega (arith, r .1), rising-below top higher n ns h (r .2))
+
 -- the last of rising numbers is below the limit
 pub last-below : (top prev : ℕ) (ns : List ℕ) → prev < top → Rising top prev ns → lastFrom prev ns < top
 unfolding Rising lastFrom

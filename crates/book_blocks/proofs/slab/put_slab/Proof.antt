@@ -2,8 +2,9 @@
 use Prim.Native.Nat.{_^_}
 use native.Mathlib.Omega.{arith}
 use borrow.Author.Needs.{needs}
-use Rattle.book_blocks.proofs.LawsWrites.{length-lent-block, start-back, rising-below, length-payload}
+use Rattle.book_blocks.proofs.LawsWrites.{length-lent-block, start-back, length-payload}
 use Rattle.book_blocks.proofs.slab.put_slab.Statement.{statement}
+use Rattle.scripthash_stream.proofs.LawsStream.{rising-below}
 use Rattle.book_blocks.proofs.slab.put_slab.Tie as tie
 
 add-end : tie.Need-add-end
