@@ -43,7 +43,8 @@ Outcome = OutcomeOf Book
 abbrev pub wordOf : ℕ → Book → ℕ
 wordOf key b = getD (b .heads) key 0
 
--- The word that stores a place.
+-- The word that stores a place. The 0 is never met: a call makes only places that pack, with a number below 2^62, or a class up to 7 and an
+-- offset within the body.
 unfoldable pub headWord : ShHeadValue → ℕ
 headWord place = told (λ w. w) (packHead place) 0
 

@@ -11,7 +11,7 @@ use Rattle.scripthash_free.specs.FreeList.{Names}
 use Rattle.book_rules.specs.Calls.{Call, load, append, read, drop, bookAfter, afterCalls}
 use Rattle.book_limits.specs.Limits.{outOfShape}
 use Rattle.plain_book.specs.Space.{stackOf}
-use Rattle.plain_book.specs.Key.{Key, empty, headOf}
+use Rattle.plain_book.specs.Key.{Key, emptyKey, empty, headOf}
 use Rattle.plain_book.specs.Book.{Book as PlainBook, fresh as plainFresh, does as plainDoes, after as plainAfter, keyOf}
 use Rattle.plain_book.proofs.LawsGood.{unshaped}
 use Rattle.plain_book.proofs.LawsHistory.{all-same, fresh-key}
@@ -59,6 +59,8 @@ pub fresh-stands : (body : List ℕ) (heads : ℕ) → outOfShape (length body) 
 unfolding unpackHead headOf Names
 fresh-stands body heads out =
     record {
+      size = refl;
+      count = length-replicate {A = ℕ} heads 0 ∙ sym (length-replicate heads emptyKey);
       heads = λ key. ap unpackHead (all-same 0 heads key)
           ∙ sym (ap (λ (k : Key). accepted (headOf (k .list) (k .place))) (fresh-key (length body) heads key));
       mark = refl;

@@ -117,6 +117,8 @@ pub agrees-stands : (plain : PlainBook) (b : Book) → GoodPlain plain → Agree
 agrees-stands plain b g a shape =
     let h = a .inside shape in
     record {
+      size = a .size;
+      count = a .count;
       heads = λ key. head-agrees plain b g shape h key;
       mark = h .space .mark;
       free = λ class l. free-named (plain .space) (b .space) (places plain) (contentsOf plain) (g .space) (h .space) class;

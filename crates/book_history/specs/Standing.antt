@@ -18,6 +18,9 @@ use Rattle.book.specs.Reads.{reads}
 
 -- A book over bytes stands as a plain book does.
 pub record Standing (plain : PlainBook) (b : Book) : Type 0 where
+  -- The body has the length that the plain book was told, and there is a head for each key.
+  pub size : length (b .space .body) ≡ plain .size
+  pub count : length (b .heads) ≡ length (plain .keys)
   -- Each head word unpacks to its key's place: of pages, the last one's offset.
   pub heads : (key : ℕ) → unpackHead (wordOf key b) ≡ accepted (headOf (keyOf key plain .list) (keyOf key plain .place))
   -- The marks are one.

@@ -1,18 +1,19 @@
 -- The licence's sentence on the plain book: a key's list is what calls and their answers recorded for it, and a read tells that list.
 -- Assumes nothing.
-use Prim.Native.Nat.{ℕ, _<_}
+use Prim.Native.Nat.{ℕ, _≤_, _<_}
 use mathlib.Core.Bool.{Bool, true, false, cond, false≢true}
 use mathlib.Core.List.{List, [], _∷_, _++_}
 use mathlib.Core.Logic.{_⊎_, inl, inr, ⊎-elim}
-use mathlib.Core.Path.{_≡_, refl, sym, ap, _∙_}
+use mathlib.Core.Path.{_≡_, refl, sym, ap, subst, subst₂, _∙_}
 use native.Mathlib.Omega.{arith}
 use lib.Dec.{eqb}
-use lib.ListN.{length}
+use lib.ListN.{length, length-replicate}
 use lib.Seq.{getD-set-same, getD-set-other}
-use borrow.Author.Tests.{eqb-true, eqb-false}
+use borrow.Author.Tests.{eqb-true, eqb-false, leb-true, ltb-true}
 use Rattle.error.specs.Refusal.{Answer, accepted, refused, refuseIf, answered, shapeBad, keyBeyond, listTooShort}
 use Rattle.error.proofs.LawsAnswer.{refused≢accepted}
-use Rattle.book_rules.specs.Calls.{Call, load, append, read, drop, keyOfCall, listed, bookAfter, answerOf, afterCalls, answersTo}
+use Rattle.book_rules.specs.Calls.{Call, load, append, read, drop, keyOfCall, Told, listed, bookAfter, answerOf, afterCalls, answersTo}
+use Rattle.book_limits.specs.Limits.{outOfShape}
 use Rattle.book_rules.specs.Moves.{noMoves}
 use Rattle.book_rules.specs.Recorded.{recordedBy, recordedAfter, recorded}
 use Rattle.book_rules.specs.Licence.{AnsweredBy, Licensed}
@@ -22,6 +23,7 @@ use Rattle.plain_book.specs.Book.{Book, fresh, Outcome, onKey, keyOf, wi
 use Rattle.plain_book.specs.Sound.{Fits, SoundKey}
 use Rattle.plain_book.proofs.LawsHistory.{load-did, append-did, read-did, drop-did, fresh-key, kept-call}
 use Rattle.plain_book.proofs.LawsSound.{empty-sound, sound-kept}
+use Rattle.plain_book.proofs.LawsGood.{shape-kept}
 
 -- ---- one call
 
@@ -105,18 +107,21 @@ read-told b key room e = ap (λ (x : Outcome). x .told) (read-did b key room e .
 
 -- What a refusal came from: the test, or what comes after it.
 refused-by : {A : Type 0} (test : Bool) (number : ℕ) (after : Answer A) {m : ℕ} → refuseIf test number after ≡ refused m
-    → (m ≡ number) ⊎ (after ≡ refused m)
+    → ((m ≡ number) × (test ≡ true)) ⊎ (after ≡ refused m)
 unfolding refuseIf
-refused-by true number after e = inl (cc)
+refused-by true number after e = inl (cc, refl)
 refused-by false number after e = inr e
 
--- A read is refused only for the shape (1), the key (2), or a lent list that is too short (34).
+-- A read is refused only for the shape (1), the key (2), or a lent list that is too short (34), each for its cause.
 pub read-refused : (b : Book) (key room : ℕ) {number : ℕ} → does b (read key room) ≡ refused number
-    → (number ≡ shapeBad) ⊎ ((number ≡ keyBeyond) ⊎ (number ≡ listTooShort))
+    → ((number ≡ shapeBad) × (outOfShape (b .size) (length (b .keys)) ≡ true))
+    ⊎ (((number ≡ keyBeyond) × (length (b .keys) ≤ key)) ⊎ ((number ≡ listTooShort) × (room < length (keyOf key b .list))))
 unfolding does reads onKey
 read-refused b key room e =
     ⊎-elim (λ q. inl q)
-    (λ e1. inr (⊎-elim (λ q. inl q) (λ e2. inr (⊎-elim (λ q. q) (λ e3. absurd (refused≢accepted (sym e3))) (refused-by _ _ _ e2)))
+    (λ e1. inr (⊎-elim (λ q. inl (q .0, leb-true (length (b .keys)) key (q .1)))
+    (λ e2. inr (⊎-elim (λ q. (q .0, ltb-true room (length (keyOf key b .list)) (q .1)))
+    (λ e3. absurd (refused≢accepted (sym e3))) (refused-by _ _ _ e2)))
     (refused-by _ _ _ e1)))
     (refused-by _ _ _ e)
 
@@ -124,28 +129,41 @@ read-refused b key room e =
 
 -- An answer is by what is recorded for its key.
 call-answered : (b : Book) (c : Call) (a : Answer Outcome) (numbers : List ℕ) → does b c ≡ a → keyOf (keyOfCall c) b .list ≡ numbers
-    → AnsweredBy c (answerOf a) numbers
+    → AnsweredBy (b .size) (length (b .keys)) c (answerOf a) numbers
 unfolding AnsweredBy answered
 call-answered b (load key ns) a numbers e is = tt
 call-answered b (append key n) a numbers e is = tt
 call-answered b (read key room) (accepted o) numbers e is = (pagesOf (keyOf key b .place), rw (← is) (read-told b key room e))
-call-answered b (read key room) (refused number) numbers e is = read-refused b key room e
+call-answered b (read key room) (refused number) numbers e is = rw (← is) (read-refused b key room e)
 call-answered b (drop key) a numbers e is = tt
 
 -- Take any book of sound keys, whose lists are what was recorded, and any list of calls: the licence's sentence holds.
 pub licensed-from : (b : Book) (before : ℕ → List ℕ) (cs : List Call) → ((key : ℕ) → SoundKey (keyOf key b))
     → ((key : ℕ) → keyOf key b .list ≡ before key)
-    → Licensed before cs (answers b cs)
+    → Licensed (b .size) (length (b .keys)) before cs (answers b cs)
 unfolding Licensed answersTo
 licensed-from b before [] s is = tt
-licensed-from b before (c ∷ cs) s is = (
-  call-answered b c (does b c) (before (keyOfCall c)) refl (is (keyOfCall c)),
-  licensed-from (bookAfter b (does b c)) _ cs (λ key. kept-call _ sound-kept key b c noMoves (does b c) refl (s key))
-      (λ key. call-recorded key b c (does b c) refl (s key) ∙ ap (recordedAfter key c (answerOf (does b c))) (is key)),
-)
+licensed-from b before (c ∷ cs) s is =
+    let (size, keys) = shape-kept b c in (
+      call-answered b c (does b c) (before (keyOfCall c)) refl (is (keyOfCall c)),
+      subst₂ (λ (m n : ℕ). Licensed m n (λ key. recordedAfter key c (answerOf (does b c)) (before key)) cs
+          (answers (bookAfter b (does b c)) cs)) size keys
+          (licensed-from (bookAfter b (does b c)) _ cs (λ key. kept-call _ sound-kept key b c noMoves (does b c) refl (s key))
+          (λ key. call-recorded key b c (does b c) refl (s key) ∙ ap (recordedAfter key c (answerOf (does b c))) (is key))),
+    )
 
 -- On a fresh book, with nothing recorded, the licence's sentence holds of every list of calls.
-pub licensed : (size heads : ℕ) (cs : List Call) → Licensed (λ key. []) cs (answers (fresh size heads) cs)
+pub licensed : (size heads : ℕ) (cs : List Call) → Licensed size heads (λ key. []) cs (answers (fresh size heads) cs)
 licensed size heads cs =
-    licensed-from (fresh size heads) (λ key. []) cs (λ key. rw (fresh-key size heads key) empty-sound)
-    (λ key. ap (λ (k : Key). k .list) (fresh-key size heads key))
+    subst (λ (n : ℕ). Licensed size n (λ key. []) cs (answers (fresh size heads) cs)) (length-replicate heads emptyKey)
+    (licensed-from (fresh size heads) (λ key. []) cs (λ key. rw (fresh-key size heads key) empty-sound)
+    (λ key. ap (λ (k : Key). k .list) (fresh-key size heads key)))
+
+-- What the licence's sentence says of a read with room enough, on a key of a book in shape: it is accepted, and tells what is recorded.
+pub read-accepted : (size heads key room : ℕ) (a : Answer Told) (numbers : List ℕ) → AnsweredBy size heads (read key room) a numbers
+    → outOfShape size heads ≡ false → key < heads → length numbers ≤ room
+    → (pages : ℕ) × (a ≡ accepted (listed (record { numbers = numbers; pages = pages })))
+unfolding AnsweredBy
+read-accepted size heads key room (accepted told) numbers (many, is) shape low fits = (many, ap accepted is)
+read-accepted size heads key room (refused number) numbers by shape low fits =
+    absurd (⊎-elim (λ (is, out). false≢true (sym shape ∙ out)) (λ r. ⊎-elim (λ (is, beyond). omega arith) (λ (is, short). omega arith) r) by)
