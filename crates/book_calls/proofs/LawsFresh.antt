@@ -29,7 +29,7 @@ use Rattle.book_words.specs.SpellCalls.{callsOf, answersRoom}
 use Rattle.book_words.specs.SpellAnswers.{spellAnswers}
 use Rattle.book_words.proofs.LawsWords.{some-inj, none≢some}
 use Rattle.book_calls.specs.Steps.{isSome, AllDone}
-use Rattle.book_calls.specs.Runs.{plainWords, runs, wordsAfter, Runs}
+use Rattle.book_calls.specs.Runs.{plainWords, runs, wordsAfter, noState, madeOf, leftBy, Runs}
 use Rattle.book_calls.specs.declared.runs.RunCalls.the-variants.{Ran, Unspelled, Refused}
 
 -- ---- the book that the calls are run on
@@ -67,6 +67,13 @@ module _ (body heads : List ℕ) (s : State) (made : Book)
           ∙ demand-3 body (length heads) cs .0
       by false e = ap (λ (b : Book). answers b cs) (made-fresh e) ∙ demand-3 body (length heads) cs .0
 
+  -- Afterwards it stands as the plain book does.
+  pub made-stands : (cs : List Call) (left : Book) → left ≡ after made cs → outOfShape (length body) (length heads) ≡ false
+      → Standing (plainAfter (plainFresh (length body) (length heads)) cs) left
+  made-stands cs left l e =
+      subst (Standing (plainAfter (plainFresh (length body) (length heads)) cs))
+      (sym (l ∙ ap (λ (b : Book). after b cs) (made-fresh e))) (demand-3 body (length heads) cs .1)
+
   -- Afterwards each key reads as what is recorded for it.
   pub made-records : (cs : List Call) (left : Book) → left ≡ after made cs → outOfShape (length body) (length heads) ≡ false
       → (key room : ℕ) → key < length heads
@@ -101,35 +108,50 @@ was-none none e = refl
 was-none (some cs) e = absurd (true≢false e)
 
 module _ (body heads calls out : List ℕ) where
-  pub unspelled : (s : State) → callsOf calls ≡ none → Runs body heads calls out (record { answer = Unspelled; state = s }) body heads out
-  unfolding runs wordsAfter
-  unspelled s e = record { answer = rw e; words = rw e; still = λ u. (refl, refl); records = λ cs f. absurd (none≢some (sym e ∙ f)) }
+  pub unspelled : (s : State) → s ≡ noState → callsOf calls ≡ none
+      → Runs body heads calls out (record { answer = Unspelled; state = s }) body heads out
+  unfolding runs wordsAfter leftBy
+  unspelled s z e =
+      record {
+        answer = rw e;
+        words = rw e;
+        left = rw e (ap (bookOf body heads) z);
+        stands = λ cs f. absurd (none≢some (sym e ∙ f));
+        records = λ cs f. absurd (none≢some (sym e ∙ f));
+      }
 
-  pub too-short : (s : State) (cs : List Call) → callsOf calls ≡ some cs → leb (answersRoom cs) (length out) ≡ false
+  pub too-short : (s : State) → s ≡ noState → (cs : List Call) → callsOf calls ≡ some cs → leb (answersRoom cs) (length out) ≡ false
       → Runs body heads calls out (record { answer = Refused listTooShort; state = s }) body heads out
-  unfolding runs wordsAfter
-  too-short s cs e l =
+  unfolding runs wordsAfter leftBy
+  too-short s z cs e l =
       record {
         answer = rw (e, l);
         words = rw (e, l);
-        still = λ u. (refl, refl);
+        left = rw (e, l) (ap (bookOf body heads) z);
+        stands =
+            λ ds f fits. absurd
+            (true≢false (sym (le-leb (answersRoom ds) (length out) fits)
+            ∙ ap (λ (x : List Call). leb (answersRoom x) (length out)) (some-inj (sym f ∙ e)) ∙ l));
         records =
             λ ds f fits. absurd
             (true≢false (sym (le-leb (answersRoom ds) (length out) fits)
             ∙ ap (λ (x : List Call). leb (answersRoom x) (length out)) (some-inj (sym f ∙ e)) ∙ l));
       }
 
-  pub all-ran : (s left : State) (made : Book) (cs : List Call) (body' heads' out' : List ℕ) (len : ℕ) → callsOf calls ≡ some cs
+  pub all-ran : (s : State) → s ≡ noState → (left : State) (made : Book) (cs : List Call) (body' heads' out' : List ℕ) (len : ℕ)
+      → callsOf calls ≡ some cs
       → leb (answersRoom cs) (length out) ≡ true
       → made ≡ madeAfter (bookOf body heads s) (makesFresh (bookOf body heads s)) → AllDone made cs out (bookOf body' heads' left) out' len
       → Runs body heads calls out (record { answer = Ran len; state = left }) body' heads' out'
-  unfolding runs wordsAfter
-  all-ran s left made cs body' heads' out' len e l is d =
+  unfolding runs wordsAfter leftBy
+  all-ran s z left made cs body' heads' out' len e l is d =
+      let is-made : made ≡ madeOf body heads = is ∙ ap (λ (t : State). madeAfter (bookOf body heads t) (makesFresh (bookOf body heads t))) z in
       let same = made-answers body heads s made is cs in
       let words : spellAnswers (answers made cs) ≡ plainWords (length body) (length heads) cs = ap spellAnswers same in
       record {
         answer = rw (e, l) (ap Ran (d .count ∙ ap length words));
         words = rw (e, l) (d .words ∙ ap (overwrite out 0) words);
-        still = λ u. absurd u;
+        left = rw (e, l) (d .left-is ∙ ap (λ (b : Book). after b cs) is-made);
+        stands = λ ds f fits shape. made-stands body heads s made is ds _ (d .left-is ∙ ap (after made) (some-inj (sym e ∙ f))) shape;
         records = λ ds f fits shape. made-records body heads s made is ds _ (d .left-is ∙ ap (after made) (some-inj (sym e ∙ f))) shape;
       }

@@ -5,15 +5,19 @@ use mathlib.Core.List.{List, []}
 use mathlib.Core.Option.{Option, none, some}
 use mathlib.Core.Path.{_≡_}
 use lib.Dec.{leb}
-use lib.ListN.{length}
+use lib.ListN.{length, replicate}
 use Rattle.error.specs.Refusal.{accepted, listTooShort}
 use Rattle.buffer.specs.Bytes.{overwrite}
 use Rattle.book_rules.specs.Calls.{Call, listed, answerOf}
 use Rattle.book_limits.specs.Limits.{outOfShape}
 use Rattle.book_rules.specs.Recorded.{recorded}
-use Rattle.plain_book.specs.Book.{fresh as plainFresh, answers as plainAnswers}
+use Rattle.plain_book.specs.Book.{fresh as plainFresh, answers as plainAnswers, after as plainAfter}
+use Rattle.book_space.specs.declared.State.{State}
+use Rattle.book.specs.Book.{Book, makesFresh, madeAfter}
 use Rattle.book.specs.Reads.{reads}
+use Rattle.book.specs.Calls.{after}
 use Rattle.book.specs.Answers.{bookOf}
+use Rattle.book_history.specs.Standing.{Standing}
 use Rattle.book_words.specs.SpellCalls.{callsOf, answersRoom}
 use Rattle.book_words.specs.SpellAnswers.{spellAnswers}
 use Rattle.book_calls.specs.declared.runs.RunCalls.{RunCalls}
@@ -34,19 +38,29 @@ unfoldable pub wordsAfter : List ℕ → ℕ → ℕ → Option (List Call) → 
 wordsAfter out size heads none = out
 wordsAfter out size heads (some cs) = cond (leb (answersRoom cs) (length out)) (overwrite out 0 (plainWords size heads cs)) out
 
--- Nothing was run.
-abbrev pub Stopped : RunCalls → Type 0
-Stopped (Ran len) = ⊥
-Stopped Unspelled = Unit {0}
-Stopped (Refused number) = Unit {0}
+-- A state of zeros: what is given back where nothing was run.
+abbrev pub noState : State
+noState = record { mark = 0; free = replicate 9 0 }
+
+-- The book that calls are run on: made fresh over body and heads, or as it was where that is refused.
+abbrev pub madeOf : List ℕ → List ℕ → Book
+madeOf body heads = madeAfter (bookOf body heads noState) (makesFresh (bookOf body heads noState))
+
+-- The book afterwards: after the calls, or as it was where nothing was run.
+unfoldable pub leftBy : List ℕ → List ℕ → ℕ → Option (List Call) → Book
+leftBy body heads room none = bookOf body heads noState
+leftBy body heads room (some cs) = cond (leb (answersRoom cs) room) (after (madeOf body heads) cs) (bookOf body heads noState)
 
 -- The contract of `run_calls`, on a body, head words, the words of calls and a list for answers, with what these hold afterwards.
 pub record Runs (body heads calls out : List ℕ) (r : AfterRun) (body' heads' out' : List ℕ) : Type 0 where
   -- The answer, and the words of the answers: those of the plain book.
   pub answer : r .answer ≡ runs (length body) (length heads) (length out) (callsOf calls)
   pub words : out' ≡ wordsAfter out (length body) (length heads) (callsOf calls)
-  -- Where nothing was run, body and heads are as they were.
-  pub still : Stopped (r .answer) → (body' ≡ body) × (heads' ≡ heads)
+  -- Body, heads and state afterwards, whichever way it ends.
+  pub left : bookOf body' heads' (r .state) ≡ leftBy body heads (length out) (callsOf calls)
+  -- It stands as the plain book does: places, mark, freed blocks, and what each key reads as.
+  pub stands : (cs : List Call) → callsOf calls ≡ some cs → answersRoom cs ≤ length out → outOfShape (length body) (length heads) ≡ false
+      → Standing (plainAfter (plainFresh (length body) (length heads)) cs) (bookOf body' heads' (r .state))
   -- Afterwards each key reads as what is recorded for it, by calls and answers alone, where the book is in shape; a long enough list is
   -- lent.
   pub records : (cs : List Call) → callsOf calls ≡ some cs → answersRoom cs ≤ length out → outOfShape (length body) (length heads) ≡ false
