@@ -35,3 +35,4 @@ pub mod LawsWritesWords
 pub mod Demand1
 pub mod ExamplesWrites
 pub mod SameBytes
+pub mod Refusals

@@ -15,3 +15,4 @@ pub mod LawsGood
 pub mod LawsHeads
 pub mod LawsRecorded
 pub mod LawsChain
+pub mod LawsRefusals

@@ -5,3 +5,4 @@ pub mod Sound
 pub mod Owners
 pub mod Good
 pub mod Ceilings
+pub mod Refusals

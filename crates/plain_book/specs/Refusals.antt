@@ -1,0 +1,29 @@
+-- Which refusals the plain book knows.
+use Prim.Native.Nat.{ℕ}
+use mathlib.Core.Bool.{Bool, true, false, _||_}
+use mathlib.Core.List.{List, [], _∷_}
+use mathlib.Core.Path.{_≡_}
+use lib.Dec.{eqb}
+use Rattle.error.specs.Refusal.{Answer, accepted, refused, shapeBad, keyBeyond, keyInUse, tooManyOffered, offeredFirstZero, offeredBit63}
+use Rattle.error.specs.Refusal.{offeredTooLarge, offeredNotRising, listTooShort, noRoom}
+
+-- The numbers that document 01 names for the plain book: 1, 2, 3, 10, 12 to 14, 32, 34 and 36.
+unfoldable pub plainRefusals : List ℕ
+plainRefusals =
+    shapeBad ∷ keyBeyond ∷ keyInUse ∷ tooManyOffered ∷ offeredFirstZero ∷ offeredBit63 ∷ offeredTooLarge ∷ offeredNotRising ∷ listTooShort
+    ∷ noRoom ∷ []
+
+-- A number is one of some.
+unfoldable pub isOneOf : ℕ → List ℕ → Bool
+isOneOf m [] = false
+isOneOf m (n ∷ ns) = eqb m n || isOneOf m ns
+
+-- An answer is accepted, or refused with one of some numbers.
+unfoldable pub RefusedBy : {A : Type 0} → List ℕ → Answer A → Type 0
+RefusedBy numbers (accepted x) = Unit {0}
+RefusedBy numbers (refused m) = isOneOf m numbers ≡ true
+
+-- So is each of some answers.
+unfoldable pub EachRefusedBy : {A : Type 0} → List ℕ → List (Answer A) → Type 0
+EachRefusedBy numbers [] = Unit {0}
+EachRefusedBy numbers (a ∷ told) = RefusedBy numbers a × EachRefusedBy numbers told
