@@ -35,4 +35,5 @@ pub mod LawsWritesWords
 pub mod Demand1
 pub mod ExamplesWrites
 pub mod SameBytes
+pub mod Counts
 pub mod Refusals

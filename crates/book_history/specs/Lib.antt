@@ -2,3 +2,4 @@ pub mod Agrees
 pub mod Standing
 pub mod Writes
 pub mod PlainOf
+pub mod Counts
