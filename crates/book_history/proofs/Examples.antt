@@ -37,15 +37,15 @@ use Rattle.book_keys.specs.Keys.{
   pageBlocks,
 }
 use Rattle.book_keys.specs.Keys.{contentAt, content, createsGood, tailAt}
-use Rattle.book.specs.Book.{Book, book, fresh, headWord, onKey}
+use Rattle.book.specs.Book.{Book, Outcome, book, fresh, headWord, onKey}
 use Rattle.book_blocks.specs.Blocks.{slabWith, lastPageOf, totalWith, pageWith, pageBefore, writeRun}
 use Rattle.book.specs.Appends.{movesInto, moves, appendSlab, growChain, appendPage, appendAt, appends}
 use Rattle.book.specs.Loads.{loadInto, loadAt, loads}
 use Rattle.book.specs.Reads.{reads, drops}
 use Rattle.book.specs.Calls.{after, answers, does}
 
--- The answers to some calls.
-unfoldable pub runs : Book → List Call → List (Answer Told)
+-- The answers to some calls of a book that does so with each, so that they can be computed.
+unfoldable pub computed : (Book → Call → Answer Outcome) → Book → List Call → List (Answer Told)
 unfolding refuseIf andThen answered part overwrite isForm value formAt overflows readForm readUleb divided ulebLen shortest packHead
     unpackHead lastFrom streamFrom streamLenFrom storedNumber nextNumber scanFrom decodeStream firstClass classFor classWithSlack
     slabPayload
@@ -56,7 +56,11 @@ unfolding refuseIf andThen answered part overwrite isForm value formAt overflows
     goOn slabScan linkScan goodExtent lastAt pageThen walk totalGood chainAt pageBlocks contentAt content createsGood tailAt headWord onKey
     movesInto moves slabWith appendSlab totalWith pageWith pageBefore growChain appendPage appendAt appends writeRun loadInto loadAt loads
     reads drops does
-runs b cs = answers b cs
+computed calls b cs = answersTo calls b cs
+
+-- Those of our book.
+abbrev pub runs : Book → List Call → List (Answer Told)
+runs b cs = computed does b cs
 
 -- An append that is accepted: the key's new place, and the records rewritten.
 abbrev at : ShHeadValue → ℕ → Answer Told
@@ -85,7 +89,7 @@ pub run-case : runs (fresh (bodyOf 8192) 2)
     ≡ at (Inline 5 1) 0 ∷ at (Slab 0 2 4096) 1 ∷ at (Slab 0 3 4096) 0 ∷ at (Slab 0 4 4096) 0 ∷ at (Slab 1 5 4112) 4 ∷ at (Inline 9 1)
     0 ∷ at (Slab 0 2 4096) 1
     ∷ lists-as (5 ∷ 300 ∷ 301 ∷ 302 ∷ 303 ∷ []) 0 ∷ lists-as (9 ∷ 10 ∷ []) 0 ∷ []
-unfolding runs
+unfolding computed
 run-case = refl
 
 -- What is turned back.
@@ -94,7 +98,7 @@ pub turned-back : (runs (fresh (bodyOf 4096) 1) (read 0 0 ∷ []) ≡ refused 1 
     ∷ read 0 0 ∷ drop 0 ∷ read 0 0 ∷ [])
     ≡ refused 2 ∷ refused 12 ∷ refused 13 ∷ refused 14 ∷ at (Inline 5 1) 0 ∷ refused 32 ∷ refused 3 ∷ refused 34 ∷ accepted
     (dropped (record { length = 1 })) ∷ lists-as [] 0 ∷ [])
-unfolding runs
+unfolding computed
 turned-back = (refl, refl)
 
 -- A page of 4,072 bytes is full, so that the next number begins another. A drop frees the first page first, so that the last one is taken
@@ -104,7 +108,7 @@ pub full-page : runs (fresh (bodyOf 16384) 2) (load 0 (inARow 1 4072) ∷ append
     ≡ loads-in 1 ∷ at (Extent 8192) 0 ∷ at (Extent 8192) 0 ∷ lists-as (inARow 1 4074) 2 ∷ accepted
     (dropped (record { length = 4074 })) ∷ loads-in 0 ∷ at (Extent 8192) 256
     ∷ lists-as (inARow 1 257) 1 ∷ []
-unfolding runs inARow
+unfolding computed inARow
 full-page = refl
 
 -- A list of 4,073 goes to a run of two pages, behind the mark rounded up; the body is full then, but the gap before the run was carved.
@@ -112,7 +116,7 @@ pub loaded-run : runs (fresh (bodyOf 16384) 3)
     (append 0 1 ∷ append 0 2 ∷ load 1 (inARow 1 4073) ∷ append 1 4074 ∷ load 2 (inARow 1 300) ∷ load 2 (inARow 1 256) ∷ read 1 4074 ∷ [])
     ≡ at (Inline 1 1) 0 ∷ at (Slab 0 2 4096) 1 ∷ loads-in 2 ∷ at (Extent 12288) 0 ∷ refused 36 ∷ loads-in 0 ∷ lists-as (inARow 1 4074)
     2 ∷ []
-unfolding runs inARow
+unfolding computed inARow
 loaded-run = refl
 
 -- What damage gets: a slab whose stored count isn't its head's is no sound key, a free head that no block can have isn't popped, and there
@@ -123,7 +127,7 @@ pub damaged : (runs (book (bodyOf 8192) (slabWord 0 2 4096 ∷ []) 4112 (replica
     × (runs (book (bodyOf 8192) (5 ∷ []) 4112 (4104 ∷ replicate 8 0)) (append 0 6 ∷ append 0 5 ∷ []) ≡ refused 35 ∷ refused 32 ∷ [])
     × (runs (book (bodyOf 8192) (5 ∷ []) 8192 (replicate 9 0)) (append 0 6 ∷ read 0 1 ∷ []) ≡ refused 36 ∷ lists-as (5 ∷ []) 0 ∷ [])
     × (runs (book (bodyOf 8192) (5 ∷ []) 8200 (replicate 9 0)) (read 0 1 ∷ []) ≡ refused 1 ∷ [])
-unfolding runs
+unfolding computed
 damaged = (refl, refl, refl, refl)
 
 -- A body whose second page is a key's last, with a total, and that key's head word.
@@ -133,7 +137,7 @@ pageBook creates ns =
 
 -- The total that it tells after some calls.
 unfoldable pub totalAfter : Book → List Call → ℕ
-unfolding runs afterCalls
+unfolding computed afterCalls
 totalAfter b cs = createsFieldOf (part (after b cs .space .body) 4096 4096)
 
 -- A total of 0 says that it was never counted: such a key is read, appended to, which leaves it 0, and dropped. One that is the length
@@ -144,7 +148,7 @@ pub never-counted :
     × (totalAfter (pageBook 0 (5 ∷ 9 ∷ [])) (append 0 300 ∷ []) ≡ 0)
     × (totalAfter (pageBook 2 (5 ∷ 9 ∷ [])) (append 0 300 ∷ []) ≡ 3)
     × (runs (pageBook 1 (5 ∷ 9 ∷ [])) (read 0 2 ∷ drop 0 ∷ append 0 300 ∷ []) ≡ refused 31 ∷ refused 31 ∷ at (Extent 4096) 0 ∷ [])
-unfolding runs totalAfter
+unfolding computed totalAfter
 never-counted = (refl, refl, refl, refl)
 
 -- Two numbers in padded forms, 13 bytes in a slab of 16: a third fits, and a fourth moves the list, which shortest forms would leave there;
@@ -153,5 +157,5 @@ pub padded :
     let slab : List ℕ = 2 ∷ 0 ∷ 133 ∷ 128 ∷ 128 ∷ 128 ∷ 128 ∷ 128 ∷ 0 ∷ 129 ∷ 128 ∷ 128 ∷ 128 ∷ 128 ∷ 0 ∷ [] in
     runs (book (overwrite (bodyOf 8192) 4096 slab) (slabWord 0 2 4096 ∷ []) 4112 (replicate 9 0)) (append 0 7 ∷ append 0 8 ∷ read 0 4 ∷ [])
     ≡ at (Slab 0 3 4096) 0 ∷ at (Slab 1 4 4112) 3 ∷ lists-as (5 ∷ 6 ∷ 7 ∷ 8 ∷ []) 0 ∷ []
-unfolding runs
+unfolding computed
 padded = refl

@@ -35,5 +35,6 @@ pub mod LawsWritesWords
 pub mod Demand1
 pub mod ExamplesWrites
 pub mod SameBytes
+pub mod Hollow
 pub mod Counts
 pub mod Refusals

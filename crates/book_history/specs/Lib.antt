@@ -3,3 +3,4 @@ pub mod Standing
 pub mod Writes
 pub mod PlainOf
 pub mod Counts
+pub mod Hollow
