@@ -29,7 +29,7 @@ module _ (s : Space) where
   none-named = named-end (s .mark / 16) (s .body) 0 refl
 
   -- No key holds a block, and all are empty.
-  none-held : (n : ℕ) → heldBy s (replicate n 0) ≡ []
+  pub none-held : (n : ℕ) → heldBy s (replicate n 0) ≡ []
   unfolding heldBy blocksIn
   none-held zero = refl
   none-held (suc n) = rw (word-none s) (none-held n)
@@ -40,7 +40,7 @@ module _ (s : Space) where
   keys-empty (suc n) = ap₂ (λ (k : Key) (ks : List Key). k ∷ ks) (key-none s) (keys-empty n)
 
   -- No free list names a block, and all stacks are empty.
-  none-freed : (class n : ℕ) → freedBy s class (replicate n 0) ≡ []
+  pub none-freed : (class n : ℕ) → freedBy s class (replicate n 0) ≡ []
   unfolding freedBy blocksAt
   none-freed class zero = refl
   none-freed class (suc n) = rw none-named (none-freed (class + 1) n)

@@ -169,7 +169,7 @@ module _ (plain : PlainBook) (b : Book) (g : GoodPlain plain) (a : Agrees plain 
   -- ---- keys
 
   -- The blocks that a key holds are those of its place.
-  held-is : (key : ℕ) → heldOf b key ≡ blocksOf (keyOf key plain .place)
+  pub held-is : (key : ℕ) → heldOf b key ≡ blocksOf (keyOf key plain .place)
   unfolding blocksIn
   held-is key = rw (content-agrees plain b g shape (a .inside shape) key)
 
@@ -249,7 +249,7 @@ module _ (plain : PlainBook) (b : Book) (g : GoodPlain plain) (a : Agrees plain 
   names-stack : (class : ℕ) → Names (b .space .body) (getD (b .space .free) class 0) (stackOf class (plain .space))
   names-stack class = free-named (plain .space) (b .space) (places plain) (contentsOf plain) (g .space) (a .inside shape .space) class
 
-  freed-is : (class : ℕ) → freedOf (b .space) class ≡ stackOf class (plain .space)
+  pub freed-is : (class : ℕ) → freedOf (b .space) class ≡ stackOf class (plain .space)
   freed-is class =
       names-named (b .space .mark / 16) (b .space .body) (getD (b .space .free) class 0) (stackOf class (plain .space)) (names-stack class)
       (stack-few class)
@@ -284,7 +284,7 @@ module _ (plain : PlainBook) (b : Book) (g : GoodPlain plain) (a : Agrees plain 
       (λ k l. cross-gather (heldOf b k) m (listOf b)
       (λ c h. cross-of (heldOf b k) (listOf b c) (λ i j x y e f. held-freed k i c j x y e f)))
 
-  freed-gather : freedBy (b .space) 0 (b .space .free) ≡ gather (length (b .space .free)) (listOf b)
+  pub freed-gather : freedBy (b .space) 0 (b .space .free) ≡ gather (length (b .space .free)) (listOf b)
   freed-gather =
       freed-gathered (b .space) 0 (b .space .free)
       ∙ gather-same (length (b .space .free)) (λ i. blocksAt (0 + i) (namedFrom (b .space) (getD (b .space .free) i 0))) (listOf b)

@@ -37,4 +37,5 @@ pub mod ExamplesWrites
 pub mod SameBytes
 pub mod Hollow
 pub mod Counts
+pub mod Leaked
 pub mod Refusals

@@ -6,3 +6,4 @@ pub mod LawsPairs
 pub mod LawsUnits
 pub mod LawsShown
 pub mod LawsVerdict
+pub mod LawsCovered

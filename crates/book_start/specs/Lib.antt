@@ -1,3 +1,4 @@
 pub mod Start
 pub mod Units
 pub mod Answers
+pub mod Covered

@@ -16,3 +16,4 @@ pub mod LawsHeads
 pub mod LawsRecorded
 pub mod LawsChain
 pub mod LawsRefusals
+pub mod LawsFilled

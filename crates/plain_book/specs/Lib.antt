@@ -5,4 +5,5 @@ pub mod Sound
 pub mod Owners
 pub mod Good
 pub mod Ceilings
+pub mod Filled
 pub mod Refusals

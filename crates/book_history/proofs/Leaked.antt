@@ -1,0 +1,200 @@
+-- Nothing is leaked: after any list of calls on a fresh book every byte from 4,096 up to the mark belongs to a block that a key holds or
+-- that a free list names. From any good start, calls change nothing in how many bytes belong to nobody. Assumes nothing.
+use Prim.Native.Nat.{ℕ, zero, suc, _+_, _-_, _*_, _≤_, _<_}
+use mathlib.Core.Bool.{Bool, true, false}
+use mathlib.Core.List.{List, [], _∷_, _++_}
+use mathlib.Core.Path.{_≡_, refl, sym, ap, subst, _∙_}
+use native.Mathlib.Nat.{zero-add}
+use native.Mathlib.Omega.{arith}
+use lib.ListN.{length, getD, set, length-replicate}
+use Rattle.scripthash_layout.specs.Sizes.{slabBytes, pageSize}
+use Rattle.scripthash_free.specs.FreeList.{Block}
+use Rattle.book_rules.specs.Calls.{Call}
+use Rattle.book_limits.specs.Limits.{outOfShape}
+use Rattle.plain_book.specs.Space.{stackOf}
+use Rattle.plain_book.specs.Key.{Key, emptyKey, Page, Place, empty, inline, slab, pages}
+use Rattle.plain_book.specs.Book.{Book as PlainBook, keyOf, after as plainAfter}
+use Rattle.plain_book.specs.Good.{GoodPlain}
+use Rattle.plain_book.specs.Filled.{bytesIn, bytesHeld, bytesAt, bytesFreed}
+use Rattle.plain_book.proofs.LawsFilled.{filled-from}
+use Rattle.plain_book.proofs.LawsGood.{calls-good, shapes-kept}
+use Rattle.book_space.specs.Space.{Space}
+use Rattle.book_keys.specs.Keys.{pageBlocks, content}
+use Rattle.book.specs.Book.{Book, fresh}
+use Rattle.book.specs.Calls.{after}
+use Rattle.book_start.specs.Start.{blocksAt, blocksIn, heldBy, freedBy, blocksOf as allBlocks, GoodStart}
+use Rattle.book_start.specs.Covered.{bytesOf, lostIn, Covered}
+use Rattle.book_start.proofs.LawsPairs.{gather, gather-same, held-gathered, heldOf, listOf}
+use Rattle.book_start.proofs.LawsCovered.{start-room, start-covered}
+use Rattle.book_history.specs.Agrees.{Agrees}
+use Rattle.book_history.specs.PlainOf.{plainOf}
+use Rattle.book_history.proofs.LawsContent.{offsOf, blocksOf}
+use Rattle.book_history.proofs.LawsCalls.{books-agree}
+use Rattle.book_history.proofs.LawsEach.{each-alike}
+use Rattle.book_history.proofs.LawsShape.{bytes-still}
+use Rattle.book_history.proofs.LawsStart.{word-none, start-shape, start-good, start-agrees}
+use Rattle.book_history.proofs.LawsStartKept.{held-is, freed-is, freed-gather, start-kept}
+use Rattle.book_history.proofs.LawsStartFresh.{fresh-start, none-held, none-freed}
+
+-- ---- what blocks take
+
+both-bytes : (xs ys : List Block) → bytesOf (xs ++ ys) ≡ bytesOf xs + bytesOf ys
+unfolding bytesOf
+both-bytes [] ys = sym (zero-add (bytesOf ys))
+both-bytes (x ∷ xs) ys = let e = both-bytes xs ys in omega arith
+
+-- Pages, and a place.
+pages-bytes : (ps : List Page) → bytesOf (pageBlocks (offsOf ps)) ≡ length ps * pageSize
+unfolding bytesOf pageBlocks offsOf
+pages-bytes [] = refl
+pages-bytes (p ∷ ps) = let e = pages-bytes ps in omega arith
+
+place-bytes : (place : Place) → bytesOf (blocksOf place) ≡ bytesIn place
+unfolding bytesOf bytesIn
+place-bytes empty = refl
+place-bytes inline = refl
+place-bytes (slab class off kept) = omega arith
+place-bytes (pages ps) = pages-bytes ps
+
+-- The places of keys.
+keys-bytes : (ks : List Key) → bytesOf (gather (length ks) (λ i. blocksOf (getD ks i emptyKey .place))) ≡ bytesHeld ks
+unfolding gather bytesOf bytesHeld
+keys-bytes [] = refl
+keys-bytes (k ∷ ks) =
+    let one = place-bytes (k .place) in
+    let rest = keys-bytes ks in
+    let all = both-bytes (blocksOf (k .place)) (gather (length ks) (λ i. blocksOf (getD ks i emptyKey .place))) in
+    omega arith
+
+-- Freed blocks of a class, and of all.
+freed-bytes : (class : ℕ) (os : List ℕ) → bytesOf (blocksAt class os) ≡ bytesAt class os
+unfolding bytesOf blocksAt bytesAt
+freed-bytes class [] = refl
+freed-bytes class (o ∷ os) = let e = freed-bytes class os in omega arith
+
+stacks-bytes : (k : ℕ) (st : List (List ℕ)) → bytesOf (gather (length st) (λ i. blocksAt (k + i) (getD st i []))) ≡ bytesFreed k st
+unfolding gather bytesOf bytesFreed
+stacks-bytes k [] = refl
+stacks-bytes k (os ∷ st) =
+    let first : k + 0 ≡ k = omega arith in
+    let one : bytesOf (blocksAt (k + 0) os) ≡ bytesAt k os = rw first (freed-bytes k os) in
+    let next : gather (length st) (λ i. blocksAt (k + 1 + i) (getD st i [])) ≡ gather (length st) (λ i. blocksAt (k + suc i) (getD st i []))
+    = gather-same (length st) (λ i. blocksAt (k + 1 + i) (getD st i [])) (λ i. blocksAt (k + suc i) (getD st i []))
+    (λ i. let same : k + 1 + i ≡ k + suc i = omega arith in rw same) in
+    let rest : bytesOf (gather (length st) (λ i. blocksAt (k + suc i) (getD st i []))) ≡ bytesFreed (k + 1) st
+    = ap bytesOf (sym next) ∙ stacks-bytes (k + 1) st in
+    let all = both-bytes (blocksAt (k + 0) os) (gather (length st) (λ i. blocksAt (k + suc i) (getD st i []))) in
+    omega arith
+
+-- ---- a book that stands for a good plain book
+
+module _ (plain : PlainBook) (b : Book) (g : GoodPlain plain) (a : Agrees plain b)
+    (shape : outOfShape (plain .size) (length (plain .keys)) ≡ false) where
+  held-bytes : bytesOf (heldBy (b .space) (b .heads)) ≡ bytesHeld (plain .keys)
+  held-bytes =
+      ap bytesOf (held-gathered (b .space) (b .heads)
+      ∙ gather-same (length (b .heads)) (heldOf b) (λ i. blocksOf (keyOf i plain .place)) (held-is plain b g a shape)
+      ∙ ap (λ (n : ℕ). gather n (λ i. blocksOf (keyOf i plain .place))) (a .count))
+      ∙ keys-bytes (plain .keys)
+
+  free-bytes : bytesOf (freedBy (b .space) 0 (b .space .free)) ≡ bytesFreed 0 (plain .space .stacks)
+  free-bytes =
+      ap bytesOf (freed-gather plain b g a shape
+      ∙ gather-same (length (b .space .free)) (listOf b) (λ i. blocksAt (0 + i) (stackOf i (plain .space)))
+      (λ i. ap (blocksAt i) (freed-is plain b g a shape i) ∙ ap (λ (c : ℕ). blocksAt c (stackOf i (plain .space))) (sym (zero-add i)))
+      ∙ ap (λ (n : ℕ). gather n (λ i. blocksAt (0 + i) (stackOf i (plain .space))))
+      (a .inside shape .space .nine ∙ sym (g .space .nine)))
+      ∙ stacks-bytes 0 (plain .space .stacks)
+
+  -- Its blocks take what the plain book's do.
+  pub agrees-bytes : bytesOf (allBlocks b) ≡ bytesHeld (plain .keys) + bytesFreed 0 (plain .space .stacks)
+  agrees-bytes =
+      let h = held-bytes in
+      let f = free-bytes in
+      both-bytes (heldBy (b .space) (b .heads)) (freedBy (b .space) 0 (b .space .free)) ∙ (omega arith)
+
+-- ---- any list of calls
+
+-- The mark of a good start isn't before where lists may begin.
+from-4096 : (b : Book) → GoodStart b → 4096 ≤ b .space .mark
+unfolding plainOf
+from-4096 b g = start-good b g .space .from
+
+-- Calls on a good start change nothing in how many bytes belong to nobody.
+pub lost-kept : (b : Book) (cs : List Call) → GoodStart b → lostIn (after b cs) ≡ lostIn b
+unfolding lostIn plainOf
+lost-kept b cs g =
+    let plain = plainOf b in
+    let good = start-good b g in
+    let agrees = start-agrees b g in
+    let (size, keys) = shapes-kept (plainOf b) cs in
+    let then = books-agree each-alike (plainOf b) b cs (start-good b g) (start-agrees b g) in
+    let shape : outOfShape (plainAfter (plainOf b) cs .size) (length (plainAfter (plainOf b) cs .keys)) ≡ false = rw (size, keys) (start-shape b g) in
+    let now = agrees-bytes (plainOf b) b (start-good b g) (start-agrees b g) (start-shape b g) in
+    let later = agrees-bytes (plainAfter (plainOf b) cs) (after b cs) (calls-good cs (start-good b g)) then shape in
+    let room = start-room b g (from-4096 b g) in
+    let mark : b .space .mark ≡ plainOf b .space .mark = refl in
+    let mark' : after b cs .space .mark ≡ plainAfter (plainOf b) cs .space .mark = then .inside shape .space .mark in
+    let sum : 4096 + (bytesFreed 0 (plainAfter (plainOf b) cs .space .stacks)
+    + (bytesHeld (plainAfter (plainOf b) cs .keys) + (b .space .mark - (4096 + bytesOf (allBlocks b)))))
+    ≡ plainAfter (plainOf b) cs .space .mark
+    = filled-from (b .space .mark - (4096 + bytesOf (allBlocks b))) (plainOf b) cs (start-good b g) (omega arith) in
+    omega arith
+
+-- A fresh book has no block, and its mark is where lists may begin.
+fresh-lost : (body : List ℕ) (heads : ℕ) → lostIn (fresh body heads) ≡ 0
+unfolding lostIn bytesOf
+fresh-lost body heads = rw (none-held (fresh body heads .space) heads, none-freed (fresh body heads .space) 0 9) refl
+
+module _ (body : List ℕ) (heads : ℕ) (cs : List Call) where
+  -- Nothing is leaked: after any list of calls on a fresh book no byte between 4,096 and the mark belongs to nobody,
+  pub nothing-lost : lostIn (after (fresh body heads) cs) ≡ 0
+  nothing-lost = go (outOfShape (length body) heads) refl
+    where
+      go : (out : Bool) → outOfShape (length body) heads ≡ out → lostIn (after (fresh body heads) cs) ≡ 0
+      go true e =
+          let out : outOfShape (length body) (length (fresh body heads .heads)) ≡ true = rw (length-replicate {A = ℕ} heads 0) e in
+          ap lostIn (bytes-still (fresh body heads) cs out) ∙ fresh-lost body heads
+      go false e = lost-kept (fresh body heads) cs (fresh-start body heads e) ∙ fresh-lost body heads
+
+  -- and each is one of a block that a key holds or that a free list names.
+  pub nothing-leaked : outOfShape (length body) heads ≡ false → Covered (after (fresh body heads) cs)
+  nothing-leaked shape =
+      let start = start-kept (fresh body heads) cs (fresh-start body heads shape) in
+      start-covered (after (fresh body heads) cs) start (from-4096 (after (fresh body heads) cs) start) nothing-lost
+
+-- ---- a head word that is lost
+
+-- A book in which a key's head word became 0.
+abbrev pub forgot : ℕ → Book → Book
+forgot key b = record { heads = set (b .heads) key 0; space = b .space }
+
+empty-bytes : (s : Space) → bytesOf (blocksIn (content s 0)) ≡ 0
+unfolding blocksIn bytesOf
+empty-bytes s = rw (word-none s) refl
+
+-- The blocks of the other keys.
+forgot-bytes : (s : Space) (ws : List ℕ) (key : ℕ) → key < length ws
+    → bytesOf (heldBy s (set ws key 0)) + bytesOf (blocksIn (content s (getD ws key 0))) ≡ bytesOf (heldBy s ws)
+unfolding heldBy
+forgot-bytes s [] key l = absurd (omega arith)
+forgot-bytes s (w ∷ ws) zero l =
+    let none' : bytesOf (blocksIn (content s 0)) ≡ 0 = empty-bytes s in
+    let new = both-bytes (blocksIn (content s 0)) (heldBy s ws) in
+    let old = both-bytes (blocksIn (content s w)) (heldBy s ws) in
+    omega arith
+forgot-bytes s (w ∷ ws) (suc key) l =
+    let rest = forgot-bytes s ws key (omega arith) in
+    let new = both-bytes (blocksIn (content s w)) (heldBy s (set ws key 0)) in
+    let old = both-bytes (blocksIn (content s w)) (heldBy s ws) in
+    omega arith
+
+-- A lost head word shows: as many bytes more belong to nobody as the key's slab or pages take. One of a number in the head word doesn't.
+pub forgot-shows : (b : Book) (key : ℕ) → GoodStart b → key < length (b .heads) → lostIn (forgot key b) ≡ lostIn b + bytesOf (heldOf b key)
+unfolding lostIn
+forgot-shows b key g l =
+    let room = start-room b g (from-4096 b g) in
+    let held = forgot-bytes (b .space) (b .heads) key l in
+    let new = both-bytes (heldBy (b .space) (set (b .heads) key 0)) (freedBy (b .space) 0 (b .space .free)) in
+    let old = both-bytes (heldBy (b .space) (b .heads)) (freedBy (b .space) 0 (b .space .free)) in
+    omega arith

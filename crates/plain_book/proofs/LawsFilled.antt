@@ -1,0 +1,364 @@
+-- Nothing is leaked: after any list of calls on a fresh plain book the blocks of its keys and stacks fill it from 4,096 up to the mark.
+-- Assumes nothing.
+use Prim.Native.Nat.{ℕ, zero, suc, _+_, _-_, _*_, _%_, _≤_, _<_}
+use mathlib.Core.Bool.{Bool, true, false, cond, false≢true}
+use mathlib.Core.List.{List, [], _∷_, _++_}
+use mathlib.Core.Logic.{⊎-elim}
+use mathlib.Core.Option.{Option, none, some}
+use mathlib.Core.Path.{_≡_, refl, sym, ap, subst, _∙_}
+use native.Mathlib.Omega.{arith}
+use lib.Dec.{eqb}
+use lib.ListN.{length, getD, set, replicate, length-set}
+use borrow.Author.Tests.{eqb-true, eqb-false}
+use Rattle.error.specs.Refusal.{Answer, accepted, refused}
+use Rattle.error.proofs.LawsAnswer.{accepted-inj, went-on}
+use Rattle.scripthash_layout.specs.Sizes.{slabBytes, pageClass, pageSize}
+use Rattle.scripthash_stream.specs.Stream.{streamLen}
+use Rattle.scripthash_cutting.specs.Cutting.{cutting, replaceLast}
+use Rattle.scripthash_free.specs.FreeList.{Block, Adjoin, Each, IsSlab, gapBlocks}
+use Rattle.scripthash_free.proofs.LawsGap.{gap-filled, gap-slabs}
+use Rattle.book_limits.specs.Limits.{pageAfter}
+use Rattle.book_rules.specs.Places.{stays, movesTo, loadsTo}
+use Rattle.book_rules.specs.Calls.{Call, load, append, read, drop, bookAfter}
+use Rattle.book_rules.proofs.LawsRules.{moves-to, loads-to}
+use Rattle.book_rules.proofs.LawsCalls.{calls-keep}
+use Rattle.plain_book.specs.Space.{Space, stackOf, freed, freedAll, Taken, takeMark, rounded, takeRun, takeFresh, takeFrom, takeBlock}
+use Rattle.plain_book.specs.Key.{Key, emptyKey, Page, Place, empty, inline, slab, pages, onePage, freedPages, freedPlace, Placed, written}
+use Rattle.plain_book.specs.Key.{longer, longerPage, moved, joins, joinedTo, begunAt, beginPage, appendPages, appendPlace, runPages, loadInto}
+use Rattle.plain_book.specs.Key.{loadPlace}
+use Rattle.plain_book.specs.Book.{Book, fresh, Outcome, keyOf, withKey, inUse, extended, does, after}
+use Rattle.plain_book.specs.Owners.{places, has, slabOf, slabAt}
+use Rattle.plain_book.specs.Sound.{Fits}
+use Rattle.plain_book.specs.Good.{GoodPlain}
+use Rattle.plain_book.specs.Filled.{bytesIn, bytesHeld, bytesAt, bytesFreed, Fills, Filled}
+use Rattle.plain_book.proofs.LawsMoves.{which}
+use Rattle.plain_book.proofs.LawsHistory.{load-did, append-did, read-did, drop-did, fresh-key}
+use Rattle.plain_book.proofs.LawsOwners.{withStack}
+use Rattle.plain_book.proofs.LawsTaking.{took-stack, took-mark, freed-stacks, slab-class}
+use Rattle.plain_book.proofs.LawsGood.{fresh-good, call-good}
+
+-- ---- one stack, and one key, changes
+
+stack-changed : (k c : ℕ) (st : List (List ℕ)) (class : ℕ) (os : List ℕ) → c ≡ k + class → class < length st
+    → bytesFreed k (set st class os) + bytesAt c (getD st class []) ≡ bytesFreed k st + bytesAt c os
+unfolding bytesFreed
+stack-changed k c [] class os is l = absurd (omega arith)
+stack-changed k c (xs ∷ st) zero os is l =
+    let z : c ≡ k = omega arith in
+    rw z (omega arith)
+stack-changed k c (xs ∷ st) (suc class) os is l =
+    let rest = stack-changed (k + 1) c st class os (omega arith) (omega arith) in
+    omega arith
+
+key-changed : (ks : List Key) (key : ℕ) (k : Key) → key < length ks
+    → bytesHeld (set ks key k) + bytesIn (getD ks key emptyKey .place) ≡ bytesHeld ks + bytesIn (k .place)
+unfolding bytesHeld
+key-changed [] key k l = absurd (omega arith)
+key-changed (x ∷ ks) zero k l = omega arith
+key-changed (x ∷ ks) (suc key) k l = let rest = key-changed ks key k (omega arith) in omega arith
+
+-- ---- freeing, popping, and taking from the mark
+
+-- What a space keeps besides: nine stacks, and a mark that is a multiple of 16.
+pub record Full (s : Space) (others : ℕ) : Type 0 where
+  pub nine : length (s .stacks) ≡ 9
+  pub aligned : s .mark % 16 ≡ 0
+  pub fills : Fills s others
+
+-- A block that others had is freed.
+pub full-freed : (s : Space) (others class off : ℕ) → class ≤ 8 → Full s (slabBytes class + others) → Full (freed class off s) others
+unfolding bytesAt
+full-freed s others class off c f =
+    let n = f .nine in
+    let e : bytesFreed 0 (set (s .stacks) class (off ∷ stackOf class s)) + bytesAt class (stackOf class s)
+    ≡ bytesFreed 0 (s .stacks) + (slabBytes class + bytesAt class (stackOf class s))
+    = stack-changed 0 class (s .stacks) class (off ∷ stackOf class s) (omega arith) (omega arith) in
+    let was = f .fills in
+    let done : 4096 + (bytesFreed 0 (set (s .stacks) class (off ∷ stackOf class s)) + others) ≡ s .mark = omega arith in
+    record { nine = length-set (s .stacks) class (off ∷ stackOf class s) ∙ f .nine; aligned = f .aligned; fills = done }
+
+-- The top of a stack is taken.
+pub full-popped : (s : Space) (others class o : ℕ) (os : List ℕ) → class ≤ 8 → stackOf class s ≡ o ∷ os → Full s others
+    → Full (withStack class os s) (slabBytes class + others)
+unfolding bytesAt
+full-popped s others class o os c is f =
+    let n = f .nine in
+    let e : bytesFreed 0 (set (s .stacks) class os) + bytesAt class (stackOf class s) ≡ bytesFreed 0 (s .stacks) + bytesAt class os =
+    stack-changed 0 class (s .stacks) class os (omega arith) (omega arith) in
+    let high : bytesAt class (stackOf class s) ≡ slabBytes class + bytesAt class os = ap (bytesAt class) is in
+    let was = f .fills in
+    let done : 4096 + (bytesFreed 0 (set (s .stacks) class os) + (slabBytes class + others)) ≡ s .mark = omega arith in
+    record { nine = length-set (s .stacks) class os ∙ f .nine; aligned = f .aligned; fills = done }
+
+-- The mark passes some bytes.
+pub full-marked : (s : Space) (others bytes : ℕ) → bytes % 16 ≡ 0 → Full s others
+    → Full (record { mark = s .mark + bytes; stacks = s .stacks }) (bytes + others)
+full-marked s others bytes m f =
+    let was = f .fills in
+    let a = f .aligned in
+    record { nine = f .nine; aligned = omega arith; fills = omega arith }
+
+-- Blocks side by side from the mark on are freed, and the mark passes them.
+pub full-carved : (bs : List Block) (s : Space) (others end : ℕ) → Adjoin (s .mark) bs end → Each (IsSlab end) bs → Full s others
+    → Full (record { mark = end; stacks = freedAll bs s .stacks }) others
+unfolding Adjoin Each freedAll
+full-carved [] s others end a e f = subst (λ (m : ℕ). Full (record { mark = m; stacks = s .stacks }) others) a f
+full-carved (b ∷ bs) s others end (is, a) (b7, e) f =
+    let up = full-marked s others (slabBytes (b .class)) (omega arith) f in
+    let one = full-freed (record { mark = s .mark + slabBytes (b .class); stacks = s .stacks }) others (b .class) (b .off)
+    (let c = b7 .0 in omega arith) up in
+    let all = full-carved bs (record { mark = s .mark + slabBytes (b .class); stacks = freed (b .class) (b .off) s .stacks })
+    others end a e one in
+    subst (λ (st : List (List ℕ)). Full (record { mark = end; stacks = st }) others)
+    (freed-stacks bs (s .mark + slabBytes (b .class)) (s .mark) (freed (b .class) (b .off) s .stacks))
+    all
+
+-- The mark rounded up to a page.
+pub full-rounded : (s : Space) (others : ℕ) → Full s others → Full (rounded s) others
+unfolding rounded
+full-rounded s others f =
+    let a = f .aligned in
+    let was = f .fills in
+    let up : s .mark ≤ pageAfter (s .mark) = omega arith in
+    let gap : (pageAfter (s .mark) - s .mark) % 16 ≡ 0 = omega arith in
+    full-carved (gapBlocks (s .mark) (pageAfter (s .mark))) s others (pageAfter (s .mark))
+    (gap-filled (s .mark) (pageAfter (s .mark)) up gap)
+    (gap-slabs (s .mark) (pageAfter (s .mark)) (pageAfter (s .mark)) up
+    (record { aligned = a; begins = omega arith; ends = omega arith }))
+    f
+
+-- A run of pages is taken.
+pub full-run : (end n : ℕ) (s : Space) (others : ℕ) {t : Taken} → takeRun end n s ≡ accepted t → Full s others
+    → Full (t .space) (n * pageSize + others)
+unfolding takeRun
+full-run end n s others e f =
+    subst (λ (v : Taken). Full (v .space) (n * pageSize + others)) (sym (took-mark end (n * pageSize) (rounded s) e))
+    (full-marked (rounded s) others (n * pageSize) (omega arith) (full-rounded s others f))
+
+-- A block of a class is taken.
+pub full-taken : (end class : ℕ) (s : Space) (others : ℕ) {t : Taken} → class ≤ 8 → takeBlock end class s ≡ accepted t → Full s others
+    → Full (t .space) (slabBytes class + others)
+unfolding takeFrom takeFresh
+full-taken end class s others {t} c e f = from-stack (stackOf class s) refl e
+  where
+    fresh-block : (b : Bool) → eqb class pageClass ≡ b → cond b (takeRun end 1 s) (takeMark end (slabBytes class) s) ≡ accepted t
+        → Full (t .space) (slabBytes class + others)
+    fresh-block true q e = subst (λ (k : ℕ). Full (t .space) (slabBytes k + others)) (sym (eqb-true class pageClass q)) (full-run end 1 s others e f)
+    fresh-block false q e =
+        subst (λ (v : Taken). Full (v .space) (slabBytes class + others)) (sym (took-mark end (slabBytes class) s e))
+        (full-marked s others (slabBytes class) (omega arith) f)
+
+    from-stack : (os : List ℕ) → stackOf class s ≡ os → takeFrom end class os s ≡ accepted t → Full (t .space) (slabBytes class + others)
+    from-stack (o ∷ os) q e =
+        subst (λ (v : Taken). Full (v .space) (slabBytes class + others)) (sym (took-stack end class o os s e))
+        (full-popped s others class o os c q f)
+    from-stack [] q e = fresh-block (eqb class pageClass) refl e
+
+-- ---- a place given up
+
+-- So many bytes, told in another way.
+same-full : (s : Space) {m n : ℕ} → m ≡ n → Full s m → Full s n
+same-full s e f = subst (Full s) e f
+
+full-pages-freed : (ps : List Page) (s : Space) (others : ℕ) → Full s (length ps * pageSize + others) → Full (freedPages ps s) others
+unfolding freedPages
+full-pages-freed [] s others f = same-full s (omega arith) f
+full-pages-freed (p ∷ ps) s others f =
+    full-pages-freed ps (freed pageClass (p .off) s) others
+    (full-freed s (length ps * pageSize + others) pageClass (p .off) (omega arith) (same-full s (omega arith) f))
+
+-- A slab's class is one of the nine.
+abbrev pub Classed : Place → Type 0
+Classed empty = Unit {0}
+Classed inline = Unit {0}
+Classed (slab class off kept) = class ≤ 8
+Classed (pages ps) = Unit {0}
+
+pub full-freed-place : (place : Place) (s : Space) (others : ℕ) → Classed place → Full s (bytesIn place + others)
+    → Full (freedPlace place s) others
+unfolding freedPlace bytesIn
+full-freed-place empty s others c f = same-full s (omega arith) f
+full-freed-place inline s others c f = same-full s (omega arith) f
+full-freed-place (slab class off kept) s others c f = full-freed s others class off c f
+full-freed-place (pages ps) s others c f = full-pages-freed ps s others f
+
+-- ---- moving, appending and loading
+
+-- What an append or a load leaves.
+abbrev pub Leaves : ℕ → Placed → Type 0
+Leaves others p = Full (p .space) (bytesIn (p .place) + others)
+
+full-moved : (end held : ℕ) (list : List ℕ) (s : Space) (others : ℕ) (old : Place) {p : Placed} (o : Option ℕ)
+    → ((c : ℕ) → o ≡ some c → c ≤ 8) → Classed old → moved end o held list old s ≡ accepted p → Full s (bytesIn old + others)
+    → Leaves others p
+unfolding moved bytesIn
+full-moved end held list s others old (some c) few classed e f =
+    let (t, got, q) = went-on (takeBlock end c s) _ e in
+    let h = full-taken end c s (bytesIn old + others) (few c refl) got f in
+    subst (Leaves others) (accepted-inj q)
+    (full-freed-place old (t .space) (slabBytes c + others) classed (same-full (t .space) (omega arith) h))
+full-moved end held list s others old none few classed e f =
+    let (t, got, q) = went-on (takeBlock end pageClass s) _ e in
+    let h = full-taken end pageClass s (bytesIn old + others) (omega arith) got f in
+    subst (Leaves others) (accepted-inj q)
+    (full-freed-place old (t .space) (pageSize + others) classed (same-full (t .space) (omega arith) h))
+
+-- Pages whose last one has a number more are as many.
+joined-many : (n : ℕ) (ps : List Page) → length (replaceLast (λ p. longerPage n p ∷ []) ps) ≡ length ps
+unfolding replaceLast
+joined-many n [] = refl
+joined-many n (p ∷ []) = refl
+joined-many n (p ∷ q ∷ ps) = ap suc (joined-many n (q ∷ ps))
+
+behind-many : (ps : List Page) (p : Page) → length (ps ++ (p ∷ [])) ≡ suc (length ps)
+behind-many [] p = refl
+behind-many (q ∷ ps) p = ap suc (behind-many ps p)
+
+-- The pages of a run are as many as its parts.
+run-many : (off : ℕ) (parts : List (List ℕ)) → length (runPages off parts) ≡ length parts
+unfolding runPages
+run-many off [] = refl
+run-many off (p ∷ []) = refl
+run-many off (p ∷ q ∷ ps) = ap suc (run-many (off + pageSize) (q ∷ ps))
+
+full-pages : (end : ℕ) (ps : List Page) (n : ℕ) (s : Space) (others : ℕ) {p : Placed} → appendPages end ps n s ≡ accepted p
+    → Full s (length ps * pageSize + others) → Leaves others p
+unfolding appendPages beginPage bytesIn
+full-pages end ps n s others e f =
+    ⊎-elim
+    (λ (b, q). subst (Leaves others) (accepted-inj q)
+    (same-full s (ap (λ (k : ℕ). k * pageSize + others) (sym (joined-many n ps))) f))
+    (λ (b, q).
+    let (t, got, q') = went-on (takeBlock end pageClass s) _ q in
+    let h = full-taken end pageClass s (length ps * pageSize + others) (omega arith) got f in
+    let many = behind-many ps (record { off = t .off; room = 4072; part = written (n ∷ []) }) in
+    subst (Leaves others) (accepted-inj q') (same-full (t .space) (omega arith) h))
+    (which (joins n ps) (accepted (record { place = joinedTo n ps; space = s; rewritten = 0 })) (beginPage end ps n s) e)
+
+pub full-append : (end held : ℕ) (list : List ℕ) (n : ℕ) (s : Space) (others : ℕ) (old : Place) {p : Placed} → Classed old
+    → appendPlace end held list n old s ≡ accepted p → Full s (bytesIn old + others) → Leaves others p
+unfolding appendPlace bytesIn
+full-append end held list n s others empty c e f = subst (Leaves others) (accepted-inj e) f
+full-append end held list n s others inline c e f =
+    full-moved end held list s others inline (movesTo (length list) (streamLen list))
+    (λ c q. let m = moves-to (length list) (streamLen list) q in omega (arith, m .slab)) c e f
+full-append end held list n s others (slab class off kept) c e f =
+    ⊎-elim (λ (b, q). subst (Leaves others) (accepted-inj q) f)
+    (λ (b, q). full-moved end held list s others (slab class off kept) (movesTo (length list) (streamLen list))
+    (λ c z. let m = moves-to (length list) (streamLen list) z in omega (arith, m .slab)) c q f)
+    (which (stays class (length list) (longer n kept .bytes)) _ _ e)
+full-append end held list n s others (pages ps) c e f = full-pages end ps n s others e f
+
+pub full-load : (end : ℕ) (ns : List ℕ) (s : Space) (others : ℕ) {p : Placed} → loadPlace end ns s ≡ accepted p → Full s others
+    → Leaves others p
+unfolding loadPlace loadInto bytesIn
+full-load end [] s others e f = subst (Leaves others) (accepted-inj e) (same-full s (omega arith) f)
+full-load end (n ∷ []) s others e f = subst (Leaves others) (accepted-inj e) (same-full s (omega arith) f)
+full-load end (n ∷ m ∷ ns) s others {p} e f = go (loadsTo (length (n ∷ m ∷ ns)) (streamLen (n ∷ m ∷ ns))) refl e
+  where
+    go : (o : Option ℕ) → loadsTo (length (n ∷ m ∷ ns)) (streamLen (n ∷ m ∷ ns)) ≡ o → loadInto end o (n ∷ m ∷ ns) s ≡ accepted p
+        → Leaves others p
+    go (some c) q e =
+        let (t, got, q') = went-on (takeBlock end c s) _ e in
+        let (few, class, fits) = loads-to (length (n ∷ m ∷ ns)) (streamLen (n ∷ m ∷ ns)) q in
+        subst (Leaves others) (accepted-inj q') (full-taken end c s others (omega arith) got f)
+    go none q e =
+        let parts = cutting (n ∷ m ∷ ns) in
+        let (t, got, q') = went-on (takeRun end (length parts) s) _ e in
+        let many = run-many (t .off) parts in
+        subst (Leaves others) (accepted-inj q')
+        (same-full (t .space) (ap (λ (k : ℕ). k * pageSize + others) (sym many)) (full-run end (length parts) s others got f))
+
+-- ---- books
+
+-- A key that isn't in use holds no bytes.
+unused-none : (place : Place) → inUse place ≡ false → bytesIn place ≡ 0
+unfolding bytesIn
+unused-none empty e = refl
+unused-none inline e = absurd (false≢true (sym e))
+unused-none (slab class off kept) e = absurd (false≢true (sym e))
+unused-none (pages ps) e = absurd (false≢true (sym e))
+
+-- A book's space is full, with what its keys hold and so many bytes that belong to nobody.
+abbrev pub FullBook : ℕ → Book → Type 0
+FullBook lost b = Full (b .space) (bytesHeld (b .keys) + lost)
+
+-- What a book's other keys hold, when one key is set apart, and what belongs to nobody.
+others-of : (lost : ℕ) (b : Book) (key : ℕ) → key < length (b .keys) → FullBook lost b
+    → (others : ℕ) × Full (b .space) (bytesIn (places b key) + others)
+    × ((k : Key) → bytesHeld (set (b .keys) key k) + lost ≡ bytesIn (k .place) + others)
+unfolding bytesIn
+others-of lost b key l f =
+    let none' = key-changed (b .keys) key emptyKey l in (
+      bytesHeld (set (b .keys) key emptyKey) + lost,
+      same-full (b .space) (omega arith) f,
+      λ k. (let e = key-changed (b .keys) key k l in omega arith),
+    )
+
+-- What is left when a place was given up.
+empty-full : (s : Space) (others : ℕ) → Full s others → Full s (bytesIn empty + others)
+unfolding bytesIn
+empty-full s others f = same-full s (omega arith) f
+
+-- A book with a key changed.
+full-with : (lost : ℕ) (b : Book) (key : ℕ) (list : List ℕ) (place : Place) (counted : Bool) (space : Space) (others : ℕ)
+    → ((k : Key) → bytesHeld (set (b .keys) key k) + lost ≡ bytesIn (k .place) + others) → Full space (bytesIn place + others)
+    → FullBook lost (withKey key list place counted space b)
+full-with lost b key list place counted space others held f =
+    same-full space (sym (held (record { list = list; place = place; counted = counted }))) f
+
+-- In a good book a slab's class is one of the nine.
+fits-classed : (list : List ℕ) (place : Place) → Fits list place → Classed place
+unfolding Fits
+fits-classed list empty f = tt
+fits-classed list inline f = tt
+fits-classed list (slab class off kept) f = let few = f .2 in omega arith
+fits-classed list (pages ps) f = tt
+
+-- A call keeps a good book full.
+pub call-full : (lost : ℕ) (b : Book) (c : Call) (a : Answer Outcome) → does b c ≡ a → GoodPlain b → FullBook lost b → FullBook lost (bookAfter b a)
+unfolding does bookAfter
+call-full lost b c (refused number) e g f = f
+call-full lost b (load key ns) (accepted o) e g f =
+    let (p, within, free, rises, got, is) = load-did b key ns e in
+    let (others, rest, held) = others-of lost b key within f in
+    let unused = unused-none (places b key) free in
+    rw (ap (λ (x : Outcome). x .book) is)
+    (full-with lost b key ns (p .place) true (p .space) others held
+    (full-load (b .size) ns (b .space) others got (same-full (b .space) (omega arith) rest)))
+call-full lost b (append key n) (accepted o) e g f =
+    let (p, within, rises, low, got, is) = append-did b key n e in
+    let (others, rest, held) = others-of lost b key within f in
+    rw (ap (λ (x : Outcome). x .book) is)
+    (full-with lost b key _ (p .place) _ (p .space) others held
+    (full-append (b .size) _ _ n (b .space) others (places b key) (fits-classed _ (places b key) (g .keys key .fits)) got rest))
+call-full lost b (read key room) (accepted o) e g f =
+    let (within, is) = read-did b key room e in
+    rw (ap (λ (x : Outcome). x .book) is) f
+call-full lost b (drop key) (accepted o) e g f =
+    let (within, is) = drop-did b key e in
+    let (others, rest, held) = others-of lost b key within f in
+    let gone = full-freed-place (places b key) (b .space) others (fits-classed _ (places b key) (g .keys key .fits)) rest in
+    rw (ap (λ (x : Outcome). x .book) is)
+    (full-with lost b key [] empty true (freedPlace (places b key) (b .space)) others held (empty-full _ others gone))
+
+-- Take any good book, of which so many bytes belong to nobody, and any list of calls: as many belong to nobody afterwards.
+pub filled-from : (lost : ℕ) (b : Book) (cs : List Call) → GoodPlain b → Filled lost b → Filled lost (after b cs)
+filled-from lost b cs g f =
+    calls-keep does (λ x. GoodPlain x × FullBook lost x) (λ x c (good, full). (call-good c good, call-full lost x c (does x c) refl good full)) b cs
+    (g, record { nine = g .space .nine; aligned = g .space .aligned; fills = f }) .1 .fills
+
+-- Keys that hold nothing.
+none-held : (heads : ℕ) → bytesHeld (replicate heads emptyKey) ≡ 0
+unfolding bytesHeld bytesIn
+none-held zero = refl
+none-held (suc n) = let e = none-held n in omega arith
+
+-- A fresh book is filled: it has no block, and the mark is where lists may begin.
+pub fresh-filled : (size heads : ℕ) → Filled 0 (fresh size heads)
+unfolding bytesFreed bytesAt
+fresh-filled size heads = let e = none-held heads in rw e refl
+
+-- Nothing is leaked: after any list of calls on a fresh book the blocks of its keys and stacks take all bytes from 4,096 to the mark.
+pub nothing-leaked : (size heads : ℕ) (cs : List Call) → Filled 0 (after (fresh size heads) cs)
+nothing-leaked size heads cs = filled-from 0 (fresh size heads) cs (fresh-good size heads) (fresh-filled size heads)
