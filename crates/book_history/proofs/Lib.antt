@@ -38,4 +38,5 @@ pub mod SameBytes
 pub mod Hollow
 pub mod Counts
 pub mod Leaked
+pub mod Growing
 pub mod Refusals

@@ -3,4 +3,5 @@ pub mod Standing
 pub mod Writes
 pub mod PlainOf
 pub mod Counts
+pub mod Grown
 pub mod Hollow

@@ -17,3 +17,4 @@ pub mod LawsRecorded
 pub mod LawsChain
 pub mod LawsRefusals
 pub mod LawsFilled
+pub mod LawsRoom

@@ -6,4 +6,5 @@ pub mod Owners
 pub mod Good
 pub mod Ceilings
 pub mod Filled
+pub mod Grown
 pub mod Refusals
