@@ -1,16 +1,27 @@
--- Demand 1, of the book: on any book, a damaged one too, a refused call leaves everything as it was, and after an accepted one only what
--- the call names differs. Assumes nothing.
-use Prim.Native.Nat.{ℕ}
+-- Demand 1, of the book: on any book, a damaged one too, after an accepted call only what the call names differs. That a refused call
+-- leaves everything as it was stands in the contract of each export (`ouriscado/src/account_book.rt`, `kept`); here it is said of the
+-- definitions, where it holds by what a refusal is. Assumes nothing.
+use Prim.Native.Nat.{ℕ, _+_, _-_, _^_, _<_}
+use mathlib.Core.Bool.{true}
 use mathlib.Core.List.{List}
+use mathlib.Core.Option.{some}
 use mathlib.Core.Path.{_≡_}
 use lib.ListN.{length}
 use Rattle.error.specs.Refusal.{accepted, refused}
-use Rattle.book_rules.specs.Calls.{Call, read, bookAfter}
-use Rattle.book.specs.Book.{Book, Outcome}
+use Rattle.compact.specs.Uleb128.{ulebLen}
+use Rattle.scripthash_layout.specs.Head.{slabWord, unpackHead}
+use Rattle.scripthash_layout.specs.declared.head.ShHeadValue.the-variants.{Slab, Extent}
+use Rattle.scripthash_stream.specs.Stream.{Scan}
+use Rattle.scripthash_pages.specs.Entries.{lastOf, Spot, spotBehind}
+use Rattle.book_rules.specs.Calls.{Call, append, read, bookAfter}
+use Rattle.book_rules.specs.Places.{stays}
+use Rattle.book_keys.specs.Keys.{pageAt, slabScan, Tail, tailAt}
+use Rattle.book.specs.Book.{Book, Outcome, wordOf}
 use Rattle.book.specs.Reads.{listAfter}
 use Rattle.book.specs.Calls.{does}
 use Rattle.book_history.specs.Writes.{Changes}
 use Rattle.book_history.proofs.LawsWrites.{list-refused, refused-nothing, accepted-only}
+use Rattle.book_history.proofs.LawsWritesWords.{slab-word, page-words}
 
 -- The body, the head words and the state, for every call.
 pub demand-1 : (b : Book) (c : Call)
@@ -22,3 +33,16 @@ demand-1 b c = (λ number e. refused-nothing b c e, λ o e. accepted-only b c e)
 pub demand-1-list : (b : Book) (key : ℕ) (out : List ℕ) (number : ℕ) → does b (read key (length out)) ≡ refused number
     → listAfter out (does b (read key (length out))) ≡ out
 demand-1-list b key out number e = list-refused b key out e
+
+-- The head word of an append that stays where it is: in a slab only used differs, and is one more; behind the last page's stream no head
+-- word differs at all.
+pub demand-1-word : (b : Book) (key n : ℕ) (o : Outcome) → wordOf key b < 2 ^ 64 → does b (append key n) ≡ accepted o
+    → ((class used off : ℕ) (c : Scan) → unpackHead (wordOf key b) ≡ accepted (Slab class used off)
+    → slabScan (b .space) class used off ≡ accepted c → stays class (length (c .numbers) + 1) (c .taken + ulebLen (n - lastOf c)) ≡ true
+    → (wordOf key b ≡ slabWord class used off) × (wordOf key (o .book) ≡ slabWord class (used + 1) off))
+    × ((last : ℕ) (t : Tail) (w : Spot) → unpackHead (wordOf key b) ≡ accepted (Extent last) → tailAt (b .space) last ≡ accepted t
+    → spotBehind (pageAt (b .space) last) n (t .scan) ≡ some w → o .book .heads ≡ b .heads)
+demand-1-word b key n o word e = (
+  λ class used off c is scanned stay. slab-word b key n class used off c word is scanned stay e,
+  λ last t w is tail spot. page-words b key n last t w word is tail spot e,
+)

@@ -1,5 +1,6 @@
 // The account book, as it is lent from outside: a body of bytes, a head word for each key, and the state in ten words, which are the mark
 // and then the nine free heads.
+ghost use mathlib.Core.Logic.{_≢_};
 ghost use mathlib.Core.Path.{_≡_};
 ghost use Prim.Native.Nat.{_/_};
 ghost use lib.ListN.{length as lengthOfList};
@@ -154,6 +155,7 @@ pub extern "C" fn ouriscado_book_fresh(body: &[u8], heads: &mut [u64], state: &m
     ensures book { λ r. ⌜ bookIn (now (body .entry)) (now (heads .exit)) (now (state .exit))
         ≡ madeAfter (bookIn (now (body .entry)) (now (heads .entry)) (now (state .entry)))
         (makesFresh (bookIn (now (body .entry)) (now (heads .entry)) (now (state .entry)))) ⌝ }
+    ensures kept { λ r. ⌜ (r ≢ 0 → (now (heads .exit) ≡ now (heads .entry)) × (now (state .exit) ≡ now (state .entry))) ⌝ }
 {
     let words = *state;
     let after = book_lists::fresh(body, heads, state_of(words));
@@ -182,6 +184,8 @@ pub extern "C" fn ouriscado_book_load(
         (loads (bookIn (now (body .entry)) (now (heads .entry)) (now (state .entry))) key (now (fks .entry))) ⌝ }
     ensures pages { λ r. ⌜ now (pages .exit) ≡ told pagesLoaded (answerOf
         (loads (bookIn (now (body .entry)) (now (heads .entry)) (now (state .entry))) key (now (fks .entry)))) 0 ⌝ }
+    ensures kept { λ r. ⌜ (r ≢ 0
+        → (now (body .exit) ≡ now (body .entry)) × (now (heads .exit) ≡ now (heads .entry)) × (now (state .exit) ≡ now (state .entry))) ⌝ }
 {
     let words = *state;
     let after = book_lists::load(body, heads, state_of(words), key, fks);
@@ -229,6 +233,8 @@ pub extern "C" fn ouriscado_book_append(
         (answerOf (appends (bookIn (now (body .entry)) (now (heads .entry)) (now (state .entry))) key fk)) 0 ⌝ }
     ensures rewritten { λ r. ⌜ now (rewritten .exit)
         ≡ told recordsRewritten (answerOf (appends (bookIn (now (body .entry)) (now (heads .entry)) (now (state .entry))) key fk)) 0 ⌝ }
+    ensures kept { λ r. ⌜ (r ≢ 0
+        → (now (body .exit) ≡ now (body .entry)) × (now (heads .exit) ≡ now (heads .entry)) × (now (state .exit) ≡ now (state .entry))) ⌝ }
 {
     let words = *state;
     let after = book_appending::append(body, heads, state_of(words), key, fk);
@@ -264,6 +270,7 @@ pub extern "C" fn ouriscado_book_read(
         ≡ told (λ t. countedOf t .pages)
         (answerOf (reads (bookIn (now (body .entry)) (now (heads .entry)) (now (state .entry))) key (lengthOfList (now (out .entry)))))
         0 ⌝ }
+    ensures kept { λ r. ⌜ (r ≢ 0 → now (out .exit) ≡ now (out .entry)) ⌝ }
 {
     let words = *state;
     let answer = book_lists::read(body, heads, state_of(words), key, out);
@@ -286,6 +293,8 @@ pub extern "C" fn ouriscado_book_drop(
         (drops (bookIn (now (body .entry)) (now (heads .entry)) (now (state .entry))) key) ⌝ }
     ensures length { λ r. ⌜ now (length .exit)
         ≡ told lengthDropped (answerOf (drops (bookIn (now (body .entry)) (now (heads .entry)) (now (state .entry))) key)) 0 ⌝ }
+    ensures kept { λ r. ⌜ (r ≢ 0
+        → (now (body .exit) ≡ now (body .entry)) × (now (heads .exit) ≡ now (heads .entry)) × (now (state .exit) ≡ now (state .entry))) ⌝ }
 {
     let words = *state;
     let after = book_lists::drop(body, heads, state_of(words), key);

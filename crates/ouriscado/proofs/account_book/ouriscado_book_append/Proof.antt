@@ -7,7 +7,7 @@ use Rattle.book.specs.Book.{Book, Outcome}
 use Rattle.book.specs.Appends.{appends}
 use Rattle.ouriscado.specs.OutHead.{kindOut, classOut, usedOut, placeOut}
 use Rattle.ouriscado.specs.OutBook.{newPlace, recordsRewritten}
-use Rattle.ouriscado.proofs.LawsBook.{does-words}
+use Rattle.ouriscado.proofs.LawsBook.{does-words, kept-words}
 use borrow.Author.Needs.{needs}
 use Rattle.ouriscado.proofs.account_book.ouriscado_book_append.Statement.{statement}
 use Rattle.ouriscado.proofs.account_book.ouriscado_book_append.Tie as tie
@@ -37,8 +37,9 @@ returns c =
     let a = r .before .before .before .before .before .before .before .args in
     let e = r .append .ensures in
     let h = c .put-appended .ensures in
-    let d = does-words (r .before .state-of .ensures) (λ (b : Book). appends b (a .key) (a .fk)) (p .put-state .ensures) (e .0) (e .1) in (
-      h .0 ∙ ap refusalOf (d .told) ∙ number-answered (λ (o : Outcome). o .told) _,
+    let d = does-words (r .before .state-of .ensures) (λ (b : Book). appends b (a .key) (a .fk)) (p .put-state .ensures) (e .0) (e .1) in
+    let number = h .0 ∙ ap refusalOf (d .told) ∙ number-answered (λ (o : Outcome). o .told) _ in (
+      number,
       (
         d .left,
         (
@@ -49,7 +50,10 @@ returns c =
               h .1 .1 .1 .0 ∙ told-same (λ (t : Told). usedOut (newPlace t)) _ (d .told),
               (
                 h .1 .1 .1 .1 .0 ∙ told-same (λ (t : Told). placeOut (newPlace t)) _ (d .told),
-                h .1 .1 .1 .1 .1 ∙ told-same recordsRewritten _ (d .told),
+                (
+                  h .1 .1 .1 .1 .1 ∙ told-same recordsRewritten _ (d .told),
+                  kept-words (r .before .state-of .ensures) (p .put-state .ensures) _ number (d .left),
+                ),
               ),
             ),
           ),

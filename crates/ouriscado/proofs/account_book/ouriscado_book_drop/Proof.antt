@@ -5,7 +5,7 @@ use Rattle.error.proofs.LawsOut.{number-answered, told-same}
 use Rattle.book.specs.Book.{Book, Outcome}
 use Rattle.book.specs.Reads.{drops}
 use Rattle.ouriscado.specs.OutBook.{lengthDropped}
-use Rattle.ouriscado.proofs.LawsBook.{does-words}
+use Rattle.ouriscado.proofs.LawsBook.{does-words, kept-words}
 use borrow.Author.Needs.{needs}
 use Rattle.ouriscado.proofs.account_book.ouriscado_book_drop.Statement.{statement}
 use Rattle.ouriscado.proofs.account_book.ouriscado_book_drop.Tie as tie
@@ -35,11 +35,15 @@ returns c =
     let a = r .before .before .before .before .before .before .before .args in
     let e = r .drop .ensures in
     let h = c .put-dropped .ensures in
-    let d = does-words (r .before .state-of .ensures) (λ (b : Book). drops b (a .key)) (p .put-state .ensures) (e .0) (e .1) in (
-      h .0 ∙ ap refusalOf (d .told) ∙ number-answered (λ (o : Outcome). o .told) _,
+    let d = does-words (r .before .state-of .ensures) (λ (b : Book). drops b (a .key)) (p .put-state .ensures) (e .0) (e .1) in
+    let number = h .0 ∙ ap refusalOf (d .told) ∙ number-answered (λ (o : Outcome). o .told) _ in (
+      number,
       (
         d .left,
-        h .1 ∙ told-same lengthDropped _ (d .told),
+        (
+          h .1 ∙ told-same lengthDropped _ (d .told),
+          kept-words (r .before .state-of .ensures) (p .put-state .ensures) _ number (d .left),
+        ),
       ),
     )
 

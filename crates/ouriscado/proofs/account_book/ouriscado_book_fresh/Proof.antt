@@ -6,7 +6,7 @@ use Rattle.error.specs.Refusal.{refusalOf}
 use Rattle.error.proofs.LawsOut.{number-answered}
 use Rattle.book.specs.Book.{Book, makesFresh, madeAfter}
 use Rattle.ouriscado.specs.OutBook.{bookIn}
-use Rattle.ouriscado.proofs.LawsBook.{book-words}
+use Rattle.ouriscado.proofs.LawsBook.{book-words, kept-fresh}
 use borrow.Author.Needs.{needs}
 use Rattle.ouriscado.proofs.account_book.ouriscado_book_fresh.Statement.{statement}
 use Rattle.ouriscado.proofs.account_book.ouriscado_book_fresh.Tie as tie
@@ -34,10 +34,11 @@ returns c =
     let a = s .before .before .before .before .before .args in
     let same = book-words (s .state-of .ensures) in
     let e = r .fresh .ensures in
-    let left = ap (λ (ws : List ℕ). bookIn (a .body .now) (r .fresh .last .1 .0) ws) (p .put-state .ensures) ∙ e .1 in (
-      c .refusal .ensures ∙ ap refusalOf (e .0) ∙ number-answered (λ (b : Book). tt) _ ∙ ap (λ (b : Book). refusalOf (makesFresh b)) same,
-      left ∙ ap (λ (b : Book). madeAfter b (makesFresh b)) same,
-    )
+    let left = ap (λ (ws : List ℕ). bookIn (a .body .now) (r .fresh .last .1 .0) ws) (p .put-state .ensures) ∙ e .1 in
+    let number =
+    c .refusal .ensures ∙ ap refusalOf (e .0) ∙ number-answered (λ (b : Book). tt) _ ∙ ap (λ (b : Book). refusalOf (makesFresh b)) same in
+    let made = left ∙ ap (λ (b : Book). madeAfter b (makesFresh b)) same in
+    (number, (made, kept-fresh (s .state-of .ensures) (p .put-state .ensures) _ number made))
 
 pub ouriscado-book-fresh-spec : {M : Type 1} → statement M
 ouriscado-book-fresh-spec =

@@ -5,7 +5,7 @@ use Rattle.error.proofs.LawsOut.{number-answered, told-same}
 use Rattle.book.specs.Book.{Book, Outcome}
 use Rattle.book.specs.Loads.{loads}
 use Rattle.ouriscado.specs.OutBook.{pagesLoaded}
-use Rattle.ouriscado.proofs.LawsBook.{does-words}
+use Rattle.ouriscado.proofs.LawsBook.{does-words, kept-words}
 use borrow.Author.Needs.{needs}
 use Rattle.ouriscado.proofs.account_book.ouriscado_book_load.Statement.{statement}
 use Rattle.ouriscado.proofs.account_book.ouriscado_book_load.Tie as tie
@@ -36,11 +36,15 @@ returns c =
     let e = r .load .ensures in
     let h = c .put-loaded .ensures in
     let d = does-words (r .before .state-of .ensures) (λ (b : Book). loads b (a .key) (a .fks .now)) (p .put-state .ensures) (e .0)
-    (e .1) in (
-      h .0 ∙ ap refusalOf (d .told) ∙ number-answered (λ (o : Outcome). o .told) _,
+    (e .1) in
+    let number = h .0 ∙ ap refusalOf (d .told) ∙ number-answered (λ (o : Outcome). o .told) _ in (
+      number,
       (
         d .left,
-        h .1 ∙ told-same pagesLoaded _ (d .told),
+        (
+          h .1 ∙ told-same pagesLoaded _ (d .told),
+          kept-words (r .before .state-of .ensures) (p .put-state .ensures) _ number (d .left),
+        ),
       ),
     )
 

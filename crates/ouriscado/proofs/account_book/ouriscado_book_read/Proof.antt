@@ -7,7 +7,7 @@ use Rattle.book_rules.specs.Calls.{answerOf}
 use Rattle.book.specs.Book.{Book, Outcome}
 use Rattle.book.specs.Reads.{reads, listAfter}
 use Rattle.book.specs.Answers.{Counted, countedOf}
-use Rattle.ouriscado.proofs.LawsBook.{book-words}
+use Rattle.ouriscado.proofs.LawsBook.{book-words, kept-list}
 use borrow.Author.Needs.{needs}
 use Rattle.ouriscado.proofs.account_book.ouriscado_book_read.Statement.{statement}
 use Rattle.ouriscado.proofs.account_book.ouriscado_book_read.Tie as tie
@@ -32,13 +32,18 @@ returns c =
     let room = length (a .out .now) in
     let same = book-words (s .state-of .ensures) in
     let h = c .put-listed .ensures in
-    let e = r .read .ensures .0 ∙ ap (λ (b : Book). answered countedOf (answerOf (reads b (a .key) room))) same in (
-      h .0 ∙ ap refusalOf e ∙ number-answered countedOf _ ∙ number-answered (λ (o : Outcome). o .told) _,
+    let e = r .read .ensures .0 ∙ ap (λ (b : Book). answered countedOf (answerOf (reads b (a .key) room))) same in
+    let number = h .0 ∙ ap refusalOf e ∙ number-answered countedOf _ ∙ number-answered (λ (o : Outcome). o .told) _ in
+    let list = r .read .ensures .1 ∙ ap (λ (b : Book). listAfter (a .out .now) (reads b (a .key) room)) same in (
+      number,
       (
-        r .read .ensures .1 ∙ ap (λ (b : Book). listAfter (a .out .now) (reads b (a .key) room)) same,
+        list,
         (
           h .1 .0 ∙ told-same (λ (x : Counted). x .length) _ e ∙ told-answered (λ (x : Counted). x .length) countedOf _ _,
-          h .1 .1 ∙ told-same (λ (x : Counted). x .pages) _ e ∙ told-answered (λ (x : Counted). x .pages) countedOf _ _,
+          (
+            h .1 .1 ∙ told-same (λ (x : Counted). x .pages) _ e ∙ told-answered (λ (x : Counted). x .pages) countedOf _ _,
+            kept-list (a .out .now) _ number list,
+          ),
         ),
       ),
     )
