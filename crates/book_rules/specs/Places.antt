@@ -1,4 +1,5 @@
--- Rules for where a list goes, over its count and the bytes of its stream; where a page may begin is passed on.
+-- Rules for where a list goes, over its count and the bytes of its stream: whether it stays in its slab, and which class of slab a move or
+-- a load gives it.
 use Prim.Native.Nat.{ℕ, _+_, max}
 use mathlib.Core.Bool.{Bool, cond, _&&_}
 use mathlib.Core.Option.{Option, none, some}

@@ -1,4 +1,5 @@
-// What every account book has in common (document 01): its calls with what they tell, its limits, and the rules for where a list goes.
+// What every account book has in common (document 01). The code judges what is offered, and has the rules for where a list goes; calls with
+// what they tell, what is recorded, the licence's sentence and the count of moves are definitions (specs/) alone.
 mod offered;
 mod places;
 
