@@ -21,7 +21,8 @@
    The three belong together. Keep, copy, store and restore them together, as of one moment: a body with the
    heads of another day is a damaged book. They hold no pointers, so a copy elsewhere, or a file, is the same
    book. A call that is interrupted for good, because its process ends, may have written some of them and not
-   others: go on from a copy of an earlier moment then.
+   others: go on from a copy of an earlier moment then. A head word that was lost, so that it became 0, reads
+   as an account for which nothing is recorded.
 
    There are six calls:
 
@@ -36,13 +37,15 @@
 
    WHAT IS PROVED
 
-   Take a book that ouriscado_book_fresh made and any calls on it after that, with any arguments, refused ones
-   included, where each call gets body, heads and state as the one before it left them, and nobody else writes
-   them. Then each read gives exactly the numbers that were recorded for its key since that key was last
-   dropped, or is refused with 1, 2 or 34; so a read that is accepted with length 0 says that nothing is
-   recorded. Each call ends on every input, reads and writes only what it is lent, and checks for itself that
-   the book is sound as far as it looks at it. Not proved: the compiler's back end and the linker, and your
-   side of the boundary, that pointers and lengths are what you say.
+   Take a book that ouriscado_book_fresh made and any loads, appends, reads and drops on it after that, with
+   any arguments, refused ones included, where each call gets body, heads and state as the one before it left
+   them, and nobody else writes them; checks may stand between, since they write nothing of a book. Then each
+   read gives exactly the numbers that were recorded for its key since that key was last dropped, or is
+   refused with 1, 2 or 34; so a read that is accepted with length 0 says that nothing is recorded. Each call
+   ends on every input, reads and writes only what it is lent, and checks for itself that the book is sound as
+   far as it looks at it. Not proved: the toolchain, with its checker and the compiler's back end, and the
+   linker; and your side of the boundary, that pointers and lengths are what you say, and that nothing
+   interrupts a call.
 
    A book may also come from elsewhere, as from a file, written by this library or by other software of the
    same format. Where ouriscado_book_check tells that it is a good start, the same holds of any calls from
@@ -129,7 +132,10 @@ extern "C" {
 
 /* Why a book from elsewhere isn't a good start: the ground that a check tells. */
 #define OURISCADO_START_GOOD                 0 /* the start is good */
-#define OURISCADO_START_KEY_UNSOUND          1 /* the key isn't sound: calls on it are refused with 31 */
+#define OURISCADO_START_KEY_UNSOUND          1 /* the key isn't sound: a read and a drop of it are refused
+                                                  with 31, a load with 3; an append too is refused with 31,
+                                                  but of pages it looks at the last one alone, and may be
+                                                  accepted */
 #define OURISCADO_START_KEY_SHARES           2 /* a block of the key shares bytes with another of its own, or
                                                   with one of a key before it */
 #define OURISCADO_START_FREE_STRAYS          3 /* the free list names an offset where no such block can stand:
@@ -146,8 +152,8 @@ extern "C" {
 /* Why a call is refused, and what an operator does then. Where several apply, the smallest number is given;
    but a list that is offered is judged number by number, and its first bad number decides. A key is sound
    where its head word, its slab or pages and the numbers in them are as the format has them. In a book that
-   began with ouriscado_book_fresh or as a good start (ouriscado_book_check), and that nobody else wrote, no
-   call is refused with OURISCADO_KEY_UNSOUND or OURISCADO_FREE_HEAD_BAD. */
+   began with ouriscado_book_fresh or as a good start (ouriscado_book_check), that nobody else wrote, and whose
+   calls all ran to their end, no call is refused with OURISCADO_KEY_UNSOUND or OURISCADO_FREE_HEAD_BAD. */
 enum ouriscado_refusal {
     /* No refusal: the call was accepted. */
     OURISCADO_ACCEPTED = 0,
@@ -174,12 +180,14 @@ enum ouriscado_refusal {
     OURISCADO_OFFERED_TOO_LARGE = 14,
     /* The key isn't sound.
        Operator: takes the account for unknown and never for empty; restores body, head words and state of one
-       moment; finds who else wrote them. */
+       moment; finds out who else wrote them, which call was interrupted, or what was put together from two
+       moments. */
     OURISCADO_KEY_UNSOUND = 31,
-    /* A number is offered that doesn't rise above its predecessor, in the list or in the key.
+    /* A number is offered that doesn't rise above its predecessor, in the list, the key or the page.
        Operator: reads the key: the number may be recorded already. */
     OURISCADO_OFFERED_NOT_RISING = 32,
-    /* The numbers or ranges to be answered are more than the lent list has room for.
+    /* The numbers or ranges to be answered are more than the lent list has room for, or the work list of a
+       check has fewer bytes than a sixteenth of the body's.
        Operator: asks again with a longer list. */
     OURISCADO_LIST_TOO_SHORT = 34,
     /* A free head leads to no block: it is unaligned, or lies outside of 4,096 up to the mark; or such a
@@ -230,8 +238,9 @@ uint32_t ouriscado_book_load(
    32, 35, 36.
 
    A number that isn't above the last is refused, so that no deposit stands in a list twice. When an append is
-   refused with 36, the number is not recorded; keep it until there is room. From empty to drop a list moves
-   at most 9 times, and moves write at most 765 numbers anew.
+   refused with 36, the number is not recorded; keep it until there is room. In a book that began fresh or as
+   a good start, a list moves at most 9 times from empty, or from the start, to its drop, and these moves
+   write at most 765 numbers anew.
 
    Refusals: OURISCADO_SHAPE_BAD (1), OURISCADO_KEY_BEYOND (2), OURISCADO_OFFERED_FIRST_ZERO (12),
    OURISCADO_OFFERED_BIT_63 (13), OURISCADO_OFFERED_TOO_LARGE (14), OURISCADO_KEY_UNSOUND (31),
@@ -287,11 +296,13 @@ uint32_t ouriscado_book_drop(
 
    What an operator does where ground isn't 0: nothing is to be written to this book, by any call. Restore
    body, heads and state together, as of one moment, and check again. Where the fault is in the original,
-   OURISCADO_START_KEY_UNSOUND names the one account whose list can't be read; the lists of other accounts can
-   still be read one by one, and loaded into a fresh book. With OURISCADO_START_KEY_SHARES two accounts, or
-   two parts of one, claim the same bytes, and one of the two lists is wrong: which of them is told by no
-   call. With the other two grounds the lists read well, and only freed blocks are at fault: load all lists
-   that read into a fresh book, and go on with that.
+   OURISCADO_START_KEY_UNSOUND names the first account whose list can't be read. Accounts behind it were not
+   judged: there may be more such, and of those that read two may claim the same bytes. What is read of them,
+   one by one, can be loaded into a fresh book, and has to be compared with what is known from elsewhere. With
+   OURISCADO_START_KEY_SHARES two accounts, or two parts of one, claim the same bytes, so that one of the two
+   lists at least is wrong: which of them is told by no call, and accounts behind were not judged either. With
+   the other two grounds every list reads and no two share bytes, and only freed blocks are at fault: load all
+   lists into a fresh book, and go on with that.
 
    Refusals: OURISCADO_SHAPE_BAD (1), OURISCADO_LIST_TOO_SHORT (34). */
 uint32_t ouriscado_book_check(

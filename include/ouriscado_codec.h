@@ -3,7 +3,8 @@
 
    Whoever keeps accounts needs ouriscado.h alone. The functions here work on single head words, slabs, pages
    and free lists, and know nothing of a book: used on parts of a book's body they can damage it. Those marked
-   WARNING can make a page read as empty, or leave a number unrecorded, although the call is accepted.
+   WARNING can make a page read as empty, spoil its numbers, or leave a number unrecorded, although the call
+   is accepted.
 
    As in ouriscado.h, a slice is a pointer and then its length in elements; no pointer is kept; what two
    parameters of a call point to must not overlap; a pointer is null only for a slice of length 0; there are
@@ -126,7 +127,8 @@ uint32_t ouriscado_decode_fk_delta_stream_into(
 /* ---- Slabs ----
    A slab is a block for a short list: 2 bytes with the count of numbers, then the stream; both are its
    payload. Its class, 0 to 7, says its size: class c has 16 * 2^c bytes and is meant for up to 4 * 2^c
-   numbers, its slots. Class 8 is a page. A result of type bool says whether there is such a class. */
+   numbers, its slots. Class 8 is a page. Where a function hands out a class, its result, a bool, says whether
+   there is one; where there is none, class_ becomes 0, which is no class then. */
 
 /* Writes the payload of a rising list to the start of out, and tells its length. Refuses 10 to 13, 32, 33. */
 uint32_t ouriscado_encode_slab_payload_into(
@@ -213,7 +215,7 @@ uint32_t ouriscado_sh_page_n_fks(const uint8_t *page, size_t page_len, size_t *n
 
 /* Writes a page's count. Refuses 4.
    WARNING: with 0 the page reads as empty although its numbers still stand in it, and with too small a count
-   its last numbers are passed over; nothing else in the page tells. */
+   its last numbers are passed over; no function on single pages notices. */
 uint32_t ouriscado_sh_page_set_n_fks(uint8_t *page, size_t page_len, uint16_t n);
 
 /* What a page's link says: whether the page is LAST, and the offset of the page that it names. Refuses 4. */

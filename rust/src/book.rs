@@ -86,7 +86,8 @@ pub enum StartError {
     /// They weren't judged: [`Refusal::ShapeBad`], where the body's length, the count of head words or the mark is outside the
     /// [limits](crate::limits).
     Refused(Refusal),
-    /// The account isn't sound: calls on it are refused with [`Refusal::KeyUnsound`].
+    /// The account isn't sound: a read and a drop of it are refused with [`Refusal::KeyUnsound`], a load with [`Refusal::KeyInUse`]. An
+    /// append too is refused with [`Refusal::KeyUnsound`], but of pages it looks at the last one alone, and may be accepted.
     KeyUnsound {
         /// The account's key.
         key: u64,
@@ -205,7 +206,8 @@ impl<B: AsRef<[u8]>, H: AsRef<[u64]>> Book<B, H> {
     }
 
     /// A book of a body, head words and a state from elsewhere, as from a file: it is judged as [`Book::check`] does, and opened only where
-    /// it is a good start. From then on each read gives exactly what was recorded, with the lists that stand in it now as already recorded.
+    /// it is a good start. From then on, while nobody else writes it, each read gives exactly what was recorded or is refused, with the
+    /// lists that stand in it now as already recorded.
     ///
     /// ```
     /// use ouriscado::{Book, StartError};
@@ -381,7 +383,8 @@ impl<B: AsRef<[u8]> + AsMut<[u8]>, H: AsRef<[u64]> + AsMut<[u64]>> Book<B, H> {
     /// [`Refusal::ShapeBad`]; [`Refusal::KeyBeyond`]; [`Refusal::KeyInUse`] where the account has a list; [`Refusal::TooManyOffered`] above
     /// [`MOST_LOADED`](crate::limits::MOST_LOADED) numbers; [`Refusal::OfferedFirstZero`], [`Refusal::OfferedBit63`],
     /// [`Refusal::OfferedTooLarge`] and [`Refusal::OfferedNotRising`] where the numbers are no rising list from 1 to
-    /// [`MOST_NUMBER`](crate::limits::MOST_NUMBER); [`Refusal::FreeHeadBad`] where a freed block is damaged; [`Refusal::NoRoom`].
+    /// [`MOST_NUMBER`](crate::limits::MOST_NUMBER); [`Refusal::FreeHeadBad`] where a free head or freed
+    /// block is damaged; [`Refusal::NoRoom`].
     pub fn load(&mut self, key: u64, numbers: &[u64]) -> Result<u64, Refusal> {
         let mut pages = 0;
         let number = sys::book_load(self.body.as_mut(), self.heads.as_mut(), &mut self.state.0, key, numbers, &mut pages);
@@ -406,7 +409,7 @@ impl<B: AsRef<[u8]> + AsMut<[u8]>, H: AsRef<[u64]> + AsMut<[u64]>> Book<B, H> {
     /// [`Refusal::ShapeBad`]; [`Refusal::KeyBeyond`]; [`Refusal::OfferedFirstZero`], [`Refusal::OfferedBit63`] and
     /// [`Refusal::OfferedTooLarge`] where the number is none from 1 to [`MOST_NUMBER`](crate::limits::MOST_NUMBER);
     /// [`Refusal::KeyUnsound`]; [`Refusal::OfferedNotRising`] where it isn't above the account's last; [`Refusal::FreeHeadBad`] where a
-    /// freed block is damaged; [`Refusal::NoRoom`].
+    /// free head or freed block is damaged; [`Refusal::NoRoom`].
     pub fn append(&mut self, key: u64, number: u64) -> Result<Appended, Refusal> {
         let (mut kind, mut class, mut used, mut place, mut rewritten) = (0, 0, 0, 0, 0);
         let (body, heads, state) = (self.body.as_mut(), self.heads.as_mut(), &mut self.state.0);

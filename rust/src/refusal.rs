@@ -123,10 +123,10 @@ pub enum Refusal {
     ExtentPayloadZero,
     /// 31: the key isn't sound.
     ///
-    /// Operator: takes the account for unknown and never for empty; restores body, head words and state of one moment; finds who else wrote
-    /// them.
+    /// Operator: takes the account for unknown and never for empty; restores body, head words and state of one moment; finds out who else
+    /// wrote them, which call was interrupted, or what was put together from two moments.
     KeyUnsound,
-    /// 32: a number is offered that doesn't rise above its predecessor, in the list or in the key.
+    /// 32: a number is offered that doesn't rise above its predecessor, in the list, the key or the page.
     ///
     /// Operator: reads the key: the number may be recorded already.
     OfferedNotRising,
@@ -134,7 +134,8 @@ pub enum Refusal {
     ///
     /// Operator: has a larger buffer lent, or fewer numbers offered.
     DoesNotFit,
-    /// 34: the numbers or ranges to be answered are more than the lent list has room for.
+    /// 34: the numbers or ranges to be answered are more than the lent list has room for, or the work list of a check has fewer bytes than
+    /// a sixteenth of the body's.
     ///
     /// Operator: asks again with a longer list.
     ListTooShort,

@@ -176,7 +176,7 @@ pub fn sh_page_n_fks(page: &[u8]) -> Result<usize, Refusal> {
 /// Writes a page's count.
 ///
 /// **Warning:** with 0 the page reads as empty although its numbers still stand in it, and with too small a count its last numbers are
-/// passed over; nothing else in the page tells.
+/// passed over; no function on single pages notices.
 ///
 /// # Errors
 ///
