@@ -92,8 +92,9 @@
    STACK
 
    A call takes at most OURISCADO_STACK_BOOK bytes of stack below its caller's frame (measured, and held by a
-   test), where the C library's functions are bound before it. Numbers of a slab that is read, and a list that
-   moves from one slab to another, are held there; pages are read straight into the lent list. */
+   test), where the C library's functions are bound before it. Numbers of a slab that is read, a list that
+   moves, and where the parts of a loaded list begin and end are held there; pages are read straight into the
+   lent list. */
 #ifndef OURISCADO_H
 #define OURISCADO_H
 #include <stddef.h>

@@ -19,7 +19,9 @@
 //! # Ok::<(), Refusal>(())
 //! ```
 //!
-//! A refused call has changed nothing, and its [`Refusal`] says why. The library allocates nothing; [`Book::read`] allocates its list.
+//! A refused call has changed nothing, and its [`Refusal`] says why. The library allocates nothing; [`Book::read`] allocates its list, and
+//! [`Book::open`] and [`Book::check`] a work list while they judge. The proof is of the library's functions; this crate, which lends them
+//! its slices, is tested.
 //! Modules: [`codec`] has the ported functions on single head words, slabs, pages and free lists, [`limits`] the sizes and limits, and
 //! [`sys`] the functions as the library defines them.
 //!
