@@ -7,6 +7,7 @@ passed over.
 import re
 from collections import namedtuple
 from functools import cached_property, lru_cache
+from itertools import takewhile
 from pathlib import Path
 
 from words import NAME, Use, Walk, words_of
@@ -205,15 +206,16 @@ class Code(Source):
     def __init__(self, path):
         super().__init__(path, "code")
         for row, line in enumerate(self.lines):
-            match = re.match(r"pub (?:enum|struct|type|fn) (\w+)", line)
+            match = re.match(r'pub (?:extern "C" )?(?:enum|struct|type|fn) (\w+)', line)
             if match:
                 self.add(match.group(1), row)
 
     def add(self, name, row):
         """A type, or a function up to its body."""
         end = row if self.lines[row].endswith(";") else next(i for i in range(row, len(self.lines)) if self.lines[i] in ("}", "{"))
-        first = self.comment_above(row, "//")
-        self.declares[name] = Declaration(self, name, first + 1, self.lines[first:row], self.lines[row : end + (self.lines[end] != "{")])
+        top = row - self.lines[row - 1].startswith("#[")
+        first = self.comment_above(top, "//")
+        self.declares[name] = Declaration(self, name, first + 1, self.lines[first:top], self.lines[row : end + (self.lines[end] != "{")])
 
     def uses_in(self, found):
         """The types that a declaration names, and what a contract says, in one line or more."""
@@ -231,7 +233,8 @@ class Code(Source):
     def contract(self, found, row, lines):
         """What one clause of a contract says, in which the function's parameters are bound."""
         words = words_of(lines)
-        walk = Walk(self, re.findall(r"(\w+):", found.code[0]))
+        head = "".join(takewhile(lambda line: not line.lstrip().startswith(("ensures", "requires")), found.code))
+        walk = Walk(self, re.findall(r"(\w+):", head))
         walk.expression(words[next(i for i, word in enumerate(words) if word.text == "{") :])
         return [use._replace(row=row + use.row) for use in walk.found]
 

@@ -147,15 +147,16 @@ counts-good plain b cs g a shape key =
     (key-counts (after b cs .space) (wordOf key (after b cs)) _
     (content-agrees (plainAfter plain cs) (after b cs) (calls-good cs g) in-shape (then .inside in-shape) key))
 
--- No history leads to a count of 0: after any calls from a good start the counts of each key are those of what is recorded for it, with
--- what it was read as at the start.
+-- No history leads to a count of 0: after any calls from a good start the counts of each key are those of what is recorded for it, which
+-- begins with what it was read as at the start.
 pub counts-from : (b : Book) (cs : List Call) → GoodStart b
     → (key : ℕ) → KeyCounts (after b cs .space) (wordOf key (after b cs)) (recorded key cs (answers b cs) (startList b key))
 counts-from b cs g key =
     subst (λ (list : List ℕ). KeyCounts (after b cs .space) (wordOf key (after b cs)) (recorded key cs (answers b cs) list)) (start-list b key)
     (counts-good (plainOf b) b cs (start-good b g) (start-agrees b g) (start-shape b g) key)
 
--- The same of any calls on a fresh book, whatever its body holds.
+-- No history leads to a count of 0: after any calls on a fresh book in shape, whatever its body holds, the counts of each key are those of
+-- what is recorded for it.
 pub counts-fresh : (body : List ℕ) (heads : ℕ) (cs : List Call) → outOfShape (length body) heads ≡ false
     → let b = fresh body heads in
     (key : ℕ) → KeyCounts (after b cs .space) (wordOf key (after b cs)) (recorded key cs (answers b cs) [])

@@ -106,13 +106,13 @@ module _ (plain : PlainBook) (b : Book) (bytes : List ℕ) (n : ℕ) (g : GoodPl
   pub grown-shape : outOfShape (more .size) (length (more .keys)) ≡ false
   grown-shape = rw many shape
 
--- Growing: a good start stays one when bytes are put behind its body, or empty words behind its heads, within the limits; every key reads
--- as before, and the new ones as empty.
+-- A good start, with bytes behind its body and empty words behind its heads, within the limits.
 module _ (b : Book) (bytes : List ℕ) (n : ℕ) (g : GoodStart b)
     (shape : outOfShape (length (b .space .body) + length bytes) (length (b .heads) + n) ≡ false) where
   plain-shape : outOfShape (plainOf b .size + length bytes) (length (plainOf b .keys) + n) ≡ false
   plain-shape = rw (sym (start-agrees b g .size), sym (start-agrees b g .count)) shape
 
+  -- It stays a good start.
   pub grown-start : GoodStart (grown bytes n b)
   grown-start =
       agrees-start (grownPlain (length bytes) n (plainOf b)) (grown bytes n b)
@@ -120,6 +120,7 @@ module _ (b : Book) (bytes : List ℕ) (n : ℕ) (g : GoodStart b)
       (grown-agrees (plainOf b) b bytes n (start-good b g) (start-agrees b g) (start-shape b g) plain-shape)
       (grown-shape (plainOf b) b bytes n (start-good b g) (start-agrees b g) (start-shape b g) plain-shape)
 
+  -- Each key reads as before, and the new ones as empty.
   pub grown-lists : (key : ℕ) → startList (grown bytes n b) key ≡ startList b key
   unfolding listFrom
   grown-lists key =
