@@ -141,6 +141,7 @@ module _ (b : Book) (bytes n : ℕ) (shape : outOfShape (b .size + bytes) (lengt
       there (x, is) low =
           let many = length-append (b .keys) (replicate n emptyKey) in
           (x, refuse-no _ _ _ shape ∙ refuse-no _ _ _ (lt-leb (length (grown bytes n b .keys)) key (omega arith)) ∙ is)
+
       after-shape : (out beyond : Bool) → leb (length (b .keys)) key ≡ beyond → Grows (refuseIf out 1 (refuseIf beyond 2 a)) (onKey (grown bytes n b) key a')
       after-shape true beyond q e = let z : 1 ≡ noRoom = cc in absurd (omega arith)
       after-shape false true q e = let z : 2 ≡ noRoom = cc in absurd (omega arith)
