@@ -23,22 +23,7 @@ use Rattle.scripthash_free.proofs.LawsBlock.{block-stands}
 use Rattle.book_rules.specs.Calls.{read, appended}
 use Rattle.book_limits.specs.Limits.{outOfShape}
 use Rattle.plain_book.specs.Space.{Space as PlainSpace}
-use Rattle.plain_book.specs.Key.{
-  Kept,
-  written,
-  Page,
-  Place,
-  empty,
-  inline,
-  slab,
-  pages,
-  lastPage,
-  noPage,
-  totalOf,
-  headOf,
-  pagesOf,
-  countedAfter,
-}
+use Rattle.plain_book.specs.Key.{Kept, written, Page, Place, empty, inline, slab, pages, lastPage, noPage, totalOf, headOf, pagesOf, countedAfter, keyIn}
 use Rattle.plain_book.specs.Key.{Placed, appendPlace}
 use Rattle.plain_book.specs.Book.{Book as PlainBook, Outcome as PlainOutcome, keyOf, withKey, extended, appends as plainAppends}
 use Rattle.plain_book.specs.Book.{reads as plainReads, does as plainDoes}
@@ -418,7 +403,7 @@ appendLeaves plain key n counted p =
     let list = extended (keyOf key plain .list) n in
     accepted (record {
       told = appended (record { place = headOf list (p .place); rewritten = p .rewritten });
-      book = withKey key list (p .place) counted (p .space) plain;
+      book = withKey key (keyIn list (p .place) counted) (p .space) plain;
     })
 
 -- What a plain book's append does once the number is known to be above the key's last.
@@ -447,15 +432,15 @@ pub append-ends : (plain : PlainBook) (b : Book) (key : ℕ) (list : List ℕ) (
     (value : ShHeadValue) (rewritten : ℕ) (inside : PlainSpace)
     (s : Space) → Agrees plain b
     → outOfShape (plain .size) (length (plain .keys)) ≡ false → key < length (plain .keys) → headOf list place ≡ value
-    → totalOf (record { list = list; place = place; counted = counted }) ≡ total → length (s .body) ≡ length (b .space .body)
+    → totalOf (keyIn list place counted) ≡ total → length (s .body) ≡ length (b .space .body)
     → AgreesSpace inside s (atKey key place (places plain)) none (placedContents plain key total place)
     → Alike (accepted (record {
       told = appended (record { place = headOf list place; rewritten = rewritten });
       book =
-          withKey key list place counted inside plain;
+          withKey key (keyIn list place counted) inside plain;
     }))
     (accepted (appending key value rewritten s b))
 append-ends plain b key list place counted total value rewritten inside s a shape low is told long h =
     let placed : AgreesSpace inside s (atKey key place (places plain)) none
-    (placedContents plain key (totalOf (record { list = list; place = place; counted = counted })) place) = rw told h in
+    (placedContents plain key (totalOf (keyIn list place counted)) place) = rw told h in
     rw (← is) (told-alike refl (agrees-placed plain key list place counted inside low b s a shape long placed))

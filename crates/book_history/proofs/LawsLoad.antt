@@ -38,7 +38,7 @@ use Rattle.book_limits.proofs.LawsLimits.{in-shape}
 use Rattle.book_rules.proofs.LawsRules.{loads-to}
 use Rattle.plain_book.specs.Space.{Space as PlainSpace, Taken as PlainTaken, takeBlock as plainTake, rounded as plainRounded}
 use Rattle.plain_book.specs.Space.{takeRun as plainTakeRun}
-use Rattle.plain_book.specs.Key.{Page, Place, empty, inline, slab, pages, written, lastPage, noPage, headOf, Key, emptyKey, pagesOf, Placed}
+use Rattle.plain_book.specs.Key.{Page, Place, empty, inline, slab, pages, written, lastPage, noPage, headOf, Key, emptyKey, pagesOf, Placed, keyIn}
 use Rattle.plain_book.specs.Key.{runPages, loadInto as plainLoadInto, loadPlace}
 use Rattle.plain_book.specs.Book.{Book as PlainBook, Outcome as PlainOutcome, keyOf, withKey, inUse, loads as plainLoads, does as plainDoes}
 use Rattle.plain_book.specs.Sound.{Fits, SoundKey}
@@ -302,7 +302,7 @@ module _ (plain : PlainBook) (b : Book) (key : ℕ) (ns : List ℕ) (g : GoodPla
   loadedTo p = accepted (record {
     told = loaded (record { pages = pagesOf (p .place) });
     book =
-        withKey key ns (p .place) true (p .space) plain;
+        withKey key (keyIn ns (p .place) true) (p .space) plain;
   })
 
   whole : length (b .space .body) % 4096 ≡ 0
@@ -448,13 +448,13 @@ load-alike : (plain : PlainBook) (b : Book) (key : ℕ) (ns : List ℕ) → Good
     (λ p. accepted (record {
       told = loaded (record { pages = pagesOf (p .place) });
       book =
-          withKey key ns (p .place) true (p .space) plain;
+          withKey key (keyIn ns (p .place) true) (p .space) plain;
     })))
     (loadAt b key ns)
 unfolding loadPlace loadAt andThen headOf lastFrom
 load-alike plain b key [] g a shape h l is rises few = told-alike refl (subst (λ (p : PlainBook). Agrees p b) (sym same) a)
   where
-    same : withKey key [] empty true (plain .space) plain ≡ plain
+    same : withKey key emptyKey (plain .space) plain ≡ plain
     same =
         ap (λ (k : Key). record { size = plain .size; keys = set (plain .keys) key k; space = plain .space })
         (sym (empty-key (keyOf key plain) (g .keys key) is))

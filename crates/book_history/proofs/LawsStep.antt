@@ -1,7 +1,7 @@
 -- Two books go through the tests of a call side by side: a test that both have, one that only the bytes have, and the tests that every call
 -- begins with. Assumes nothing.
-use Prim.Native.Nat.{ℕ, _+_, _%_, _^_, _≤_, _<_}
-use mathlib.Core.Bool.{Bool, true, false, cond, not, _&&_, _||_, true≢false}
+use Prim.Native.Nat.{ℕ, _%_, _^_, _<_}
+use mathlib.Core.Bool.{Bool, true, false, cond, not, _||_, true≢false}
 use mathlib.Core.List.{List}
 use mathlib.Core.Logic.{_≢_}
 use mathlib.Core.Option.{none}
@@ -10,24 +10,22 @@ use native.Mathlib.Omega.{arith}
 use lib.Dec.{leb, ltb, eqb}
 use lib.ListN.{length, getD, set, length-set}
 use lib.Seq.{getD-set-same, getD-set-other}
-use borrow.Author.Tests.{eqb-true, eqb-false, eq-eqb, ne-eqb, leb-false, ltb-false, le-ltb, lt-leb}
-use Rattle.error.specs.Refusal.{Answer, accepted, refused, refuseIf, andThen, shapeBad, keyBeyond, offeredNotRising}
+use borrow.Author.Tests.{eqb-true, eqb-false, eq-eqb, leb-false, le-ltb, lt-leb}
+use Rattle.error.specs.Refusal.{Answer, accepted, refused, refuseIf, shapeBad, keyBeyond, offeredNotRising}
 use Rattle.error.proofs.LawsAnswer.{refuse-no}
 use Rattle.scripthash_layout.specs.Head.{unpackHead}
-use Rattle.scripthash_layout.specs.declared.head.ShHeadValue.{ShHeadValue}
-use Rattle.book_rules.specs.Calls.{Told}
 use Rattle.book_rules.specs.Offered.{offeredNumber}
 use Rattle.book_limits.specs.Limits.{outOfShape}
 use Rattle.plain_book.specs.Space.{Space as PlainSpace}
-use Rattle.plain_book.specs.Key.{Place, Key, totalOf, headOf}
+use Rattle.plain_book.specs.Key.{Place, Key, totalOf, headOf, keyIn}
 use Rattle.plain_book.specs.Book.{Book as PlainBook, Outcome as PlainOutcome, keyOf, withKey, onKey as plainOnKey}
-use Rattle.plain_book.specs.Owners.{places, has}
+use Rattle.plain_book.specs.Owners.{places}
 use Rattle.plain_book.specs.Good.{GoodPlain}
 use Rattle.plain_book.proofs.LawsOwners.{atKey}
 use Rattle.plain_book.proofs.LawsHistory.{key-with}
 use Rattle.plain_book.proofs.LawsBlocks.{key-place}
 use Rattle.book_space.specs.Space.{Space, markBad, shapeBroken}
-use Rattle.book.specs.Book.{Book, Outcome, headWord, onKey, placing}
+use Rattle.book.specs.Book.{Book, Outcome, headWord, onKey}
 use Rattle.book_history.specs.Agrees.{Contents, SlabIn, PageIn, contentsOf, AgreesSpace, AgreesInside, Agrees}
 
 -- ---- answers alike
@@ -145,18 +143,18 @@ module _ (plain : PlainBook) (key : ℕ) (list : List ℕ) (place : Place) (coun
     (l : key < length (plain .keys)) where
   -- the key as it becomes, and the book with it
   abbrev new : Key
-  new = record { list = list; place = place; counted = counted }
+  new = keyIn list place counted
 
   abbrev changed : PlainBook
-  changed = withKey key list place counted space plain
+  changed = withKey key new space plain
 
   -- The contents of a book with a key changed, as those with the key placed.
   contents-placed : contentsOf changed ≡ placedContents plain key (totalOf new) place
   contents-placed =
       λ i. record {
         inHand = λ block. Unit {0};
-        slabs = λ j block. SlabIn (key-place plain key list place counted space l j i) block;
-        pages = λ j n block. PageIn (totals j i) n (key-place plain key list place counted space l j i) block;
+        slabs = λ j block. SlabIn (key-place plain key new space l j i) block;
+        pages = λ j n block. PageIn (totals j i) n (key-place plain key new space l j i) block;
       }
     where
       totals : (j : ℕ) → totalOf (keyOf j changed) ≡ cond (eqb j key) (totalOf new) (totalOf (keyOf j plain))
@@ -193,4 +191,4 @@ module _ (plain : PlainBook) (key : ℕ) (list : List ℕ) (place : Place) (coun
       spaces =
           rw contents-placed
           (subst (λ (at : ℕ → Place). AgreesSpace space s at none (placedContents plain key (totalOf new) place))
-          (sym (λ i j. key-place plain key list place counted space l j i)) h)
+          (sym (λ i j. key-place plain key new space l j i)) h)

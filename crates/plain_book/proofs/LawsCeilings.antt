@@ -4,28 +4,24 @@ use Prim.Native.Nat.{ℕ, suc, _+_, _^_, _≤_}
 use mathlib.Core.Bool.{false, false≢true}
 use mathlib.Core.List.{List, [], _∷_, _++_}
 use mathlib.Core.Logic.{inl}
-use mathlib.Core.Option.{Option, none, some}
 use mathlib.Core.Path.{_≡_, refl, sym, ap, _∙_}
 use native.Mathlib.Nat.{le-refl, le-trans}
 use native.Mathlib.Omega.{arith}
 use lib.ListN.{length, length-append}
 use Rattle.error.specs.Refusal.{Answer, accepted, refused, answered}
-use Rattle.error.proofs.LawsAnswer.{went-on}
 use Rattle.scripthash_layout.specs.Sizes.{pageSize}
-use Rattle.scripthash_stream.specs.Stream.{streamLen}
 use Rattle.scripthash_stream.proofs.LawsStream.{rising-below}
 use Rattle.scripthash_cutting.specs.Cutting.{cutting, AllowedCutting}
 use Rattle.scripthash_cutting.proofs.LawsPages.{pages-optimal}
-use Rattle.plain_book.specs.Space.{Space, takeBlock, takeRun}
-use Rattle.book_rules.specs.Places.{loadsTo}
-use Rattle.plain_book.specs.Key.{Place, empty, inline, slab, pages, Kept, longer, pagesOf, Placed, runPages, loadInto}
-use Rattle.plain_book.specs.Key.{loadPlace}
+use Rattle.plain_book.specs.Space.{Space}
+use Rattle.plain_book.specs.Key.{Place, empty, inline, slab, pages, Kept, longer, pagesOf, Placed, runPages}
 use Rattle.book_rules.specs.Calls.{Call, load, append, read, drop, loaded, bookAfter, answerOf, answersTo}
 use Rattle.plain_book.specs.Book.{Book, fresh, Outcome, keyOf, inUse, extended, loads, does, after, answers}
 use Rattle.book_rules.specs.Moves.{Tally, noMoves, tallyOf}
 use Rattle.plain_book.specs.Sound.{Fits, SoundKey}
 use Rattle.plain_book.specs.Ceilings.{mostMoves, mostRewritten, FewestPages, EachFewest}
-use Rattle.plain_book.proofs.LawsMoves.{placed, Spent, spent-most, append-spent, load-spent}
+use Rattle.plain_book.specs.Did.{LoadDid, loaded-none, loaded-one, loaded-slab, loaded-run}
+use Rattle.plain_book.proofs.LawsMoves.{Spent, spent-most, append-spent, load-spent}
 use Rattle.plain_book.proofs.LawsHistory.{load-did, fresh-key, KeptByCalls, kept-calls}
 use Rattle.plain_book.proofs.LawsSound.{empty-sound, sound-kept}
 use Rattle.plain_book.proofs.LawsKept.{longer-numbers}
@@ -49,10 +45,10 @@ spent-kept =
     record {
       loads = λ end k ns s p t (sound, h) f rises e.
           let (m, r) = unused (length (k .list)) (k .place) t f h in
-          (sound-kept .loads end k ns s p t sound f rises e, load-spent end ns s t m r e);
+          (sound-kept .loads end k ns s p t sound f rises e, load-spent end s t m r e);
       appends = λ end k n s p t (sound, h) rises low e. (
         sound-kept .appends end k n s p t sound rises low e,
-        append-spent end (length (k .list)) (extended (k .list) n) n (k .place) s t (length-append (k .list) (n ∷ []))
+        append-spent end (length (k .list)) (extended (k .list) n) n s t (length-append (k .list) (n ∷ []))
             (λ class off kept is. longer-is n (k .list) class off kept (rw is at (sound .fits))) h e,
       );
       drops = (sound-kept .drops, (refl, refl, refl));
@@ -91,17 +87,11 @@ run-length off (p ∷ []) = refl
 run-length off (p ∷ q ∷ ps) = ap suc (run-length (off + pageSize) (q ∷ ps))
 
 -- The pages of a load: those of the cutting, or none.
-load-pages : (end : ℕ) (ns : List ℕ) (s : Space) {p : Placed} → loadPlace end ns s ≡ accepted p → pagesOf (p .place) ≤ length (cutting ns)
-unfolding loadPlace loadInto
-load-pages end [] s e = rw (placed e) (omega arith)
-load-pages end (n ∷ []) s e = rw (placed e) (omega arith)
-load-pages end (n ∷ k ∷ ns) s {p} e = go (loadsTo (length (n ∷ k ∷ ns)) (streamLen (n ∷ k ∷ ns))) e
-  where
-    go : (o : Option ℕ) → loadInto end o (n ∷ k ∷ ns) s ≡ accepted p → pagesOf (p .place) ≤ length (cutting (n ∷ k ∷ ns))
-    go (some c) e = let (t, got, is) = went-on (takeBlock end c s) _ e in rw (placed is) (omega arith)
-    go none e =
-        let (t, got, is) = went-on (takeRun end (length (cutting (n ∷ k ∷ ns))) s) _ e in
-        rw (placed is, run-length (t .off) (cutting (n ∷ k ∷ ns))) (le-refl (length (cutting (n ∷ k ∷ ns))))
+load-pages : (end : ℕ) (s : Space) {ns : List ℕ} {p : Placed} → LoadDid end s ns p → pagesOf (p .place) ≤ length (cutting ns)
+load-pages end s loaded-none = omega arith
+load-pages end s loaded-one = omega arith
+load-pages end s (loaded-slab c t two q got) = omega arith
+load-pages end s {ns} (loaded-run t two q got) = rw (run-length (t .off) (cutting ns)) (le-refl (length (cutting ns)))
 
 -- For every accepted load, every allowed cutting of its list has at least as many pages as the load reports.
 pub load-least : (b : Book) (key : ℕ) (ns : List ℕ) {o : Outcome} → loads b key ns ≡ accepted o
@@ -111,7 +101,7 @@ load-least b key ns e =
     let (p, within, free, rises, got, is) = load-did b key ns e in (
       pagesOf (p .place),
       ap (λ (x : Outcome). x .told) is,
-      λ parts ok. le-trans (load-pages (b .size) ns (b .space) got)
+      λ parts ok. le-trans (load-pages (b .size) (b .space) got)
           (pages-optimal ns (rising-below (2 ^ 62) (2 ^ 63) 0 ns (omega arith) rises) parts ok),
     )
 

@@ -3,38 +3,33 @@
 use Prim.Native.Nat.{ℕ, zero, suc, _+_, _-_, _*_, _%_, _≤_, _<_}
 use mathlib.Core.Bool.{Bool, true, false, cond, false≢true}
 use mathlib.Core.List.{List, [], _∷_, _++_}
-use mathlib.Core.Logic.{⊎-elim}
-use mathlib.Core.Option.{Option, none, some}
 use mathlib.Core.Path.{_≡_, refl, sym, ap, subst, _∙_}
 use native.Mathlib.Omega.{arith}
 use lib.Dec.{eqb}
 use lib.ListN.{length, getD, set, replicate, length-set}
-use borrow.Author.Tests.{eqb-true, eqb-false}
+use borrow.Author.Tests.{eqb-true}
 use Rattle.error.specs.Refusal.{Answer, accepted, refused}
-use Rattle.error.proofs.LawsAnswer.{accepted-inj, went-on}
 use Rattle.scripthash_layout.specs.Sizes.{slabBytes, pageClass, pageSize}
 use Rattle.scripthash_stream.specs.Stream.{streamLen}
 use Rattle.scripthash_cutting.specs.Cutting.{cutting, replaceLast}
 use Rattle.scripthash_free.specs.FreeList.{Block, Adjoin, Each, IsSlab, gapBlocks}
 use Rattle.scripthash_free.proofs.LawsGap.{gap-filled, gap-slabs}
 use Rattle.book_limits.specs.Limits.{pageAfter}
-use Rattle.book_rules.specs.Places.{stays, movesTo, loadsTo}
 use Rattle.book_rules.specs.Calls.{Call, load, append, read, drop, bookAfter}
 use Rattle.book_rules.proofs.LawsRules.{moves-to, loads-to}
 use Rattle.book_rules.proofs.LawsCalls.{calls-keep}
 use Rattle.plain_book.specs.Space.{Space, stackOf, freed, freedAll, Taken, takeMark, rounded, takeRun, takeFresh, takeFrom, takeBlock}
-use Rattle.plain_book.specs.Key.{Key, emptyKey, Page, Place, empty, inline, slab, pages, onePage, freedPages, freedPlace, Placed, written}
-use Rattle.plain_book.specs.Key.{longer, longerPage, moved, joins, joinedTo, begunAt, beginPage, appendPages, appendPlace, runPages, loadInto}
-use Rattle.plain_book.specs.Key.{loadPlace}
-use Rattle.plain_book.specs.Book.{Book, fresh, Outcome, keyOf, withKey, inUse, extended, does, after}
-use Rattle.plain_book.specs.Owners.{places, has, slabOf, slabAt}
+use Rattle.plain_book.specs.Key.{Key, emptyKey, Page, Place, empty, inline, slab, pages, freedPages, freedPlace, Placed, written, keyIn}
+use Rattle.plain_book.specs.Key.{longerPage, runPages}
+use Rattle.plain_book.specs.Book.{Book, fresh, Outcome, withKey, inUse, does, after}
+use Rattle.plain_book.specs.Owners.{places}
 use Rattle.plain_book.specs.Sound.{Fits}
 use Rattle.plain_book.specs.Good.{GoodPlain}
 use Rattle.plain_book.specs.Filled.{bytesIn, bytesHeld, bytesAt, bytesFreed, Fills, Filled}
-use Rattle.plain_book.proofs.LawsMoves.{which}
-use Rattle.plain_book.proofs.LawsHistory.{load-did, append-did, read-did, drop-did, fresh-key}
+use Rattle.plain_book.specs.Did.{LoadDid, loaded-none, loaded-one, loaded-slab, loaded-run, AppendDid, began, stayed, moved-slab, moved-page, joined-page, begun-page}
+use Rattle.plain_book.proofs.LawsHistory.{load-did, append-did, read-did, drop-did}
 use Rattle.plain_book.proofs.LawsOwners.{withStack}
-use Rattle.plain_book.proofs.LawsTaking.{took-stack, took-mark, freed-stacks, slab-class}
+use Rattle.plain_book.proofs.LawsTaking.{took-stack, took-mark, freed-stacks}
 use Rattle.plain_book.proofs.LawsGood.{fresh-good, call-good}
 
 -- ---- one stack, and one key, changes
@@ -188,21 +183,6 @@ full-freed-place (pages ps) s others c f = full-pages-freed ps s others f
 abbrev pub Leaves : ℕ → Placed → Type 0
 Leaves others p = Full (p .space) (bytesIn (p .place) + others)
 
-full-moved : (end held : ℕ) (list : List ℕ) (s : Space) (others : ℕ) (old : Place) {p : Placed} (o : Option ℕ)
-    → ((c : ℕ) → o ≡ some c → c ≤ 8) → Classed old → moved end o held list old s ≡ accepted p → Full s (bytesIn old + others)
-    → Leaves others p
-unfolding moved bytesIn
-full-moved end held list s others old (some c) few classed e f =
-    let (t, got, q) = went-on (takeBlock end c s) _ e in
-    let h = full-taken end c s (bytesIn old + others) (few c refl) got f in
-    subst (Leaves others) (accepted-inj q)
-    (full-freed-place old (t .space) (slabBytes c + others) classed (same-full (t .space) (omega arith) h))
-full-moved end held list s others old none few classed e f =
-    let (t, got, q) = went-on (takeBlock end pageClass s) _ e in
-    let h = full-taken end pageClass s (bytesIn old + others) (omega arith) got f in
-    subst (Leaves others) (accepted-inj q)
-    (full-freed-place old (t .space) (pageSize + others) classed (same-full (t .space) (omega arith) h))
-
 -- Pages whose last one has a number more are as many.
 joined-many : (n : ℕ) (ps : List Page) → length (replaceLast (λ p. longerPage n p ∷ []) ps) ≡ length ps
 unfolding replaceLast
@@ -221,53 +201,34 @@ run-many off [] = refl
 run-many off (p ∷ []) = refl
 run-many off (p ∷ q ∷ ps) = ap suc (run-many (off + pageSize) (q ∷ ps))
 
-full-pages : (end : ℕ) (ps : List Page) (n : ℕ) (s : Space) (others : ℕ) {p : Placed} → appendPages end ps n s ≡ accepted p
-    → Full s (length ps * pageSize + others) → Leaves others p
-unfolding appendPages beginPage bytesIn
-full-pages end ps n s others e f =
-    ⊎-elim
-    (λ (b, q). subst (Leaves others) (accepted-inj q)
-    (same-full s (ap (λ (k : ℕ). k * pageSize + others) (sym (joined-many n ps))) f))
-    (λ (b, q).
-    let (t, got, q') = went-on (takeBlock end pageClass s) _ q in
+full-append : (end held : ℕ) (list : List ℕ) (n : ℕ) (s : Space) (others : ℕ) {old : Place} {p : Placed} → Classed old
+    → AppendDid end held list n s old p → Full s (bytesIn old + others) → Leaves others p
+unfolding bytesIn
+full-append end held list n s others c began f = f
+full-append end held list n s others c (stayed class off kept q) f = f
+full-append end held list n s others c (moved-slab old class t out q got) f =
+    let m = moves-to (length list) (streamLen list) q in
+    let h = full-taken end class s (bytesIn old + others) (omega (arith, m .slab)) got f in
+    full-freed-place old (t .space) (slabBytes class + others) c (same-full (t .space) (omega arith) h)
+full-append end held list n s others c (moved-page old t out q got) f =
+    let h = full-taken end pageClass s (bytesIn old + others) (omega arith) got f in
+    full-freed-place old (t .space) (pageSize + others) c (same-full (t .space) (omega arith) h)
+full-append end held list n s others c (joined-page ps q) f =
+    same-full s (ap (λ (k : ℕ). k * pageSize + others) (sym (joined-many n ps))) f
+full-append end held list n s others c (begun-page ps t got) f =
     let h = full-taken end pageClass s (length ps * pageSize + others) (omega arith) got f in
     let many = behind-many ps (record { off = t .off; room = 4072; part = written (n ∷ []) }) in
-    subst (Leaves others) (accepted-inj q') (same-full (t .space) (omega arith) h))
-    (which (joins n ps) (accepted (record { place = joinedTo n ps; space = s; rewritten = 0 })) (beginPage end ps n s) e)
+    same-full (t .space) (omega arith) h
 
-pub full-append : (end held : ℕ) (list : List ℕ) (n : ℕ) (s : Space) (others : ℕ) (old : Place) {p : Placed} → Classed old
-    → appendPlace end held list n old s ≡ accepted p → Full s (bytesIn old + others) → Leaves others p
-unfolding appendPlace bytesIn
-full-append end held list n s others empty c e f = subst (Leaves others) (accepted-inj e) f
-full-append end held list n s others inline c e f =
-    full-moved end held list s others inline (movesTo (length list) (streamLen list))
-    (λ c q. let m = moves-to (length list) (streamLen list) q in omega (arith, m .slab)) c e f
-full-append end held list n s others (slab class off kept) c e f =
-    ⊎-elim (λ (b, q). subst (Leaves others) (accepted-inj q) f)
-    (λ (b, q). full-moved end held list s others (slab class off kept) (movesTo (length list) (streamLen list))
-    (λ c z. let m = moves-to (length list) (streamLen list) z in omega (arith, m .slab)) c q f)
-    (which (stays class (length list) (longer n kept .bytes)) _ _ e)
-full-append end held list n s others (pages ps) c e f = full-pages end ps n s others e f
-
-pub full-load : (end : ℕ) (ns : List ℕ) (s : Space) (others : ℕ) {p : Placed} → loadPlace end ns s ≡ accepted p → Full s others
-    → Leaves others p
-unfolding loadPlace loadInto bytesIn
-full-load end [] s others e f = subst (Leaves others) (accepted-inj e) (same-full s (omega arith) f)
-full-load end (n ∷ []) s others e f = subst (Leaves others) (accepted-inj e) (same-full s (omega arith) f)
-full-load end (n ∷ m ∷ ns) s others {p} e f = go (loadsTo (length (n ∷ m ∷ ns)) (streamLen (n ∷ m ∷ ns))) refl e
-  where
-    go : (o : Option ℕ) → loadsTo (length (n ∷ m ∷ ns)) (streamLen (n ∷ m ∷ ns)) ≡ o → loadInto end o (n ∷ m ∷ ns) s ≡ accepted p
-        → Leaves others p
-    go (some c) q e =
-        let (t, got, q') = went-on (takeBlock end c s) _ e in
-        let (few, class, fits) = loads-to (length (n ∷ m ∷ ns)) (streamLen (n ∷ m ∷ ns)) q in
-        subst (Leaves others) (accepted-inj q') (full-taken end c s others (omega arith) got f)
-    go none q e =
-        let parts = cutting (n ∷ m ∷ ns) in
-        let (t, got, q') = went-on (takeRun end (length parts) s) _ e in
-        let many = run-many (t .off) parts in
-        subst (Leaves others) (accepted-inj q')
-        (same-full (t .space) (ap (λ (k : ℕ). k * pageSize + others) (sym many)) (full-run end (length parts) s others got f))
+full-load : (end : ℕ) (s : Space) (others : ℕ) {ns : List ℕ} {p : Placed} → LoadDid end s ns p → Full s others → Leaves others p
+unfolding bytesIn
+full-load end s others loaded-none f = same-full s (omega arith) f
+full-load end s others loaded-one f = same-full s (omega arith) f
+full-load end s others {ns} (loaded-slab c t two q got) f =
+    let (few, class, fits) = loads-to (length ns) (streamLen ns) q in full-taken end c s others (omega arith) got f
+full-load end s others {ns} (loaded-run t two q got) f =
+    same-full (t .space) (ap (λ (k : ℕ). k * pageSize + others) (sym (run-many (t .off) (cutting ns))))
+    (full-run end (length (cutting ns)) s others got f)
 
 -- ---- books
 
@@ -301,11 +262,10 @@ unfolding bytesIn
 empty-full s others f = same-full s (omega arith) f
 
 -- A book with a key changed.
-full-with : (lost : ℕ) (b : Book) (key : ℕ) (list : List ℕ) (place : Place) (counted : Bool) (space : Space) (others : ℕ)
-    → ((k : Key) → bytesHeld (set (b .keys) key k) + lost ≡ bytesIn (k .place) + others) → Full space (bytesIn place + others)
-    → FullBook lost (withKey key list place counted space b)
-full-with lost b key list place counted space others held f =
-    same-full space (sym (held (record { list = list; place = place; counted = counted }))) f
+full-with : (lost : ℕ) (b : Book) (key : ℕ) (new : Key) (space : Space) (others : ℕ)
+    → ((k : Key) → bytesHeld (set (b .keys) key k) + lost ≡ bytesIn (k .place) + others) → Full space (bytesIn (new .place) + others)
+    → FullBook lost (withKey key new space b)
+full-with lost b key new space others held f = same-full space (sym (held new)) f
 
 -- In a good book a slab's class is one of the nine.
 fits-classed : (list : List ℕ) (place : Place) → Fits list place → Classed place
@@ -324,14 +284,14 @@ call-full lost b (load key ns) (accepted o) e g f =
     let (others, rest, held) = others-of lost b key within f in
     let unused = unused-none (places b key) free in
     rw (ap (λ (x : Outcome). x .book) is)
-    (full-with lost b key ns (p .place) true (p .space) others held
-    (full-load (b .size) ns (b .space) others got (same-full (b .space) (omega arith) rest)))
+    (full-with lost b key (keyIn ns (p .place) true) (p .space) others held
+    (full-load (b .size) (b .space) others got (same-full (b .space) (omega arith) rest)))
 call-full lost b (append key n) (accepted o) e g f =
     let (p, within, rises, low, got, is) = append-did b key n e in
     let (others, rest, held) = others-of lost b key within f in
     rw (ap (λ (x : Outcome). x .book) is)
-    (full-with lost b key _ (p .place) _ (p .space) others held
-    (full-append (b .size) _ _ n (b .space) others (places b key) (fits-classed _ (places b key) (g .keys key .fits)) got rest))
+    (full-with lost b key (keyIn _ (p .place) _) (p .space) others held
+    (full-append (b .size) _ _ n (b .space) others (fits-classed _ (places b key) (g .keys key .fits)) got rest))
 call-full lost b (read key room) (accepted o) e g f =
     let (within, is) = read-did b key room e in
     rw (ap (λ (x : Outcome). x .book) is) f
@@ -340,7 +300,7 @@ call-full lost b (drop key) (accepted o) e g f =
     let (others, rest, held) = others-of lost b key within f in
     let gone = full-freed-place (places b key) (b .space) others (fits-classed _ (places b key) (g .keys key .fits)) rest in
     rw (ap (λ (x : Outcome). x .book) is)
-    (full-with lost b key [] empty true (freedPlace (places b key) (b .space)) others held (empty-full _ others gone))
+    (full-with lost b key emptyKey (freedPlace (places b key) (b .space)) others held (empty-full _ others gone))
 
 -- Take any good book, of which so many bytes belong to nobody, and any list of calls: as many belong to nobody afterwards.
 pub filled-from : (lost : ℕ) (b : Book) (cs : List Call) → GoodPlain b → Filled lost b → Filled lost (after b cs)

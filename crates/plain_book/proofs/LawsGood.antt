@@ -1,6 +1,6 @@
 -- A fresh plain book is good, and every call keeps a book good, and its shape. Assumes nothing.
 use Prim.Native.Nat.{ℕ, _≤_}
-use mathlib.Core.Bool.{Bool, true, false}
+use mathlib.Core.Bool.{true, false}
 use mathlib.Core.List.{List}
 use mathlib.Core.Path.{_≡_, refl, ap, _∙_}
 use native.Mathlib.Omega.{arith}
@@ -13,7 +13,7 @@ use Rattle.book_rules.specs.Moves.{noMoves}
 use Rattle.book_limits.proofs.LawsLimits.{in-shape}
 use Rattle.book_rules.proofs.LawsCalls.{calls-keep}
 use Rattle.plain_book.specs.Space.{Space}
-use Rattle.plain_book.specs.Key.{Place}
+use Rattle.plain_book.specs.Key.{Key}
 use Rattle.plain_book.specs.Book.{Book, fresh, Outcome, onKey, withKey, loads, appends, reads, drops, does, after}
 use Rattle.plain_book.specs.Good.{GoodPlain}
 use Rattle.plain_book.proofs.LawsHistory.{load-did, append-did, read-did, drop-did, fresh-key, kept-call}
@@ -28,9 +28,8 @@ abbrev pub SameShape : Book → Book → Type 0
 SameShape b b' = (b' .size ≡ b .size) × (length (b' .keys) ≡ length (b .keys))
 
 -- So has a book with a key changed.
-with-shape : (b : Book) (key : ℕ) (list : List ℕ) (place : Place) (counted : Bool) (space : Space) {b' : Book}
-    → b' ≡ withKey key list place counted space b → SameShape b b'
-with-shape b key list place counted space is = rw is (refl, length-set (b .keys) key _)
+with-shape : (b : Book) (key : ℕ) (new : Key) (space : Space) {b' : Book} → b' ≡ withKey key new space b → SameShape b b'
+with-shape b key new space is = rw is (refl, length-set (b .keys) key _)
 
 -- A call's outcome leaves them.
 shape-after : (b : Book) (c : Call) (a : Answer Outcome) → does b c ≡ a → SameShape b (bookAfter b a)
@@ -38,16 +37,16 @@ unfolding does bookAfter
 shape-after b c (refused number) e = (refl, refl)
 shape-after b (load key ns) (accepted o) e =
     let (p, within, free, rises, got, is) = load-did b key ns e in
-    with-shape b key _ _ _ _ (ap (λ (x : Outcome). x .book) is)
+    with-shape b key _ _ (ap (λ (x : Outcome). x .book) is)
 shape-after b (append key n) (accepted o) e =
     let (p, within, rises, low, got, is) = append-did b key n e in
-    with-shape b key _ _ _ _ (ap (λ (x : Outcome). x .book) is)
+    with-shape b key _ _ (ap (λ (x : Outcome). x .book) is)
 shape-after b (read key room) (accepted o) e =
     let (within, is) = read-did b key room e in
     rw (ap (λ (x : Outcome). x .book) is) (refl, refl)
 shape-after b (drop key) (accepted o) e =
     let (within, is) = drop-did b key e in
-    with-shape b key _ _ _ _ (ap (λ (x : Outcome). x .book) is)
+    with-shape b key _ _ (ap (λ (x : Outcome). x .book) is)
 
 -- A call leaves the body's length, and how many keys there are.
 pub shape-kept : (b : Book) (c : Call) → SameShape b (bookAfter b (does b c))

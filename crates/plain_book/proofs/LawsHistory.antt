@@ -13,7 +13,7 @@ use Rattle.error.specs.Refusal.{Answer, accepted, refused, answered, shapeBad, 
 use Rattle.error.proofs.LawsAnswer.{accepted-inj, passed, went-on}
 use Rattle.scripthash_stream.specs.Stream.{Rising, lastFrom}
 use Rattle.plain_book.specs.Space.{Space}
-use Rattle.plain_book.specs.Key.{Place, empty, Key, emptyKey, headOf, pagesOf, freedPlace, countedAfter, Placed}
+use Rattle.plain_book.specs.Key.{Key, emptyKey, headOf, pagesOf, freedPlace, countedAfter, Placed, keyIn}
 use Rattle.plain_book.specs.Key.{appendPlace, loadPlace}
 use Rattle.book_rules.specs.Calls.{Call, load, append, read, drop, loaded, appended, listed, dropped, bookAfter, answerOf, keyOfCall}
 use Rattle.book_rules.specs.Calls.{afterCalls, answersTo}
@@ -21,7 +21,9 @@ use Rattle.book_limits.specs.Limits.{outOfShape}
 use Rattle.book_rules.proofs.LawsOffered.{offered-on, offered-all}
 use Rattle.plain_book.specs.Book.{Book, fresh, Outcome, onKey, keyOf, withKey, inUse, extended, loads, appends, reads, drops, does}
 use Rattle.plain_book.specs.Book.{after, answers}
+use Rattle.plain_book.specs.Did.{LoadDid, AppendDid}
 use Rattle.book_rules.specs.Moves.{Tally, noMoves, counted, talliedBy, tallied, tallyOf}
+use Rattle.plain_book.proofs.LawsDid.{load-cases, append-cases}
 
 -- A call that is accepted is on a key of the book.
 pub on-key : {A : Type 0} (b : Book) (key : ℕ) (after : Answer A) {x : A} → onKey b key after ≡ accepted x
@@ -36,8 +38,8 @@ on-key b key after e =
 
 pub load-did : (b : Book) (key : ℕ) (ns : List ℕ) {o : Outcome} → loads b key ns ≡ accepted o
     → (p : Placed) × (key < length (b .keys)) × (inUse (keyOf key b .place) ≡ false) × Rising (2 ^ 62) 0 ns
-    × (loadPlace (b .size) ns (b .space) ≡ accepted p)
-    × (o ≡ record { told = loaded (record { pages = pagesOf (p .place) }); book = withKey key ns (p .place) true (p .space) b })
+    × LoadDid (b .size) (b .space) ns p
+    × (o ≡ record { told = loaded (record { pages = pagesOf (p .place) }); book = withKey key (keyIn ns (p .place) true) (p .space) b })
 unfolding loads
 load-did b key ns e =
     let (within, e1) = on-key b key _ e in
@@ -45,15 +47,15 @@ load-did b key ns e =
     let (few, e3) = passed _ _ _ e2 in
     let (rises, e4) = offered-all true 0 ns _ e3 in
     let (p, got, is) = went-on (loadPlace (b .size) ns (b .space)) _ e4 in
-    (p, within, free, rises, got, sym (accepted-inj is))
+    (p, within, free, rises, load-cases (b .size) ns (b .space) got, sym (accepted-inj is))
 
 pub append-did : (b : Book) (key n : ℕ) {o : Outcome} → appends b key n ≡ accepted o
     → (p : Placed) × (key < length (b .keys)) × (lastFrom 0 (keyOf key b .list) < n) × (n < 2 ^ 62)
-    × (appendPlace (b .size) (length (keyOf key b .list)) (extended (keyOf key b .list) n) n (keyOf key b .place) (b .space) ≡ accepted p)
+    × AppendDid (b .size) (length (keyOf key b .list)) (extended (keyOf key b .list) n) n (b .space) (keyOf key b .place) p
     × (o ≡ record {
       told = appended (record { place = headOf (extended (keyOf key b .list) n) (p .place); rewritten = p .rewritten });
-      book = withKey key (extended (keyOf key b .list) n) (p .place) (countedAfter (keyOf key b .place) (keyOf key b .counted)) (p .space)
-          b;
+      book = withKey key (keyIn (extended (keyOf key b .list) n) (p .place) (countedAfter (keyOf key b .place) (keyOf key b .counted)))
+          (p .space) b;
     })
 unfolding appends
 append-did b key n e =
@@ -61,7 +63,7 @@ append-did b key n e =
     let (rises, low, e2) = offered-on true _ n _ e1 in
     let (p, got, is) = went-on (appendPlace (b .size) (length (keyOf key b .list)) (extended (keyOf key b .list) n) n (keyOf key b .place)
     (b .space)) _ e2 in
-    (p, within, rises, low, got, sym (accepted-inj is))
+    (p, within, rises, low, append-cases (b .size) _ _ n (b .space) (keyOf key b .place) got, sym (accepted-inj is))
 
 pub read-did : (b : Book) (key room : ℕ) {o : Outcome} → reads b key room ≡ accepted o
     → (key < length (b .keys)) × (o ≡ record {
@@ -79,7 +81,7 @@ pub drop-did : (b : Book) (key : ℕ) {o : Outcome} → drops b key ≡ accepted
     → (key < length (b .keys))
     × (o ≡ record {
       told = dropped (record { length = length (keyOf key b .list) });
-      book = withKey key [] empty true (freedPlace (keyOf key b .place) (b .space)) b;
+      book = withKey key emptyKey (freedPlace (keyOf key b .place) (b .space)) b;
     })
 unfolding drops
 drop-did b key e = let (within, is) = on-key b key _ e in (within, sym (accepted-inj is))
@@ -109,10 +111,10 @@ key-with b own k l j = go (eqb j own) refl
 pub record KeptByCalls (P : Key → Tally → Type 0) : Type 0 where
   pub loads : (end : ℕ) (k : Key) (ns : List ℕ) (s : Space) (p : Placed) (t : Tally) → P k t → inUse (k .place) ≡ false
       → Rising (2 ^ 62) 0 ns
-      → loadPlace end ns s ≡ accepted p → P (record { list = ns; place = p .place; counted = true }) t
+      → LoadDid end s ns p → P (keyIn ns (p .place) true) t
   pub appends : (end : ℕ) (k : Key) (n : ℕ) (s : Space) (p : Placed) (t : Tally) → P k t → lastFrom 0 (k .list) < n → n < 2 ^ 62
-      → appendPlace end (length (k .list)) (extended (k .list) n) n (k .place) s ≡ accepted p
-      → P (record { list = extended (k .list) n; place = p .place; counted = countedAfter (k .place) (k .counted) })
+      → AppendDid end (length (k .list)) (extended (k .list) n) n s (k .place) p
+      → P (keyIn (extended (k .list) n) (p .place) (countedAfter (k .place) (k .counted)))
       (counted (p .rewritten) t)
   pub drops : P emptyKey noMoves
 
@@ -120,12 +122,10 @@ module _ (P : Key → Tally → Type 0) (kept : KeptByCalls P) where
   -- What an accepted call changes: its key, and the space; and it keeps what holds of its key.
   record Changed (b : Book) (key : ℕ) (o : Outcome) : Type 0 where
     within : key < length (b .keys)
-    list : List ℕ
-    place : Place
-    known : Bool
+    new : Key
     space : Space
-    book : o .book ≡ withKey key list place known space b
-    keeps : (t : Tally) → P (keyOf key b) t → P (record { list = list; place = place; counted = known }) (talliedBy (o .told) t)
+    book : o .book ≡ withKey key new space b
+    keeps : (t : Tally) → P (keyOf key b) t → P new (talliedBy (o .told) t)
 
   load-changed : (b : Book) (key : ℕ) (ns : List ℕ) {o : Outcome} → loads b key ns ≡ accepted o → Changed b key o
   unfolding talliedBy
@@ -133,9 +133,7 @@ module _ (P : Key → Tally → Type 0) (kept : KeptByCalls P) where
       let (p, within, free, rises, got, is) = load-did b key ns e in
       record {
         within = within;
-        list = ns;
-        place = p .place;
-        known = true;
+        new = keyIn ns (p .place) true;
         space = p .space;
         book = ap (λ (x : Outcome). x .book) is;
         keeps = λ t h. rw (ap (λ (x : Outcome). talliedBy (x .told) t) is)
@@ -148,9 +146,7 @@ module _ (P : Key → Tally → Type 0) (kept : KeptByCalls P) where
       let (p, within, rises, low, got, is) = append-did b key n e in
       record {
         within = within;
-        list = extended (keyOf key b .list) n;
-        place = p .place;
-        known = countedAfter (keyOf key b .place) (keyOf key b .counted);
+        new = keyIn (extended (keyOf key b .list) n) (p .place) (countedAfter (keyOf key b .place) (keyOf key b .counted));
         space = p .space;
         book = ap (λ (x : Outcome). x .book) is;
         keeps = λ t h. rw (ap (λ (x : Outcome). talliedBy (x .told) t) is)
@@ -163,9 +159,7 @@ module _ (P : Key → Tally → Type 0) (kept : KeptByCalls P) where
       let (within, is) = read-did b key room e in
       record {
         within = within;
-        list = keyOf key b .list;
-        place = keyOf key b .place;
-        known = keyOf key b .counted;
+        new = keyOf key b;
         space = b .space;
         book = ap (λ (x : Outcome). x .book) is ∙ ap (λ (ks : List Key). record { size = b .size; keys = ks; space = b .space })
             (sym (set-getD (b .keys) key emptyKey));
@@ -178,9 +172,7 @@ module _ (P : Key → Tally → Type 0) (kept : KeptByCalls P) where
       let (within, is) = drop-did b key e in
       record {
         within = within;
-        list = [];
-        place = empty;
-        known = true;
+        new = emptyKey;
         space = freedPlace (keyOf key b .place) (b .space);
         book = ap (λ (x : Outcome). x .book) is;
         keeps = λ t h. rw (ap (λ (x : Outcome). talliedBy (x .told) t) is) (kept .drops);
@@ -205,7 +197,7 @@ module _ (P : Key → Tally → Type 0) (kept : KeptByCalls P) where
       go ch true q =
           let is : keyOfCall c ≡ key = eqb-true (keyOfCall c) key q in
           let h' : P (keyOf (keyOfCall c) b) t = rw is h in
-          let new : keyOf (keyOfCall c) (o .book) ≡ record { list = ch .list; place = ch .place; counted = ch .known } =
+          let new : keyOf (keyOfCall c) (o .book) ≡ ch .new =
           ap (λ (x : Book). keyOf (keyOfCall c) x) (ch .book) ∙ getD-set-same (b .keys) (keyOfCall c) _ emptyKey (ch .within) in
           let done : P (keyOf (keyOfCall c) (o .book)) (talliedBy (o .told) t) = rw new (ch .keeps t h') in
           rw (← is) done

@@ -3,25 +3,20 @@
 use Prim.Native.Nat.{ℕ, _+_, _*_, _≤_}
 use mathlib.Core.Bool.{Bool, true, false, cond}
 use mathlib.Core.List.{List, [], _∷_}
-use mathlib.Core.Logic.{⊎-elim}
-use mathlib.Core.Option.{Option, none, some}
 use mathlib.Core.Path.{_≡_, refl, ap, subst}
 use lib.Dec.{eqb}
 use lib.ListN.{length}
 use borrow.Author.Tests.{ltb-false}
 use Rattle.error.specs.Refusal.{Answer, accepted, refused}
-use Rattle.error.proofs.LawsAnswer.{accepted-inj, passed, went-on}
+use Rattle.error.proofs.LawsAnswer.{accepted-inj, passed}
 use Rattle.scripthash_layout.specs.Sizes.{slabBytes, pageClass, pageSize}
-use Rattle.scripthash_stream.specs.Stream.{streamLen}
 use Rattle.scripthash_cutting.specs.Cutting.{cutting}
 use Rattle.plain_book.specs.Space.{Space, stackOf, Taken, takeMark, rounded, takeRun, takeFresh, takeFrom, takeBlock}
-use Rattle.book_rules.specs.Places.{stays, movesTo, loadsTo}
-use Rattle.plain_book.specs.Key.{Page, Place, empty, inline, slab, pages, longer, freedPages, freedPlace, Placed, moved, joins}
-use Rattle.plain_book.specs.Key.{joinedTo, beginPage, appendPages, appendPlace, loadInto, loadPlace}
+use Rattle.plain_book.specs.Key.{Page, Place, empty, inline, slab, pages, freedPages, freedPlace, Placed}
 use Rattle.book_rules.specs.Calls.{Call, load, append, read, drop, bookAfter}
 use Rattle.plain_book.specs.Book.{Book, fresh, Outcome, does, after, keyOf}
+use Rattle.plain_book.specs.Did.{LoadDid, loaded-none, loaded-one, loaded-slab, loaded-run, AppendDid, began, stayed, moved-slab, moved-page, joined-page, begun-page}
 use Rattle.book_rules.proofs.LawsCalls.{calls-keep}
-use Rattle.plain_book.proofs.LawsMoves.{which}
 use Rattle.plain_book.proofs.LawsHistory.{load-did, append-did, read-did, drop-did}
 
 -- Freeing leaves the mark.
@@ -62,42 +57,21 @@ taken-within end class s {t} e h = from-stack (stackOf class s) e
 abbrev Within : ℕ → Placed → Type 0
 Within end p = p .space .mark ≤ end
 
-moved-within : (end held : ℕ) (list : List ℕ) (old : Place) (s : Space) {p : Placed} (o : Option ℕ) → s .mark ≤ end
-    → moved end o held list old s ≡ accepted p → Within end p
-unfolding moved
-moved-within end held list old s (some c) h e =
-    let (t, got, is) = went-on (takeBlock end c s) _ e in
-    subst (Within end) (accepted-inj is) (rw (place-mark old (t .space)) (taken-within end c s got h))
-moved-within end held list old s none h e =
-    let (t, got, is) = went-on (takeBlock end pageClass s) _ e in
-    subst (Within end) (accepted-inj is) (rw (place-mark old (t .space)) (taken-within end pageClass s got h))
+append-within : (end held : ℕ) (list : List ℕ) (n : ℕ) (s : Space) {old : Place} {p : Placed} → s .mark ≤ end
+    → AppendDid end held list n s old p → Within end p
+append-within end held list n s h began = h
+append-within end held list n s h (stayed class off kept q) = h
+append-within end held list n s h (moved-slab old c t out q got) = rw (place-mark old (t .space)) (taken-within end c s got h)
+append-within end held list n s h (moved-page old t out q got) = rw (place-mark old (t .space)) (taken-within end pageClass s got h)
+append-within end held list n s h (joined-page ps q) = h
+append-within end held list n s h (begun-page ps t got) = taken-within end pageClass s got h
 
-append-within : (end held : ℕ) (list : List ℕ) (n : ℕ) (old : Place) (s : Space) {p : Placed} → s .mark ≤ end
-    → appendPlace end held list n old s ≡ accepted p → Within end p
-unfolding appendPlace appendPages beginPage
-append-within end held list n empty s h e = subst (Within end) (accepted-inj e) h
-append-within end held list n inline s h e = moved-within end held list inline s (movesTo (length list) (streamLen list)) h e
-append-within end held list n (slab class off kept) s h e =
-    ⊎-elim (λ (b, is). subst (Within end) (accepted-inj is) h)
-    (λ (b, is). moved-within end held list (slab class off kept) s (movesTo (length list) (streamLen list)) h is)
-    (which (stays class (length list) (longer n kept .bytes)) _ _ e)
-append-within end held list n (pages ps) s h e =
-    ⊎-elim (λ (b, is). subst (Within end) (accepted-inj is) h)
-    (λ (b, is). let (t, got, is') = went-on (takeBlock end pageClass s) _ is in
-    subst (Within end) (accepted-inj is') (taken-within end pageClass s got h))
-    (which (joins n ps) (accepted (record { place = joinedTo n ps; space = s; rewritten = 0 })) (beginPage end ps n s) e)
-
-load-within : (end : ℕ) (ns : List ℕ) (s : Space) {p : Placed} → s .mark ≤ end → loadPlace end ns s ≡ accepted p → Within end p
-unfolding loadPlace loadInto takeRun
-load-within end [] s h e = subst (Within end) (accepted-inj e) h
-load-within end (n ∷ []) s h e = subst (Within end) (accepted-inj e) h
-load-within end (n ∷ m ∷ ns) s {p} h e = go (loadsTo (length (n ∷ m ∷ ns)) (streamLen (n ∷ m ∷ ns))) e
-  where
-    go : (o : Option ℕ) → loadInto end o (n ∷ m ∷ ns) s ≡ accepted p → Within end p
-    go (some c) e = let (t, got, is) = went-on (takeBlock end c s) _ e in subst (Within end) (accepted-inj is) (taken-within end c s got h)
-    go none e =
-        let (t, got, is) = went-on (takeRun end (length (cutting (n ∷ m ∷ ns))) s) _ e in
-        subst (Within end) (accepted-inj is) (marked-within end (length (cutting (n ∷ m ∷ ns)) * pageSize) (rounded s) got)
+load-within : (end : ℕ) (s : Space) {ns : List ℕ} {p : Placed} → s .mark ≤ end → LoadDid end s ns p → Within end p
+unfolding takeRun
+load-within end s h loaded-none = h
+load-within end s h loaded-one = h
+load-within end s h (loaded-slab c t two q got) = taken-within end c s got h
+load-within end s {ns} h (loaded-run t two q got) = marked-within end (length (cutting ns) * pageSize) (rounded s) got
 
 -- A call leaves the body's length, and the mark within it.
 abbrev pub Inside : ℕ → Book → Type 0
@@ -108,10 +82,10 @@ unfolding does bookAfter
 call-inside size b c (refused number) e h = h
 call-inside size b (load key ns) (accepted o) e (s, m) =
     let (p, within, free, rises, got, is) = load-did b key ns e in
-    rw (ap (λ (x : Outcome). x .book) is) (s, rw (← s) (load-within (b .size) ns (b .space) (rw s m) got))
+    rw (ap (λ (x : Outcome). x .book) is) (s, rw (← s) (load-within (b .size) (b .space) (rw s m) got))
 call-inside size b (append key n) (accepted o) e (s, m) =
     let (p, within, rises, low, got, is) = append-did b key n e in
-    rw (ap (λ (x : Outcome). x .book) is) (s, rw (← s) (append-within (b .size) _ _ n (keyOf key b .place) (b .space) (rw s m) got))
+    rw (ap (λ (x : Outcome). x .book) is) (s, rw (← s) (append-within (b .size) _ _ n (b .space) (rw s m) got))
 call-inside size b (read key room) (accepted o) e h =
     let (within, is) = read-did b key room e in
     rw (ap (λ (x : Outcome). x .book) is) h

@@ -1,26 +1,23 @@
 -- From the start or the last drop no key is moved more than 9 times, nor has more than 765 records rewritten by moves. Assumes nothing.
 use Prim.Native.Nat.{ℕ, zero, suc, _+_, _≤_, _<_}
-use mathlib.Core.Bool.{Bool, true, false, cond}
-use mathlib.Core.List.{List, [], _∷_}
+use mathlib.Core.Bool.{true, false}
+use mathlib.Core.List.{List}
 use mathlib.Core.Logic.{_⊎_, inl, inr, ⊎-elim}
-use mathlib.Core.Option.{Option, none, some}
+use mathlib.Core.Option.{some}
 use mathlib.Core.Path.{_≡_, refl, sym, ap, _∙_}
 use native.Mathlib.Nat.{le-refl, add-zero}
 use native.Mathlib.Omega.{arith}
 use lib.ListN.{length}
 use borrow.Author.Tests.{ne-eqb}
-use Rattle.error.specs.Refusal.{accepted}
-use Rattle.error.proofs.LawsAnswer.{accepted-inj, went-on}
-use Rattle.scripthash_layout.specs.Sizes.{slabSlots, maxSlabClass, maxSlabCount, pageClass}
+use Rattle.scripthash_layout.specs.Sizes.{slabSlots, maxSlabClass, maxSlabCount}
 use Rattle.scripthash_stream.specs.Stream.{streamLen}
-use Rattle.scripthash_cutting.specs.Cutting.{cutting}
-use Rattle.plain_book.specs.Space.{Space, takeBlock, takeRun}
-use Rattle.book_rules.specs.Places.{stays, movesTo, loadsTo}
-use Rattle.plain_book.specs.Key.{Place, empty, inline, slab, pages, Kept, written, longer, Page, Placed, onePage, moved, joins}
-use Rattle.plain_book.specs.Key.{joinedTo, beginPage, appendPages, appendPlace, loadInto, loadPlace}
+use Rattle.plain_book.specs.Space.{Space}
+use Rattle.book_rules.specs.Places.{stays, movesTo}
+use Rattle.plain_book.specs.Key.{Place, empty, inline, slab, pages, Kept, written, longer, Placed}
 use Rattle.book_rules.specs.Moves.{Tally, counted}
 use Rattle.plain_book.specs.Sound.{Shortest}
 use Rattle.plain_book.specs.Ceilings.{mostMoves, mostRewritten}
+use Rattle.plain_book.specs.Did.{LoadDid, loaded-none, loaded-one, loaded-slab, loaded-run, Outgrown, AppendDid, began, stayed, moved-slab, moved-page, joined-page, begun-page}
 use Rattle.book_rules.proofs.LawsRules.{slots-mono, slots-twice, stays-holds, Moves, moves-to, loads-to}
 use Rattle.plain_book.proofs.LawsKept.{written-shortest, shortest-longer}
 
@@ -75,23 +72,6 @@ unfolding counted
 counted-none t = refl
 
 -- ---- moving
-
--- What a move gives: a slab of the class that was chosen, or a page; and the records held before are rewritten.
-module _ (end held : ℕ) (list : List ℕ) (old : Place) (s : Space) {p : Placed} where
-  pub moved-slab : (c : ℕ) → moved end (some c) held list old s ≡ accepted p
-      → (off : ℕ) × (p .place ≡ slab c off (written list)) × (p .rewritten ≡ held)
-  unfolding moved
-  moved-slab c e =
-      let (t, got, is) = went-on (takeBlock end c s) _ e in
-      let same = accepted-inj is in
-      (t .off, ap (λ (q : Placed). q .place) (sym same), ap (λ (q : Placed). q .rewritten) (sym same))
-
-  pub moved-page : moved end none held list old s ≡ accepted p → (off : ℕ) × (p .place ≡ pages (onePage off list)) × (p .rewritten ≡ held)
-  unfolding moved
-  moved-page e =
-      let (t, got, is) = went-on (takeBlock end pageClass s) _ e in
-      let same = accepted-inj is in
-      (t .off, ap (λ (q : Placed). q .place) (sym same), ap (λ (q : Placed). q .rewritten) (sym same))
 
 -- A list of held + 1 numbers moves to a slab of class c: out of one of class d, which it doesn't fit, or out of the head word.
 module _ (held bytes c : ℕ) (kept : Kept) (shortest : Shortest kept) (t : Tally) (m : Moves (held + 1) bytes c) where
@@ -153,111 +133,65 @@ to-page held c kept t i =
 
 -- ---- an append, and a load
 
--- A move into what was chosen, given the tally of the slab that it leaves, or of the head word.
-moved-spent : (end held : ℕ) (list : List ℕ) (old : Place) (s : Space) {p : Placed} (t : Tally) (o : Option ℕ) → length list ≡ held + 1
-    → ((c : ℕ) → o ≡ some c → InSlab c (held + 1) (written list) (counted held t)) → (counted held t .moves ≤ mostMoves)
-    × (counted held t .rewritten ≤ mostRewritten)
-    → moved end o held list old s ≡ accepted p → Spent (length list) (p .place) (counted (p .rewritten) t)
-moved-spent end held list old s {p} t (some c) l into out e =
-    let (off, at, told) = moved-slab end held list old s c e in
-    rw (at, told, l) (into c refl)
-moved-spent end held list old s {p} t none l into out e =
-    let (off, at, told) = moved-page end held list old s e in
-    rw (at, told) out
+-- Where a list goes that outgrew its place: to a slab,
+to-slab : (held : ℕ) (list : List ℕ) (n : ℕ) (old : Place) (t : Tally) → length list ≡ held + 1
+    → ((class off : ℕ) (kept : Kept) → old ≡ slab class off kept → longer n kept .numbers ≡ list) → Spent held old t → Outgrown list n old
+    → (c : ℕ) → movesTo (length list) (streamLen list) ≡ some c → InSlab c (held + 1) (written list) (counted held t)
+to-slab held list n empty t l same h out c q = absurd out
+to-slab held list n inline t l same (o, m, r) out c q =
+    first-move held (streamLen list) c (written list) (written-shortest list) t (rw l at (moves-to (length list) (streamLen list) q)) m r
+to-slab held list n (slab d off kept) t l same i out c q =
+    let m : Moves (held + 1) (streamLen list) c = rw l at (moves-to (length list) (streamLen list) q) in
+    let short = written-shortest list in
+    ⊎-elim (λ (x, y). first-move held (streamLen list) c (written list) short t m x y)
+    (λ (g, shortest).
+    let bytes : longer n kept .bytes ≡ streamLen list = shortest-longer n kept shortest ∙ ap streamLen (same d off kept refl) in
+    let b' : stays d (held + 1) (streamLen list) ≡ false = rw (l, bytes) at out in
+    next-move held (streamLen list) c (written list) short t m d (m .grows d b') g)
+    (i .so-far)
+to-slab held list n (pages ps) t l same h out c q = absurd out
 
--- A choice by a test: one or the other.
-pub which : {A : Type 0} (b : Bool) (x y : A) {z : A} → cond b x y ≡ z → ((b ≡ true) × (x ≡ z)) ⊎ ((b ≡ false) × (y ≡ z))
-which true x y e = inl (refl, e)
-which false x y e = inr (refl, e)
+-- or to a page.
+to-pages : (held : ℕ) (list : List ℕ) (n : ℕ) (old : Place) (t : Tally) → Spent held old t → Outgrown list n old
+    → (counted held t .moves ≤ mostMoves) × (counted held t .rewritten ≤ mostRewritten)
+to-pages held list n empty t h out = absurd out
+to-pages held list n inline t (o, m, r) out = (omega (arith, counted-moves held t), omega (arith, counted-rewritten held t))
+to-pages held list n (slab d off kept) t i out = to-page held d kept t i
+to-pages held list n (pages ps) t h out = absurd out
 
--- The place that an append or a load gave.
-pub placed : {p q : Placed} → accepted p ≡ accepted q → q .place ≡ p .place
-placed e = ap (λ (x : Placed). x .place) (sym (accepted-inj e))
-
--- The same, and the records that it rewrote.
-given : {p q : Placed} → accepted p ≡ accepted q → (q .place ≡ p .place) × (q .rewritten ≡ p .rewritten)
-given e = (placed e, ap (λ (x : Placed). x .rewritten) (sym (accepted-inj e)))
-
--- A number that joins pages, or begins one, moves nothing.
-pub pages-spent : (end : ℕ) (ps : List Page) (n : ℕ) (s : Space) {p : Placed} → appendPages end ps n s ≡ accepted p
-    → (qs : List Page) × (p .place ≡ pages qs) × (p .rewritten ≡ 0)
-unfolding appendPages beginPage
-pages-spent end ps n s e =
-    ⊎-elim (λ (b, is). let (at, told) = given is in (_, at, told))
-    (λ (b, is).
-    let (t, got, is') = went-on (takeBlock end pageClass s) _ is in
-    let (at, told) = given is' in
-    (_, at, told))
-    (which (joins n ps) (accepted (record { place = joinedTo n ps; space = s; rewritten = 0 })) (beginPage end ps n s) e)
+-- A list that stays in its slab.
+stays-spent : (d held : ℕ) (list : List ℕ) (n : ℕ) (kept : Kept) (t : Tally) → length list ≡ held + 1 → InSlab d held kept t
+    → stays d (length list) (longer n kept .bytes) ≡ true → InSlab d (length list) (longer n kept) t
+stays-spent d held list n kept t l i b =
+    let (few, holds, fits) = stays-holds d (length list) (longer n kept .bytes) b in
+    record {
+      class = i .class;
+      few = few;
+      so-far = ⊎-elim (λ u. inl u)
+          (λ (g, shortest). inr (
+            record { holds = holds; moves = g .moves; rewritten = ⊎-elim (λ u. inl u) (λ (x, y). absurd (omega arith)) (g .rewritten) },
+            shortest-longer n kept shortest,
+          ))
+          (i .so-far);
+    }
 
 -- An append keeps the tally within what the new place allows.
-pub append-spent : (end held : ℕ) (list : List ℕ) (n : ℕ) (old : Place) (s : Space) {p : Placed} (t : Tally) → length list ≡ held + 1
+pub append-spent : (end held : ℕ) (list : List ℕ) (n : ℕ) (s : Space) {old : Place} {p : Placed} (t : Tally) → length list ≡ held + 1
     → ((class off : ℕ) (kept : Kept) → old ≡ slab class off kept → longer n kept .numbers ≡ list) → Spent held old t
-    → appendPlace end held list n old s ≡ accepted p → Spent (length list) (p .place) (counted (p .rewritten) t)
-unfolding appendPlace
-append-spent end held list n empty s t l same (z, m, r) e =
-    let (at, told) = given e in
-    rw (at, told, counted-none t) (omega arith, m, r)
-append-spent end held list n inline s t l same (o, m, r) e =
-    moved-spent end held list inline s t (movesTo (length list) (streamLen list)) l
-    (λ c q. first-move held (streamLen list) c (written list) (written-shortest list) t
-    (rw l at (moves-to (length list) (streamLen list) q)) m r)
-    (omega (arith, counted-moves held t), omega (arith, counted-rewritten held t))
-    e
-append-spent end held list n (slab d off kept) s t l same i e =
-    ⊎-elim
-    (λ (b, is).
-    let (at, told) = given is in
-    rw (at, told, counted-none t) (stayed b))
-    (λ (b, is).
-    moved-spent end held list (slab d off kept) s t (movesTo (length list) (streamLen list)) l (λ c q. into b c q) (to-page held d kept t i)
-    is)
-    (which (stays d (length list) (longer n kept .bytes)) _ _ e)
-  where
-    into : stays d (length list) (longer n kept .bytes) ≡ false → (c : ℕ) → movesTo (length list) (streamLen list) ≡ some c
-        → InSlab c (held + 1) (written list) (counted held t)
-    into b c q =
-        let m : Moves (held + 1) (streamLen list) c = rw l at (moves-to (length list) (streamLen list) q) in
-        let short = written-shortest list in
-        ⊎-elim (λ (x, y). first-move held (streamLen list) c (written list) short t m x y)
-        (λ (g, shortest).
-        let bytes : longer n kept .bytes ≡ streamLen list = shortest-longer n kept shortest ∙ ap streamLen (same d off kept refl) in
-        let b' : stays d (held + 1) (streamLen list) ≡ false = rw (l, bytes) at b in
-        next-move held (streamLen list) c (written list) short t m d (m .grows d b') g)
-        (i .so-far)
-
-    stayed : stays d (length list) (longer n kept .bytes) ≡ true → InSlab d (length list) (longer n kept) t
-    stayed b =
-        let (few, holds, fits) = stays-holds d (length list) (longer n kept .bytes) b in
-        record {
-          class = i .class;
-          few = few;
-          so-far = ⊎-elim (λ u. inl u)
-              (λ (g, shortest). inr (
-                record { holds = holds; moves = g .moves; rewritten = ⊎-elim (λ u. inl u) (λ (x, y). absurd (omega arith)) (g .rewritten) },
-                shortest-longer n kept shortest,
-              ))
-              (i .so-far);
-        }
-append-spent end held list n (pages ps) s t l same (m, r) e =
-    let (qs, at, told) = pages-spent end ps n s e in
-    rw (at, told, counted-none t) (m, r)
+    → AppendDid end held list n s old p → Spent (length list) (p .place) (counted (p .rewritten) t)
+append-spent end held list n s t l same (z, m, r) began = rw (counted-none t) (omega arith, m, r)
+append-spent end held list n s t l same i (stayed d off kept q) = rw (counted-none t) (stays-spent d held list n kept t l i q)
+append-spent end held list n s t l same h (moved-slab old c x out q got) = rw l (to-slab held list n old t l same h out c q)
+append-spent end held list n s t l same h (moved-page old x out q got) = to-pages held list n old t h out
+append-spent end held list n s t l same h (joined-page ps q) = rw (counted-none t) h
+append-spent end held list n s t l same h (begun-page ps x got) = rw (counted-none t) h
 
 -- A load moves nothing, and its place allows that.
-pub load-spent : (end : ℕ) (ns : List ℕ) (s : Space) {p : Placed} (t : Tally) → t .moves ≡ 0 → t .rewritten ≡ 0
-    → loadPlace end ns s ≡ accepted p
+pub load-spent : (end : ℕ) (s : Space) {ns : List ℕ} {p : Placed} (t : Tally) → t .moves ≡ 0 → t .rewritten ≡ 0 → LoadDid end s ns p
     → Spent (length ns) (p .place) t
-unfolding loadPlace loadInto
-load-spent end [] s t m r e = rw (placed e) (refl, m, r)
-load-spent end (n ∷ []) s t m r e = rw (placed e) (refl, m, r)
-load-spent end (n ∷ k ∷ ns) s {p} t m r e = go (loadsTo (length (n ∷ k ∷ ns)) (streamLen (n ∷ k ∷ ns))) refl e
-  where
-    go : (o : Option ℕ) → loadsTo (length (n ∷ k ∷ ns)) (streamLen (n ∷ k ∷ ns)) ≡ o → loadInto end o (n ∷ k ∷ ns) s ≡ accepted p
-        → Spent (length (n ∷ k ∷ ns)) (p .place) t
-    go (some c) q e =
-        let (few, class, fits) = loads-to (length (n ∷ k ∷ ns)) (streamLen (n ∷ k ∷ ns)) q in
-        let (t', got, is) = went-on (takeBlock end c s) _ e in
-        rw (placed is) (record { class = class; few = few; so-far = inl (m, r) })
-    go none q e =
-        let (t', got, is) = went-on (takeRun end (length (cutting (n ∷ k ∷ ns))) s) _ e in
-        rw (placed is) (omega arith, omega arith)
+load-spent end s t m r loaded-none = (refl, m, r)
+load-spent end s t m r loaded-one = (refl, m, r)
+load-spent end s {ns} t m r (loaded-slab c x two q got) =
+    let (few, class, fits) = loads-to (length ns) (streamLen ns) q in
+    record { class = class; few = few; so-far = inl (m, r) }
+load-spent end s t m r (loaded-run x two q got) = (omega arith, omega arith)

@@ -18,7 +18,7 @@ use Rattle.book_rules.specs.Moves.{noMoves}
 use Rattle.book_rules.specs.Recorded.{recordedBy, recordedAfter, recorded}
 use Rattle.book_rules.specs.Licence.{AnsweredBy, Licensed}
 use Rattle.plain_book.specs.Space.{Space}
-use Rattle.plain_book.specs.Key.{Key, emptyKey, Place, empty, inline, slab, pages, pagesOf}
+use Rattle.plain_book.specs.Key.{Key, emptyKey, Place, empty, inline, slab, pages, pagesOf, keyIn}
 use Rattle.plain_book.specs.Book.{Book, fresh, Outcome, onKey, keyOf, withKey, inUse, reads, does, after, answers}
 use Rattle.plain_book.specs.Sound.{Fits, SoundKey}
 use Rattle.plain_book.proofs.LawsHistory.{load-did, append-did, read-did, drop-did, fresh-key, kept-call}
@@ -41,16 +41,15 @@ unused-holds list (slab class off kept) f fits = absurd (false≢true (sym f))
 unused-holds list (pages ps) f fits = absurd (false≢true (sym f))
 
 -- A key's list after the place and list of a key changed: the new one where it is that key.
-list-with : (b : Book) (own key : ℕ) (list new : List ℕ) (place : Place) (counted : Bool) (space : Space) {b' : Book}
-    → own < length (b .keys)
-    → b' ≡ withKey own list place counted space b
-    → (own ≡ key → list ≡ new) → keyOf key b' .list ≡ cond (eqb own key) new (keyOf key b .list)
-list-with b own key list new place counted space {b'} within is same = ap (λ (x : Book). keyOf key x .list) is ∙ go (eqb own key) refl
+list-with : (b : Book) (own key : ℕ) (k : Key) (new : List ℕ) (space : Space) {b' : Book} → own < length (b .keys)
+    → b' ≡ withKey own k space b
+    → (own ≡ key → k .list ≡ new) → keyOf key b' .list ≡ cond (eqb own key) new (keyOf key b .list)
+list-with b own key k new space {b'} within is same = ap (λ (x : Book). keyOf key x .list) is ∙ go (eqb own key) refl
   where
-    go : (x : Bool) → eqb own key ≡ x → keyOf key (withKey own list place counted space b) .list ≡ cond x new (keyOf key b .list)
+    go : (x : Bool) → eqb own key ≡ x → keyOf key (withKey own k space b) .list ≡ cond x new (keyOf key b .list)
     go true q =
         let e = eqb-true own key q in
-        ap (λ (k : ℕ). keyOf k (withKey own list place counted space b) .list) (sym e)
+        ap (λ (i : ℕ). keyOf i (withKey own k space b) .list) (sym e)
         ∙ ap (λ (k : Key). k .list) (getD-set-same (b .keys) own _ emptyKey within) ∙ same e
     go false q = ap (λ (k : Key). k .list) (getD-set-other (b .keys) own key _ emptyKey (λ (e : key ≡ own). eqb-false own key q (sym e)))
 
@@ -61,11 +60,11 @@ unfolding does bookAfter answered recordedAfter recordedBy
 call-recorded key b c (refused number) e s = refl
 call-recorded key b (load own ns) (accepted o) e s =
     let (p, within, free, rises, got, is) = load-did b own ns e in
-    list-with b own key ns _ (p .place) _ (p .space) within (ap (λ (x : Outcome). x .book) is)
+    list-with b own key (keyIn ns (p .place) true) _ (p .space) within (ap (λ (x : Outcome). x .book) is)
     (λ (z : own ≡ key). rw (unused-holds (keyOf key b .list) (keyOf key b .place) (rw z at free) (s .fits)))
 call-recorded key b (append own n) (accepted o) e s =
     let (p, within, rises, low, got, is) = append-did b own n e in
-    list-with b own key _ _ (p .place) _ (p .space) within (ap (λ (x : Outcome). x .book) is)
+    list-with b own key (keyIn _ (p .place) _) _ (p .space) within (ap (λ (x : Outcome). x .book) is)
     (λ (z : own ≡ key). ap (λ (k : ℕ). keyOf k b .list ++ (n ∷ [])) z)
 call-recorded key b (read own room) (accepted o) e s =
     let (within, is) = read-did b own room e in
@@ -76,7 +75,7 @@ call-recorded key b (read own room) (accepted o) e s =
     either false = refl
 call-recorded key b (drop own) (accepted o) e s =
     let (within, is) = drop-did b own e in
-    list-with b own key _ _ _ _ _ within (ap (λ (x : Outcome). x .book) is) (λ z. refl)
+    list-with b own key emptyKey _ _ within (ap (λ (x : Outcome). x .book) is) (λ z. refl)
 
 -- ---- every list of calls
 

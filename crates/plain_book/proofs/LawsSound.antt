@@ -2,36 +2,31 @@
 use Prim.Native.Nat.{ℕ, suc, _+_, _-_, _*_, _^_, _≤_, _<_}
 use mathlib.Core.Bool.{Bool, true}
 use mathlib.Core.List.{List, [], _∷_, _++_, append-assoc, append-nil}
-use mathlib.Core.Logic.{⊎-elim}
-use mathlib.Core.Option.{Option, none, some}
 use mathlib.Core.Path.{_≡_, refl, sym, ap, _∙_}
 use native.Mathlib.Nat.{le-refl}
 use native.Mathlib.Omega.{arith}
 use lib.ListN.{length, length-append}
 use borrow.Author.Tests.{leb-true}
-use Rattle.error.specs.Refusal.{accepted}
-use Rattle.error.proofs.LawsAnswer.{went-on}
 use Rattle.compact.specs.Uleb128.{divided, ulebLen}
 use Rattle.compact.proofs.LawsLength.{len-mono}
-use Rattle.scripthash_layout.specs.Sizes.{maxSlabCount, pageClass}
+use Rattle.scripthash_layout.specs.Sizes.{maxSlabCount}
 use Rattle.scripthash_stream.specs.Stream.{Rising, lastFrom, streamLen, streamLenFrom}
 use Rattle.scripthash_stream.proofs.LawsStream.{rising-append, rising-below}
 use Rattle.scripthash_cutting.specs.Cutting.{pageRoom, lastPageRoom, cutting, replaceLast, joined, Fit}
 use Rattle.scripthash_cutting.proofs.LawsPages.{pages-allowed}
 use Rattle.scripthash_cutting.proofs.LawsRising.{rising-words}
-use Rattle.plain_book.specs.Space.{Space, takeBlock, takeRun}
-use Rattle.book_rules.specs.Places.{movesTo, stays, loadsTo}
-use Rattle.plain_book.specs.Key.{Kept, written, longer, Page, Place, empty, inline, slab, pages, Key, emptyKey, lastPage, noPage}
-use Rattle.plain_book.specs.Key.{countedAfter, onePage, longerPage, joins, joinedTo, beginPage, Placed, moved, appendPages}
-use Rattle.plain_book.specs.Key.{appendPlace, runPages, loadInto, loadPlace}
+use Rattle.plain_book.specs.Space.{Space}
+use Rattle.plain_book.specs.Key.{written, longer, Page, Place, empty, inline, slab, pages, emptyKey, lastPage, noPage}
+use Rattle.plain_book.specs.Key.{countedAfter, onePage, longerPage, joins, Placed}
+use Rattle.plain_book.specs.Key.{runPages}
 use Rattle.book_rules.proofs.LawsRules.{stays-holds, moves-to, loads-to}
 use Rattle.plain_book.proofs.LawsKept.{len-snoc, longer-numbers, written-each, longer-each}
-use Rattle.plain_book.proofs.LawsMoves.{placed, which, moved-slab, moved-page, pages-spent}
 use Rattle.book_rules.specs.Calls.{Call}
 use Rattle.book_rules.specs.Moves.{noMoves}
 use Rattle.plain_book.specs.Book.{Book, fresh, keyOf, extended, after}
 use Rattle.plain_book.proofs.LawsHistory.{fresh-key, KeptByCalls, kept-calls}
 use Rattle.plain_book.specs.Sound.{held, FitPages, Fits, Known, SoundKey}
+use Rattle.plain_book.specs.Did.{LoadDid, loaded-none, loaded-one, loaded-slab, loaded-run, Outgrown, AppendDid, began, stayed, moved-slab, moved-page, begun-page, joined-page}
 
 -- ---- a list with one number more
 
@@ -107,54 +102,36 @@ pub moved-small : (ns : List ℕ) (n : ℕ) → Rising (2 ^ 62) 0 ns → n < 2 ^
     → streamLen (ns ++ (n ∷ [])) ≤ lastPageRoom
 moved-small ns n r l few = omega (arith, len-snoc 0 ns n, len-below n (lastFrom 0 ns) l, nine-each 0 ns r)
 
--- a list that moves fits the slab or the page that it moves to
-moved-fits : (end count : ℕ) (list : List ℕ) (old : Place) (s : Space) {p : Placed} → 2 ≤ length list → streamLen list ≤ lastPageRoom
-    → moved end (movesTo (length list) (streamLen list)) count list old s ≡ accepted p → Fits list (p .place)
-unfolding Fits FitPages held written
-moved-fits end count list old s {p} two small e = go (movesTo (length list) (streamLen list)) refl e
-  where
-    go : (o : Option ℕ) → movesTo (length list) (streamLen list) ≡ o → moved end o count list old s ≡ accepted p → Fits list (p .place)
-    go (some c) q e =
-        let m = moves-to (length list) (streamLen list) q in
-        let (off, at, told) = moved-slab end count list old s c e in
-        rw at (refl, written-each list, m .slab, two, m .few, m .fits)
-    go none q e =
-        let (off, at, told) = moved-page end count list old s e in
-        rw at (append-nil list, ((omega arith, small, omega arith, written-each list), refl))
-
--- a number that joins pages, or begins one
-pages-fit : (end : ℕ) (ps : List Page) (ns : List ℕ) (n : ℕ) (s : Space) {p : Placed} → n < 2 ^ 62 → held ps ≡ ns → FitPages ps
-    → appendPages end ps n s ≡ accepted p → Fits (ns ++ (n ∷ [])) (p .place)
-unfolding appendPages beginPage joins Fits
-pages-fit end ps ns n s l is-held fit e =
-    ⊎-elim
-    (λ (t, is).
-    let room = leb-true (longer n (lastPage noPage ps .part) .bytes) (lastPage noPage ps .room) t in
-    rw (placed is) (join-held n ps fit ∙ ap (λ (l : List ℕ). l ++ (n ∷ [])) is-held, join-fits n noPage ps fit room))
-    (λ (t, is).
-    let (got, took, is') = went-on (takeBlock end pageClass s) _ is in
-    let nine = len-below n 0 l in
-    rw (placed is') (begin-held n (got .off) ps ∙ ap (λ (l : List ℕ). l ++ (n ∷ [])) is-held, begin-fits n (got .off) ps fit (omega arith)))
-    (which (joins n ps) (accepted (record { place = joinedTo n ps; space = s; rewritten = 0 })) (beginPage end ps n s) e)
+-- a list that outgrew its place has two numbers then, and had no more than a slab may hold
+outgrown-two : (ns : List ℕ) (n : ℕ) (old : Place) → Fits ns old → Outgrown (ns ++ (n ∷ [])) n old
+    → (2 ≤ length (ns ++ (n ∷ []))) × (length ns ≤ maxSlabCount)
+unfolding Fits
+outgrown-two ns n empty f out = absurd out
+outgrown-two ns n inline f out = let d = length-append ns (n ∷ []) in (omega arith, omega arith)
+outgrown-two ns n (slab class off kept) (same, each, c, two, few, bytes) out = let d = length-append ns (n ∷ []) in (omega arith, few)
+outgrown-two ns n (pages ps) f out = absurd out
 
 -- an append keeps a list fitting, where the new number is below 2^62
-append-fits : (end count : ℕ) (ns : List ℕ) (n : ℕ) (old : Place) (s : Space) {p : Placed} → Rising (2 ^ 62) 0 ns → n < 2 ^ 62 → Fits ns old
-    → appendPlace end count (ns ++ (n ∷ [])) n old s ≡ accepted p → Fits (ns ++ (n ∷ [])) (p .place)
-unfolding appendPlace Fits
-append-fits end count ns n empty s r l f e = rw (placed e) (omega (arith, length-append ns (n ∷ [])))
-append-fits end count ns n inline s r l f e =
-    let d = length-append ns (n ∷ []) in
-    moved-fits end count (ns ++ (n ∷ [])) inline s (omega arith) (moved-small ns n r l (omega arith)) e
-append-fits end count ns n (slab class off kept) s r l (same, each, c, two, few, bytes) e =
-    let d = length-append ns (n ∷ []) in
-    ⊎-elim
-    (λ (t, is).
-    let (few', slots, fits) = stays-holds class (length (ns ++ (n ∷ []))) (longer n kept .bytes) t in
-    rw (placed is)
-    (longer-numbers n kept ∙ ap (λ (l : List ℕ). l ++ (n ∷ [])) same, longer-each n kept each, c, omega arith, few', fits))
-    (λ (t, is). moved-fits end count (ns ++ (n ∷ [])) (slab class off kept) s (omega arith) (moved-small ns n r l few) is)
-    (which (stays class (length (ns ++ (n ∷ []))) (longer n kept .bytes)) _ _ e)
-append-fits end count ns n (pages ps) s r l (is-held, fit) e = pages-fit end ps ns n s l is-held fit e
+append-fits : (end count : ℕ) (ns : List ℕ) (n : ℕ) (s : Space) {old : Place} {p : Placed} → Rising (2 ^ 62) 0 ns → n < 2 ^ 62 → Fits ns old
+    → AppendDid end count (ns ++ (n ∷ [])) n s old p → Fits (ns ++ (n ∷ [])) (p .place)
+unfolding Fits FitPages held written joins
+append-fits end count ns n s r l f began = omega (arith, length-append ns (n ∷ []))
+append-fits end count ns n s r l (same, each, c, two, few, bytes) (stayed class off kept q) =
+    let (few', slots, fits) = stays-holds class (length (ns ++ (n ∷ []))) (longer n kept .bytes) q in
+    (longer-numbers n kept ∙ ap (λ (l : List ℕ). l ++ (n ∷ [])) same, longer-each n kept each, c,
+    omega (arith, length-append ns (n ∷ [])), few', fits)
+append-fits end count ns n s r l f (moved-slab old c t out q got) =
+    let m = moves-to (length (ns ++ (n ∷ []))) (streamLen (ns ++ (n ∷ []))) q in
+    (refl, written-each (ns ++ (n ∷ [])), m .slab, outgrown-two ns n old f out .0, m .few, m .fits)
+append-fits end count ns n s r l f (moved-page old t out q got) =
+    let (two, few) = outgrown-two ns n old f out in
+    (append-nil (ns ++ (n ∷ [])), ((omega arith, moved-small ns n r l few, omega arith, written-each (ns ++ (n ∷ []))), refl))
+append-fits end count ns n s r l (is-held, fit) (joined-page ps q) =
+    let room = leb-true (longer n (lastPage noPage ps .part) .bytes) (lastPage noPage ps .room) q in
+    (join-held n ps fit ∙ ap (λ (l : List ℕ). l ++ (n ∷ [])) is-held, join-fits n noPage ps fit room)
+append-fits end count ns n s r l (is-held, fit) (begun-page ps t got) =
+    let nine = len-below n 0 l in
+    (begin-held n (t .off) ps ∙ ap (λ (l : List ℕ). l ++ (n ∷ [])) is-held, begin-fits n (t .off) ps fit (omega arith))
 
 -- parts that make up some numbers are some
 pub some-parts : (n : ℕ) (ns : List ℕ) (parts : List (List ℕ)) → joined parts ≡ n ∷ ns → 0 < length parts
@@ -162,27 +139,22 @@ unfolding joined
 some-parts n ns [] e = let z : 0 ≡ suc (length ns) = ap length e in absurd (omega arith)
 some-parts n ns (p ∷ ps) e = omega arith
 
+-- so are those of a list of two or more
+parts-some : (ns : List ℕ) (parts : List (List ℕ)) → joined parts ≡ ns → 2 ≤ length ns → 0 < length parts
+parts-some [] parts e two = absurd (omega arith)
+parts-some (n ∷ ns) parts e two = some-parts n ns parts e
+
 -- a load gives a list a place that it fits
-load-fits : (end : ℕ) (ns : List ℕ) (s : Space) {p : Placed} → Rising (2 ^ 62) 0 ns → loadPlace end ns s ≡ accepted p → Fits ns (p .place)
-unfolding loadPlace loadInto Fits written
-load-fits end [] s r e = rw (placed e) refl
-load-fits end (n ∷ []) s r e = rw (placed e) refl
-load-fits end (n ∷ m ∷ ns) s {p} r e = go (loadsTo (length (n ∷ m ∷ ns)) (streamLen (n ∷ m ∷ ns))) refl e
-  where
-    go : (o : Option ℕ) → loadsTo (length (n ∷ m ∷ ns)) (streamLen (n ∷ m ∷ ns)) ≡ o → loadInto end o (n ∷ m ∷ ns) s ≡ accepted p
-        → Fits (n ∷ m ∷ ns) (p .place)
-    go (some c) q e =
-        let (few, class, fits) = loads-to (length (n ∷ m ∷ ns)) (streamLen (n ∷ m ∷ ns)) q in
-        let (t, got, is) = went-on (takeBlock end c s) _ e in
-        rw (placed is) (refl, written-each (n ∷ m ∷ ns), class, omega arith, few, fits)
-    go none q e =
-        let (t, got, is) = went-on (takeRun end (length (cutting (n ∷ m ∷ ns))) s) _ e in
-        let ok = pages-allowed (n ∷ m ∷ ns) (rising-words 0 (n ∷ m ∷ ns) (rising-below (2 ^ 62) (2 ^ 63) 0 (n ∷ m ∷ ns) (omega arith) r)) in
-        rw (placed is) (
-          run-held (t .off) (cutting (n ∷ m ∷ ns)) ∙ ok .consecutive,
-          run-fits (t .off) (cutting (n ∷ m ∷ ns))
-              (some-parts n (m ∷ ns) (cutting (n ∷ m ∷ ns)) (ok .consecutive)) (ok .fit),
-        )
+load-fits : (end : ℕ) (s : Space) {ns : List ℕ} {p : Placed} → Rising (2 ^ 62) 0 ns → LoadDid end s ns p → Fits ns (p .place)
+unfolding Fits written
+load-fits end s r loaded-none = refl
+load-fits end s r loaded-one = refl
+load-fits end s {ns} r (loaded-slab c t two q got) =
+    let (few, class, fits) = loads-to (length ns) (streamLen ns) q in
+    (refl, written-each ns, class, two, few, fits)
+load-fits end s {ns} r (loaded-run t two q got) =
+    let ok = pages-allowed ns (rising-words 0 ns (rising-below (2 ^ 62) (2 ^ 63) 0 ns (omega arith) r)) in
+    (run-held (t .off) (cutting ns) ∙ ok .consecutive, run-fits (t .off) (cutting ns) (parts-some ns (cutting ns) (ok .consecutive) two) (ok .fit))
 
 -- ---- totals
 
@@ -193,14 +165,22 @@ known-anywhere inline = refl
 known-anywhere (slab class off kept) = refl
 known-anywhere (pages ps) = tt
 
+-- A list that outgrew its place is counted.
+outgrown-counted : (list : List ℕ) (n : ℕ) (old : Place) (counted : Bool) → Outgrown list n old → countedAfter old counted ≡ true
+outgrown-counted list n empty counted out = refl
+outgrown-counted list n inline counted out = refl
+outgrown-counted list n (slab class off kept) counted out = refl
+outgrown-counted list n (pages ps) counted out = absurd out
+
 -- An append leaves a total unknown only where the list was in pages, and there it stays.
-known-append : (end count : ℕ) (list : List ℕ) (n : ℕ) (old : Place) (counted : Bool) (s : Space) {p : Placed}
-    → appendPlace end count list n old s ≡ accepted p → Known (p .place) (countedAfter old counted)
-unfolding appendPlace
-known-append end count list n empty counted s {p} e = known-anywhere (p .place)
-known-append end count list n inline counted s {p} e = known-anywhere (p .place)
-known-append end count list n (slab class off kept) counted s {p} e = known-anywhere (p .place)
-known-append end count list n (pages ps) counted s {p} e = let (qs, at, told) = pages-spent end ps n s e in rw at tt
+known-append : (end count : ℕ) (list : List ℕ) (n : ℕ) (counted : Bool) (s : Space) {old : Place} {p : Placed}
+    → AppendDid end count list n s old p → Known (p .place) (countedAfter old counted)
+known-append end count list n counted s began = refl
+known-append end count list n counted s (stayed class off kept q) = refl
+known-append end count list n counted s (moved-slab old c t out q got) = outgrown-counted list n old counted out
+known-append end count list n counted s (moved-page old t out q got) = tt
+known-append end count list n counted s (joined-page ps q) = tt
+known-append end count list n counted s (begun-page ps t got) = tt
 
 -- ---- every list of calls
 
@@ -213,12 +193,12 @@ empty-sound = record { rises = tt; fits = refl; known = refl }
 pub sound-kept : KeptByCalls (λ k t. SoundKey k)
 sound-kept =
     record {
-      loads = λ end k ns s p t h f rises e. record { rises = rises; fits = load-fits end ns s rises e; known = known-anywhere (p .place) };
+      loads = λ end k ns s p t h f rises e. record { rises = rises; fits = load-fits end s rises e; known = known-anywhere (p .place) };
       appends = λ end k n s p t h rises low e.
           record {
             rises = rises-snoc (2 ^ 62) (k .list) n (h .rises) rises low;
-            fits = append-fits end (length (k .list)) (k .list) n (k .place) s (h .rises) low (h .fits) e;
-            known = known-append end (length (k .list)) (extended (k .list) n) n (k .place) (k .counted) s e;
+            fits = append-fits end (length (k .list)) (k .list) n s (h .rises) low (h .fits) e;
+            known = known-append end (length (k .list)) (extended (k .list) n) n (k .counted) s e;
           };
       drops = empty-sound;
     }

@@ -13,7 +13,7 @@ use Rattle.error.specs.Refusal.{Answer, accepted, refused}
 use Rattle.book_rules.specs.Calls.{Call, load, append, read, drop, bookAfter, afterCalls}
 use Rattle.book_rules.specs.Moves.{noMoves}
 use Rattle.plain_book.specs.Space.{Space}
-use Rattle.plain_book.specs.Key.{Place, empty, inline, slab, pages, Key, totalOf, countedAfter}
+use Rattle.plain_book.specs.Key.{Place, empty, inline, slab, pages, Key, totalOf, countedAfter, keyIn, emptyKey}
 use Rattle.plain_book.specs.Book.{Book, fresh, Outcome, keyOf, withKey, inUse, does, after, NeverDropped}
 use Rattle.plain_book.specs.Sound.{Known, SoundKey}
 use Rattle.plain_book.proofs.LawsHistory.{load-did, append-did, read-did, drop-did, key-with, KeptByCalls, kept-call, kept-calls}
@@ -76,13 +76,13 @@ uncounted-append (slab class off kept) counted f h = absurd (false≢true (sym f
 uncounted-append (pages ps) counted f h = f
 
 -- A key stays uncounted in a book with a key changed, where the new key is, if it is that one.
-uncounted-with : (b : Book) (own key : ℕ) (list : List ℕ) (place : Place) (counted : Bool) (space : Space) {b' : Book}
-    → own < length (b .keys) → b' ≡ withKey own list place counted space b → keyOf key b .counted ≡ false → (own ≡ key → counted ≡ false)
+uncounted-with : (b : Book) (own key : ℕ) (k : Key) (space : Space) {b' : Book} → own < length (b .keys) → b' ≡ withKey own k space b
+    → keyOf key b .counted ≡ false → (own ≡ key → k .counted ≡ false)
     → keyOf key b' .counted ≡ false
-uncounted-with b own key list place counted space within is f new =
+uncounted-with b own key k space within is f new =
     ap (λ (x : Book). keyOf key x .counted) is ∙ ap (λ (k : Key). k .counted) (key-with b own _ within key) ∙ go (eqb key own) refl
   where
-    go : (t : Bool) → eqb key own ≡ t → cond t (record { list = list; place = place; counted = counted }) (keyOf key b) .counted ≡ false
+    go : (t : Bool) → eqb key own ≡ t → cond t k (keyOf key b) .counted ≡ false
     go true e = new (sym (eqb-true key own e))
     go false e = f
 
@@ -94,19 +94,19 @@ unfolding does bookAfter
 uncounted-call key b c (refused number) e s f ne = f
 uncounted-call key b (load own ns) (accepted o) e s f ne =
     let (p, within, free, rises, got, is) = load-did b own ns e in
-    uncounted-with b own key ns (p .place) true (p .space) within (ap (λ (x : Outcome). x .book) is) f
+    uncounted-with b own key (keyIn ns (p .place) true) (p .space) within (ap (λ (x : Outcome). x .book) is) f
     (λ (z : own ≡ key).
     absurd (false≢true (sym (rw z at free) ∙ uncounted-used (keyOf key b .place) (keyOf key b .counted) f (s .known))))
 uncounted-call key b (append own n) (accepted o) e s f ne =
     let (p, within, rises, low, got, is) = append-did b own n e in
-    uncounted-with b own key _ (p .place) _ (p .space) within (ap (λ (x : Outcome). x .book) is) f
+    uncounted-with b own key (keyIn _ (p .place) _) (p .space) within (ap (λ (x : Outcome). x .book) is) f
     (λ (z : own ≡ key). rw z (uncounted-append (keyOf key b .place) (keyOf key b .counted) f (s .known)))
 uncounted-call key b (read own room) (accepted o) e s f ne =
     let (within, is) = read-did b own room e in
     ap (λ (x : Outcome). keyOf key (x .book) .counted) is ∙ f
 uncounted-call key b (drop own) (accepted o) e s f ne =
     let (within, is) = drop-did b own e in
-    uncounted-with b own key [] empty true _ within (ap (λ (x : Outcome). x .book) is) f (λ (z : own ≡ key). absurd (ne (ap drop z)))
+    uncounted-with b own key emptyKey _ within (ap (λ (x : Outcome). x .book) is) f (λ (z : own ≡ key). absurd (ne (ap drop z)))
 
 -- Take any book with a sound key that was never counted, and any list of calls without a drop of it: it tells no total afterwards.
 pub uncounted-from : (b : Book) (key : ℕ) (cs : List Call) → SoundKey (keyOf key b) → keyOf key b .counted ≡ false → NeverDropped key cs

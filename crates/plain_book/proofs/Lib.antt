@@ -1,5 +1,6 @@
 pub mod Examples
 pub mod LawsKept
+pub mod LawsDid
 pub mod LawsMoves
 pub mod LawsHistory
 pub mod LawsSound

@@ -15,7 +15,7 @@ use Rattle.book_rules.specs.Calls.{answersTo}
 use Rattle.book_rules.specs.Offered.{offeredNumber, offeredList}
 use Rattle.book_limits.specs.Limits.{outOfShape}
 use Rattle.plain_book.specs.Space.{Space}
-use Rattle.plain_book.specs.Key.{Place, empty, inline, slab, pages, Key, emptyKey, headOf, pagesOf, freedPlace, countedAfter}
+use Rattle.plain_book.specs.Key.{Place, empty, inline, slab, pages, Key, emptyKey, headOf, pagesOf, freedPlace, countedAfter, keyIn}
 use Rattle.plain_book.specs.Key.{appendPlace, loadPlace}
 
 -- A plain book: the length of the body that it stands for, its keys, and its space.
@@ -47,9 +47,8 @@ abbrev pub keyOf : ℕ → Book → Key
 keyOf key b = getD (b .keys) key emptyKey
 
 -- A book with a key and its space changed.
-abbrev pub withKey : ℕ → List ℕ → Place → Bool → Space → Book → Book
-withKey key list place counted space b =
-    record { size = b .size; keys = set (b .keys) key (record { list = list; place = place; counted = counted }); space = space }
+abbrev pub withKey : ℕ → Key → Space → Book → Book
+withKey key k space b = record { size = b .size; keys = set (b .keys) key k; space = space }
 
 -- A place that holds something: the key is in use.
 abbrev pub inUse : Place → Bool
@@ -68,7 +67,7 @@ loads b key ns =
     (andThen (loadPlace (b .size) ns (b .space))
     (λ p. accepted (record {
       told = loaded (record { pages = pagesOf (p .place) });
-      book = withKey key ns (p .place) true (p .space) b;
+      book = withKey key (keyIn ns (p .place) true) (p .space) b;
     }))))))
 
 -- A list with one number more.
@@ -84,7 +83,7 @@ appends b key n =
     (andThen (appendPlace (b .size) (length (keyOf key b .list)) list n (keyOf key b .place) (b .space))
     (λ p. accepted (record {
       told = appended (record { place = headOf list (p .place); rewritten = p .rewritten });
-      book = withKey key list (p .place) (countedAfter (keyOf key b .place) (keyOf key b .counted)) (p .space) b;
+      book = withKey key (keyIn list (p .place) (countedAfter (keyOf key b .place) (keyOf key b .counted))) (p .space) b;
     }))))
 
 -- A read of a key into a lent list with room for some numbers.
@@ -100,7 +99,7 @@ drops b key =
     onKey b key
     (accepted (record {
       told = dropped (record { length = length (keyOf key b .list) });
-      book = withKey key [] empty true (freedPlace (keyOf key b .place) (b .space)) b;
+      book = withKey key emptyKey (freedPlace (keyOf key b .place) (b .space)) b;
     }))
 
 -- What a call does.

@@ -48,9 +48,13 @@ pub record Key : Type 0 where
   pub place : Place
   pub counted : Bool
 
+-- A key from its parts.
+abbrev pub keyIn : List ℕ → Place → Bool → Key
+keyIn list place counted = record { list = list; place = place; counted = counted }
+
 -- A key that holds nothing.
 abbrev pub emptyKey : Key
-emptyKey = record { list = []; place = empty; counted = true }
+emptyKey = keyIn [] empty true
 
 -- The total that a key's last page tells: how many numbers it has, or 0, unknown.
 abbrev pub totalOf : Key → ℕ
@@ -110,15 +114,19 @@ pub record Placed : Type 0 where
   pub space : Space
   pub rewritten : ℕ
 
+-- The same from its parts.
+abbrev pub placed : Place → Space → ℕ → Placed
+placed place s rewritten = record { place = place; space = s; rewritten = rewritten }
+
 -- A list, longer by one number, moves out of a place: into a taken slab of a class, or else into a taken page; then the old place is freed.
 -- The records held before are rewritten.
 unfoldable pub moved : ℕ → Option ℕ → ℕ → List ℕ → Place → Space → Answer Placed
 moved end (some class) held list old s =
     andThen (takeBlock end class s)
-    (λ t. accepted (record { place = slab class (t .off) (written list); space = freedPlace old (t .space); rewritten = held }))
+    (λ t. accepted (placed (slab class (t .off) (written list)) (freedPlace old (t .space)) held))
 moved end none held list old s =
     andThen (takeBlock end pageClass s)
-    (λ t. accepted (record { place = pages (onePage (t .off) list); space = freedPlace old (t .space); rewritten = held }))
+    (λ t. accepted (placed (pages (onePage (t .off) list)) (freedPlace old (t .space)) held))
 
 -- A page with one number more.
 abbrev pub longerPage : ℕ → Page → Page
@@ -139,20 +147,20 @@ begunAt off n ps = pages (ps ++ onePage off (n ∷ []))
 -- A number begins a taken page.
 unfoldable pub beginPage : ℕ → List Page → ℕ → Space → Answer Placed
 beginPage end ps n s =
-    andThen (takeBlock end pageClass s) (λ t. accepted (record { place = begunAt (t .off) n ps; space = t .space; rewritten = 0 }))
+    andThen (takeBlock end pageClass s) (λ t. accepted (placed (begunAt (t .off) n ps) (t .space) 0))
 
 -- A number joins the last of some pages, or else begins a taken page.
 unfoldable pub appendPages : ℕ → List Page → ℕ → Space → Answer Placed
 appendPages end ps n s =
-    cond (joins n ps) (accepted (record { place = joinedTo n ps; space = s; rewritten = 0 })) (beginPage end ps n s)
+    cond (joins n ps) (accepted (placed (joinedTo n ps) s 0)) (beginPage end ps n s)
 
 -- A list that held some records has one number more now: where it stands then. The lists of slabs move where they no longer fit.
 unfoldable pub appendPlace : ℕ → ℕ → List ℕ → ℕ → Place → Space → Answer Placed
-appendPlace end held list n empty s = accepted (record { place = inline; space = s; rewritten = 0 })
+appendPlace end held list n empty s = accepted (placed inline s 0)
 appendPlace end held list n inline s = moved end (movesTo (length list) (streamLen list)) held list inline s
 appendPlace end held list n (slab class off kept) s =
     cond (stays class (length list) (longer n kept .bytes))
-    (accepted (record { place = slab class off (longer n kept); space = s; rewritten = 0 }))
+    (accepted (placed (slab class off (longer n kept)) s 0))
     (moved end (movesTo (length list) (streamLen list)) held list (slab class off kept) s)
 appendPlace end held list n (pages ps) s = appendPages end ps n s
 
@@ -167,13 +175,13 @@ runPages off (p ∷ q ∷ ps) = record { off = off; room = pageRoom; part = writ
 -- A list loaded into a taken slab of a class, or else into a run of pages, a part of its cutting in each.
 unfoldable pub loadInto : ℕ → Option ℕ → List ℕ → Space → Answer Placed
 loadInto end (some class) list s =
-    andThen (takeBlock end class s) (λ t. accepted (record { place = slab class (t .off) (written list); space = t .space; rewritten = 0 }))
+    andThen (takeBlock end class s) (λ t. accepted (placed (slab class (t .off) (written list)) (t .space) 0))
 loadInto end none list s =
     andThen (takeRun end (length (cutting list)) s)
-    (λ t. accepted (record { place = pages (runPages (t .off) (cutting list)); space = t .space; rewritten = 0 }))
+    (λ t. accepted (placed (pages (runPages (t .off) (cutting list))) (t .space) 0))
 
 -- Where a loaded list stands: none nowhere, one in the head word.
 unfoldable pub loadPlace : ℕ → List ℕ → Space → Answer Placed
-loadPlace end [] s = accepted (record { place = empty; space = s; rewritten = 0 })
-loadPlace end (n ∷ []) s = accepted (record { place = inline; space = s; rewritten = 0 })
+loadPlace end [] s = accepted (placed empty s 0)
+loadPlace end (n ∷ []) s = accepted (placed inline s 0)
 loadPlace end (n ∷ m ∷ ns) s = loadInto end (loadsTo (length (n ∷ m ∷ ns)) (streamLen (n ∷ m ∷ ns))) (n ∷ m ∷ ns) s

@@ -1,5 +1,6 @@
 pub mod Space
 pub mod Key
+pub mod Did
 pub mod Book
 pub mod Sound
 pub mod Owners
