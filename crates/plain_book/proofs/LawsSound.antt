@@ -117,9 +117,14 @@ append-fits : (end count : ℕ) (ns : List ℕ) (n : ℕ) (s : Space) {old : Pla
 unfolding Fits FitPages held written joins
 append-fits end count ns n s r l f began = omega (arith, length-append ns (n ∷ []))
 append-fits end count ns n s r l (same, each, c, two, few, bytes) (stayed class off kept q) =
-    let (few', slots, fits) = stays-holds class (length (ns ++ (n ∷ []))) (longer n kept .bytes) q in
-    (longer-numbers n kept ∙ ap (λ (l : List ℕ). l ++ (n ∷ [])) same, longer-each n kept each, c,
-    omega (arith, length-append ns (n ∷ [])), few', fits)
+    let (few', slots, fits) = stays-holds class (length (ns ++ (n ∷ []))) (longer n kept .bytes) q in (
+      longer-numbers n kept ∙ ap (λ (l : List ℕ). l ++ (n ∷ [])) same,
+      longer-each n kept each,
+      c,
+      omega (arith, length-append ns (n ∷ [])),
+      few',
+      fits,
+    )
 append-fits end count ns n s r l f (moved-slab old c t out q got) =
     let m = moves-to (length (ns ++ (n ∷ []))) (streamLen (ns ++ (n ∷ []))) q in
     (refl, written-each (ns ++ (n ∷ [])), m .slab, outgrown-two ns n old f out .0, m .few, m .fits)
