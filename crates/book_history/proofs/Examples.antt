@@ -1,8 +1,8 @@
 -- Small histories on a book over bytes, with the run case of document 01: each answer is computed. Assumes nothing.
 use Prim.Native.Nat.{ℕ, zero, suc, _+_, _*_, _^_}
-use mathlib.Core.List.{List, [], _∷_, _++_}
+use mathlib.Core.List.{List, [], _∷_}
 use mathlib.Core.Path.{_≡_, refl}
-use lib.ListN.{replicate, set}
+use lib.ListN.{replicate}
 use Rattle.scripthash_layout.specs.declared.head.ShHeadValue.{ShHeadValue}
 use Rattle.scripthash_layout.specs.declared.head.ShHeadValue.the-variants.{Inline, Slab, Extent}
 use Rattle.error.specs.Refusal.{Answer, accepted, refused, refuseIf, andThen, answered}
@@ -21,7 +21,7 @@ use Rattle.book_rules.specs.Calls.{answersTo}
 use Rattle.book_rules.specs.Offered.{offeredNumber, offeredList}
 use Rattle.book_limits.specs.Limits.{outOfShape}
 use Rattle.book_rules.specs.Places.{stays, larger, movesTo, loadsTo}
-use Rattle.book_space.specs.Space.{markBad, shapeBroken, takeMark, rounded, takeRun, takeFresh, takePopped, takeBlock, release}
+use Rattle.book_space.specs.Space.{markBad, shapeBroken, takeMark, rounded, takeFresh, takePopped, takeBlock, release, runAtMark}
 use Rattle.book_keys.specs.Keys.{
   soundly,
   sure,
@@ -42,7 +42,7 @@ use Rattle.book_blocks.specs.Blocks.{slabWith, lastPageOf, totalWith, pageWith,
 use Rattle.book.specs.Appends.{movesInto, moves, appendSlab, growChain, appendPage, appendAt, appends}
 use Rattle.book.specs.Loads.{loadInto, loadAt, loads}
 use Rattle.book.specs.Reads.{reads, drops}
-use Rattle.book.specs.Calls.{after, answers, does}
+use Rattle.book.specs.Calls.{after, does}
 
 -- The answers to some calls of a book that does so with each, so that they can be computed.
 unfoldable pub computed : (Book → Call → Answer Outcome) → Book → List Call → List (Answer Told)
@@ -51,7 +51,7 @@ unfolding refuseIf andThen answered part overwrite isForm value formAt overflows
     slabPayload
     decodeSlab fitting firstPart greedyParts replaceLast field setField nextOff deltaHeader extentHeader pageOf streamPlace pageScan
     spotBehind oneMore withAppended isBlock pushed popFree largestUpTo blockThen carve pushAll bookAfter answersTo outOfShape offeredNumber
-    offeredList stays larger movesTo loadsTo markBad shapeBroken takeMark rounded takeRun takeFresh takePopped takeBlock release soundly
+    offeredList stays larger movesTo loadsTo markBad shapeBroken takeMark rounded runAtMark takeFresh takePopped takeBlock release soundly
     sure
     goOn slabScan linkScan goodExtent lastAt pageThen walk totalGood chainAt pageBlocks contentAt content createsGood tailAt headWord onKey
     movesInto moves slabWith appendSlab totalWith pageWith pageBefore growChain appendPage appendAt appends writeRun loadInto loadAt loads

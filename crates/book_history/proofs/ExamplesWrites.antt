@@ -16,7 +16,7 @@ use Rattle.book_rules.specs.Calls.{Call, load, append, drop, bookAfter, afterCa
 use Rattle.book_rules.specs.Offered.{offeredNumber, offeredList}
 use Rattle.book_limits.specs.Limits.{outOfShape}
 use Rattle.book_rules.specs.Places.{stays, larger, movesTo, loadsTo}
-use Rattle.book_space.specs.Space.{markBad, shapeBroken, takeMark, rounded, takeRun, takeFresh, takePopped, takeBlock, release}
+use Rattle.book_space.specs.Space.{markBad, shapeBroken, takeMark, rounded, takeFresh, takePopped, takeBlock, release, runAtMark}
 use Rattle.book_keys.specs.Keys.{
   soundly,
   sure,
@@ -50,7 +50,7 @@ unfolding refuseIf andThen answered part overwrite isForm value formAt overflows
     slabPayload
     decodeSlab fitting firstPart greedyParts replaceLast field setField nextOff deltaHeader extentHeader pageOf streamPlace pageScan
     spotBehind oneMore withAppended isBlock pushed popFree largestUpTo blockThen carve pushAll bookAfter afterCalls outOfShape offeredNumber
-    offeredList stays larger movesTo loadsTo markBad shapeBroken takeMark rounded takeRun takeFresh takePopped takeBlock release soundly
+    offeredList stays larger movesTo loadsTo markBad shapeBroken takeMark rounded runAtMark takeFresh takePopped takeBlock release soundly
     sure
     goOn slabScan linkScan goodExtent lastAt pageThen walk totalGood chainAt pageBlocks contentAt content createsGood tailAt headWord onKey
     movesInto moves slabWith appendSlab totalWith pageWith pageBefore growChain appendPage appendAt appends writeRun loadInto loadAt loads

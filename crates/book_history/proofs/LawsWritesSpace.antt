@@ -20,7 +20,7 @@ use Rattle.scripthash_free.proofs.LawsGap.{each-map, gap-filled, adjoin-within}
 use Rattle.scripthash_free.proofs.LawsNames.{length-pushed}
 use Rattle.scripthash_cutting.specs.Cutting.{pageRoom, lastPageRoom, Fit}
 use Rattle.book_limits.specs.Limits.{pageAfter}
-use Rattle.book_space.specs.Space.{Space, space, listsOf, InShape, Taken, takeMark, rounded, takeRun, takeFresh, takePopped, takeBlock}
+use Rattle.book_space.specs.Space.{Space, space, listsOf, InShape, Taken, takeMark, rounded, takeRun, takeFresh, takePopped, takeBlock, runAtMark}
 use Rattle.book_space.specs.Space.{release}
 use Rattle.book_space.proofs.LawsTake.{take-took}
 use Rattle.book_blocks.specs.Blocks.{lastPageOf, pageTo, writeRun}
@@ -142,7 +142,7 @@ wrote-mark bytes s e =
 
 -- A run of pages taken: the blocks of the gap are freed, then the mark rises.
 pub wrote-run : (pages : ℕ) (s : Space) {t : Taken} → InShape s → takeRun pages s ≡ accepted t → Wrote (takingPages s) s (t .space)
-unfolding takeRun takeMark rounded takingPages
+unfolding runAtMark takeMark rounded takingPages
 wrote-run pages s i e =
     let to = pageAfter (s .mark) in
     let size = length (s .body) in

@@ -32,7 +32,7 @@ use Rattle.scripthash_free.proofs.LawsBlock.{block-stands, stands-block, slab-s
 use Rattle.scripthash_free.proofs.LawsFree.{after-accepted, carve-yes}
 use Rattle.scripthash_free.proofs.LawsGap.{gap-filled, adjoin-within, each-map}
 use Rattle.book_limits.specs.Limits.{pageAfter}
-use Rattle.book_space.specs.Space.{Space, space, listsOf, InShape, Taken, takeMark, rounded, takeRun, takeFresh, takePopped}
+use Rattle.book_space.specs.Space.{Space, space, listsOf, InShape, Taken, takeMark, rounded, takeRun, takeFresh, takePopped, runAtMark}
 use Rattle.book_space.specs.Space.{takeBlock, release}
 use Rattle.book_space.proofs.LawsLists.{heads-stay, size-stays, outside-stays, stands-further, Popped, popped}
 use Rattle.book_space.proofs.LawsSteps.{mark-yes, mark-no, fresh-page, fresh-slab}
@@ -111,7 +111,7 @@ module _ (pages : ℕ) (s : Space) (i : InShape s) where
       → pageAfter (s .mark) + pages * pageSize ≤ length (s .body)
       → takeRun pages s ≡ accepted
       (record { off = pageAfter (s .mark); space = space (l .body) (pageAfter (s .mark) + pages * pageSize) (l .heads) })
-  unfolding takeRun rounded
+  unfolding runAtMark rounded
   run-yes l e h =
       let r = rounded-kept s i in
       let carved = e ∙ after-accepted _ (listsOf s) (carve-yes (s .mark) (pageAfter (s .mark)) (listsOf s) (gap-carves s i)) in
@@ -119,7 +119,7 @@ module _ (pages : ℕ) (s : Space) (i : InShape s) where
 
   -- One that would pass the body's end is refused.
   pub run-no : length (s .body) < pageAfter (s .mark) + pages * pageSize → takeRun pages s ≡ refused noRoom
-  unfolding takeRun rounded
+  unfolding runAtMark rounded
   run-no h = let r = rounded-kept s i in mark-no (pages * pageSize) (rounded s) (omega (arith, r .size))
 
 -- Bytes that were taken at the mark fit.
@@ -156,7 +156,7 @@ page-stands off end aligned begins ends =
 
 -- A run that is taken from a space in shape promises that.
 pub run-ran : (pages : ℕ) (s : Space) {t : Taken} → InShape s → takeRun pages s ≡ accepted t → Ran pages s t
-unfolding takeRun
+unfolding runAtMark
 run-ran pages s {t} i e =
     let r = rounded-kept s i in
     let m = mark-taken (pages * pageSize) (rounded s) e in

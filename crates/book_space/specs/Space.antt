@@ -66,13 +66,17 @@ unfoldable pub rounded : Space → Space
 rounded s =
     let l = pushAll (gapBlocks (s .mark) (pageAfter (s .mark))) (listsOf s) in space (l .body) (pageAfter (s .mark)) (l .heads)
 
--- A run of pages taken: always at the mark, rounded up.
-unfoldable pub takeRun : ℕ → Space → Answer Taken
-takeRun pages s = takeMark (pages * pageSize) (rounded s)
+-- A run of pages taken at the mark, rounded up.
+unfoldable pub runAtMark : ℕ → Space → Answer Taken
+runAtMark pages s = takeMark (pages * pageSize) (rounded s)
+
+-- The run of a load: always at the mark.
+abbrev pub takeRun : ℕ → Space → Answer Taken
+takeRun pages s = runAtMark pages s
 
 -- A block of a class taken where none of it is freed: a page is a run of one.
 unfoldable pub takeFresh : ℕ → Space → Answer Taken
-takeFresh class s = cond (eqb class pageClass) (takeRun 1 s) (takeMark (slabBytes class) s)
+takeFresh class s = cond (eqb class pageClass) (runAtMark 1 s) (takeMark (slabBytes class) s)
 
 -- A block of a class taken after a pop: the block that was popped, or else a fresh one.
 unfoldable pub takePopped : ℕ → Space → Option ℕ → List ℕ → Answer Taken

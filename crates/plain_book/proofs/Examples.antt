@@ -12,7 +12,7 @@ use Rattle.scripthash_stream.specs.Stream.{lastFrom, streamLenFrom}
 use Rattle.scripthash_slabs.specs.Class.{firstClass, classFor, classWithSlack}
 use Rattle.scripthash_cutting.specs.Cutting.{fitting, firstPart, greedyParts, replaceLast}
 use Rattle.scripthash_free.specs.FreeList.{largestUpTo, blockThen, carve}
-use Rattle.plain_book.specs.Space.{freedAll, takeMark, rounded, takeRun, takeFresh, takeFrom}
+use Rattle.plain_book.specs.Space.{freedAll, takeMark, rounded, takeFresh, takeFrom, runAtMark}
 use Rattle.book_rules.specs.Places.{stays, larger, movesTo, loadsTo}
 use Rattle.plain_book.specs.Key.{Key, slab, written, longer, lastPage, headOf, freedPages, freedPlace, moved, joins, beginPage}
 use Rattle.plain_book.specs.Key.{appendPages, appendPlace, runPages, loadInto, loadPlace}
@@ -78,7 +78,7 @@ pub loaded-run : answers (fresh 16384 3) (append 0 1 ∷ append 0 2 ∷ load 1 (
     (inARow 1 256) ∷ [])
     ≡ at (Inline 1 1) 0 ∷ at (Slab 0 2 4096) 1 ∷ loads-in 2 ∷ at (Extent 12288) 0 ∷ refused 36 ∷ loads-in 0 ∷ []
 unfolding refuseIf andThen divided shortest ulebLen lastFrom streamLenFrom firstClass classFor classWithSlack fitting firstPart greedyParts
-    replaceLast largestUpTo blockThen carve freedAll takeMark rounded takeRun takeFresh takeFrom lastPage headOf freedPages freedPlace stays
+    replaceLast largestUpTo blockThen carve freedAll takeMark rounded runAtMark takeFresh takeFrom lastPage headOf freedPages freedPlace stays
     larger movesTo loadsTo moved joins beginPage appendPages written longer appendPlace runPages loadInto loadPlace outOfShape onKey
     offeredNumber offeredList loads appends reads drops does bookAfter answered answersTo inARow
 loaded-run = refl
@@ -91,7 +91,7 @@ pub full-page : answers (fresh 16384 2) (load 0 (inARow 1 4072) ∷ append 0 407
     (dropped (record { length = 4073 }))
     ∷ loads-in 0 ∷ at (Extent 8192) 256 ∷ []
 unfolding refuseIf andThen divided shortest ulebLen lastFrom streamLenFrom firstClass classFor classWithSlack fitting firstPart greedyParts
-    replaceLast largestUpTo blockThen carve freedAll takeMark rounded takeRun takeFresh takeFrom lastPage headOf freedPages freedPlace stays
+    replaceLast largestUpTo blockThen carve freedAll takeMark rounded runAtMark takeFresh takeFrom lastPage headOf freedPages freedPlace stays
     larger movesTo loadsTo moved joins beginPage appendPages written longer appendPlace runPages loadInto loadPlace outOfShape onKey
     offeredNumber offeredList loads appends reads drops does bookAfter answered answersTo inARow
 full-page = refl
@@ -110,7 +110,7 @@ tallyAfter cs = tallyOf 0 cs (answers (fresh 65536 1) cs) noMoves
 pub records-reached : tallyAfter (load 0 (inARow 1 6) ∷ (appendSteps 7 1 122 ++ appendSteps (128 + 2 ^ 42) (2 ^ 42) 129))
     ≡ record { moves = 8; rewritten = 765 }
 unfolding refuseIf andThen divided shortest ulebLen lastFrom streamLenFrom firstClass classFor classWithSlack fitting firstPart greedyParts
-    replaceLast largestUpTo blockThen carve freedAll takeMark rounded takeRun takeFresh takeFrom lastPage headOf freedPages freedPlace stays
+    replaceLast largestUpTo blockThen carve freedAll takeMark rounded runAtMark takeFresh takeFrom lastPage headOf freedPages freedPlace stays
     larger movesTo loadsTo moved joins beginPage appendPages written longer appendPlace runPages loadInto loadPlace outOfShape onKey
     offeredNumber offeredList loads appends reads drops does bookAfter answered answersTo inARow appendSteps counted talliedBy tallied
     tallyOf
@@ -120,7 +120,7 @@ records-reached = refl
 -- The ceiling of 9 moves is reached: 1 to 146 are appended, and 111 more in steps of 2^50.
 pub moves-reached : tallyAfter (appendSteps 1 1 146 ++ appendSteps (146 + 2 ^ 50) (2 ^ 50) 111) ≡ record { moves = 9; rewritten = 764 }
 unfolding refuseIf andThen divided shortest ulebLen lastFrom streamLenFrom firstClass classFor classWithSlack fitting firstPart greedyParts
-    replaceLast largestUpTo blockThen carve freedAll takeMark rounded takeRun takeFresh takeFrom lastPage headOf freedPages freedPlace stays
+    replaceLast largestUpTo blockThen carve freedAll takeMark rounded runAtMark takeFresh takeFrom lastPage headOf freedPages freedPlace stays
     larger movesTo loadsTo moved joins beginPage appendPages written longer appendPlace runPages loadInto loadPlace outOfShape onKey
     offeredNumber offeredList loads appends reads drops does bookAfter answered answersTo inARow appendSteps counted talliedBy tallied
     tallyOf

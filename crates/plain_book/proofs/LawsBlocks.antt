@@ -12,7 +12,7 @@ use Rattle.scripthash_layout.specs.Sizes.{pageClass, pageSize}
 use Rattle.scripthash_stream.specs.Stream.{streamLen}
 use Rattle.scripthash_cutting.specs.Cutting.{cutting, replaceLast}
 use Rattle.scripthash_free.specs.FreeList.{Block}
-use Rattle.plain_book.specs.Space.{Space, Taken, takeRun, rounded}
+use Rattle.plain_book.specs.Space.{Space, Taken, rounded, runAtMark}
 use Rattle.plain_book.specs.Key.{Key, Page, Place, empty, inline, slab, pages, onePage, freedPlace, Placed, written, longer, keyIn, emptyKey}
 use Rattle.plain_book.specs.Key.{longerPage, joinedTo, runPages}
 use Rattle.book_rules.specs.Calls.{Call, load, append, read, drop, bookAfter}
@@ -74,7 +74,7 @@ module _ (end : ℕ) (s : Space) (at : ℕ → Place) (key : ℕ) (g : Good s at
       good-page (t .space) at key (t .off) ps (n ∷ []) (λ i x z. ap (pageIn i) is ∙ z) (good-taken end pageClass s at (omega arith) got g)
 
   load-good : {ns : List ℕ} {p : Placed} → LoadDid end s ns p → Leaves at key p
-  unfolding takeRun
+  unfolding runAtMark
   load-good loaded-none = good-kept s at none key empty (λ x h. absurd (none-some h)) (λ i x h. absurd (none-some h)) g
   load-good loaded-one = good-kept s at none key inline (λ x h. absurd (none-some h)) (λ i x h. absurd (none-some h)) g
   load-good {ns} (loaded-slab c t two q got) =

@@ -18,7 +18,7 @@ use Rattle.book_limits.specs.Limits.{pageAfter}
 use Rattle.book_rules.specs.Calls.{Call, load, append, read, drop, bookAfter}
 use Rattle.book_rules.proofs.LawsRules.{moves-to, loads-to}
 use Rattle.book_rules.proofs.LawsCalls.{calls-keep}
-use Rattle.plain_book.specs.Space.{Space, stackOf, freed, freedAll, Taken, takeMark, rounded, takeRun, takeFresh, takeFrom, takeBlock}
+use Rattle.plain_book.specs.Space.{Space, stackOf, freed, freedAll, Taken, takeMark, rounded, takeRun, takeFresh, takeFrom, takeBlock, runAtMark}
 use Rattle.plain_book.specs.Key.{Key, emptyKey, Page, Place, empty, inline, slab, pages, freedPages, freedPlace, Placed, written, keyIn}
 use Rattle.plain_book.specs.Key.{longerPage, runPages}
 use Rattle.plain_book.specs.Book.{Book, fresh, Outcome, withKey, inUse, does, after}
@@ -125,7 +125,7 @@ full-rounded s others f =
 -- A run of pages is taken.
 pub full-run : (end n : ℕ) (s : Space) (others : ℕ) {t : Taken} → takeRun end n s ≡ accepted t → Full s others
     → Full (t .space) (n * pageSize + others)
-unfolding takeRun
+unfolding runAtMark
 full-run end n s others e f =
     subst (λ (v : Taken). Full (v .space) (n * pageSize + others)) (sym (took-mark end (n * pageSize) (rounded s) e))
     (full-marked (rounded s) others (n * pageSize) (omega arith) (full-rounded s others f))

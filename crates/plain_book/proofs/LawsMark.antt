@@ -11,7 +11,7 @@ use Rattle.error.specs.Refusal.{Answer, accepted, refused}
 use Rattle.error.proofs.LawsAnswer.{accepted-inj, passed}
 use Rattle.scripthash_layout.specs.Sizes.{slabBytes, pageClass, pageSize}
 use Rattle.scripthash_cutting.specs.Cutting.{cutting}
-use Rattle.plain_book.specs.Space.{Space, stackOf, Taken, takeMark, rounded, takeRun, takeFresh, takeFrom, takeBlock}
+use Rattle.plain_book.specs.Space.{Space, stackOf, Taken, takeMark, rounded, takeFresh, takeFrom, takeBlock, runAtMark}
 use Rattle.plain_book.specs.Key.{Page, Place, empty, inline, slab, pages, freedPages, freedPlace, Placed}
 use Rattle.book_rules.specs.Calls.{Call, load, append, read, drop, bookAfter}
 use Rattle.plain_book.specs.Book.{Book, fresh, Outcome, does, after, keyOf}
@@ -41,7 +41,7 @@ marked-within end bytes s e =
 
 -- So is the mark after a block is taken, where it was.
 taken-within : (end class : ℕ) (s : Space) {t : Taken} → takeBlock end class s ≡ accepted t → s .mark ≤ end → t .space .mark ≤ end
-unfolding takeFrom takeFresh takeRun
+unfolding takeFrom takeFresh runAtMark
 taken-within end class s {t} e h = from-stack (stackOf class s) e
   where
     fresh-block : (b : Bool) → cond b (takeMark end (1 * pageSize) (rounded s)) (takeMark end (slabBytes class) s) ≡ accepted t
@@ -67,7 +67,7 @@ append-within end held list n s h (joined-page ps q) = h
 append-within end held list n s h (begun-page ps t got) = taken-within end pageClass s got h
 
 load-within : (end : ℕ) (s : Space) {ns : List ℕ} {p : Placed} → s .mark ≤ end → LoadDid end s ns p → Within end p
-unfolding takeRun
+unfolding runAtMark
 load-within end s h loaded-none = h
 load-within end s h loaded-one = h
 load-within end s h (loaded-slab c t two q got) = taken-within end c s got h

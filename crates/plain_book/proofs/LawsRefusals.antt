@@ -1,6 +1,6 @@
 -- Which refusals the plain book gives: those that document 01 names for it, and no other, so never 31 or 35. Assumes nothing.
 use Prim.Native.Nat.{ℕ}
-use mathlib.Core.Bool.{Bool, true, false, cond, _||_}
+use mathlib.Core.Bool.{Bool, true, false, cond}
 use mathlib.Core.List.{List, [], _∷_}
 use mathlib.Core.Option.{Option, none, some}
 use mathlib.Core.Path.{_≡_, refl}
@@ -12,7 +12,7 @@ use Rattle.scripthash_layout.specs.Sizes.{slabBytes, pageClass}
 use Rattle.book_rules.specs.Places.{stays}
 use Rattle.book_rules.specs.Calls.{Call, load, append, read, drop, answerOf, bookAfter, answersTo}
 use Rattle.book_rules.specs.Offered.{offeredNumber, offeredList}
-use Rattle.plain_book.specs.Space.{Space, takeMark, rounded, takeRun, takeFresh, takeFrom}
+use Rattle.plain_book.specs.Space.{Space, takeMark, rounded, takeRun, takeFresh, takeFrom, runAtMark}
 use Rattle.plain_book.specs.Key.{Place, empty, inline, slab, pages, moved, joins, beginPage, appendPages, appendPlace, loadInto}
 use Rattle.plain_book.specs.Key.{loadPlace, longer}
 use Rattle.plain_book.specs.Book.{Book, Outcome, onKey, loads, appends, reads, drops, does, answers}
@@ -50,7 +50,7 @@ unfolding takeMark isOneOf plainRefusals
 mark-plain end bytes s = by-test _ noRoom _ refl (value _)
 
 run-plain : (end k : ℕ) (s : Space) → Plain (takeRun end k s)
-unfolding takeRun
+unfolding runAtMark
 run-plain end k s = mark-plain end _ (rounded s)
 
 from-plain : (end class : ℕ) (os : List ℕ) (s : Space) → Plain (takeFrom end class os s)

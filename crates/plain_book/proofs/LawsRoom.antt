@@ -3,13 +3,13 @@ use Prim.Native.Nat.{ℕ, zero, suc, _+_, _*_, _≤_}
 use mathlib.Core.Bool.{Bool, true, false, cond}
 use mathlib.Core.List.{List, [], _∷_, _++_}
 use mathlib.Core.Option.{Option, none, some}
-use mathlib.Core.Path.{_≡_, refl, sym, ap, _∙_}
+use mathlib.Core.Path.{_≡_, refl, _∙_}
 use native.Mathlib.Omega.{arith}
-use lib.Dec.{eqb, leb, ltb}
+use lib.Dec.{eqb, leb}
 use lib.ListN.{length, getD, replicate, length-append}
 use borrow.Author.Tests.{le-ltb, lt-leb, leb-false}
 use Rattle.error.specs.Refusal.{Answer, accepted, refused, refuseIf, andThen, noRoom}
-use Rattle.error.proofs.LawsAnswer.{refuse-no, then-yes, passed}
+use Rattle.error.proofs.LawsAnswer.{refuse-no, then-yes}
 use Rattle.scripthash_layout.specs.Sizes.{slabBytes, pageClass, pageSize}
 use Rattle.scripthash_layout.proofs.LawsSizes.{size-mono}
 use Rattle.scripthash_stream.specs.Stream.{streamLen}
@@ -19,10 +19,10 @@ use Rattle.book_rules.specs.Places.{stays, movesTo, loadsTo}
 use Rattle.book_rules.specs.Calls.{Call, load, append, read, drop}
 use Rattle.book_rules.specs.Offered.{offeredNumber, offeredList}
 use Rattle.book_rules.proofs.LawsRules.{moves-to, loads-to}
-use Rattle.plain_book.specs.Space.{Space, Taken, takeMark, rounded, takeRun, takeFresh, takeFrom}
-use Rattle.plain_book.specs.Key.{Place, empty, inline, slab, pages, Page, Placed, moved, joins, beginPage, appendPages, appendPlace}
-use Rattle.plain_book.specs.Key.{Key, emptyKey, loadInto, loadPlace, longer}
-use Rattle.plain_book.specs.Book.{Book, Outcome, onKey, keyOf, loads, appends, reads, drops, does}
+use Rattle.plain_book.specs.Space.{Space, takeMark, rounded, takeRun, takeFresh, takeFrom, runAtMark}
+use Rattle.plain_book.specs.Key.{Place, empty, inline, slab, pages, moved, joins, beginPage, appendPages, appendPlace}
+use Rattle.plain_book.specs.Key.{emptyKey, loadInto, loadPlace, longer}
+use Rattle.plain_book.specs.Book.{Book, onKey, keyOf, loads, appends, reads, drops, does}
 use Rattle.plain_book.specs.Grown.{grown, pagesEnough}
 use Rattle.plain_book.proofs.LawsHistory.{all-same}
 
@@ -45,7 +45,7 @@ unfolding takeMark
 mark-accepts end bytes s h = (_, refuse-no _ _ _ (le-ltb end (s .mark + bytes) h))
 
 run-accepts : (end k : ℕ) (s : Space) → pageAfter (s .mark) + k * pageSize ≤ end → Accepts (takeRun end k s)
-unfolding takeRun rounded
+unfolding runAtMark rounded
 run-accepts end k s h = mark-accepts end (k * pageSize) (rounded s) h
 
 from-accepts : (end class : ℕ) (os : List ℕ) (s : Space) → class ≤ pageClass → pageAfter (s .mark) + pageSize ≤ end

@@ -17,7 +17,7 @@ use Rattle.scripthash_free.specs.FreeList.{Block, isBlock, Adjoin, Each, IsSlab
 use Rattle.scripthash_free.proofs.LawsBlock.{stands-block, slab-stands}
 use Rattle.scripthash_free.proofs.LawsGap.{gap-filled, gap-slabs}
 use Rattle.book_limits.specs.Limits.{pageAfter}
-use Rattle.plain_book.specs.Space.{Space, stackOf, freed, freedAll, Taken, takeMark, rounded, takeRun, takeFresh, takeFrom, takeBlock}
+use Rattle.plain_book.specs.Space.{Space, stackOf, freed, freedAll, Taken, takeMark, rounded, takeRun, takeFresh, takeFrom, takeBlock, runAtMark}
 use Rattle.plain_book.specs.Key.{Place, pages, runPages}
 use Rattle.plain_book.specs.Owners.{Owner, hand, stack, slabOf, pageOf, pageNo, has}
 use Rattle.plain_book.specs.Good.{Good}
@@ -122,7 +122,7 @@ rounded-mark s = omega arith
 -- A page from the mark, and a slab.
 pub good-fresh-page : (end : ℕ) (s : Space) (at : ℕ → Place) {t : Taken} → takeRun end 1 s ≡ accepted t → Good s at none
     → InHand at pageClass t
-unfolding takeRun
+unfolding runAtMark
 good-fresh-page end s at e g =
     let r = good-rounded s at none g in
     let b : isBlock pageClass (rounded s .mark) (rounded s .mark + slabBytes pageClass) ≡ true =

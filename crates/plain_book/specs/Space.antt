@@ -43,13 +43,17 @@ takeMark end bytes s =
 unfoldable pub rounded : Space → Space
 rounded s = record { mark = pageAfter (s .mark); stacks = freedAll (gapBlocks (s .mark) (pageAfter (s .mark))) s .stacks }
 
--- A run of pages taken: always at the mark, rounded up.
-unfoldable pub takeRun : ℕ → ℕ → Space → Answer Taken
-takeRun end pages s = takeMark end (pages * pageSize) (rounded s)
+-- A run of pages taken at the mark, rounded up.
+unfoldable pub runAtMark : ℕ → ℕ → Space → Answer Taken
+runAtMark end pages s = takeMark end (pages * pageSize) (rounded s)
+
+-- The run of a load: always at the mark.
+abbrev pub takeRun : ℕ → ℕ → Space → Answer Taken
+takeRun end pages s = runAtMark end pages s
 
 -- A block of a class taken where none of it is freed: a page is a run of one.
 unfoldable pub takeFresh : ℕ → ℕ → Space → Answer Taken
-takeFresh end class s = cond (eqb class pageClass) (takeRun end 1 s) (takeMark end (slabBytes class) s)
+takeFresh end class s = cond (eqb class pageClass) (runAtMark end 1 s) (takeMark end (slabBytes class) s)
 
 -- A block taken from a stack, which holds some offsets, or else from the mark.
 unfoldable pub takeFrom : ℕ → ℕ → List ℕ → Space → Answer Taken
