@@ -22,7 +22,7 @@ use Rattle.book_keys.specs.Keys.{content}
 use Rattle.book_blocks.specs.Blocks.{lastPageOf}
 use Rattle.book.specs.Book.{Book, book, fresh, headWord}
 use Rattle.book_start.specs.Start.{Verdict, good, keyUnsound, keyShares, freeStrays, freeShares, shares, sharesOne, claimAll}
-use Rattle.book_start.specs.Start.{claimContent, claimFreed, onward, judgeLists, judgeKeys, verdictOf, judges}
+use Rattle.book_start.specs.Start.{bytesOf as bytesTaken, claimContent, claimFreed, onward, judgeLists, judgeKeys, verdictOf, judges}
 
 -- The answer to a book with a work list of 512 bytes, which is enough for a body of 8,192.
 unfoldable pub told : Book → Answer Verdict
@@ -30,8 +30,8 @@ unfolding refuseIf andThen part overwrite isForm value formAt overflows readForm
     lastFrom streamFrom streamLenFrom storedNumber nextNumber scanFrom decodeStream slabPayload decodeSlab field nextOff extentHeader pageOf
     streamPlace pageScan isBlock outOfShape markBad shapeBroken soundly sure goOn slabScan linkScan goodExtent lastAt pageThen walk
     totalGood
-    chainAt pageBlocks contentAt content headWord shares sharesOne claimAll claimContent claimFreed onward judgeLists judgeKeys verdictOf
-    judges
+    chainAt pageBlocks contentAt content headWord bytesTaken shares sharesOne claimAll claimContent claimFreed onward judgeLists judgeKeys
+    verdictOf judges
 told b = judges b 512
 
 -- A body of 8,192 bytes, none of them 0.
@@ -54,12 +54,14 @@ freed first second = overwrite (overwrite blank 4096 (bytesOf 8 first)) 4112 (by
 abbrev none-freed : List ℕ
 none-freed = replicate 9 0
 
--- Good starts: a fresh book, a slab beside a freed one, two freed slabs, and a page, whose total is exact or unknown.
-pub good-starts : (told (fresh blank 2) ≡ accepted good)
-    × (told (book (overwrite slabbed 4128 (bytesOf 8 0)) (5 ∷ slabWord 0 2 4096 ∷ 0 ∷ []) 4160 (0 ∷ 4128 ∷ replicate 7 0)) ≡ accepted good)
-    × (told (book (freed 4112 0) (7 ∷ []) 4128 (4096 ∷ replicate 8 0)) ≡ accepted good)
-    × (told (book (paged 2) (headWord (Extent 4096) ∷ []) 8192 none-freed) ≡ accepted good)
-    × (told (book (paged 0) (headWord (Extent 4096) ∷ []) 8192 none-freed) ≡ accepted good)
+-- Good starts: a fresh book, a slab and a freed one with a unit between them that belongs to nobody, two freed slabs, and a page, whose
+-- total is exact or unknown.
+pub good-starts : (told (fresh blank 2) ≡ accepted (good 0))
+    × (told (book (overwrite slabbed 4128 (bytesOf 8 0)) (5 ∷ slabWord 0 2 4096 ∷ 0 ∷ []) 4160 (0 ∷ 4128 ∷ replicate 7 0))
+    ≡ accepted (good 1))
+    × (told (book (freed 4112 0) (7 ∷ []) 4128 (4096 ∷ replicate 8 0)) ≡ accepted (good 0))
+    × (told (book (paged 2) (headWord (Extent 4096) ∷ []) 8192 none-freed) ≡ accepted (good 0))
+    × (told (book (paged 0) (headWord (Extent 4096) ∷ []) 8192 none-freed) ≡ accepted (good 0))
 unfolding told
 good-starts = (refl, refl, refl, refl, refl)
 

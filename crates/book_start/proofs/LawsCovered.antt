@@ -1,6 +1,6 @@
 -- Blocks that share no byte and lie between two offsets take no more bytes than lie there; where they take as many, each byte there is one
 -- of theirs. Assumes nothing.
-use Prim.Native.Nat.{ℕ, zero, suc, _+_, _≤_, _<_}
+use Prim.Native.Nat.{ℕ, zero, suc, _+_, _%_, _≤_, _<_}
 use mathlib.Core.Bool.{Bool, true, false, cond}
 use mathlib.Core.List.{List, [], _∷_, _++_}
 use mathlib.Core.Logic.{_⊎_, inl, inr, ⊎-elim}
@@ -16,8 +16,9 @@ use Rattle.scripthash_free.specs.FreeList.{Block, Disjoint, Each, Within}
 use Rattle.scripthash_free.proofs.LawsBlock.{bytes-from-16, block-stands}
 use Rattle.scripthash_free.proofs.LawsGap.{each-map}
 use Rattle.book.specs.Book.{Book}
-use Rattle.book_start.specs.Start.{claimed, claimAll, AllApart, Stands, blocksAt, namedFrom, heldBy, freedBy, blocksOf, GoodStart}
-use Rattle.book_start.specs.Covered.{bytesOf, Has, OneHas, lostIn, Covered}
+use Rattle.book_start.specs.Start.{claimed, claimAll, AllApart, Stands, blocksAt, bytesOf, namedFrom, heldBy, freedBy, blocksOf}
+use Rattle.book_start.specs.Start.{GoodStart}
+use Rattle.book_start.specs.Covered.{Has, OneHas, lostIn, Covered}
 use Rattle.book_start.proofs.LawsClaims.{claims-first, claim-step, apart-claims, Cross}
 use Rattle.book_start.proofs.LawsPairs.{gather, gather-same, held-gathered, freed-gathered, heldOf, listOf, held-stand}
 
@@ -236,6 +237,12 @@ module _ (b : Book) (g : GoodStart b) where
       (stand-within (b .space .mark) (blocksOf b) all-stand) (omega arith) o l h
 
 -- ---- what claimed blocks take
+
+-- Blocks take whole units.
+pub whole-units : (xs : List Block) → bytesOf xs % 16 ≡ 0
+unfolding bytesOf
+whole-units [] = refl
+whole-units (x ∷ xs) = let e = whole-units xs in omega arith
 
 -- Claimed blocks take what those before them and their own do: so the figure of a judgement is what lies between 4,096 and the mark, less
 -- what the claims of its end take.

@@ -1,5 +1,5 @@
--- The judgement of a book: it is good exactly where the book is a good start. Assumes nothing.
-use Prim.Native.Nat.{ℕ, zero, suc, _+_, _/_, _≤_, _<_}
+-- The judgement of a book: it is good exactly where the book is a good start, and tells the units that belong to nobody. Assumes nothing.
+use Prim.Native.Nat.{ℕ, zero, suc, _+_, _-_, _*_, _/_, _≤_, _<_}
 use mathlib.Core.Bool.{false}
 use mathlib.Core.List.{List, [], _∷_}
 use mathlib.Core.Path.{_≡_, refl, sym, ap, _∙_}
@@ -15,17 +15,20 @@ use Rattle.book_space.specs.Space.{Space, shapeBroken}
 use Rattle.book_space.proofs.LawsShape.{shape-holds}
 use Rattle.book_keys.specs.Keys.{Content, content}
 use Rattle.book.specs.Book.{Book}
-use Rattle.book_start.specs.Start.{blocksAt, blocksIn, heldBy, namedFrom, freedBy, blocksOf, GoodStart}
+use Rattle.book_start.specs.Start.{blocksAt, bytesOf, blocksIn, heldBy, namedFrom, freedBy, blocksOf, GoodStart}
 use Rattle.book_start.specs.Start.{Verdict, good, keyUnsound, keyShares, freeStrays, freeShares, Claim, claimed, unfit, shared}
 use Rattle.book_start.specs.Start.{claimAll, claimContent, claimFreed, onward, judgeLists, judgeKeys, verdictOf, judges}
+use Rattle.book_start.specs.Covered.{lostIn}
 use Rattle.book_start.proofs.LawsClaims.{Claims, Cross, claim-none, claim-both, claims-left, claims-apart, apart-claims}
+use Rattle.book_start.proofs.LawsCovered.{whole-units, claimed-bytes}
 use Rattle.book_start.proofs.LawsFreed.{Ending, freed-claimed, claimed-freed, named-few}
 
 -- ---- going on
 
 -- A verdict behind a claim is good only where the claim stands, and what comes behind it is good.
-pub went-onward : (c : Claim) (ifUnfit ifShared : Verdict) (after : List Block → Verdict) → onward c ifUnfit ifShared after ≡ good
-    → (ifUnfit ≡ good → ⊥) → (ifShared ≡ good → ⊥) → (bs : List Block) × (c ≡ claimed bs) × (after bs ≡ good)
+pub went-onward : (c : Claim) (ifUnfit ifShared : Verdict) (after : List Block → Verdict) {n : ℕ}
+    → onward c ifUnfit ifShared after ≡ good n
+    → (ifUnfit ≡ good n → ⊥) → (ifShared ≡ good n → ⊥) → (bs : List Block) × (c ≡ claimed bs) × (after bs ≡ good n)
 unfolding onward
 went-onward (claimed bs) ifUnfit ifShared after e notUnfit notShared = (bs, refl, e)
 went-onward unfit ifUnfit ifShared after e notUnfit notShared = absurd (notUnfit e)
@@ -38,13 +41,18 @@ unfolding onward
 onward-yes c ifUnfit ifShared after e = rw e
 
 -- A fault isn't good.
-no-fault : (n : ℕ) → ((keyUnsound n ≡ good → ⊥) × (keyShares n ≡ good → ⊥) × (freeStrays n ≡ good → ⊥) × (freeShares n ≡ good → ⊥))
-no-fault n = (
+no-fault : (k n : ℕ)
+    → ((keyUnsound k ≡ good n → ⊥) × (keyShares k ≡ good n → ⊥) × (freeStrays k ≡ good n → ⊥) × (freeShares k ≡ good n → ⊥))
+no-fault k n = (
   λ e. let z : _≡_ {A = ℕ} 0 1 = cc in omega arith,
   λ e. let z : _≡_ {A = ℕ} 0 1 = cc in omega arith,
   λ e. let z : _≡_ {A = ℕ} 0 1 = cc in omega arith,
   λ e. let z : _≡_ {A = ℕ} 0 1 = cc in omega arith,
 )
+
+-- The units below the mark that some claims leave.
+abbrev leftBy : Space → List Block → ℕ
+leftBy s claims = (s .mark - (4096 + bytesOf claims)) / 16
 
 -- ---- free lists
 
@@ -64,29 +72,34 @@ lists-rest s class h hs all i l = let same : class + 1 + i ≡ class + suc i = o
 lists-first : (s : Space) (class h : ℕ) (hs : List ℕ) → ListsEnd s class (h ∷ hs) → Ending s class h (namedFrom s h)
 lists-first s class h hs all = let same : class + 0 ≡ class = omega arith in rw same at (all 0 (omega arith))
 
--- Free lists that are judged good end, and their blocks are claimed.
-pub lists-good : (s : Space) (class : ℕ) (hs : List ℕ) (before : List Block) → s .mark ≤ length (s .body)
-    → judgeLists s class hs before ≡ good → ListsEnd s class hs × Claims before (freedBy s class hs)
+-- Free lists that are judged good end, and their blocks are claimed; the figure is what all claims leave.
+pub lists-good : (s : Space) (class : ℕ) (hs : List ℕ) (before : List Block) (n : ℕ) → s .mark ≤ length (s .body)
+    → judgeLists s class hs before ≡ good n
+    → ListsEnd s class hs × ((c : Claims before (freedBy s class hs)) × (n ≡ leftBy s (c .after)))
 unfolding judgeLists freedBy
-lists-good s class [] before within e = (λ i l. absurd (omega arith), record { after = before; is = claim-none before })
-lists-good s class (h ∷ hs) before within e =
-    let f = no-fault class in
+lists-good s class [] before n within e =
+    (λ i l. absurd (omega arith), (record { after = before; is = claim-none before }, (let same : n ≡ leftBy s before = cc in same)))
+lists-good s class (h ∷ hs) before n within e =
+    let f = no-fault class n in
     let w = went-onward (claimFreed (s .mark / 16) s class before h) _ _ _ e (f .2) (f .3) in
     let one = freed-claimed (s .mark / 16) s class before h within (w .1) in
-    let rest = lists-good s (class + 1) hs (w .0) within (w .2) in (
+    let rest = lists-good s (class + 1) hs (w .0) n within (w .2) in (
       lists-more s class h hs (one .ends) (rest .0),
-      record {
-        after = rest .1 .after;
-        is = claim-both before (blocksAt class (namedFrom s h)) (freedBy s (class + 1) hs) (one .is)
-            ∙ rest .1 .is;
-      },
+      (
+        record {
+          after = rest .1 .0 .after;
+          is = claim-both before (blocksAt class (namedFrom s h)) (freedBy s (class + 1) hs) (one .is)
+              ∙ rest .1 .0 .is;
+        },
+        rest .1 .1,
+      ),
     )
 
--- Free lists that end, with blocks that are claimed, are judged good.
-pub good-lists : (s : Space) (class : ℕ) (hs : List ℕ) (before : List Block) → ListsEnd s class hs → Claims before (freedBy s class hs)
-    → judgeLists s class hs before ≡ good
+-- Free lists that end, with blocks that are claimed, are judged good, with what all claims leave.
+pub good-lists : (s : Space) (class : ℕ) (hs : List ℕ) (before : List Block) → ListsEnd s class hs
+    → (c : Claims before (freedBy s class hs)) → judgeLists s class hs before ≡ good (leftBy s (c .after))
 unfolding judgeLists freedBy
-good-lists s class [] before ends c = refl
+good-lists s class [] before ends c = let same : before ≡ c .after = let e = c .is in let n = claim-none before in cc in rw same
 good-lists s class (h ∷ hs) before ends c =
     let one = claims-left before (blocksAt class (namedFrom s h)) (freedBy s (class + 1) hs) c in
     let is = claimed-freed (s .mark / 16) s class before h (namedFrom s h) (named-few (s .mark / 16) (s .body) h)
@@ -127,20 +140,21 @@ unfolding claimContent blocksIn
 claimed-content before a e = rw e
 
 -- Keys that are judged good are sound, and their blocks are claimed, and then the free lists are judged good.
-pub record KeysGood (s : Space) (ws : List ℕ) (before : List Block) : Type 0 where
+pub record KeysGood (s : Space) (ws : List ℕ) (before : List Block) (n : ℕ) : Type 0 where
   pub sound : KeysSound s ws
   pub held : Claims before (heldBy s ws)
-  pub lists : judgeLists s 0 (s .free) (held .after) ≡ good
+  pub lists : judgeLists s 0 (s .free) (held .after) ≡ good n
 
-pub keys-good : (s : Space) (key : ℕ) (ws : List ℕ) (before : List Block) → judgeKeys s key ws before ≡ good → KeysGood s ws before
+pub keys-good : (s : Space) (key : ℕ) (ws : List ℕ) (before : List Block) (n : ℕ) → judgeKeys s key ws before ≡ good n
+    → KeysGood s ws before n
 unfolding judgeKeys heldBy
-keys-good s key [] before e =
+keys-good s key [] before n e =
     record { sound = λ i l. absurd (omega arith); held = record { after = before; is = claim-none before }; lists = e }
-keys-good s key (w ∷ ws) before e =
-    let f = no-fault key in
+keys-good s key (w ∷ ws) before n e =
+    let f = no-fault key n in
     let g = went-onward (claimContent before (content s w)) _ _ _ e (f .0) (f .1) in
     let one = content-claimed before (content s w) (g .1) in
-    let rest = keys-good s (key + 1) ws (g .0) (g .2) in
+    let rest = keys-good s (key + 1) ws (g .0) n (g .2) in
     record {
       sound = keys-more s w ws (one .0) (rest .sound);
       held = record { after = rest .held .after; is = claim-both before (blocksIn (content s w)) (heldBy s ws) (one .1) ∙ rest .held .is };
@@ -166,30 +180,43 @@ unfolding Each
 cross-none [] = tt
 cross-none (x ∷ xs) = (tt, cross-none xs)
 
-module _ (b : Book) (nine : length (b .space .free) ≡ 9) where
-  -- A book in shape that is judged good is a good start.
-  pub judged-start : shapeBroken (b .space) (length (b .heads)) ≡ false → verdictOf b ≡ good → GoodStart b
-  unfolding verdictOf
-  judged-start shape e =
-      let within = shape-holds (b .space) (length (b .heads)) shape .0 .within in
-      let k = keys-good (b .space) 0 (b .heads) [] e in
-      let l = lists-good (b .space) 0 (b .space .free) (k .held .after) within (k .lists) in
-      record {
-        shape = shape;
-        nine = nine;
-        sound = k .sound;
-        ends = λ class h. l .0 class (omega arith) .names;
-        stand = λ class h. rw (zero-add class) at (l .0 class (omega arith) .stand);
-        apart = claims-apart [] (blocksOf b)
-            (record {
-              after = l .1 .after;
-              is = claim-both [] (heldBy (b .space) (b .heads)) (freedBy (b .space) 0 (b .space .free))
-                  (k .held .is) ∙ l .1 .is;
-            }) .1;
-      }
+-- What the claims of all blocks of a book in shape leave is what belongs to nobody, in whole units.
+left-lost : (b : Book) → shapeBroken (b .space) (length (b .heads)) ≡ false → (c : Claims [] (blocksOf b))
+    → leftBy (b .space) (c .after) * 16 ≡ lostIn b
+unfolding lostIn bytesOf
+left-lost b shape c =
+    let whole = shape-holds (b .space) (length (b .heads)) shape .0 .aligned in
+    let units = whole-units (blocksOf b) in
+    let all = claimed-bytes [] (blocksOf b) (c .after) (c .is) in
+    omega arith
 
--- A good start is judged good.
-pub start-judged : (b : Book) → GoodStart b → verdictOf b ≡ good
+module _ (b : Book) (nine : length (b .space .free) ≡ 9) where
+  -- A book in shape that is judged good is a good start, and the figure is what belongs to nobody.
+  pub judged-start : (n : ℕ) → shapeBroken (b .space) (length (b .heads)) ≡ false → verdictOf b ≡ good n
+      → GoodStart b × (n * 16 ≡ lostIn b)
+  unfolding verdictOf
+  judged-start n shape e =
+      let within = shape-holds (b .space) (length (b .heads)) shape .0 .within in
+      let k = keys-good (b .space) 0 (b .heads) [] n e in
+      let l = lists-good (b .space) 0 (b .space .free) (k .held .after) n within (k .lists) in
+      let all : Claims [] (blocksOf b)
+      = record {
+        after = l .1 .0 .after;
+        is = claim-both [] (heldBy (b .space) (b .heads)) (freedBy (b .space) 0 (b .space .free)) (k .held .is) ∙ l .1 .0 .is;
+      } in (
+        record {
+          shape = shape;
+          nine = nine;
+          sound = k .sound;
+          ends = λ class h. l .0 class (omega arith) .names;
+          stand = λ class h. rw (zero-add class) at (l .0 class (omega arith) .stand);
+          apart = claims-apart [] (blocksOf b) all .1;
+        },
+        ap (λ (k : ℕ). k * 16) (l .1 .1) ∙ left-lost b shape all,
+      )
+
+-- A good start is judged good, with what belongs to nobody.
+pub start-judged : (b : Book) → GoodStart b → verdictOf b ≡ good (lostIn b / 16)
 unfolding verdictOf
 start-judged b g =
     let held = heldBy (b .space) (b .heads) in
@@ -204,17 +231,19 @@ start-judged b g =
           (arith, g .nine)));
     })
     (record { after = all .after; is = sym (claim-both [] held freed (keys .is)) ∙ all .is })
+    ∙ ap good (let e = left-lost b (g .shape) all in let n : leftBy (b .space) (all .after) ≡ lostIn b / 16 = omega arith in n)
 
--- With a work list that is long enough, the call accepts a book as good exactly where it is a good start.
+-- With a work list that is long enough, the call accepts a book as good exactly where it is a good start, and tells exactly the units that
+-- belong to nobody.
 module _ (b : Book) (nine : length (b .space .free) ≡ 9) (room : ℕ) where
-  pub judges-start : judges b room ≡ accepted good → GoodStart b
+  pub judges-start : (n : ℕ) → judges b room ≡ accepted (good n) → GoodStart b × (n * 16 ≡ lostIn b)
   unfolding judges
-  judges-start e =
+  judges-start n e =
       let p = passed (shapeBroken (b .space) (length (b .heads))) shapeBad _ e in
       let q = passed (ltb room (length (b .space .body) / 16)) listTooShort _ (p .1) in
-      judged-start b nine (p .0) (accepted-inj (q .1))
+      judged-start b nine n (p .0) (accepted-inj (q .1))
 
-  pub start-judges : length (b .space .body) / 16 ≤ room → GoodStart b → judges b room ≡ accepted good
+  pub start-judges : length (b .space .body) / 16 ≤ room → GoodStart b → judges b room ≡ accepted (good (lostIn b / 16))
   unfolding judges
   start-judges long g =
       refuse-no (shapeBroken (b .space) (length (b .heads))) shapeBad _ (g .shape)

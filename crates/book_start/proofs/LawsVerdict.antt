@@ -1,9 +1,10 @@
 -- Judging by a work list: a turn of the loop over free lists and of that over keys, and their ends. Assumes nothing.
-use Prim.Native.Nat.{ℕ, _+_, _*_, _/_, _≤_, _<_}
+use Prim.Native.Nat.{ℕ, _+_, _-_, _*_, _/_, _%_, _≤_, _<_}
 use mathlib.Core.Bool.{true, false}
 use mathlib.Core.List.{List, []}
-use mathlib.Core.Path.{_≡_, refl, sym, ap, _∙_}
+use mathlib.Core.Path.{_≡_, refl, sym, ap, subst, _∙_}
 use native.Mathlib.Numerals.{add-one}
+use native.Mathlib.Omega.{arith}
 use borrow.Author.Tests.{lt-ltb, le-ltb}
 use lib.Dec.{ltb}
 use lib.ListN.{length, getD, drop, replicate, drop-of-length-le}
@@ -17,12 +18,14 @@ use Rattle.book_keys.specs.Keys.{content}
 use Rattle.book_keys.specs.Steps.{keySpace}
 use Rattle.book_keys.proofs.LawsFree.{content-free}
 use Rattle.book.specs.Book.{Book}
-use Rattle.book_start.specs.Start.{Verdict, keyUnsound, keyShares, freeStrays, freeShares, Claim, claimed, unfit, shared}
+use Rattle.book_start.specs.Start.{AllApart, bytesOf, Verdict, good, keyUnsound, keyShares, freeStrays, freeShares, Claim}
+use Rattle.book_start.specs.Start.{claimed, unfit, shared}
 use Rattle.book_start.specs.Start.{claimContent, claimFreed, onward, judgeLists, judgeKeys, verdictOf, judges}
-use Rattle.book_start.specs.Units.{cleared, markAll, workAfter, Marked, claimOf, ClaimsAs, JudgesAs}
+use Rattle.book_start.specs.Units.{cleared, markAll, workAfter, Marked, Leaves, claimOf, Took, ClaimsAs, JudgesAs}
 use Rattle.book_start.specs.declared.claiming.Claiming.{Claiming}
 use Rattle.book_start.specs.declared.claiming.Claiming.the-variants.{Done, Unfit, Shared}
 use Rattle.book_start.specs.declared.judging.JudgeStart.the-variants.{Good, KeyUnsound, KeyShares, FreeStrays, FreeShares}
+use Rattle.book_start.proofs.LawsShown.{shown-room}
 use Rattle.book_start.proofs.LawsUnits.{placed-all, cleared-again}
 
 -- What comes behind a claim.
@@ -43,16 +46,26 @@ pub onward-shared : (ifUnfit ifShared : Verdict) (after : List Block → Verdict
 unfolding onward
 onward-shared ifUnfit ifShared after = refl
 
+-- Claiming that is done took units that were left, and leaves the others.
+pub claimed-left : (units mark : ℕ) (lent : List ℕ) (before : List Block) (want : Claim) (tells : Claiming) (work : List ℕ) (lost taken : ℕ)
+    → (c : ClaimsAs units mark lent before want tells work) → tells ≡ Done taken → Leaves mark before lost
+    → (taken ≤ lost) × Leaves mark (c .claims) (lost - taken)
+claimed-left units mark lent before want tells work lost taken c e left =
+    let took : Took before (c .claims) (Done taken) = subst (λ (t : Claiming). Took before (c .claims) t) e (c .took) in
+    let room = shown-room units mark lent (c .claims) work (c .shows) in
+    (omega arith, omega arith)
+
 -- ---- free lists
 
--- The free lists of the classes from one on, judged behind what the work list shows, give what is wanted.
-pub record ListsGo (units : ℕ) (lent : List ℕ) (want : Verdict) (s : Space) (class : ℕ) (work : List ℕ) : Type 0 where
+-- The free lists of the classes from one on, judged behind what the work list shows, give what is wanted; so many units are left.
+pub record ListsGo (units : ℕ) (lent : List ℕ) (want : Verdict) (s : Space) (class : ℕ) (work : List ℕ) (lost : ℕ) : Type 0 where
   pub claims : List Block
   pub shows : Marked units (s .mark) lent claims work
+  pub left : Leaves (s .mark) claims lost
   pub gives : judgeLists s class (drop class (s .free)) claims ≡ want
 
-module _ (units : ℕ) (lent : List ℕ) (want : Verdict) (s : Space) (class : ℕ) (work : List ℕ)
-    (g : ListsGo units lent want s class work) where
+module _ (units : ℕ) (lent : List ℕ) (want : Verdict) (s : Space) (class : ℕ) (work : List ℕ) (lost : ℕ)
+    (g : ListsGo units lent want s class work lost) where
   module _ (more : class < length (s .free)) where
     first : want ≡ onward (claimFreed (s .mark / 16) s class (g .claims) (getD (s .free) class 0)) (freeStrays class) (freeShares class)
         (λ bs. judgeLists s (class + 1) (drop (class + 1) (s .free)) bs)
@@ -60,17 +73,23 @@ module _ (units : ℕ) (lent : List ℕ) (want : Verdict) (s : Space) (class : �
     first = sym (g .gives) ∙ ap (λ (hs : List ℕ). judgeLists s class hs (g .claims)) (drop-cons (s .free) class 0 more) ∙ rw (add-one class)
 
     module _ (after : List ℕ) (tells : Claiming)
-        (c : ClaimsAs units (s .mark) lent (claimFreed (s .mark / 16) s class (g .claims) (getD (s .free) class 0)) tells after) where
+        (c : ClaimsAs units (s .mark) lent (g .claims) (claimFreed (s .mark / 16) s class (g .claims)
+        (getD (s .free) class 0)) tells after) where
       told : want ≡ onward (claimOf tells (c .claims)) (freeStrays class) (freeShares class) (λ bs. judgeLists s (class + 1) (drop
           (class + 1) (s .free)) bs)
       told = first ∙ onward-is _ _ (freeStrays class) (freeShares class) _ (c .told)
 
-      -- The list is claimed.
-      pub lists-turn : tells ≡ Done → ListsGo units lent want s (class + 1) after
-      lists-turn e =
+      -- The list is claimed: what it takes was left,
+      pub lists-took : (taken : ℕ) → tells ≡ Done taken → taken ≤ lost
+      lists-took taken e = claimed-left units (s .mark) lent (g .claims) _ tells after lost taken c e (g .left) .0
+
+      -- and the lists behind it are judged.
+      pub lists-turn : (taken : ℕ) → tells ≡ Done taken → ListsGo units lent want s (class + 1) after (lost - taken)
+      lists-turn taken e =
           record {
             claims = c .claims;
             shows = c .shows;
+            left = claimed-left units (s .mark) lent (g .claims) _ tells after lost taken c e (g .left) .1;
             gives = sym (told ∙ onward-is _ _ (freeStrays class) (freeShares class) _ (ap (λ (t : Claiming). claimOf t (c .claims)) e)
                 ∙ onward-claimed (c .claims) (freeStrays class) (freeShares class) _);
           }
@@ -98,26 +117,31 @@ module _ (units : ℕ) (lent : List ℕ) (want : Verdict) (s : Space) (class : �
           }
 
   -- No list is left.
-  pub lists-end : length (s .free) ≤ class → JudgesAs units (s .mark) lent want Good work
+  pub lists-end : length (s .free) ≤ class → JudgesAs units (s .mark) lent want (Good lost) work
   unfolding judgeLists
   lists-end h =
+      let l = g .left in
+      let rest : lost ≡ (s .mark - (4096 + bytesOf (g .claims))) / 16 = omega arith in
       record {
         claims = g .claims;
         shows = g .shows;
-        told = ap accepted (ap (λ (hs : List ℕ). judgeLists s class hs (g .claims)) (sym (drop-of-length-le (s .free) {i = class} h))
+        told = ap accepted
+            (ap good rest ∙ ap (λ (hs : List ℕ). judgeLists s class hs (g .claims)) (sym (drop-of-length-le (s .free) {i = class} h))
             ∙ g .gives);
       }
 
 -- ---- keys
 
--- The keys from one on, judged behind what the work list shows, give what is wanted.
-pub record KeysGo (units : ℕ) (lent : List ℕ) (want : Verdict) (s : Space) (heads : List ℕ) (key : ℕ) (work : List ℕ) : Type 0 where
+-- The keys from one on, judged behind what the work list shows, give what is wanted; so many units are left.
+pub record KeysGo (units : ℕ) (lent : List ℕ) (want : Verdict) (s : Space) (heads : List ℕ) (key : ℕ) (work : List ℕ)
+    (lost : ℕ) : Type 0 where
   pub claims : List Block
   pub shows : Marked units (s .mark) lent claims work
+  pub left : Leaves (s .mark) claims lost
   pub gives : judgeKeys s key (drop key heads) claims ≡ want
 
-module _ (units : ℕ) (lent : List ℕ) (want : Verdict) (s : Space) (heads : List ℕ) (key : ℕ) (work : List ℕ)
-    (g : KeysGo units lent want s heads key work) where
+module _ (units : ℕ) (lent : List ℕ) (want : Verdict) (s : Space) (heads : List ℕ) (key : ℕ) (work : List ℕ) (lost : ℕ)
+    (g : KeysGo units lent want s heads key work lost) where
   module _ (more : key < length heads) where
     first-key : want ≡ onward (claimContent (g .claims) (content (keySpace (s .body) (s .mark)) (getD heads key 0))) (keyUnsound key)
         (keyShares key)
@@ -128,18 +152,23 @@ module _ (units : ℕ) (lent : List ℕ) (want : Verdict) (s : Space) (heads : L
         ∙ rw (add-one key, content-free (s .body) (s .mark) (s .free) (getD heads key 0))
 
     module _ (after : List ℕ) (tells : Claiming)
-        (c : ClaimsAs units (s .mark) lent (claimContent (g .claims) (content (keySpace (s .body) (s .mark))
+        (c : ClaimsAs units (s .mark) lent (g .claims) (claimContent (g .claims) (content (keySpace (s .body) (s .mark))
         (getD heads key 0))) tells after) where
       told-key : want ≡ onward (claimOf tells (c .claims)) (keyUnsound key) (keyShares key) (λ bs. judgeKeys s (key + 1) (drop
           (key + 1) heads) bs)
       told-key = first-key ∙ onward-is _ _ (keyUnsound key) (keyShares key) _ (c .told)
 
-      -- The key is claimed.
-      pub keys-turn : tells ≡ Done → KeysGo units lent want s heads (key + 1) after
-      keys-turn e =
+      -- The key is claimed: what it takes was left,
+      pub keys-took : (taken : ℕ) → tells ≡ Done taken → taken ≤ lost
+      keys-took taken e = claimed-left units (s .mark) lent (g .claims) _ tells after lost taken c e (g .left) .0
+
+      -- and the keys behind it are judged.
+      pub keys-turn : (taken : ℕ) → tells ≡ Done taken → KeysGo units lent want s heads (key + 1) after (lost - taken)
+      keys-turn taken e =
           record {
             claims = c .claims;
             shows = c .shows;
+            left = claimed-left units (s .mark) lent (g .claims) _ tells after lost taken c e (g .left) .1;
             gives = sym (told-key ∙ onward-is _ _ (keyUnsound key) (keyShares key) _ (ap (λ (t : Claiming). claimOf t (c .claims)) e)
                 ∙ onward-claimed (c .claims) (keyUnsound key) (keyShares key) _);
           }
@@ -167,12 +196,13 @@ module _ (units : ℕ) (lent : List ℕ) (want : Verdict) (s : Space) (heads : L
           }
 
   -- No key is left: the free lists are judged behind them.
-  pub keys-end : length heads ≤ key → ListsGo units lent want s 0 work
+  pub keys-end : length heads ≤ key → ListsGo units lent want s 0 work lost
   unfolding judgeKeys
   keys-end h =
       record {
         claims = g .claims;
         shows = g .shows;
+        left = g .left;
         gives = ap (λ (ws : List ℕ). judgeKeys s key ws (g .claims)) (sym (drop-of-length-le heads {i = key} h)) ∙ g .gives;
       }
 
@@ -221,10 +251,15 @@ unfolding verdictOf
 judged-is b = refl
 
 -- A cleared work list shows no claims.
-pub shows-none : (units mark : ℕ) (work after : List ℕ) → mark ≤ 16 * units → units ≤ length work → after ≡ cleared units work
-    → Marked units mark work [] after
-unfolding markAll Each
-shows-none units mark work after fits long e = record { fits = fits; long = long; stand = tt; is = e }
+pub shows-none : (units mark : ℕ) (work after : List ℕ) → 4096 ≤ mark → mark ≤ 16 * units → units ≤ length work
+    → after ≡ cleared units work → Marked units mark work [] after
+unfolding markAll Each AllApart
+shows-none units mark work after from fits long e = record { from = from; fits = fits; long = long; stand = tt; apart = tt; is = e }
+
+-- No claims leave all units between 4,096 and the mark.
+pub none-leave : (mark : ℕ) → 4096 ≤ mark → mark % 16 ≡ 0 → Leaves mark [] (mark / 16 - 256)
+unfolding bytesOf
+none-leave mark from whole = omega arith
 
 -- A work list that shows claims, cleared, is the lent one cleared.
 pub shown-cleared : (units mark : ℕ) (lent : List ℕ) (claims : List Block) (work : List ℕ) → Marked units mark lent claims work

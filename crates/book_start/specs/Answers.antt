@@ -7,7 +7,7 @@ use Rattle.book_start.specs.declared.judging.JudgeStart.the-variants.{Go
 
 -- The answer of `judge_start`.
 abbrev pub startAnswer : JudgeStart → Answer Verdict
-startAnswer Good = accepted good
+startAnswer (Good lost) = accepted (good lost)
 startAnswer (KeyUnsound key) = accepted (keyUnsound key)
 startAnswer (KeyShares key) = accepted (keyShares key)
 startAnswer (FreeStrays class) = accepted (freeStrays class)
@@ -16,7 +16,7 @@ startAnswer (Refused number) = refused number
 
 -- The number of a verdict's ground, as it goes out.
 abbrev pub groundOf : Verdict → ℕ
-groundOf good = 0
+groundOf (good lost) = 0
 groundOf (keyUnsound key) = 1
 groundOf (keyShares key) = 2
 groundOf (freeStrays class) = 3
@@ -24,8 +24,16 @@ groundOf (freeShares class) = 4
 
 -- The key or the class that a verdict names, 0 where it is good.
 abbrev pub whichOf : Verdict → ℕ
-whichOf good = 0
+whichOf (good lost) = 0
 whichOf (keyUnsound key) = key
 whichOf (keyShares key) = key
 whichOf (freeStrays class) = class
 whichOf (freeShares class) = class
+
+-- The units that belong to nobody beside a good verdict, 0 beside another.
+abbrev pub lostOf : Verdict → ℕ
+lostOf (good lost) = lost
+lostOf (keyUnsound key) = 0
+lostOf (keyShares key) = 0
+lostOf (freeStrays class) = 0
+lostOf (freeShares class) = 0

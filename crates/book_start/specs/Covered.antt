@@ -5,12 +5,7 @@ use mathlib.Core.Logic.{_⊎_}
 use Rattle.scripthash_layout.specs.Sizes.{slabBytes}
 use Rattle.scripthash_free.specs.FreeList.{Block}
 use Rattle.book.specs.Book.{Book}
-use Rattle.book_start.specs.Start.{blocksOf}
-
--- The bytes that blocks take.
-unfoldable pub bytesOf : List Block → ℕ
-bytesOf [] = 0
-bytesOf (x ∷ xs) = slabBytes (x .class) + bytesOf xs
+use Rattle.book_start.specs.Start.{bytesOf, blocksOf}
 
 -- A byte is one of a block's.
 abbrev pub Has : ℕ → Block → Type 0

@@ -1,6 +1,6 @@
 -- A book that starts from bytes written elsewhere: what a good start is, said of its bytes, head words, mark and free heads alone, and a
 -- judgement that finds the first fault of one that isn't good.
-use Prim.Native.Nat.{ℕ, zero, suc, _+_, _/_, _<_, _≤_}
+use Prim.Native.Nat.{ℕ, zero, suc, _+_, _-_, _/_, _<_, _≤_}
 use mathlib.Core.Bool.{Bool, true, false, cond, _&&_, _||_}
 use mathlib.Core.List.{List, [], _∷_, _++_}
 use mathlib.Core.Path.{_≡_}
@@ -32,6 +32,11 @@ block class off = record { class = class; off = off }
 unfoldable pub blocksAt : ℕ → List ℕ → List Block
 blocksAt class [] = []
 blocksAt class (o ∷ os) = block class o ∷ blocksAt class os
+
+-- The bytes that blocks take.
+unfoldable pub bytesOf : List Block → ℕ
+bytesOf [] = 0
+bytesOf (x ∷ xs) = slabBytes (x .class) + bytesOf xs
 
 -- ---- what is held and what is free
 
@@ -86,8 +91,9 @@ pub record GoodStart (b : Book) : Type 0 where
 
 -- A verdict on a start: it is good, or the first fault that is met, with its key or the class of its free list.
 pub data Verdict : Type 0 where
-  -- The book is a good start.
-  good : Verdict
+  -- The book is a good start; with how many units of 16 bytes between 4,096 and the mark belong to nobody: to no block that a key holds,
+  -- and to none that a free list names.
+  good : ℕ → Verdict
   -- The key isn't sound: the ground of 31.
   keyUnsound : ℕ → Verdict
   -- A block of the key shares a byte with one claimed before.
@@ -141,9 +147,10 @@ onward (claimed bs) ifUnfit ifShared after = after bs
 onward unfit ifUnfit ifShared after = ifUnfit
 onward shared ifUnfit ifShared after = ifShared
 
--- The verdict on the free lists of the classes from one on that have these free heads, behind blocks claimed before.
+-- The verdict on the free lists of the classes from one on that have these free heads, behind blocks claimed before. Where nothing is
+-- left to claim, what lies between 4,096 and the mark, less what the claimed blocks take, belongs to nobody.
 unfoldable pub judgeLists : Space → ℕ → List ℕ → List Block → Verdict
-judgeLists s class [] before = good
+judgeLists s class [] before = good ((s .mark - (4096 + bytesOf before)) / 16)
 judgeLists s class (h ∷ hs) before =
     onward (claimFreed (s .mark / 16) s class before h) (freeStrays class) (freeShares class) (λ bs. judgeLists s (class + 1) hs bs)
 

@@ -1,5 +1,5 @@
 -- The work list of a judgement: a byte for each unit, which is 16 bytes of the body. It is 1 where a claimed block has the unit, else 0.
-use Prim.Native.Nat.{ℕ, _*_, _/_, _≤_}
+use Prim.Native.Nat.{ℕ, _+_, _*_, _/_, _≤_}
 use mathlib.Core.Bool.{Bool, true, cond, _&&_}
 use mathlib.Core.List.{List, [], _∷_}
 use mathlib.Core.Path.{_≡_}
@@ -9,7 +9,7 @@ use Rattle.error.specs.Refusal.{Answer, accepted, refused}
 use Rattle.buffer.specs.Bytes.{part, overwrite}
 use Rattle.scripthash_layout.specs.Sizes.{slabBytes}
 use Rattle.scripthash_free.specs.FreeList.{Block, Each}
-use Rattle.book_start.specs.Start.{Stands, Verdict, Claim, claimed, unfit, shared}
+use Rattle.book_start.specs.Start.{AllApart, Stands, bytesOf, Verdict, Claim, claimed, unfit, shared}
 use Rattle.book_start.specs.Answers.{startAnswer}
 use Rattle.book_start.specs.declared.claiming.Claiming.{Claiming}
 use Rattle.book_start.specs.declared.claiming.Claiming.the-variants.{Done, Unfit, Shared}
@@ -50,24 +50,47 @@ workAfter units work (refused number) = work
 
 -- ---- what the steps of the code tell each other
 
--- A work list that was lent shows these claims, of blocks below the mark: all units were cleared, and those of the claims are marked.
+-- A work list that was lent shows these claims, of blocks below the mark that share no byte: all units were cleared, and those of the
+-- claims are marked.
 pub record Marked (units mark : ℕ) (lent : List ℕ) (claims : List Block) (work : List ℕ) : Type 0 where
+  pub from : 4096 ≤ mark
   pub fits : mark ≤ 16 * units
   pub long : units ≤ length lent
   pub stand : Each (Stands mark) claims
+  pub apart : AllApart claims
   pub is : work ≡ markAll claims (cleared units lent)
+
+-- A work list shows some claims.
+pub record Shows (mark : ℕ) (work : List ℕ) : Type 0 where
+  pub units : ℕ
+  pub lent : List ℕ
+  pub claims : List Block
+  pub shows : Marked units mark lent claims work
+
+-- So many units below the mark belong to none of some claims: what lies behind 4,096 is theirs, or lost.
+abbrev pub Leaves : ℕ → List Block → ℕ → Type 0
+Leaves mark claims lost = 4096 + (bytesOf claims + 16 * lost) ≡ mark
 
 -- What claiming gives that is told so, where these blocks are claimed at its end.
 abbrev pub claimOf : Claiming → List Block → Claim
-claimOf Done bs = claimed bs
+claimOf (Done taken) bs = claimed bs
 claimOf Unfit bs = unfit
 claimOf Shared bs = shared
 
--- Claiming gives what is wanted, and the work list shows the blocks that are claimed at its end.
-pub record ClaimsAs (units mark : ℕ) (lent : List ℕ) (want : Claim) (tells : Claiming) (work : List ℕ) : Type 0 where
+-- The units that claiming tells are those that it took, where some blocks were claimed before and others are at its end.
+abbrev pub Took : List Block → List Block → Claiming → Type 0
+Took before bs (Done taken) = bytesOf bs ≡ bytesOf before + 16 * taken
+Took before bs Unfit = Unit {0}
+Took before bs Shared = Unit {0}
+
+-- Claiming behind some blocks gives what is wanted and tells the units that it took, and the work list shows the blocks that are claimed
+-- at its end.
+pub record ClaimsAs (units mark : ℕ) (lent : List ℕ) (before : List Block) (want : Claim) (tells : Claiming)
+    (work : List ℕ) : Type 0 where
   pub claims : List Block
   pub shows : Marked units mark lent claims work
   pub told : want ≡ claimOf tells claims
+  pub took : Took before claims tells
 
 -- A part of a judgement gives the wanted verdict, and the work list shows the blocks that are claimed at its end.
 pub record JudgesAs (units mark : ℕ) (lent : List ℕ) (want : Verdict) (tells : JudgeStart) (work : List ℕ) : Type 0 where

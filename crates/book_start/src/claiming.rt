@@ -1,6 +1,6 @@
 // Claiming the blocks of a key or of a free list in a work list.
 ghost use mathlib.Core.List.{List};
-ghost use Prim.Native.Nat.{ℕ, _*_, _/_, _≤_};
+ghost use Prim.Native.Nat.{ℕ, _/_, _≤_};
 ghost use lib.ListN.{length};
 ghost use Rattle.scripthash_layout.specs.Sizes.{pageClass};
 ghost use Rattle.scripthash_layout.specs.declared.head.ShHeadValue.the-variants.{Slab, Extent};
@@ -10,7 +10,9 @@ ghost use Rattle.book_keys.specs.Keys.{content, contentAt, pageBlocks, soundly}
 ghost use Rattle.book_keys.specs.Steps.{keySpace};
 ghost use Rattle.book.specs.Steps.{PagesLeft};
 ghost use Rattle.book_start.specs.Start.{claimAll, claimContent, claimFreed};
-ghost use Rattle.book_start.specs.Units.{Marked, ClaimsAs};
+ghost use Rattle.book_start.specs.Units.{Marked, Shows, ClaimsAs};
+use crate::units::PAGE_UNITS;
+use crate::units::block_units;
 use crate::units::claim_block;
 use book_keys::ChainEnd;
 use scripthash_layout::SH_PAGE_SLAB_CLASS;
@@ -18,20 +20,20 @@ use scripthash_layout::ShHeadValue;
 use scripthash_layout::Unpacked;
 use scripthash_stream::ScanStream;
 
-// What claiming the blocks of a key or of a free list gives: all of them are claimed; the key isn't sound or a block can't stand where it
-// is named; or a block shares a byte with one claimed before.
+// What claiming the blocks of a key or of a free list gives: all of them are claimed, with the units that they take; the key isn't sound or
+// a block can't stand where it is named; or a block shares a byte with one claimed before.
 pub enum Claiming {
-    Done,
+    Done(u64),
     Unfit,
     Shared,
 }
 
 // Claims the pages of a sound chain, the first first.
 fn claim_pages(body: &[u8], mark: u64, work: &mut [u8], first: u64, pages: u64) -> Claiming
-    requires { ⌜ (mark ≤ 16 * length (now work)) × ((offs : List ℕ) × PagesLeft (keySpace (now body) mark) first pages offs) ⌝ }
+    requires { ⌜ Shows mark (now work) × ((offs : List ℕ) × PagesLeft (keySpace (now body) mark) first pages offs) ⌝ }
     ensures { λ r. ⌜ ((offs : List ℕ) → PagesLeft (keySpace (now (body .entry)) mark) first pages offs
         → (units : ℕ) (lent : List ℕ) (claims : List Block) → Marked units mark lent claims (now (work .entry))
-        → ClaimsAs units mark lent (claimAll claims (pageBlocks offs)) r (now (work .exit))) ⌝ }
+        → ClaimsAs units mark lent claims (claimAll claims (pageBlocks offs)) r (now (work .exit))) ⌝ }
 {
     let mut off = first;
     let mut left = pages;
@@ -42,15 +44,15 @@ fn claim_pages(body: &[u8], mark: u64, work: &mut [u8], first: u64, pages: u64) 
         off = book_lists::next_page(body, off);
         left -= 1;
     }
-    Claiming::Done
+    Claiming::Done(pages * PAGE_UNITS)
 }
 
 // Claims the slab of a key.
 fn claim_slab(body: &[u8], mark: u64, work: &mut [u8], class: u8, used: u16, off: u64) -> Claiming
-    requires { ⌜ (mark ≤ length (now body)) × (mark ≤ 16 * length (now work)) ⌝ }
+    requires { ⌜ (mark ≤ length (now body)) × Shows mark (now work) ⌝ }
     ensures { λ r. ⌜ ((units : ℕ) (lent : List ℕ) (claims : List Block) → Marked units mark lent claims (now (work .entry))
-        → ClaimsAs units mark lent (claimContent claims (soundly (contentAt (keySpace (now (body .entry)) mark) (Slab class used off)))) r
-        (now (work .exit))) ⌝ }
+        → ClaimsAs units mark lent claims
+        (claimContent claims (soundly (contentAt (keySpace (now (body .entry)) mark) (Slab class used off)))) r (now (work .exit))) ⌝ }
 {
     let end = book_keys::slab_end(body, mark, class, used, off);
     let ScanStream::Scanned { taken: _, last: _ } = end else {
@@ -59,14 +61,14 @@ fn claim_slab(body: &[u8], mark: u64, work: &mut [u8], class: u8, used: u16, off
     if !claim_block(work, class, off) {
         return Claiming::Shared;
     }
-    Claiming::Done
+    Claiming::Done(block_units(class))
 }
 
 // Claims the pages of a key.
 fn claim_chain(body: &[u8], mark: u64, work: &mut [u8], last: u64) -> Claiming
-    requires { ⌜ (mark ≤ length (now body)) × (mark ≤ 16 * length (now work)) ⌝ }
+    requires { ⌜ (mark ≤ length (now body)) × Shows mark (now work) ⌝ }
     ensures { λ r. ⌜ ((units : ℕ) (lent : List ℕ) (claims : List Block) → Marked units mark lent claims (now (work .entry))
-        → ClaimsAs units mark lent (claimContent claims (soundly (contentAt (keySpace (now (body .entry)) mark) (Extent last)))) r
+        → ClaimsAs units mark lent claims (claimContent claims (soundly (contentAt (keySpace (now (body .entry)) mark) (Extent last)))) r
         (now (work .exit))) ⌝ }
 {
     let end = book_keys::chain_end(body, mark, last);
@@ -83,14 +85,14 @@ fn claim_chain(body: &[u8], mark: u64, work: &mut [u8], last: u64) -> Claiming
 
 // Claims the blocks of a key that stands at a place.
 fn claim_place(body: &[u8], mark: u64, work: &mut [u8], place: ShHeadValue) -> Claiming
-    requires { ⌜ (mark ≤ length (now body)) × (mark ≤ 16 * length (now work)) ⌝ }
+    requires { ⌜ (mark ≤ length (now body)) × Shows mark (now work) ⌝ }
     ensures { λ r. ⌜ ((units : ℕ) (lent : List ℕ) (claims : List Block) → Marked units mark lent claims (now (work .entry))
-        → ClaimsAs units mark lent (claimContent claims (soundly (contentAt (keySpace (now (body .entry)) mark) place))) r
+        → ClaimsAs units mark lent claims (claimContent claims (soundly (contentAt (keySpace (now (body .entry)) mark) place))) r
         (now (work .exit))) ⌝ }
 {
     match place {
-        ShHeadValue::Empty => Claiming::Done,
-        ShHeadValue::Inline { entry: _, used: _ } => Claiming::Done,
+        ShHeadValue::Empty => Claiming::Done(0),
+        ShHeadValue::Inline { entry: _, used: _ } => Claiming::Done(0),
         ShHeadValue::Slab { class, used, off } => claim_slab(body, mark, work, class, used, off),
         ShHeadValue::Extent { last_page } => claim_chain(body, mark, work, last_page),
     }
@@ -98,9 +100,9 @@ fn claim_place(body: &[u8], mark: u64, work: &mut [u8], place: ShHeadValue) -> C
 
 // Claims the blocks of a key, by its head word.
 pub fn claim_key(body: &[u8], mark: u64, work: &mut [u8], word: u64) -> Claiming
-    requires { ⌜ (mark ≤ length (now body)) × (mark ≤ 16 * length (now work)) ⌝ }
+    requires { ⌜ (mark ≤ length (now body)) × Shows mark (now work) ⌝ }
     ensures { λ r. ⌜ ((units : ℕ) (lent : List ℕ) (claims : List Block) → Marked units mark lent claims (now (work .entry))
-        → ClaimsAs units mark lent (claimContent claims (content (keySpace (now (body .entry)) mark) word)) r (now (work .exit))) ⌝ }
+        → ClaimsAs units mark lent claims (claimContent claims (content (keySpace (now (body .entry)) mark) word)) r (now (work .exit))) ⌝ }
 {
     let head = scripthash_layout::unpack8(word);
     let Unpacked::Head(place) = head else {
@@ -111,13 +113,15 @@ pub fn claim_key(body: &[u8], mark: u64, work: &mut [u8], word: u64) -> Claiming
 
 // Claims the blocks of the free list of a class from its head on, over no more blocks than there is room for below the mark.
 pub fn claim_freed(body: &[u8], mark: u64, work: &mut [u8], class: u8, head: u64) -> Claiming
-    requires { ⌜ (class ≤ pageClass) × (mark ≤ length (now body)) × (mark ≤ 16 * length (now work)) ⌝ }
+    requires { ⌜ (class ≤ pageClass) × (mark ≤ length (now body)) × Shows mark (now work) ⌝ }
     ensures { λ r. ⌜ ((free : List ℕ) (units : ℕ) (lent : List ℕ) (claims : List Block) → Marked units mark lent claims (now (work .entry))
-        → ClaimsAs units mark lent (claimFreed (mark / 16) (space (now (body .entry)) mark free) class claims head) r
+        → ClaimsAs units mark lent claims (claimFreed (mark / 16) (space (now (body .entry)) mark free) class claims head) r
         (now (work .exit))) ⌝ }
 {
+    let size = block_units(class);
     let mut off = head;
     let mut left = mark / 16;
+    let mut taken: u64 = 0;
     while off != 0 {
         if left == 0 {
             return Claiming::Shared;
@@ -130,6 +134,7 @@ pub fn claim_freed(body: &[u8], mark: u64, work: &mut [u8], class: u8, head: u64
         }
         off = buffer::get_u64(body, off as usize);
         left -= 1;
+        taken += size;
     }
-    Claiming::Done
+    Claiming::Done(taken)
 }

@@ -1,26 +1,28 @@
 // Judging a start: keys rising, then classes rising, and the first fault decides.
-ghost use mathlib.Core.List.{List};
+ghost use mathlib.Core.List.{List, []};
 ghost use mathlib.Core.Path.{_≡_};
-ghost use Prim.Native.Nat.{ℕ, _*_, _/_, _≤_};
+ghost use Prim.Native.Nat.{ℕ, _/_, _%_, _≤_};
 ghost use lib.ListN.{length};
 ghost use Rattle.error.specs.Refusal.{refusalOf, told};
 ghost use Rattle.scripthash_free.specs.FreeList.{Block};
 ghost use Rattle.book_space.specs.Space.{space};
 ghost use Rattle.book.specs.Answers.{bookOf};
 ghost use Rattle.book_start.specs.Start.{judgeLists, judgeKeys, judges};
-ghost use Rattle.book_start.specs.Answers.{startAnswer, groundOf, whichOf};
-ghost use Rattle.book_start.specs.Units.{Marked, JudgesAs, workAfter};
+ghost use Rattle.book_start.specs.Answers.{startAnswer, groundOf, whichOf, lostOf};
+ghost use Rattle.book_start.specs.Units.{Marked, Leaves, JudgesAs, workAfter};
 use crate::claiming::Claiming;
 use crate::claiming::claim_freed;
 use crate::claiming::claim_key;
+use crate::units::PAGE_UNITS;
 use crate::units::UNIT_BYTES;
 use crate::units::fill_units;
 use book_space::State;
 use error::Refusal;
 
-// What judging a start answers: it is good, or the first fault, with its key or the class of its free list; or a refusal.
+// What judging a start answers: it is good, with the units below the mark that belong to nobody; or the first fault, with its key or the
+// class of its free list; or a refusal.
 pub enum JudgeStart {
-    Good,
+    Good(u64),
     KeyUnsound(u64),
     KeyShares(u64),
     FreeStrays(u64),
@@ -34,7 +36,7 @@ impl JudgeStart {
         ensures { λ r. ⌜ r ≡ refusalOf (startAnswer self) ⌝ }
     {
         match self {
-            JudgeStart::Good => 0,
+            JudgeStart::Good(_) => 0,
             JudgeStart::KeyUnsound(_) => 0,
             JudgeStart::KeyShares(_) => 0,
             JudgeStart::FreeStrays(_) => 0,
@@ -48,7 +50,7 @@ impl JudgeStart {
         ensures { λ r. ⌜ r ≡ told groundOf (startAnswer self) 0 ⌝ }
     {
         match self {
-            JudgeStart::Good => 0,
+            JudgeStart::Good(_) => 0,
             JudgeStart::KeyUnsound(_) => 1,
             JudgeStart::KeyShares(_) => 2,
             JudgeStart::FreeStrays(_) => 3,
@@ -62,7 +64,7 @@ impl JudgeStart {
         ensures { λ r. ⌜ r ≡ told whichOf (startAnswer self) 0 ⌝ }
     {
         match self {
-            JudgeStart::Good => 0,
+            JudgeStart::Good(_) => 0,
             JudgeStart::KeyUnsound(key) => key,
             JudgeStart::KeyShares(key) => key,
             JudgeStart::FreeStrays(class) => class,
@@ -70,48 +72,68 @@ impl JudgeStart {
             JudgeStart::Refused(_) => 0,
         }
     }
+
+    // The units below the mark that belong to nobody, where the start is good; 0 where it isn't.
+    pub fn lost(self) -> u64
+        ensures { λ r. ⌜ r ≡ told lostOf (startAnswer self) 0 ⌝ }
+    {
+        match self {
+            JudgeStart::Good(lost) => lost,
+            JudgeStart::KeyUnsound(_) => 0,
+            JudgeStart::KeyShares(_) => 0,
+            JudgeStart::FreeStrays(_) => 0,
+            JudgeStart::FreeShares(_) => 0,
+            JudgeStart::Refused(_) => 0,
+        }
+    }
 }
 
-// Claims the blocks of all free lists, classes rising, behind those that the work list shows: good where all are claimed, else the first
-// fault.
-fn judge_lists(body: &[u8], mark: u64, free: &[u64], work: &mut [u8]) -> JudgeStart
-    requires { ⌜ (length (now free) ≡ 9) × (mark ≤ length (now body)) × (mark ≤ 16 * length (now work)) ⌝ }
+// Claims the blocks of all free lists, classes rising, behind those that the work list shows, which leave so many units to nobody: good
+// where all are claimed, with what they leave, else the first fault.
+fn judge_lists(body: &[u8], mark: u64, free: &[u64], work: &mut [u8], unclaimed: u64) -> JudgeStart
+    requires { ⌜ (length (now free) ≡ 9) × (mark ≤ length (now body))
+        × ((units : ℕ) × (lent : List ℕ) × (claims : List Block) × Marked units mark lent claims (now work)
+        × Leaves mark claims unclaimed) ⌝ }
     ensures { λ r. ⌜ ((units : ℕ) (lent : List ℕ) (claims : List Block) → Marked units mark lent claims (now (work .entry))
+        → Leaves mark claims unclaimed
         → JudgesAs units mark lent (judgeLists (space (now (body .entry)) mark (now (free .entry))) 0 (now (free .entry)) claims) r
         (now (work .exit))) ⌝ }
 {
+    let mut lost = unclaimed;
     let mut class: usize = 0;
     while class < free.len() {
         let got = claim_freed(body, mark, work, class as u8, free[class]);
         match got {
-            Claiming::Done => {}
+            Claiming::Done(taken) => lost -= taken,
             Claiming::Unfit => return JudgeStart::FreeStrays(class as u64),
             Claiming::Shared => return JudgeStart::FreeShares(class as u64),
         }
         class += 1;
     }
-    JudgeStart::Good
+    JudgeStart::Good(lost)
 }
 
-// Claims the blocks of all keys, keys rising, behind those that the work list shows, and then those of all free lists: good where all are
-// claimed, else the first fault.
+// Claims the blocks of all keys, keys rising, in a work list that shows no claims, and then those of all free lists: good where all are
+// claimed, with the units that they leave, else the first fault.
 fn judge_keys(body: &[u8], heads: &[u64], mark: u64, free: &[u64], work: &mut [u8]) -> JudgeStart
-    requires { ⌜ (length (now free) ≡ 9) × (mark ≤ length (now body)) × (mark ≤ 16 * length (now work)) ⌝ }
-    ensures { λ r. ⌜ ((units : ℕ) (lent : List ℕ) (claims : List Block) → Marked units mark lent claims (now (work .entry))
-        → JudgesAs units mark lent (judgeKeys (space (now (body .entry)) mark (now (free .entry))) 0 (now (heads .entry)) claims) r
+    requires { ⌜ (length (now free) ≡ 9) × (mark ≤ length (now body)) × (mark % 16 ≡ 0)
+        × ((units : ℕ) × (lent : List ℕ) × Marked units mark lent [] (now work)) ⌝ }
+    ensures { λ r. ⌜ ((units : ℕ) (lent : List ℕ) → Marked units mark lent [] (now (work .entry))
+        → JudgesAs units mark lent (judgeKeys (space (now (body .entry)) mark (now (free .entry))) 0 (now (heads .entry)) []) r
         (now (work .exit))) ⌝ }
 {
+    let mut lost = mark / 16 - PAGE_UNITS;
     let mut key: usize = 0;
     while key < heads.len() {
         let got = claim_key(body, mark, work, heads[key]);
         match got {
-            Claiming::Done => {}
+            Claiming::Done(taken) => lost -= taken,
             Claiming::Unfit => return JudgeStart::KeyUnsound(key as u64),
             Claiming::Shared => return JudgeStart::KeyShares(key as u64),
         }
         key += 1;
     }
-    judge_lists(body, mark, free, work)
+    judge_lists(body, mark, free, work, lost)
 }
 
 // Judges whether a body, its head words and its state are a good start. The work list has a byte for each 16 bytes of the body; these are

@@ -10,6 +10,16 @@ use scripthash_layout::slab_bytes;
 
 // The bytes of the body for which a byte of the work list stands.
 pub const UNIT_BYTES: usize = 16;
+// The units of a page; as many lie before 4,096, where blocks begin.
+pub const PAGE_UNITS: u64 = 256;
+
+// The units of a block of a class.
+pub fn block_units(class: u8) -> u64
+    requires { ⌜ class ≤ pageClass ⌝ }
+    ensures { λ r. ⌜ slabBytes class ≡ 16 * r ⌝ }
+{
+    slab_bytes(class) / 16
+}
 
 // Tells whether so many units from one on are free.
 fn units_free(work: &[u8], from: usize, count: usize) -> bool

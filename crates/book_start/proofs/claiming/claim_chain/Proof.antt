@@ -70,7 +70,7 @@ returns-2 c units lent claims m =
     let p = c .before .before .claim-pages in
     let d = c .before .before .before .before .before in
     let r = p .ensures (walked d .0 .offs) (left d) units lent claims m in
-    record { claims = r .claims; shows = r .shows; told = gives d claims ∙ r .told }
+    record { claims = r .claims; shows = r .shows; told = gives d claims ∙ r .told; took = r .took }
 
 pub claim-chain-spec : {M : Type 1} → statement M
 claim-chain-spec =

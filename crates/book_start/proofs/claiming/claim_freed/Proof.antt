@@ -1,8 +1,8 @@
 -- `claim_freed` meets its contract. Invariant: what is left of the list, claimed behind what the work list shows, gives what all of it
 -- gives. Assumes nothing.
-use Prim.Native.Nat.{ℕ, _-_, _*_, _/_, _≤_, _<_}
+use Prim.Native.Nat.{ℕ, _+_, _-_, _*_, _/_, _≤_, _<_}
 use mathlib.Core.Bool.{true}
-use mathlib.Core.List.{List}
+use mathlib.Core.List.{List, []}
 use mathlib.Core.Path.{_≡_, refl, sym, ap, _∙_}
 use native.Mathlib.Omega.{arith}
 use borrow.Author.Needs.{needs}
@@ -13,23 +13,25 @@ use Rattle.book_space.specs.Space.{Space, space}
 use Rattle.book_start.specs.Start.{block, claimFreed}
 use Rattle.book_start.specs.Units.{Marked}
 use Rattle.book_start.proofs.LawsUnits.{length-claim}
-use Rattle.book_start.proofs.LawsShown.{block-fits, link-inside, FreedGo, list-end, list-long, list-strays, list-shared, list-turn}
+use Rattle.book_start.proofs.LawsShown.{block-fits, shown-long, link-inside, FreedGo, list-few, list-end, list-long, list-strays}
+use Rattle.book_start.proofs.LawsShown.{list-shared, list-turn}
 use Rattle.book_start.proofs.claiming.claim_freed.Statement.{statement}
 use Rattle.book_start.proofs.claiming.claim_freed.Tie as tie
 
 abbrev Inv-loop : tie.InvT-loop
-Inv-loop body mark work₀ class head off₀ left₀ work off left =
+Inv-loop body mark work₀ class head size off₀ left₀ taken₀ work off left taken =
     (length work ≡ length work₀)
     × ((free : List ℕ) (units : ℕ) (lent : List ℕ) (claims : List Block) → Marked units mark lent claims work₀
-    → FreedGo units lent (claimFreed (mark / 16) (space body mark free) class claims head) (space body mark free) class off left work)
+    → FreedGo units lent claims (claimFreed (mark / 16) (space body mark free) class claims head) (space body mark free) class off left work
+    taken)
 
 abbrev μ-loop : tie.MeasureT-loop
-μ-loop body mark work₀ class head off₀ left₀ work off left = left
+μ-loop body mark work₀ class head size off₀ left₀ taken₀ work off left taken = left
 
 -- a turn
 module _ (t : tie.In-loop Inv-loop μ-loop) where
   abbrev at : tie.Start Inv-loop μ-loop
-  at = t .before .before .before .before
+  at = t .before .before .before .before .before
 
   abbrev s : List ℕ → Space
   s free = space (at .args .body .now) (at .args .mark) free
@@ -43,11 +45,17 @@ module _ (t : tie.In-loop Inv-loop μ-loop) where
   abbrev work : List ℕ
   work = t .before .loop .work
 
+  abbrev taken : ℕ
+  taken = t .before .loop .taken
+
+  abbrev size : ℕ
+  size = t .before .before .block-units .result
+
   more : off ≡ 0 → ⊥
   more z = t .loop-test .taken z
 
   long : at .args .mark ≤ 16 * length work
-  long = let e = t .before .loop .inv .0 in let p = at .pre .2 in omega arith
+  long = let e = t .before .loop .inv .0 in let p = shown-long (at .args .mark) (at .args .work .now) (at .pre .2) in omega arith
 
 -- a block that stands below the mark
 module _ (c : tie.Else2 Inv-loop μ-loop) where
@@ -61,7 +69,10 @@ module _ (c : tie.Else2 Inv-loop μ-loop) where
   some = let n = c .before .before .if1 .left in omega arith
 
 loop-holds : tie.Need-loop-holds Inv-loop μ-loop
-loop-holds c = (refl, λ free units lent claims m. record { claims = claims; shows = m; gives = refl })
+loop-holds c = (refl, λ free units lent claims m. record { claims = claims; shows = m; gives = refl; took = omega arith })
+
+block-units-requires : tie.Need-block-units-requires Inv-loop μ-loop
+block-units-requires c κs = c .before .before .pre .0
 
 same-length : tie.Need-same-length Inv-loop μ-loop
 same-length c = search needs
@@ -69,7 +80,8 @@ same-length c = search needs
 returns : tie.Need-returns Inv-loop μ-loop
 returns c free units lent claims m =
     let t = c .before in
-    list-long units lent _ (s t free) (at t .args .class) (off t) (left t) (work t) (t .before .loop .inv .1 free units lent claims m)
+    list-long units lent claims _ (s t free) (at t .args .class) (off t) (left t) (work t) (taken t)
+    (t .before .loop .inv .1 free units lent claims m)
     (more t) (omega arith)
 
 is-block-requires : tie.Need-is-block-requires Inv-loop μ-loop
@@ -81,7 +93,8 @@ same-length-2 c = search needs
 returns-2 : tie.Need-returns-2 Inv-loop μ-loop
 returns-2 c free units lent claims m =
     let t = c .before .before .before in
-    list-strays units lent _ (s t free) (at t .args .class) (off t) (left t) (work t) (t .before .loop .inv .1 free units lent claims m)
+    list-strays units lent claims _ (s t free) (at t .args .class) (off t) (left t) (work t) (taken t)
+    (t .before .loop .inv .1 free units lent claims m)
     (more t)
     (let n = c .before .before .if1 .left in omega arith) (sym (c .before .is-block .ensures) ∙ not-true _ (c .if2 .taken))
 
@@ -98,7 +111,8 @@ returns-3 c free units lent claims m =
     let d = c .before .before .before .before .before in
     let t = turn d in
     let b = c .before .before .before .claim-block in
-    list-shared units lent _ (s t free) (at t .args .class) (off t) (left t) (work t) (t .before .loop .inv .1 free units lent claims m)
+    list-shared units lent claims _ (s t free) (at t .args .class) (off t) (left t) (work t) (taken t)
+    (t .before .loop .inv .1 free units lent claims m)
     (more t) (some d) (stands d) _
     (b .ensures .1) (sym (b .ensures .0) ∙ not-true _ (c .if3 .taken))
 
@@ -111,6 +125,31 @@ get-u64-requires c κs =
 sub-left : tie.Need-sub-left Inv-loop μ-loop
 sub-left c = let n = some (c .before .before .before .before .before .before) in omega arith
 
+-- a block was claimed, and the next one is known
+module _ (c : tie.After-get-u64 Inv-loop μ-loop) where
+  abbrev passed : tie.Else2 Inv-loop μ-loop
+  passed = c .before .before .before .before .before .before
+
+  goes : (free : List ℕ) (units : ℕ) (lent : List ℕ) (claims : List Block)
+      → Marked units (at (turn passed) .args .mark) lent claims (at (turn passed) .args .work .now)
+      → FreedGo units lent claims (claimFreed (at (turn passed) .args .mark / 16) (s (turn passed) free) (at (turn passed) .args .class)
+      claims (at (turn passed) .args .head)) (s (turn passed) free) (at (turn passed) .args .class) (c .get-u64 .result) (left (turn passed) - 1)
+      (c .before .before .before .before .claim-block .last .0) (taken (turn passed) + size (turn passed))
+  goes free units lent claims m =
+      let t = turn passed in
+      let b = c .before .before .before .before .claim-block in
+      list-turn units lent claims _ (s t free) (at t .args .class) (off t) (left t) (work t) (taken t)
+      (t .before .loop .inv .1 free units lent claims m) (more t) (some passed) (stands passed) _ (b .ensures .1) (c .get-u64 .result)
+      (c .get-u64 .ensures) (sym (b .ensures .0) ∙ not-false _ (c .before .if3 .left)) (size t) (t .before .before .block-units .ensures)
+
+add-taken : tie.Need-add-taken Inv-loop μ-loop
+add-taken c =
+    let t = turn (passed c) in
+    let w = at t .pre .2 in
+    let few = list-few (w .units) (w .lent) (w .claims) _ (s t []) (at t .args .class) (c .get-u64 .result) (left t - 1) _
+    (taken t + size t) (goes c [] (w .units) (w .lent) (w .claims) (w .shows)) in
+    omega arith
+
 loop-less : tie.Need-loop-less Inv-loop μ-loop
 loop-less c = let n = some (c .before .before .before .before .before .before) in omega arith
 
@@ -122,10 +161,7 @@ loop-again c =
     let class = at t .args .class in (
       ap length (b .ensures .1) ∙ length-claim (block class (off t)) (work t) (at t .args .mark) (long t) (stands d)
           ∙ t .before .loop .inv .0,
-      λ free units lent claims m.
-          list-turn units lent _ (s t free) class (off t) (left t) (work t) (t .before .loop .inv .1 free units lent claims m) (more t)
-          (some d) (stands d) _
-          (b .ensures .1) (c .get-u64 .result) (c .get-u64 .ensures) (sym (b .ensures .0) ∙ not-false _ (c .before .if3 .left)),
+      goes c,
     )
 
 same-length-4 : tie.Need-same-length-4 Inv-loop μ-loop
@@ -134,8 +170,8 @@ same-length-4 c = search needs
 returns-4 : tie.Need-returns-4 Inv-loop μ-loop
 returns-4 c free units lent claims m =
     let l = c .before .loop in
-    let a = c .before .before .before .before .args in
-    list-end units lent _ (space (a .body .now) (a .mark) free) (a .class) (l .off) (l .left) (l .work)
+    let a = c .before .before .before .before .before .args in
+    list-end units lent claims _ (space (a .body .now) (a .mark) free) (a .class) (l .off) (l .left) (l .work) (l .taken)
     (l .inv .1 free units lent claims m) (omega arith)
 
 pub claim-freed-spec : {M : Type 1} → statement M
@@ -144,6 +180,7 @@ claim-freed-spec =
     (tie.spec
     Inv-loop
     μ-loop
+    block-units-requires
     loop-holds
     same-length
     returns
@@ -155,6 +192,7 @@ claim-freed-spec =
     returns-3
     get-u64-requires
     sub-left
+    add-taken
     loop-less
     loop-again
     same-length-4

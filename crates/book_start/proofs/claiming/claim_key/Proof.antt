@@ -46,6 +46,7 @@ returns-2 c units lent claims m =
           (content-at (keySpace (a .body .now) (a .mark)) (a .word) (g .head .given .0 .0) (sym (g .before .before .unpack8 .ensures)
           ∙ ap unpackAnswer (g .head .given .1)))
           ∙ r .told;
+      took = r .took;
     }
 
 pub claim-key-spec : {M : Type 1} → statement M

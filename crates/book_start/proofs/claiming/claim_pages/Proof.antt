@@ -17,7 +17,8 @@ use Rattle.book.specs.Steps.{PagesLeft}
 use Rattle.book_start.specs.Start.{block, claimAll}
 use Rattle.book_start.specs.Units.{Marked}
 use Rattle.book_start.proofs.LawsUnits.{length-claim}
-use Rattle.book_start.proofs.LawsShown.{block-fits, PageTurn, page-turn, PagesGo, pages-turn, pages-shared, pages-end}
+use Rattle.book_start.proofs.LawsShown.{block-fits, shown-long, PageTurn, page-turn, PagesGo, pages-turn, pages-shared}
+use Rattle.book_start.proofs.LawsShown.{pages-few, pages-end}
 use Rattle.book_start.proofs.claiming.claim_pages.Statement.{statement}
 use Rattle.book_start.proofs.claiming.claim_pages.Tie as tie
 
@@ -25,7 +26,8 @@ abbrev Inv-loop : tie.InvT-loop
 Inv-loop body mark work₀ first pages off₀ left₀ work off left =
     (length work ≡ length work₀) × ((offs : List ℕ) × PagesLeft (keySpace body mark) off left offs)
     × ((whole : List ℕ) → PagesLeft (keySpace body mark) first pages whole → (units : ℕ) (lent : List ℕ) (claims : List Block)
-    → Marked units mark lent claims work₀ → PagesGo units mark lent (claimAll claims (pageBlocks whole)) (keySpace body mark) off left work)
+    → Marked units mark lent claims work₀
+    → PagesGo units mark lent claims (claimAll claims (pageBlocks whole)) (keySpace body mark) pages off left work)
 
 abbrev μ-loop : tie.MeasureT-loop
 μ-loop body mark work₀ first pages off₀ left₀ work off left = left
@@ -51,7 +53,7 @@ module _ (t : tie.In-loop Inv-loop μ-loop) where
   turn = page-turn s off (t .before .loop .left) (t .before .loop .inv .1 .0) more (t .before .loop .inv .1 .1)
 
   long : at .args .mark ≤ 16 * length work
-  long = let e = t .before .loop .inv .0 in let p = at .pre .0 in omega arith
+  long = let e = t .before .loop .inv .0 in let p = shown-long (at .args .mark) (at .args .work .now) (at .pre .0) in omega arith
 
 loop-holds : tie.Need-loop-holds Inv-loop μ-loop
 loop-holds c = (
@@ -62,8 +64,8 @@ loop-holds c = (
     pages = p;
     claims = claims;
     shows = m;
-    gives =
-        refl;
+    gives = refl;
+    took = refl;
   },
 )
 
@@ -78,7 +80,7 @@ returns : tie.Need-returns Inv-loop μ-loop
 returns c whole p units lent claims m =
     let t = c .before .before .before .before .before in
     let b = c .before .before .before .claim-block in
-    pages-shared units lent _ (s t) (off t) (t .before .loop .left) (work t) (t .before .loop .inv .2 whole p units lent claims m)
+    pages-shared units lent claims _ (s t) _ (off t) (t .before .loop .left) (work t) (t .before .loop .inv .2 whole p units lent claims m)
     (more t) _
     (sym (b .ensures .0) ∙ not-true _ (c .if1 .taken)) (b .ensures .1)
 
@@ -106,9 +108,19 @@ loop-again c =
           ∙ t .before .loop .inv .0,
       (turn t .behind, subst (λ (n : ℕ). PagesLeft (s t) n (left - 1) (turn t .behind)) (sym (c .next-page .ensures)) (turn t .rest)),
       λ whole p units lent claims m.
-          pages-turn units lent _ (s t) (off t) left (work t) (t .before .loop .inv .2 whole p units lent claims m) (more t) _ next
+          pages-turn units lent claims _ (s t) _ (off t) left (work t) (t .before .loop .inv .2 whole p units lent claims m) (more t) _ next
           (c .next-page .ensures) free (b .ensures .1),
     )
+
+mul-t12 : tie.Need-mul-t12 Inv-loop μ-loop
+mul-t12 c =
+    let l = c .before .loop in
+    let t = c .before .before .before .before in
+    let a = t .args in
+    let w = t .pre .0 in
+    let few = pages-few (w .units) (w .lent) (w .claims) _ (keySpace (a .body .now) (a .mark)) (a .pages) (l .off) (l .left) (l .work)
+    (l .inv .2 (t .pre .1 .0) (t .pre .1 .1) (w .units) (w .lent) (w .claims) (w .shows)) (omega arith) in
+    omega arith
 
 same-length-2 : tie.Need-same-length-2 Inv-loop μ-loop
 same-length-2 c = search needs
@@ -117,8 +129,8 @@ returns-2 : tie.Need-returns-2 Inv-loop μ-loop
 returns-2 c whole p units lent claims m =
     let l = c .before .loop in
     let a = c .before .before .before .before .args in
-    pages-end units lent _ (keySpace (a .body .now) (a .mark)) (l .off) (l .left) (l .work) (l .inv .2 whole p units lent claims m)
-    (omega arith)
+    pages-end units lent claims _ (keySpace (a .body .now) (a .mark)) (a .pages) (l .off) (l .left) (l .work)
+    (l .inv .2 whole p units lent claims m) (omega arith)
 
 pub claim-pages-spec : {M : Type 1} → statement M
 claim-pages-spec =
@@ -134,5 +146,6 @@ claim-pages-spec =
     sub-left
     loop-less
     loop-again
+    mul-t12
     same-length-2
     returns-2)

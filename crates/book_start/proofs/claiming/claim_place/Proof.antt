@@ -64,7 +64,7 @@ returns-3 c units lent claims m =
     let p = c .before .before .before .before .before in
     let t = p .before .before .before .before in
     let r = c .before .before .claim-slab .ensures units lent claims m in
-    record { claims = r .claims; shows = r .shows; told = at-place t claims _ (p .place .given .1) ∙ r .told }
+    record { claims = r .claims; shows = r .shows; told = at-place t claims _ (p .place .given .1) ∙ r .told; took = r .took }
 
 same-length-2 : tie.Need-same-length-2
 same-length-2 c = search needs
@@ -74,7 +74,7 @@ returns-4 c units lent claims m =
     let p = c .before .before .before .before .before in
     let t = p .before .before .before .before in
     let r = c .before .before .claim-chain .ensures units lent claims m in
-    record { claims = r .claims; shows = r .shows; told = at-place t claims _ (p .place2 .given .1) ∙ r .told }
+    record { claims = r .claims; shows = r .shows; told = at-place t claims _ (p .place2 .given .1) ∙ r .told; took = r .took }
 
 pub claim-place-spec : {M : Type 1} → statement M
 claim-place-spec =

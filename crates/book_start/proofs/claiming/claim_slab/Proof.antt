@@ -18,7 +18,7 @@ use Rattle.book_keys.proofs.LawsSound.{was-sound, was-unsound}
 use Rattle.book_keys.proofs.LawsSlab.{SoundSlab, slab-sound}
 use Rattle.book_keys.proofs.LawsContent.{content-slab, content-no-slab}
 use Rattle.book_start.specs.Start.{block, claimAll, claimContent}
-use Rattle.book_start.proofs.LawsShown.{content-unfit, content-fit, claims-unfit, one-claimed, one-shared, block-fits}
+use Rattle.book_start.proofs.LawsShown.{content-unfit, content-fit, claims-unfit, one-claimed, one-shared, block-fits, shown-long}
 use Rattle.book_start.proofs.claiming.claim_slab.Statement.{statement}
 use Rattle.book_start.proofs.claiming.claim_slab.Tie as tie
 
@@ -71,8 +71,8 @@ claim-block-requires c κs =
     let d = c .before in
     let k = sound d .class-to-7 in (
       omega arith,
-      block-fits (at d .args .mark) (at d .args .class) (at d .args .off) (length (at d .args .work .now)) (at d .pre .1)
-          (sound d .stands),
+      block-fits (at d .args .mark) (at d .args .class) (at d .args .off) (length (at d .args .work .now))
+          (shown-long (at d .args .mark) (at d .args .work .now) (at d .pre .1)) (sound d .stands),
     )
 
 same-length : tie.Need-same-length
@@ -86,16 +86,19 @@ returns-2 c units lent claims m =
     (b .ensures .1)
     (sym (b .ensures .0) ∙ not-true _ (c .if1 .taken))
 
+block-units-requires : tie.Need-block-units-requires
+block-units-requires c κs = let k = sound (c .before .before .before .before .before) .class-to-7 in omega arith
+
 same-length-2 : tie.Need-same-length-2
 same-length-2 c = search needs
 
 returns-3 : tie.Need-returns-3
 returns-3 c units lent claims m =
-    let d = c .before .before .before .before .before in
-    let b = c .before .before .before .claim-block in
+    let d = c .before .before .before .before .before .before in
+    let b = c .before .before .before .before .claim-block in
     one-claimed units (at d .args .mark) lent _ claims (at d .args .work .now) m (slab d) (sound d .stands) (gives d claims) _
-    (b .ensures .1)
-    (sym (b .ensures .0) ∙ not-false _ (c .if1 .left))
+    (b .ensures .1) (c .block-units .result) (c .block-units .ensures)
+    (sym (b .ensures .0) ∙ not-false _ (c .before .if1 .left))
 
 pub claim-slab-spec : {M : Type 1} → statement M
 claim-slab-spec =
@@ -108,5 +111,6 @@ claim-slab-spec =
     claim-block-requires
     same-length
     returns-2
+    block-units-requires
     same-length-2
     returns-3)

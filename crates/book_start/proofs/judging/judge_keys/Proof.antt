@@ -1,28 +1,27 @@
 -- `judge_keys` meets its contract. Invariant: the keys that are left, judged behind what the work list shows, give what all of them give.
 -- Assumes nothing.
 use Prim.Native.Nat.{ℕ, _-_, _*_, _≤_}
-use mathlib.Core.List.{List}
+use mathlib.Core.List.{List, []}
 use mathlib.Core.Path.{_≡_, refl, ap, _∙_}
 use native.Mathlib.Omega.{arith}
 use borrow.Author.Needs.{needs}
 use lib.ListN.{length}
 use Rattle.error.specs.Refusal.{accepted}
-use Rattle.scripthash_free.specs.FreeList.{Block}
 use Rattle.book_space.specs.Space.{Space, space}
 use Rattle.book_start.specs.Start.{judgeKeys}
 use Rattle.book_start.specs.Units.{Marked}
-use Rattle.book_start.proofs.LawsVerdict.{KeysGo, keys-turn, keys-unsound, keys-shared, keys-end}
+use Rattle.book_start.proofs.LawsVerdict.{KeysGo, keys-took, keys-turn, keys-unsound, keys-shared, keys-end, none-leave}
 use Rattle.book_start.proofs.judging.judge_keys.Statement.{statement}
 use Rattle.book_start.proofs.judging.judge_keys.Tie as tie
 
 abbrev Inv-loop : tie.InvT-loop
-Inv-loop body heads mark free work₀ key₀ work key =
+Inv-loop body heads mark free work₀ lost₀ key₀ work lost key =
     (length work ≡ length work₀) × (key ≤ length heads)
-    × ((units : ℕ) (lent : List ℕ) (claims : List Block) → Marked units mark lent claims work₀
-    → KeysGo units lent (judgeKeys (space body mark free) 0 heads claims) (space body mark free) heads key work)
+    × ((units : ℕ) (lent : List ℕ) → Marked units mark lent [] work₀
+    → KeysGo units lent (judgeKeys (space body mark free) 0 heads []) (space body mark free) heads key work lost)
 
 abbrev μ-loop : tie.MeasureT-loop
-μ-loop body heads mark free work₀ key₀ work key = length heads - key
+μ-loop body heads mark free work₀ lost₀ key₀ work lost key = length heads - key
 
 -- where the loop stands
 module _ (l : tie.At-loop Inv-loop μ-loop) where
@@ -41,11 +40,23 @@ module _ (l : tie.At-loop Inv-loop μ-loop) where
   abbrev work : List ℕ
   work = l .loop .work
 
-  long : at .args .mark ≤ 16 * length work
-  long = let e = l .loop .inv .0 in let p = at .pre .2 in omega arith
+  abbrev lost : ℕ
+  lost = l .loop .lost
+
+  -- what no claims lead to
+  go : KeysGo (at .pre .3 .0) (at .pre .3 .1) (judgeKeys s 0 heads []) s heads key work lost
+  go = l .loop .inv .2 (at .pre .3 .0) (at .pre .3 .1) (at .pre .3 .2)
+
+sub-lost : tie.Need-sub-lost Inv-loop μ-loop
+sub-lost c = let f = c .before .before .before .before .pre .3 .2 .from in omega arith
 
 loop-holds : tie.Need-loop-holds Inv-loop μ-loop
-loop-holds c = (refl, omega arith, λ units lent claims m. record { claims = claims; shows = m; gives = refl })
+loop-holds c =
+    let t = c .before .before .before .before in (
+      refl,
+      omega arith,
+      λ units lent m. record { claims = []; shows = m; left = none-leave (t .args .mark) (m .from) (t .pre .2); gives = refl },
+    )
 
 mul-claim-key : tie.Need-mul-claim-key Inv-loop μ-loop
 mul-claim-key c = search needs
@@ -54,42 +65,55 @@ shared-slice-read-claim-key : tie.Need-shared-slice-read-claim-key Inv-loop μ-l
 shared-slice-read-claim-key c = search needs
 
 claim-key-requires : tie.Need-claim-key-requires Inv-loop μ-loop
-claim-key-requires c κs = let l = c .before .before .before in (at l .pre .1, long l)
+claim-key-requires c κs =
+    let l = c .before .before .before in
+    let g = go l in
+    (at l .pre .1, record { units = at l .pre .3 .0; lent = at l .pre .3 .1; claims = g .claims; shows = g .shows })
+
+enum-known-got : tie.Need-enum-known-got Inv-loop μ-loop
+enum-known-got c = search needs
+
+sub-lost-2 : tie.Need-sub-lost-2 Inv-loop μ-loop
+sub-lost-2 c =
+    let r = c .before .before .before .before .before .claim-key in
+    let t = c .before .before .before .before .before .before .before .before in
+    let l = t .before in
+    let g = go l in
+    let h = keys-took (at l .pre .3 .0) (at l .pre .3 .1) _ (s l) (heads l) (key l) (work l) (lost l) g (t .loop-test .taken) _ (r .result)
+    (r .ensures (at l .pre .3 .0) (at l .pre .3 .1) (g .claims) (g .shows)) _ (c .before .got .given .1) in
+    omega arith
 
 enum-told : tie.Need-enum-told Inv-loop μ-loop
 enum-told c = search needs
-
-enum-told-2 : tie.Need-enum-told-2 Inv-loop μ-loop
-enum-told-2 c = search needs
 
 same-length : tie.Need-same-length Inv-loop μ-loop
 same-length c = search needs
 
 returns : tie.Need-returns Inv-loop μ-loop
-returns c units lent claims m =
+returns c units lent m =
     let r = c .before .before .before .before .claim-key in
     let t = c .before .before .before .before .before .before .before in
     let l = t .before in
-    let g = l .loop .inv .2 units lent claims m in
-    keys-unsound units lent _ (s l) (heads l) (key l) (work l) g (t .loop-test .taken) _ (r .result) (r .ensures units lent (g .claims)
-    (g .shows))
-    (c .enum-told2 .given .1)
+    let g = l .loop .inv .2 units lent m in
+    keys-unsound units lent _ (s l) (heads l) (key l) (work l) (lost l) g (t .loop-test .taken) _ (r .result)
+    (r .ensures units lent (g .claims) (g .shows))
+    (c .enum-told .given .1)
 
-enum-told-3 : tie.Need-enum-told-3 Inv-loop μ-loop
-enum-told-3 c = search needs
+enum-told-2 : tie.Need-enum-told-2 Inv-loop μ-loop
+enum-told-2 c = search needs
 
 same-length-2 : tie.Need-same-length-2 Inv-loop μ-loop
 same-length-2 c = search needs
 
 returns-2 : tie.Need-returns-2 Inv-loop μ-loop
-returns-2 c units lent claims m =
+returns-2 c units lent m =
     let r = c .before .before .before .before .claim-key in
     let t = c .before .before .before .before .before .before .before in
     let l = t .before in
-    let g = l .loop .inv .2 units lent claims m in
-    keys-shared units lent _ (s l) (heads l) (key l) (work l) g (t .loop-test .taken) _ (r .result) (r .ensures units lent (g .claims)
-    (g .shows))
-    (c .enum-told3 .given .1)
+    let g = l .loop .inv .2 units lent m in
+    keys-shared units lent _ (s l) (heads l) (key l) (work l) (lost l) g (t .loop-test .taken) _ (r .result)
+    (r .ensures units lent (g .claims) (g .shows))
+    (c .enum-told2 .given .1)
 
 add-key : tie.Need-add-key Inv-loop μ-loop
 add-key c = search needs
@@ -99,30 +123,33 @@ loop-less c = omega arith
 
 loop-again : tie.Need-loop-again Inv-loop μ-loop
 loop-again c =
-    let r = c .before .before .before .before .claim-key in
-    let t = c .before .before .before .before .before .before .before in
+    let r = c .before .before .before .before .before .claim-key in
+    let t = c .before .before .before .before .before .before .before .before in
     let l = t .before in (
       r .kept .1 .1 .0 ∙ l .loop .inv .0,
       omega arith,
-      λ units lent claims m.
-          let g = l .loop .inv .2 units lent claims m in
-          keys-turn units lent _ (s l) (heads l) (key l) (work l) g (t .loop-test .taken) _ (r .result) (r .ensures units lent (g .claims)
-          (g .shows))
-          (c .enum-told .given .1),
+      λ units lent m.
+          let g = l .loop .inv .2 units lent m in
+          keys-turn units lent _ (s l) (heads l) (key l) (work l) (lost l) g (t .loop-test .taken) _ (r .result) (r .ensures units lent
+          (g .claims) (g .shows))
+          _ (c .before .got .given .1),
     )
 
 judge-lists-requires : tie.Need-judge-lists-requires Inv-loop μ-loop
-judge-lists-requires c κs = let l = c .before .before in (at l .pre .0, at l .pre .1, long l)
+judge-lists-requires c κs =
+    let l = c .before .before in
+    let g = go l in
+    (at l .pre .0, at l .pre .1, (at l .pre .3 .0, at l .pre .3 .1, g .claims, g .shows, g .left))
 
 same-length-3 : tie.Need-same-length-3 Inv-loop μ-loop
 same-length-3 c = search needs
 
 returns-3 : tie.Need-returns-3 Inv-loop μ-loop
-returns-3 c units lent claims m =
+returns-3 c units lent m =
     let d = c .before .before .before .before in
     let l = d .before in
-    let g = keys-end units lent _ (s l) (heads l) (key l) (work l) (l .loop .inv .2 units lent claims m) (omega arith) in
-    let r = c .before .before .judge-lists .ensures units lent (g .claims) (g .shows) in
+    let g = keys-end units lent _ (s l) (heads l) (key l) (work l) (lost l) (l .loop .inv .2 units lent m) (omega arith) in
+    let r = c .before .before .judge-lists .ensures units lent (g .claims) (g .shows) (g .left) in
     record { claims = r .claims; shows = r .shows; told = r .told ∙ ap accepted (g .gives) }
 
 pub judge-keys-spec : {M : Type 1} → statement M
@@ -131,15 +158,17 @@ judge-keys-spec =
     (tie.spec
     Inv-loop
     μ-loop
+    sub-lost
     loop-holds
     mul-claim-key
     shared-slice-read-claim-key
     claim-key-requires
+    enum-known-got
+    sub-lost-2
     enum-told
-    enum-told-2
     same-length
     returns
-    enum-told-3
+    enum-told-2
     same-length-2
     returns-2
     add-key

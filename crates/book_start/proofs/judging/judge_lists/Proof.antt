@@ -9,19 +9,19 @@ use lib.ListN.{length}
 use Rattle.scripthash_free.specs.FreeList.{Block}
 use Rattle.book_space.specs.Space.{Space, space}
 use Rattle.book_start.specs.Start.{judgeLists}
-use Rattle.book_start.specs.Units.{Marked}
-use Rattle.book_start.proofs.LawsVerdict.{ListsGo, lists-turn, lists-strays, lists-shared, lists-end}
+use Rattle.book_start.specs.Units.{Marked, Leaves}
+use Rattle.book_start.proofs.LawsVerdict.{ListsGo, lists-took, lists-turn, lists-strays, lists-shared, lists-end}
 use Rattle.book_start.proofs.judging.judge_lists.Statement.{statement}
 use Rattle.book_start.proofs.judging.judge_lists.Tie as tie
 
 abbrev Inv-loop : tie.InvT-loop
-Inv-loop body mark free work₀ class₀ work class =
+Inv-loop body mark free work₀ unclaimed lost₀ class₀ work lost class =
     (length work ≡ length work₀) × (class ≤ length free)
-    × ((units : ℕ) (lent : List ℕ) (claims : List Block) → Marked units mark lent claims work₀
-    → ListsGo units lent (judgeLists (space body mark free) 0 free claims) (space body mark free) class work)
+    × ((units : ℕ) (lent : List ℕ) (claims : List Block) → Marked units mark lent claims work₀ → Leaves mark claims unclaimed
+    → ListsGo units lent (judgeLists (space body mark free) 0 free claims) (space body mark free) class work lost)
 
 abbrev μ-loop : tie.MeasureT-loop
-μ-loop body mark free work₀ class₀ work class = length free - class
+μ-loop body mark free work₀ unclaimed lost₀ class₀ work lost class = length free - class
 
 -- a turn
 module _ (t : tie.In-loop Inv-loop μ-loop) where
@@ -40,14 +40,18 @@ module _ (t : tie.In-loop Inv-loop μ-loop) where
   abbrev work : List ℕ
   work = t .before .loop .work
 
-  long : at .args .mark ≤ 16 * length work
-  long = let e = t .before .loop .inv .0 in let p = at .pre .2 in omega arith
+  abbrev lost : ℕ
+  lost = t .before .loop .lost
+
+  -- what some claims lead to
+  go : ListsGo (at .pre .2 .0) (at .pre .2 .1) (judgeLists s 0 free (at .pre .2 .2)) s class work lost
+  go = t .before .loop .inv .2 (at .pre .2 .0) (at .pre .2 .1) (at .pre .2 .2) (at .pre .2 .3) (at .pre .2 .4)
 
   class-to-8 : class ≤ 8
   class-to-8 = let e = at .pre .0 in let h = t .loop-test .taken in omega arith
 
 loop-holds : tie.Need-loop-holds Inv-loop μ-loop
-loop-holds c = (refl, omega arith, λ units lent claims m. record { claims = claims; shows = m; gives = refl })
+loop-holds c = (refl, omega arith, λ units lent claims m l. record { claims = claims; shows = m; left = l; gives = refl })
 
 cast-claim-freed : tie.Need-cast-claim-freed Inv-loop μ-loop
 cast-claim-freed c = let h = class-to-8 (c .before) in omega arith
@@ -59,69 +63,81 @@ shared-slice-read-claim-freed : tie.Need-shared-slice-read-claim-freed Inv-loop 
 shared-slice-read-claim-freed c = search needs
 
 claim-freed-requires : tie.Need-claim-freed-requires Inv-loop μ-loop
-claim-freed-requires c κs = let t = c .before .before in (class-to-8 t, at t .pre .1, long t)
+claim-freed-requires c κs =
+    let t = c .before .before in
+    let g = go t in
+    (class-to-8 t, at t .pre .1, record { units = at t .pre .2 .0; lent = at t .pre .2 .1; claims = g .claims; shows = g .shows })
+
+enum-known-got : tie.Need-enum-known-got Inv-loop μ-loop
+enum-known-got c = search needs
+
+sub-lost : tie.Need-sub-lost Inv-loop μ-loop
+sub-lost c =
+    let r = c .before .before .before .before .before .claim-freed in
+    let t = c .before .before .before .before .before .before .before .before in
+    let g = go t in
+    let h = lists-took (at t .pre .2 .0) (at t .pre .2 .1) _ (s t) (class t) (work t) (lost t) g (t .loop-test .taken) _ (r .result)
+    (r .ensures (free t) (at t .pre .2 .0) (at t .pre .2 .1) (g .claims) (g .shows)) _ (c .before .got .given .1) in
+    omega arith
 
 enum-told : tie.Need-enum-told Inv-loop μ-loop
 enum-told c = search needs
-
-enum-told-2 : tie.Need-enum-told-2 Inv-loop μ-loop
-enum-told-2 c = search needs
 
 same-length : tie.Need-same-length Inv-loop μ-loop
 same-length c = search needs
 
 returns : tie.Need-returns Inv-loop μ-loop
-returns c units lent claims m =
+returns c units lent claims m left =
     let r = c .before .before .before .before .claim-freed in
     let t = c .before .before .before .before .before .before .before in
-    let g = t .before .loop .inv .2 units lent claims m in
-    lists-strays units lent _ (s t) (class t) (work t) g (t .loop-test .taken) _ (r .result) (r .ensures (free t) units lent (g .claims)
-    (g .shows))
-    (c .enum-told2 .given .1)
+    let g = t .before .loop .inv .2 units lent claims m left in
+    lists-strays units lent _ (s t) (class t) (work t) (lost t) g (t .loop-test .taken) _ (r .result)
+    (r .ensures (free t) units lent (g .claims) (g .shows))
+    (c .enum-told .given .1)
 
-enum-told-3 : tie.Need-enum-told-3 Inv-loop μ-loop
-enum-told-3 c = search needs
+enum-told-2 : tie.Need-enum-told-2 Inv-loop μ-loop
+enum-told-2 c = search needs
 
 same-length-2 : tie.Need-same-length-2 Inv-loop μ-loop
 same-length-2 c = search needs
 
 returns-2 : tie.Need-returns-2 Inv-loop μ-loop
-returns-2 c units lent claims m =
+returns-2 c units lent claims m left =
     let r = c .before .before .before .before .claim-freed in
     let t = c .before .before .before .before .before .before .before in
-    let g = t .before .loop .inv .2 units lent claims m in
-    lists-shared units lent _ (s t) (class t) (work t) g (t .loop-test .taken) _ (r .result) (r .ensures (free t) units lent (g .claims)
-    (g .shows))
-    (c .enum-told3 .given .1)
+    let g = t .before .loop .inv .2 units lent claims m left in
+    lists-shared units lent _ (s t) (class t) (work t) (lost t) g (t .loop-test .taken) _ (r .result)
+    (r .ensures (free t) units lent (g .claims) (g .shows))
+    (c .enum-told2 .given .1)
 
 add-class : tie.Need-add-class Inv-loop μ-loop
-add-class c = let h = class-to-8 (c .before .before .before .before .before .before .before) in omega arith
+add-class c = let h = class-to-8 (c .before .before .before .before .before .before .before .before) in omega arith
 
 loop-less : tie.Need-loop-less Inv-loop μ-loop
 loop-less c = omega arith
 
 loop-again : tie.Need-loop-again Inv-loop μ-loop
 loop-again c =
-    let r = c .before .before .before .before .claim-freed in
-    let t = c .before .before .before .before .before .before .before in (
+    let r = c .before .before .before .before .before .claim-freed in
+    let t = c .before .before .before .before .before .before .before .before in (
       r .kept .1 .1 .0 ∙ t .before .loop .inv .0,
       omega arith,
-      λ units lent claims m.
-          let g = t .before .loop .inv .2 units lent claims m in
-          lists-turn units lent _ (s t) (class t) (work t) g (t .loop-test .taken) _ (r .result) (r .ensures (free t) units lent
+      λ units lent claims m left.
+          let g = t .before .loop .inv .2 units lent claims m left in
+          lists-turn units lent _ (s t) (class t) (work t) (lost t) g (t .loop-test .taken) _ (r .result) (r .ensures (free t) units lent
           (g .claims) (g .shows))
-          (c .enum-told .given .1),
+          _ (c .before .got .given .1),
     )
 
 same-length-3 : tie.Need-same-length-3 Inv-loop μ-loop
 same-length-3 c = search needs
 
 returns-3 : tie.Need-returns-3 Inv-loop μ-loop
-returns-3 c units lent claims m =
+returns-3 c units lent claims m left =
     let l = c .before .loop in
     let a = c .before .before .before .before .before .args in
-    lists-end units lent _ (space (a .body .now) (a .mark) (a .free .now)) (l .class) (l .work) (l .inv .2 units lent claims m)
-    (omega arith)
+    lists-end units lent _ (space (a .body .now) (a .mark) (a .free .now)) (l .class) (l .work) (l .lost)
+    (l .inv .2 units lent claims m left) (omega arith)
 
 pub judge-lists-spec : {M : Type 1} → statement M
 judge-lists-spec =
@@ -134,11 +150,12 @@ judge-lists-spec =
     mul-claim-freed
     shared-slice-read-claim-freed
     claim-freed-requires
+    enum-known-got
+    sub-lost
     enum-told
-    enum-told-2
     same-length
     returns
-    enum-told-3
+    enum-told-2
     same-length-2
     returns-2
     add-class

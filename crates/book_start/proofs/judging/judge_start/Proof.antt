@@ -60,7 +60,8 @@ module _ (f : tie.After-fill-units) where
   shows : Marked (units (at passed)) (mark (at passed)) (work (at passed)) [] (f .fill-units .last .0)
   shows =
       let t = at passed in
-      shows-none (units t) (mark t) (work t) _ (fits passed) (enough passed) (f .fill-units .ensures ∙ cleared-is (units t) (work t))
+      shows-none (units t) (mark t) (work t) _ (in-shape passed .begins) (fits passed) (enough passed)
+      (f .fill-units .ensures ∙ cleared-is (units t) (work t))
 
 shape-broken-requires : tie.Need-shape-broken-requires
 shape-broken-requires c κs = search needs
@@ -88,10 +89,7 @@ judge-keys-requires : tie.Need-judge-keys-requires
 judge-keys-requires c κs =
     let f = c .before .before .before .before .before in
     let e = passed f in
-    let h = fits e in
-    let n = enough e in
-    let k = f .fill-units .kept .0 in
-    (nine (at e), in-shape e .within, omega arith)
+    (nine (at e), in-shape e .within, in-shape e .aligned, (units (at e), work (at e), shows f))
 
 fill-units-requires-2 : tie.Need-fill-units-requires-2
 fill-units-requires-2 c κs =
@@ -112,7 +110,7 @@ returns-3 c =
     let f = j .before .before .before .before .before .before in
     let e = passed f in
     let t = at e in
-    let r = j .judge-keys .ensures (units t) (work t) [] (shows f) in
+    let r = j .judge-keys .ensures (units t) (work t) (shows f) in
     let a = judges-all (book t) (work t) (shape e) (enough e) in (
       r .told ∙ ap accepted (sym (judged-is (book t))) ∙ sym a,
       z .fill-units2 .ensures ∙ cleared-is (units t) _ ∙ shown-cleared (units t) (mark t) (work t) (r .claims) _ (r .shows)
