@@ -49,7 +49,7 @@ unfolding Each blockNo
 each-of P [] h = tt
 each-of P (x ∷ xs) h = (h 0 x refl, each-of P xs (λ i y e. h (suc i) y e))
 
-each-both : (P : Block → Type 0) (xs ys : List Block) → Each P xs → Each P ys → Each P (xs ++ ys)
+pub each-both : (P : Block → Type 0) (xs ys : List Block) → Each P xs → Each P ys → Each P (xs ++ ys)
 unfolding Each
 each-both P [] ys e f = f
 each-both P (x ∷ xs) ys (p, e) f = (p, each-both P xs ys e f)
@@ -73,7 +73,7 @@ unfolding Each
 cross-both [] ys zs c d = tt
 cross-both (x ∷ xs) ys zs (c, cs) (d, ds) = (each-both (Disjoint x) ys zs c d, cross-both xs ys zs cs ds)
 
-apart-both : (xs ys : List Block) → AllApart xs → AllApart ys → Cross xs ys → AllApart (xs ++ ys)
+pub apart-both : (xs ys : List Block) → AllApart xs → AllApart ys → Cross xs ys → AllApart (xs ++ ys)
 unfolding AllApart Each
 apart-both [] ys a b c = b
 apart-both (x ∷ xs) ys (d, a) b (c, cs) = (each-both (Disjoint x) xs ys d c, apart-both xs ys a b cs)

@@ -22,8 +22,8 @@ use Rattle.book_space.specs.Space.{Space}
 use Rattle.book_keys.specs.Keys.{pageBlocks, content}
 use Rattle.book.specs.Book.{Book, fresh}
 use Rattle.book.specs.Calls.{after}
-use Rattle.book_start.specs.Start.{blocksAt, blocksIn, heldBy, freedBy, blocksOf as allBlocks, GoodStart}
-use Rattle.book_start.specs.Covered.{bytesOf, lostIn, Covered}
+use Rattle.book_start.specs.Start.{blocksAt, bytesOf, blocksIn, heldBy, freedBy, blocksOf as allBlocks, GoodStart}
+use Rattle.book_start.specs.Covered.{lostIn, Covered}
 use Rattle.book_start.proofs.LawsPairs.{gather, gather-same, held-gathered, heldOf, listOf}
 use Rattle.book_start.proofs.LawsCovered.{start-room, start-covered}
 use Rattle.book_history.specs.Agrees.{Agrees}
@@ -38,7 +38,7 @@ use Rattle.book_history.proofs.LawsStartFresh.{fresh-start, none-held, 
 
 -- ---- what blocks take
 
-both-bytes : (xs ys : List Block) → bytesOf (xs ++ ys) ≡ bytesOf xs + bytesOf ys
+pub both-bytes : (xs ys : List Block) → bytesOf (xs ++ ys) ≡ bytesOf xs + bytesOf ys
 unfolding bytesOf
 both-bytes [] ys = sym (zero-add (bytesOf ys))
 both-bytes (x ∷ xs) ys = let e = both-bytes xs ys in omega arith
@@ -116,7 +116,7 @@ module _ (plain : PlainBook) (b : Book) (g : GoodPlain plain) (a : Agrees plain 
 -- ---- any list of calls
 
 -- The mark of a good start isn't before where lists may begin.
-from-4096 : (b : Book) → GoodStart b → 4096 ≤ b .space .mark
+pub from-4096 : (b : Book) → GoodStart b → 4096 ≤ b .space .mark
 unfolding plainOf
 from-4096 b g = start-good b g .space .from
 

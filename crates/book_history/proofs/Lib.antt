@@ -38,5 +38,6 @@ pub mod SameBytes
 pub mod Hollow
 pub mod Counts
 pub mod Leaked
+pub mod LostTold
 pub mod Growing
 pub mod Refusals
