@@ -286,7 +286,13 @@ uint32_t ouriscado_book_drop(
    body, which may hold anything, and are 0 afterwards; what stands behind them stays. Nothing else is
    written. Hands out ground: 0 for a good start, else why it isn't one; and which: the key where the first
    fault was met, or the class of the free list, since keys are judged first, from 0 on, and then free lists,
-   from class 0 on; 0 for a good start. Refuses 1, 34.
+   from class 0 on; 0 for a good start. Hands out lost beside a good start: how many units of 16 bytes, from
+   byte 4,096 up to the mark, belong to no key and to no list of freed blocks; 0 where it isn't a good start.
+   It is 0 in a book that began with ouriscado_book_fresh, and no call changes it. A head word that was lost,
+   so that its key reads as empty, shows by the units of its slab or pages, and the head of a list of freed
+   blocks by theirs. The head word of a key with one record number takes no block, and its loss can't show: 0
+   doesn't say that no word was lost. The files of other software may have such units: lost is a figure, no
+   fault. Refuses 1, 34.
 
    Call it once, before the first other call, on a book that you didn't make with ouriscado_book_fresh in this
    process. A result of 0 says that the book was judged: it is good only where ground is OURISCADO_START_GOOD
@@ -309,7 +315,7 @@ uint32_t ouriscado_book_drop(
 uint32_t ouriscado_book_check(
     const uint8_t *body, size_t body_len, const uint64_t *heads, size_t heads_len,
     const uint64_t state[OURISCADO_STATE_WORDS], uint8_t *work, size_t work_len, uint32_t *ground,
-    uint64_t *which);
+    uint64_t *which, uint64_t *lost);
 
 #ifdef __cplusplus
 }

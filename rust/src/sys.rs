@@ -77,7 +77,11 @@ pub mod raw {
         /// use: a byte for each 16 bytes of the body, which may hold anything, and are 0 afterwards; what stands behind them stays. Nothing
         /// else is written. Hands out ground: 0 for a good start, else why it isn't one; and which: the key where the first fault was met,
         /// or the class of the free list, since keys are judged first, from 0 on, and then free lists, from class 0 on; 0 for a good start.
-        /// Refuses 1, 34.
+        /// Hands out lost beside a good start: how many units of 16 bytes, from byte 4,096 up to the mark, belong to no key and to no list
+        /// of freed blocks; 0 where it isn't a good start. It is 0 in a book that began with ouriscado_book_fresh, and no call changes it.
+        /// A head word that was lost, so that its key reads as empty, shows by the units of its slab or pages, and the head of a list of
+        /// freed blocks by theirs. The head word of a key with one record number takes no block, and its loss can't show: 0 doesn't say
+        /// that no word was lost. The files of other software may have such units: lost is a figure, no fault. Refuses 1, 34.
         pub fn ouriscado_book_check(
             body: *const u8,
             body_len: usize,
@@ -88,6 +92,7 @@ pub mod raw {
             work_len: usize,
             ground: &mut u32,
             which: &mut u64,
+            lost: &mut u64,
         ) -> u32;
         /// The smallest class whose bytes hold len bytes: none for 0 or above 2,048.
         pub fn ouriscado_slab_class_for_packed_len(len: usize, class: &mut u8) -> bool;
@@ -343,10 +348,23 @@ pub fn book_drop(body: &mut [u8], heads: &mut [u64], state: &mut [u64; 10], key:
 /// offsets where such a block can stand; and no two blocks, in use or freed, share a byte. work is for the call's own use: a byte for each
 /// 16 bytes of the body, which may hold anything, and are 0 afterwards; what stands behind them stays. Nothing else is written. Hands out
 /// ground: 0 for a good start, else why it isn't one; and which: the key where the first fault was met, or the class of the free list,
-/// since keys are judged first, from 0 on, and then free lists, from class 0 on; 0 for a good start. Refuses 1, 34.
+/// since keys are judged first, from 0 on, and then free lists, from class 0 on; 0 for a good start. Hands out lost beside a good start:
+/// how many units of 16 bytes, from byte 4,096 up to the mark, belong to no key and to no list of freed blocks; 0 where it isn't a good
+/// start. It is 0 in a book that began with ouriscado_book_fresh, and no call changes it. A head word that was lost, so that its key reads
+/// as empty, shows by the units of its slab or pages, and the head of a list of freed blocks by theirs. The head word of a key with one
+/// record number takes no block, and its loss can't show: 0 doesn't say that no word was lost. The files of other software may have such
+/// units: lost is a figure, no fault. Refuses 1, 34.
 #[inline]
 #[must_use]
-pub fn book_check(body: &[u8], heads: &[u64], state: &[u64; 10], work: &mut [u8], ground: &mut u32, which: &mut u64) -> u32 {
+pub fn book_check(
+    body: &[u8],
+    heads: &[u64],
+    state: &[u64; 10],
+    work: &mut [u8],
+    ground: &mut u32,
+    which: &mut u64,
+    lost: &mut u64,
+) -> u32 {
     unsafe {
         raw::ouriscado_book_check(
             body.as_ptr(),
@@ -358,6 +376,7 @@ pub fn book_check(body: &[u8], heads: &[u64], state: &[u64; 10], work: &mut [u8]
             work.len(),
             ground,
             which,
+            lost,
         )
     }
 }

@@ -95,7 +95,7 @@ pub fn drop(body: &mut [u8], heads: &mut [u64], state: State, key: u64) -> State
 // Says what a check answered.
 fn say_check(answer: JudgeStart) {
     match answer {
-        JudgeStart::Good => book_script::good_start(),
+        JudgeStart::Good(_) => book_script::good_start(),
         JudgeStart::KeyUnsound(key) => book_script::key_unsound(key),
         JudgeStart::KeyShares(key) => book_script::key_shares(key),
         JudgeStart::FreeStrays(class) => book_script::free_strays(class),

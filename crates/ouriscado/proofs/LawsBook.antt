@@ -11,6 +11,8 @@ use Rattle.book.specs.Book.{Book, Outcome, madeAfter}
 use Rattle.book.specs.Reads.{listAfter}
 use Rattle.book.specs.Answers.{bookOf}
 use Rattle.book.specs.Steps.{Does}
+use Rattle.book_start.specs.Start.{Verdict}
+use Rattle.book_start.specs.Units.{workAfter}
 use Rattle.ouriscado.specs.OutBook.{bookIn, wordsOf}
 
 -- Books of two states that ten words hold are one: so are their parts, and the ten words.
@@ -51,6 +53,13 @@ pub kept-list : (out : List ℕ) {after : List ℕ} (a : Answer Outcome) {number
 unfolding listAfter
 kept-list out (accepted o) number left some' = absurd (some' number)
 kept-list out (refused n) number left some' = left
+
+-- A check that is refused leaves the work list.
+pub kept-work : (units : ℕ) (work : List ℕ) {after : List ℕ} (a : Answer Verdict) {number : ℕ} → number ≡ refusalOf a
+    → after ≡ workAfter units work a → number ≢ 0 → after ≡ work
+unfolding workAfter
+kept-work units work (accepted v) number left some' = absurd (some' number)
+kept-work units work (refused n) number left some' = left
 
 module _ {body heads words : List ℕ} {state : State} (words-are : wordsOf state ≡ words) where
   -- the book of a state that ten words hold is the book of the words

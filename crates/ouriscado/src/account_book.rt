@@ -13,7 +13,7 @@ ghost use Rattle.book.specs.Reads.{reads, drops, listAfter};
 ghost use Rattle.book.specs.Answers.{loadAnswer, appendAnswer, readAnswer, dropAnswer, countedOf};
 ghost use Rattle.book_start.specs.Start.{judges};
 ghost use Rattle.book_start.specs.Units.{workAfter};
-ghost use Rattle.book_start.specs.Answers.{groundOf, whichOf};
+ghost use Rattle.book_start.specs.Answers.{groundOf, whichOf, lostOf};
 ghost use Rattle.ouriscado.specs.OutHead.{kindOut, classOut, usedOut, placeOut};
 ghost use Rattle.ouriscado.specs.OutBook.{bookIn, wordsOf, pagesLoaded, newPlace, recordsRewritten, lengthDropped};
 use crate::head::put_head;
@@ -309,7 +309,12 @@ pub extern "C" fn ouriscado_book_drop(
 // where such a block can stand; and no two blocks, in use or freed, share a byte. work is for the call's own use: a byte for each 16 bytes
 // of the body, which may hold anything, and are 0 afterwards; what stands behind them stays. Nothing else is written. Hands out ground: 0
 // for a good start, else why it isn't one; and which: the key where the first fault was met, or the class of the free list, since keys are
-// judged first, from 0 on, and then free lists, from class 0 on; 0 for a good start. Refuses 1, 34.
+// judged first, from 0 on, and then free lists, from class 0 on; 0 for a good start. Hands out lost beside a good start: how many units of
+// 16 bytes, from byte 4,096 up to the mark, belong to no key and to no list of freed blocks; 0 where it isn't a good start. It is 0 in a
+// book that began with ouriscado_book_fresh, and no call changes it. A head word that was lost, so that its key reads as empty, shows by
+// the units of its slab or pages, and the head of a list of freed blocks by theirs. The head word of a key with one record number takes no
+// block, and its loss can't show: 0 doesn't say that no word was lost. The files of other software may have such units: lost is a figure,
+// no fault. Refuses 1, 34.
 #[no_mangle]
 pub extern "C" fn ouriscado_book_check(
     body: &[u8],
@@ -318,6 +323,7 @@ pub extern "C" fn ouriscado_book_check(
     work: &mut [u8],
     ground: &mut u32,
     which: &mut u64,
+    lost: &mut u64,
 ) -> u32
     ensures number { λ r. ⌜ r
         ≡ refusalOf (judges (bookIn (now (body .entry)) (now (heads .entry)) (now (state .entry))) (lengthOfList (now (work .entry)))) ⌝ }
@@ -330,10 +336,15 @@ pub extern "C" fn ouriscado_book_check(
     ensures which { λ r. ⌜ now (which .exit)
         ≡ told whichOf
         (judges (bookIn (now (body .entry)) (now (heads .entry)) (now (state .entry))) (lengthOfList (now (work .entry)))) 0 ⌝ }
+    ensures lost { λ r. ⌜ now (lost .exit)
+        ≡ told lostOf
+        (judges (bookIn (now (body .entry)) (now (heads .entry)) (now (state .entry))) (lengthOfList (now (work .entry)))) 0 ⌝ }
+    ensures kept { λ r. ⌜ (r ≢ 0 → now (work .exit) ≡ now (work .entry)) ⌝ }
 {
     let words = *state;
     let answer = book_start::judge_start(body, heads, state_of(words), work);
     *ground = answer.ground();
     *which = answer.which();
+    *lost = answer.lost();
     answer.refusal()
 }

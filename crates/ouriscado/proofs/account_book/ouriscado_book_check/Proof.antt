@@ -8,8 +8,8 @@ use Rattle.error.proofs.LawsOut.{told-same}
 use Rattle.book.specs.Book.{Book}
 use Rattle.book_start.specs.Start.{judges}
 use Rattle.book_start.specs.Units.{workAfter}
-use Rattle.book_start.specs.Answers.{groundOf, whichOf}
-use Rattle.ouriscado.proofs.LawsBook.{book-words}
+use Rattle.book_start.specs.Answers.{groundOf, whichOf, lostOf}
+use Rattle.ouriscado.proofs.LawsBook.{book-words, kept-work}
 use Rattle.ouriscado.proofs.account_book.ouriscado_book_check.Statement.{statement}
 use Rattle.ouriscado.proofs.account_book.ouriscado_book_check.Tie as tie
 
@@ -25,6 +25,9 @@ ground-requires c κs = search needs
 which-requires : tie.Need-which-requires
 which-requires c κs = search needs
 
+lost-requires : tie.Need-lost-requires
+lost-requires c κs = search needs
+
 refusal-requires : tie.Need-refusal-requires
 refusal-requires c κs = search needs
 
@@ -33,16 +36,28 @@ same-length c = search needs
 
 returns : tie.Need-returns
 returns c =
-    let j = c .before .before .before .before .before in
+    let j = c .before .before .before .before .before .before in
     let s = j .before .before in
     let a = s .before .before .before .before .before .args in
     let room = length (a .work .now) in
     let same = book-words (s .state-of .ensures) in
-    let e = j .judge-start .ensures .0 ∙ ap (λ (b : Book). judges b room) same in (
-      c .refusal .ensures ∙ ap refusalOf e,
+    let e = j .judge-start .ensures .0 ∙ ap (λ (b : Book). judges b room) same in
+    let number = c .refusal .ensures ∙ ap refusalOf e in
+    let list = j .judge-start .ensures .1
+    ∙ ap (λ (b : Book). workAfter (length (a .body .now) / 16) (a .work .now) (judges b room)) same in (
+      number,
       (
-        j .judge-start .ensures .1 ∙ ap (λ (b : Book). workAfter (length (a .body .now) / 16) (a .work .now) (judges b room)) same,
-        (c .before .before .ground .ensures ∙ told-same groundOf _ e, c .before .which .ensures ∙ told-same whichOf _ e),
+        list,
+        (
+          c .before .before .before .ground .ensures ∙ told-same groundOf _ e,
+          (
+            c .before .before .which .ensures ∙ told-same whichOf _ e,
+            (
+              c .before .lost .ensures ∙ told-same lostOf _ e,
+              kept-work (length (a .body .now) / 16) (a .work .now) _ number list,
+            ),
+          ),
+        ),
       ),
     )
 
@@ -54,6 +69,7 @@ ouriscado-book-check-spec =
     judge-start-requires
     ground-requires
     which-requires
+    lost-requires
     refusal-requires
     same-length
     returns)
