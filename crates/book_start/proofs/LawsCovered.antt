@@ -19,7 +19,7 @@ use Rattle.book.specs.Book.{Book}
 use Rattle.book_start.specs.Start.{claimed, claimAll, AllApart, Stands, blocksAt, bytesOf, namedFrom, heldBy, freedBy, blocksOf}
 use Rattle.book_start.specs.Start.{GoodStart}
 use Rattle.book_start.specs.Covered.{Has, OneHas, lostIn, Covered}
-use Rattle.book_start.proofs.LawsClaims.{claims-first, claim-step, apart-claims, Cross}
+use Rattle.book_start.proofs.LawsClaims.{claims-first, claim-step}
 use Rattle.book_start.proofs.LawsPairs.{gather, gather-same, held-gathered, freed-gathered, heldOf, listOf, held-stand}
 
 -- ---- blocks on either side of an offset
@@ -40,7 +40,8 @@ split-bytes o [] = omega arith
 split-bytes o (x ∷ xs) = go (ltb (x .off) o) (split-bytes o xs)
   where
     go : (t : Bool) → bytesOf xs ≡ bytesOf (below o xs) + bytesOf (above o xs)
-        → slabBytes (x .class) + bytesOf xs ≡ bytesOf (cond t (x ∷ below o xs) (below o xs)) + bytesOf (cond t (above o xs) (x ∷ above o xs))
+        → slabBytes (x .class) + bytesOf xs ≡ bytesOf (cond t (x ∷ below o xs) (below o xs))
+        + bytesOf (cond t (above o xs) (x ∷ above o xs))
     go true e = omega arith
     go false e = omega arith
 
@@ -226,7 +227,8 @@ module _ (b : Book) (g : GoodStart b) where
   -- They take no more bytes than lie between 4,096 and the mark.
   pub start-room : 4096 ≤ b .space .mark → 4096 + bytesOf (blocksOf b) ≤ b .space .mark
   start-room from =
-      room-for (length (blocksOf b)) 4096 (b .space .mark) (blocksOf b) (le-refl _) from (g .apart) (stand-within (b .space .mark) (blocksOf b) all-stand)
+      room-for (length (blocksOf b)) 4096 (b .space .mark) (blocksOf b) (le-refl _) from (g .apart)
+      (stand-within (b .space .mark) (blocksOf b) all-stand)
 
   -- Where no byte is lost, each is a block's.
   pub start-covered : 4096 ≤ b .space .mark → lostIn b ≡ 0 → Covered b
@@ -244,8 +246,7 @@ unfolding bytesOf
 whole-units [] = refl
 whole-units (x ∷ xs) = let e = whole-units xs in omega arith
 
--- Claimed blocks take what those before them and their own do: so the figure of a judgement is what lies between 4,096 and the mark, less
--- what the claims of its end take.
+-- All claimed blocks take what those before take and what those take that were claimed behind them.
 pub claimed-bytes : (before xs after : List Block) → claimAll before xs ≡ claimed after → bytesOf after ≡ bytesOf before + bytesOf xs
 unfolding claimAll bytesOf
 claimed-bytes before [] after e = let same : before ≡ after = cc in rw same (omega arith)
@@ -253,15 +254,3 @@ claimed-bytes before (x ∷ xs) after e =
     let p = claims-first before x xs (record { after = after; is = e }) in
     let rest = claimed-bytes (x ∷ before) xs after (sym (claim-step before x xs (p .0)) ∙ e) in
     omega arith
-
--- A good start is claimed whole, and its claims take what all its blocks do.
-pub start-claimed : (b : Book) → GoodStart b → (claims : List Block) × (claimAll [] (blocksOf b) ≡ claimed claims)
-    × (bytesOf claims ≡ bytesOf (blocksOf b))
-unfolding Each bytesOf
-start-claimed b g =
-    let c = apart-claims [] (blocksOf b) (no-cross (blocksOf b)) (g .apart) in
-    (c .after, c .is, (let e = claimed-bytes [] (blocksOf b) (c .after) (c .is) in omega arith))
-  where
-    no-cross : (xs : List Block) → Cross xs []
-    no-cross [] = tt
-    no-cross (x ∷ xs) = (tt, no-cross xs)

@@ -130,21 +130,24 @@ module _ (c : tie.After-get-u64 Inv-loop μ-loop) where
   abbrev passed : tie.Else2 Inv-loop μ-loop
   passed = c .before .before .before .before .before .before
 
+  abbrev here : tie.In-loop Inv-loop μ-loop
+  here = turn passed
+
   goes : (free : List ℕ) (units : ℕ) (lent : List ℕ) (claims : List Block)
-      → Marked units (at (turn passed) .args .mark) lent claims (at (turn passed) .args .work .now)
-      → FreedGo units lent claims (claimFreed (at (turn passed) .args .mark / 16) (s (turn passed) free) (at (turn passed) .args .class)
-      claims (at (turn passed) .args .head)) (s (turn passed) free) (at (turn passed) .args .class) (c .get-u64 .result) (left (turn passed) - 1)
-      (c .before .before .before .before .claim-block .last .0) (taken (turn passed) + size (turn passed))
+      → Marked units (at here .args .mark) lent claims (at here .args .work .now)
+      → FreedGo units lent claims (claimFreed (at here .args .mark / 16) (s here free) (at here .args .class) claims (at here .args .head))
+      (s here free) (at here .args .class) (c .get-u64 .result) (left here - 1) (c .before .before .before .before .claim-block .last .0)
+      (taken here + size here)
   goes free units lent claims m =
-      let t = turn passed in
       let b = c .before .before .before .before .claim-block in
-      list-turn units lent claims _ (s t free) (at t .args .class) (off t) (left t) (work t) (taken t)
-      (t .before .loop .inv .1 free units lent claims m) (more t) (some passed) (stands passed) _ (b .ensures .1) (c .get-u64 .result)
-      (c .get-u64 .ensures) (sym (b .ensures .0) ∙ not-false _ (c .before .if3 .left)) (size t) (t .before .before .block-units .ensures)
+      list-turn units lent claims _ (s here free) (at here .args .class) (off here) (left here) (work here) (taken here)
+      (here .before .loop .inv .1 free units lent claims m) (more here) (some passed) (stands passed) _ (b .ensures .1) (c .get-u64 .result)
+      (c .get-u64 .ensures) (sym (b .ensures .0) ∙ not-false _ (c .before .if3 .left)) (size here)
+      (here .before .before .block-units .ensures)
 
 add-taken : tie.Need-add-taken Inv-loop μ-loop
 add-taken c =
-    let t = turn (passed c) in
+    let t = here c in
     let w = at t .pre .2 in
     let few = list-few (w .units) (w .lent) (w .claims) _ (s t []) (at t .args .class) (c .get-u64 .result) (left t - 1) _
     (taken t + size t) (goes c [] (w .units) (w .lent) (w .claims) (w .shows)) in
