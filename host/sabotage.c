@@ -261,19 +261,28 @@ uint32_t ouriscado_book_drop(uint8_t *body, size_t n, uint64_t *heads, size_t ke
 
 #elif SABOTAGE == 27
 /* 27 book: a check passes a free list that shares a block */
-uint32_t real_ouriscado_book_check(const uint8_t *body, size_t n, const uint64_t *heads, size_t keys, const uint64_t *state, uint8_t *work, size_t room, uint32_t *ground, uint64_t *which);
-uint32_t ouriscado_book_check(const uint8_t *body, size_t n, const uint64_t *heads, size_t keys, const uint64_t *state, uint8_t *work, size_t room, uint32_t *ground, uint64_t *which) {
-    uint32_t number = real_ouriscado_book_check(body, n, heads, keys, state, work, room, ground, which);
+uint32_t real_ouriscado_book_check(const uint8_t *body, size_t n, const uint64_t *heads, size_t keys, const uint64_t *state, uint8_t *work, size_t room, uint32_t *ground, uint64_t *which, uint64_t *lost);
+uint32_t ouriscado_book_check(const uint8_t *body, size_t n, const uint64_t *heads, size_t keys, const uint64_t *state, uint8_t *work, size_t room, uint32_t *ground, uint64_t *which, uint64_t *lost) {
+    uint32_t number = real_ouriscado_book_check(body, n, heads, keys, state, work, room, ground, which, lost);
     if (number == 0 && *ground == 4) *ground = 0, *which = 0;
     return number;
 }
 
 #elif SABOTAGE == 28
 /* 28 book: a check leaves a byte of its work list set */
-uint32_t real_ouriscado_book_check(const uint8_t *body, size_t n, const uint64_t *heads, size_t keys, const uint64_t *state, uint8_t *work, size_t room, uint32_t *ground, uint64_t *which);
-uint32_t ouriscado_book_check(const uint8_t *body, size_t n, const uint64_t *heads, size_t keys, const uint64_t *state, uint8_t *work, size_t room, uint32_t *ground, uint64_t *which) {
-    uint32_t number = real_ouriscado_book_check(body, n, heads, keys, state, work, room, ground, which);
+uint32_t real_ouriscado_book_check(const uint8_t *body, size_t n, const uint64_t *heads, size_t keys, const uint64_t *state, uint8_t *work, size_t room, uint32_t *ground, uint64_t *which, uint64_t *lost);
+uint32_t ouriscado_book_check(const uint8_t *body, size_t n, const uint64_t *heads, size_t keys, const uint64_t *state, uint8_t *work, size_t room, uint32_t *ground, uint64_t *which, uint64_t *lost) {
+    uint32_t number = real_ouriscado_book_check(body, n, heads, keys, state, work, room, ground, which, lost);
     if (number == 0 && room > 0) work[0] = 1;
+    return number;
+}
+
+#elif SABOTAGE == 29
+/* 29 book: a check tells that no unit is lost */
+uint32_t real_ouriscado_book_check(const uint8_t *body, size_t n, const uint64_t *heads, size_t keys, const uint64_t *state, uint8_t *work, size_t room, uint32_t *ground, uint64_t *which, uint64_t *lost);
+uint32_t ouriscado_book_check(const uint8_t *body, size_t n, const uint64_t *heads, size_t keys, const uint64_t *state, uint8_t *work, size_t room, uint32_t *ground, uint64_t *which, uint64_t *lost) {
+    uint32_t number = real_ouriscado_book_check(body, n, heads, keys, state, work, room, ground, which, lost);
+    *lost = 0;
     return number;
 }
 

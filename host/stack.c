@@ -41,7 +41,7 @@ static void append(void) { CALL(ouriscado_book_append(BOOK, 0, list[count], &kin
 static void read_all(void) { CALL(ouriscado_book_read(BOOK, 0, out, MOST + 1, &a, &b)); }
 static void read_short(void) { CALL(ouriscado_book_read(BOOK, 0, out, count - 1, &a, &b)); }
 static void drop(void) { CALL(ouriscado_book_drop(BOOK, 0, &a)); }
-static void check(void) { CALL(ouriscado_book_check(BOOK, work, sizeof work, &n, &a)); }
+static void check(void) { CALL(ouriscado_book_check(BOOK, work, sizeof work, &n, &a, &b)); }
 static void uleb(void) { CALL(ouriscado_read_uleb128(bytes, byte_count, &a, &s)); }
 static void put_uleb(void) { CALL(ouriscado_write_uleb128_into(bytes, sizeof bytes, list[0], &s)); }
 static void encode(void) { CALL(ouriscado_encode_fk_delta_stream_into(bytes, sizeof bytes, list, count, &s)); }

@@ -311,6 +311,10 @@ uint32_t ouriscado_book_drop(
    the other two grounds every list reads and no two share bytes, and only freed blocks are at fault: load all
    lists into a fresh book, and go on with that.
 
+   Where lost isn't 0 in a book that began with ouriscado_book_fresh, something other than these calls has
+   changed it, or body, heads and state aren't of one moment: an account that reads as empty may have had a
+   list. Restore the three together.
+
    Refusals: OURISCADO_SHAPE_BAD (1), OURISCADO_LIST_TOO_SHORT (34). */
 uint32_t ouriscado_book_check(
     const uint8_t *body, size_t body_len, const uint64_t *heads, size_t heads_len,

@@ -137,14 +137,17 @@ static int go_on(const struct book *b)
 {
     static uint8_t work[BODY_BYTES / OURISCADO_WORK_UNIT];
     uint32_t ground;
-    uint64_t which;
-    if (ouriscado_book_check(b->body, BODY_BYTES, b->heads, ACCOUNTS, b->state, work, sizeof work, &ground, &which) != OURISCADO_ACCEPTED)
+    uint64_t which, lost;
+    if (ouriscado_book_check(b->body, BODY_BYTES, b->heads, ACCOUNTS, b->state, work, sizeof work, &ground, &which, &lost)
+        != OURISCADO_ACCEPTED)
         stop("the book can't be judged");
     if (ground != OURISCADO_START_GOOD) {
         say_why(ground, which);
         return 0;
     }
     printf("the book is a good start\n");
+    if (lost != 0)
+        printf("%" PRIu64 " units of 16 bytes belong to nobody: a head word may be lost\n", lost);
     ask(b, FLORIST, 512);
     ask(b, BAKERY, 512);
     closing(b);

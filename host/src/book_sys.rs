@@ -59,5 +59,6 @@ extern "C" {
         work_len: usize,
         ground: &mut u32,
         which: &mut u64,
+        lost: &mut u64,
     ) -> u32;
 }

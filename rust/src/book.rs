@@ -231,23 +231,43 @@ impl<B: AsRef<[u8]>, H: AsRef<[u64]>> Book<B, H> {
     /// [`Book::from_parts`] and [`Book::check`], to keep it.
     pub fn open(body: B, heads: H, state: State) -> Result<Self, StartError> {
         let book = Book { body, heads, state };
-        book.check().map(|()| book)
+        book.check().map(|_| book)
     }
 
     /// Judges whether the book is a good start: every account is sound, every list of freed blocks ends and names only offsets where its
     /// blocks can stand, and no two blocks, in use or freed, share a byte. Nothing is changed; a sixteenth of the body's length is allocated
     /// for the time of the call.
     ///
+    /// Of a good start it tells how many units of 16 bytes belong to nobody. They are 0 in a book that began with [`Book::fresh`], and no call
+    /// changes them. A head word that was lost, so that its account reads as empty, shows by the units of its slab or pages, and the head of
+    /// a list of freed blocks by theirs. An account with one number takes no block, and its loss can't show: 0 doesn't say that no word was
+    /// lost. The files of other software may have such units: they are no fault.
+    ///
+    /// ```
+    /// use ouriscado::Book;
+    ///
+    /// let mut book = Book::fresh(vec![0; 8192], vec![0; 2])?;
+    /// book.load(0, &[7, 9])?; // in a slab of 16 bytes
+    /// book.load(1, &[8])?; // in the head word
+    /// let (body, heads, state) = book.into_parts();
+    ///
+    /// let check = |heads| Book::from_parts(&body[..], heads, state).check();
+    /// assert_eq!(check([heads[0], heads[1]])?, 0);
+    /// assert_eq!(check([0, heads[1]])?, 1);
+    /// assert_eq!(check([heads[0], 0])?, 0);
+    /// # Ok::<(), Box<dyn std::error::Error>>(())
+    /// ```
+    ///
     /// # Errors
     ///
     /// [`StartError`], with the first fault.
-    pub fn check(&self) -> Result<(), StartError> {
+    pub fn check(&self) -> Result<u64, StartError> {
         let mut work = vec![0; self.body().len() / WORK_UNIT];
-        let (mut ground, mut which) = (0, 0);
-        let number = sys::book_check(self.body(), self.heads(), &self.state.0, &mut work, &mut ground, &mut which);
+        let (mut ground, mut which, mut lost) = (0, 0, 0);
+        let number = sys::book_check(self.body(), self.heads(), &self.state.0, &mut work, &mut ground, &mut which, &mut lost);
         answer(number, ()).map_err(StartError::Refused)?;
         match ground {
-            START_GOOD => Ok(()),
+            START_GOOD => Ok(lost),
             START_KEY_UNSOUND => Err(StartError::KeyUnsound { key: which }),
             START_KEY_SHARES => Err(StartError::KeyShares { key: which }),
             START_FREE_STRAYS => Err(StartError::FreeStrays { class: which as u8 }),

@@ -26,8 +26,8 @@ fn blocks(book: &Owned, key: u64) -> Vec<(u8, usize)> {
     }
 }
 
-/// The second judge, on a book in shape.
-fn judge(book: &Owned) -> Result<(), StartError> {
+/// The second judge, on a book in shape: the first fault, or how many units of 16 bytes nobody claimed.
+fn judge(book: &Owned) -> Result<u64, StartError> {
     let mut taken = vec![false; book.body().len()];
     let mut claim = |(class, offset): (u8, usize)| {
         let bytes = &mut taken[offset..offset + (16 << class)];
@@ -56,7 +56,8 @@ fn judge(book: &Owned) -> Result<(), StartError> {
             offset = u64::from_le_bytes(book.body()[offset as usize..][..8].try_into().unwrap());
         }
     }
-    Ok(())
+    let lost = taken[4096..book.state().mark() as usize].iter().filter(|&&taken| !taken).count();
+    Ok(lost as u64 / 16)
 }
 
 /// A book after some calls: slabs of two classes, pages, and freed blocks of several classes.
@@ -92,14 +93,14 @@ fn fault(what: impl Fn(&mut [u8], &mut [u64], &mut State)) -> StartError {
 #[test]
 fn good_starts() {
     let fresh = Book::fresh(vec![0xff; LEAST_BODY_BYTES], vec![1; 1]).unwrap();
-    assert_eq!(fresh.check(), Ok(()));
+    assert_eq!(fresh.check(), Ok(0));
     let (body, heads, state) = used().into_parts();
     let (length, before) = (heads.len(), (body.clone(), heads.clone()));
     let mut book = Book::open(body, heads, state).unwrap();
     assert_eq!((book.body(), book.heads()), (&before.0[..], &before.1[..]), "opening has changed something");
     assert_eq!((0..length as u64).map(|key| book.read(key).unwrap().len()).collect::<Vec<_>>(), [40, 0, 200, 9_000, 0, 2, 1, 0]);
     book.append(5, 11).unwrap();
-    assert_eq!(book.check(), Ok(()));
+    assert_eq!(book.check(), Ok(0));
 }
 
 #[test]
@@ -126,7 +127,36 @@ fn an_unknown_total_is_good() {
     body[last + 20..last + 24].fill(0);
     let mut book = Book::open(body, heads, state).unwrap();
     assert_eq!(book.append(3, 9_001).unwrap().rewritten, 0);
-    assert_eq!((book.read(3).unwrap().len(), book.check()), (9_001, Ok(())));
+    assert_eq!((book.read(3).unwrap().len(), book.check()), (9_001, Ok(0)));
+}
+
+/// A word that is lost leaves a good start, and shows by the units of its blocks: a slab, pages, nothing of one number, and freed blocks.
+#[test]
+fn lost_words() {
+    let (body, heads, state) = used().into_parts();
+    let lost = |heads: Vec<u64>, state: State| {
+        let book = Book::from_parts(body.clone(), heads, state);
+        assert_eq!(book.check(), judge(&book), "the second judge");
+        book.check().unwrap()
+    };
+    assert_eq!(lost(heads.clone(), state), 0);
+    let book = used();
+    for key in 0..heads.len() {
+        let mut others = heads.clone();
+        others[key] = 0;
+        let bytes: u64 = blocks(&book, key as u64).iter().map(|&(class, _)| 16 << class).sum();
+        assert_eq!(lost(others, state), bytes / 16, "the word of account {key}");
+    }
+    assert_eq!(blocks(&book, 6), [], "one number, in the head word");
+    for class in 0..=PAGE_CLASS {
+        let mut fewer = state;
+        fewer.0[1 + usize::from(class)] = 0;
+        let (mut count, mut offset) = (0, state.free_heads()[usize::from(class)]);
+        while offset != 0 {
+            (count, offset) = (count + 1, u64::from_le_bytes(body[offset as usize..][..8].try_into().unwrap()));
+        }
+        assert_eq!(lost(heads.clone(), fewer), count << class, "the free list of class {class}");
+    }
 }
 
 #[test]
@@ -135,9 +165,9 @@ fn the_work_list() {
     let room = book.body().len() / WORK_UNIT;
     for (length, refusal) in [(room - 1, 34), (room, 0), (room + 3, 0)] {
         let mut work = vec![0xee; length];
-        let (mut ground, mut which) = (9, 9);
-        let number = sys::book_check(book.body(), book.heads(), &book.state().0, &mut work, &mut ground, &mut which);
-        assert_eq!((number, ground, which), (refusal, 0, 0));
+        let (mut ground, mut which, mut lost) = (9, 9, 9);
+        let number = sys::book_check(book.body(), book.heads(), &book.state().0, &mut work, &mut ground, &mut which, &mut lost);
+        assert_eq!((number, ground, which, lost), (refusal, 0, 0, 0));
         let cleared = if refusal == 0 { room } else { 0 };
         assert!(work[..cleared].iter().all(|&b| b == 0) && work[cleared..].iter().all(|&b| b == 0xee));
     }
@@ -186,7 +216,7 @@ fn random_books() {
                 _ => book.append(key, (1 << 21) + n).map(|to| to.rewritten),
             };
         }
-        assert_eq!(book.check(), Ok(()), "a book after calls");
+        assert_eq!(book.check(), Ok(0), "a book after calls");
         let (mut body, mut heads, mut state) = book.clone().into_parts();
         for _ in 0..1 + random.below(3) {
             random.damage(&mut body, &mut heads, &mut state);
@@ -195,7 +225,7 @@ fn random_books() {
         let told = damaged.check();
         assert_eq!(told, judge(&damaged));
         met[match told {
-            Ok(()) => 0,
+            Ok(_) => 0,
             Err(StartError::KeyUnsound { .. }) => 1,
             Err(StartError::KeyShares { .. }) => 2,
             Err(StartError::FreeStrays { .. }) => 3,

@@ -202,7 +202,7 @@ impl Pair {
         let ours = during(&Running(&check, where_), || self.check_ours(check));
         let judged = self.second.check(&self.body[..check.body], &self.heads[..check.heads], &self.state, &mut self.work);
         let judged = judged.map_err(Refused::number);
-        let wanted = judged.map_or_else(|refusal| (refusal, 0, 0), |v| (0, v.ground as u64, v.which));
+        let wanted = judged.map_or_else(|refusal| (refusal, [0; 3]), |v| (0, [v.ground as u64, v.which, v.lost]));
         if ours != wanted {
             return Err(format!("{check:?}: judges {ours:?} in place of {wanted:?} ({judged:?})"));
         }
@@ -215,17 +215,18 @@ impl Pair {
         }
     }
 
-    /// What ours judges: the refusal, the ground, and the key or class.
-    fn check_ours(&self, check: Check) -> (u32, u64, u64) {
+    /// What ours judges: the refusal; and the ground, the key or class, and the units that belong to nobody.
+    fn check_ours(&self, check: Check) -> (u32, [u64; 3]) {
         let (ours, placing) = (&self.ours, self.ours.placing);
         let (body, heads) = (ours.body.place::<u8>(self.body.len(), placing), ours.heads.place::<u64>(self.heads.len(), placing));
         let state: &State = unsafe { &*ours.state.place::<State>(1, Placing::End) };
         let null = if placing == Placing::End { Placing::Null } else { placing };
         let work = ours.work.place::<u8>(check.room, null);
-        let (ground, which) = (ours.out(0), ours.out(1));
-        let refusal = unsafe { sys::ouriscado_book_check(body, check.body, heads, check.heads, state, work, check.room, ground, which) };
-        let told = ours.told(&[4, 8]);
-        (refusal, told[0], told[1])
+        let (ground, which, lost) = (ours.out(0), ours.out(1), ours.out(2));
+        let refusal =
+            unsafe { sys::ouriscado_book_check(body, check.body, heads, check.heads, state, work, check.room, ground, which, lost) };
+        let told = ours.told(&[4, 8, 8]);
+        (refusal, [told[0], told[1], told[2]])
     }
 
     /// What differs of all that the books hold.

@@ -21,15 +21,15 @@ pub const TWO_LISTS: Fault = "a freed block shares bytes with one of another lis
 /// Every fault that a start can be met with. That a key shares with itself can't be met: a page that comes twice doesn't rise.
 pub const FAULTS: &[Fault] = &[UNSOUND, SLAB_SHARES, PAGE_SHARES, HEAD_STRAYS, LINK_STRAYS, HELD, COMES_BACK, TWO_LISTS];
 
-/// What a judgement tells: the ground's number, 0 for a good start, the key or class of the first fault, and the fault in words.
+/// What a judgement tells: the ground's number, 0 for a good start, the key or class of the first fault, the fault in words, and of a good
+/// start the units of 16 bytes that belong to nobody.
 #[derive(Clone, Copy, Debug, PartialEq, Eq)]
 pub struct Verdict {
     pub ground: u32,
     pub which: u64,
     pub fault: Option<Fault>,
+    pub lost: u64,
 }
-
-const GOOD: Verdict = Verdict { ground: 0, which: 0, fault: None };
 
 /// The number of a fault's ground.
 fn ground(fault: Fault) -> u32 {
@@ -91,6 +91,16 @@ impl Claims {
         }
         Ok(())
     }
+
+    /// The bytes between 4,096 and the mark that no block has: those before each block, behind the one before it, and behind the last.
+    fn gaps(&self, mark: u64) -> u64 {
+        let (mut gaps, mut at) = (0, 4096);
+        for (&off, &(end, _)) in &self.0 {
+            gaps += off - at;
+            at = end;
+        }
+        gaps + (mark - at)
+    }
 }
 
 /// Whether a block of a class can stand at an offset below the mark.
@@ -99,8 +109,8 @@ fn stands(class: u8, off: u64, mark: u64) -> bool {
     off.is_multiple_of(unit) && off >= 4096 && off <= mark.saturating_sub(slab_bytes(class))
 }
 
-/// The first fault of a book that keeps the limits, with its key or class.
-fn first_fault(key: &mut Key, body: &[u8], heads: &[u64], state: &State) -> Result<(), (u64, Fault)> {
+/// The first fault of a book that keeps the limits, with its key or class; or the units that belong to nobody.
+fn first_fault(key: &mut Key, body: &[u8], heads: &[u64], state: &State) -> Result<u64, (u64, Fault)> {
     let mut claims = Claims::default();
     for (which, &word) in heads.iter().enumerate() {
         let at = |fault| (which as u64, fault);
@@ -110,7 +120,7 @@ fn first_fault(key: &mut Key, body: &[u8], heads: &[u64], state: &State) -> Resu
     for class in 0..=PAGE_CLASS {
         claims.claim_list(body, state[0], class, state[1 + class as usize]).map_err(|fault| (class as u64, fault))?;
     }
-    Ok(())
+    Ok(claims.gaps(state[0]) / 16)
 }
 
 impl SecondBook {
@@ -122,7 +132,10 @@ impl SecondBook {
         };
         used.fill(0);
         let found = first_fault(&mut self.key, body, heads, state);
-        Ok(found.map_or_else(|(which, fault)| Verdict { ground: ground(fault), which, fault: Some(fault) }, |()| GOOD))
+        Ok(match found {
+            Ok(lost) => Verdict { ground: 0, which: 0, fault: None, lost },
+            Err((which, fault)) => Verdict { ground: ground(fault), which, fault: Some(fault), lost: 0 },
+        })
     }
 }
 
@@ -150,6 +163,11 @@ mod tests {
             (v.ground, v.which, v.fault)
         }
 
+        /// The units that belong to nobody.
+        fn lost(&mut self) -> u64 {
+            self.0.check(&self.1, &self.2, &self.3, &mut [7; 1024]).unwrap().lost
+        }
+
         /// Writes the link of a freed block.
         fn link(&mut self, off: usize, to: u64) {
             self.1[off..off + 8].copy_from_slice(&to.to_le_bytes());
@@ -165,6 +183,26 @@ mod tests {
         assert_eq!(b.verdict(), (0, 0, None));
         b.0.drop(&mut b.1, &mut b.2, &mut b.3, 2).unwrap();
         assert_eq!(b.verdict(), (0, 0, None));
+    }
+
+    /// A book's own blocks leave nothing; a lost head word or free head leaves its blocks, and a word with one number leaves nothing.
+    #[test]
+    fn lost_units() {
+        let mut b = Judged::new();
+        assert_eq!(b.lost(), 0);
+        b.3[1] = 0; // the slab that was freed
+        assert_eq!(b.lost(), 1);
+        b.2[1] = 0; // the second slab
+        assert_eq!(b.lost(), 2);
+        b.2[0] = 5; // one number, in place of the first slab
+        assert_eq!(b.lost(), 3);
+        b.2[0] = 0;
+        assert_eq!((b.lost(), b.verdict()), (3, (0, 0, None)));
+        b = Judged::new();
+        b.0.load(&mut b.1, &mut b.2, &mut b.3, 2, &(1..=300).collect::<Vec<u64>>()).unwrap();
+        assert_eq!(b.lost(), 0);
+        b.2[2] = 0; // a page
+        assert_eq!(b.lost(), 256);
     }
 
     #[test]
