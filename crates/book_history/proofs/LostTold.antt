@@ -13,13 +13,16 @@ use lib.ListN.{length, getD, set, length-set}
 use lib.Seq.{getD-set-same, getD-set-other}
 use Rattle.error.specs.Refusal.{accepted}
 use Rattle.scripthash_layout.specs.Sizes.{pageClass}
+use Rattle.scripthash_layout.specs.Head.{unpackHead}
+use Rattle.scripthash_layout.specs.declared.head.ShHeadValue.the-variants.{Inline}
 use Rattle.scripthash_free.specs.FreeList.{Block, Disjoint, Each, Names}
 use Rattle.scripthash_free.proofs.LawsGap.{each-map}
 use Rattle.book_rules.specs.Calls.{Call}
 use Rattle.book_limits.specs.Limits.{outOfShape}
 use Rattle.plain_book.proofs.LawsGood.{shapes-kept}
 use Rattle.book_space.specs.Space.{space, shapeBroken}
-use Rattle.book_keys.specs.Keys.{Content, content}
+use Rattle.book_keys.specs.Keys.{soundly, Content, content}
+use Rattle.book_keys.proofs.LawsContent.{content-at, content-inline}
 use Rattle.book_keys.proofs.LawsFree.{content-free}
 use Rattle.book.specs.Book.{Book, fresh, wordOf}
 use Rattle.book.specs.Calls.{after}
@@ -191,7 +194,7 @@ module _ (b : Book) (key : ℕ) (g : GoodStart b) (l : key < length (b .heads)) 
             (apart-cross held freed was)));
       }
 
-  -- and the check tells as many units more as its slab or pages take; none where one number stood in the head word.
+  -- and the check tells as many units more as its slab or pages take.
   pub forgot-told : (room : ℕ) → length (b .space .body) / 16 ≤ room
       → judges (forgot key b) room ≡ accepted (good (lostIn b / 16 + bytesOf (heldOf b key) / 16))
   forgot-told room long =
@@ -199,6 +202,16 @@ module _ (b : Book) (key : ℕ) (g : GoodStart b) (l : key < length (b .heads)) 
       let whole = whole-units (heldOf b key) in
       let sum : lostIn (forgot key b) / 16 ≡ lostIn b / 16 + bytesOf (heldOf b key) / 16 = omega arith in
       start-judges (forgot key b) (g .nine) room long forgot-start ∙ ap (λ (n : ℕ). accepted (good n)) sum
+
+  -- The word of a key with one number takes no block: the check tells the same without it.
+  pub forgot-hidden : (room entry used : ℕ) → length (b .space .body) / 16 ≤ room → unpackHead (wordOf key b) ≡ accepted (Inline entry used)
+      → judges (forgot key b) room ≡ judges b room
+  unfolding blocksIn bytesOf soundly
+  forgot-hidden room entry used long e =
+      let none' : heldOf b key ≡ []
+      = ap blocksIn (content-at (b .space) (wordOf key b) (Inline entry used) e ∙ ap soundly (content-inline (b .space) entry used)) in
+      let same : lostIn b / 16 + bytesOf (heldOf b key) / 16 ≡ lostIn b / 16 = let z = ap bytesOf none' in omega arith in
+      forgot-told room long ∙ ap (λ (n : ℕ). accepted (good n)) same ∙ sym (start-judges b (g .nine) room long g)
 
 -- ---- the head of a free list that is lost
 
