@@ -19,10 +19,10 @@ use Rattle.scripthash_free.specs.FreeList.{Block}
 use Rattle.book_rules.specs.Calls.{appended}
 use Rattle.book_rules.specs.Offered.{offeredNumber}
 use Rattle.book_rules.specs.Places.{stays, movesTo}
-use Rattle.book_space.specs.Space.{Space, space, Taken, takeBlock, release}
+use Rattle.book_space.specs.Space.{Space, space, takeBlock, release}
 use Rattle.book_keys.specs.Keys.{soundly, blockAt, pageAt, slabScan, Tail, tailAt}
 use Rattle.book_blocks.specs.Blocks.{lastPageOf, slabWith, totalWith, pageWith, pageBefore}
-use Rattle.book.specs.Book.{Book, Outcome, wordOf, onKey, placing, filled}
+use Rattle.book.specs.Book.{Book, Outcome, wordOf, onKey, placing, filled, seen}
 
 -- What an append leaves: the key's new place, and the records rewritten.
 abbrev pub appending : ℕ → ShHeadValue → ℕ → Space → Book → Outcome
@@ -55,7 +55,7 @@ appendSlab b key n class off c =
     let difference = n - lastOf c in
     cond (stays class (used + 1) (c .taken + ulebLen difference))
     (accepted (appending key (Slab class (used + 1) off) 0
-    (space (overwrite (b .space .body) off (slabWith (blockAt (b .space) class off) used (c .taken) difference))
+    (space (overwrite (b .space .body) off (slabWith (blockAt (seen (b .space)) class off) used (c .taken) difference))
     (b .space .mark) (b .space .free)) b))
     (moves b key (c .numbers) n (record { class = class; off = off } ∷ []))
 
@@ -65,7 +65,7 @@ appendSlab b key n class off c =
 unfoldable pub growChain : Book → ℕ → ℕ → ℕ → Tail → Answer Outcome
 growChain b key n last t =
     andThen (takeBlock pageClass (b .space))
-    (λ p. let body = overwrite (p .space .body) last (pageBefore (pageAt (p .space) last) (p .off)) in
+    (λ p. let body = overwrite (p .space .body) last (pageBefore (pageAt (seen (p .space)) last) (p .off)) in
     accepted (appending key (Extent (p .off)) 0
     (space (overwrite body (p .off) (lastPageOf (t .last .first) (p .off) 1 (totalWith (t .last .creates)) (n ∷ [])))
     (p .space .mark) (p .space .free)) b))
@@ -74,7 +74,7 @@ growChain b key n last t =
 unfoldable pub appendPage : Book → ℕ → ℕ → ℕ → Tail → Option Spot → Answer Outcome
 appendPage b key n last t (some w) =
     accepted (appending key (Extent last) 0
-    (space (overwrite (b .space .body) last (pageWith (pageAt (b .space) last) w (t .last .creates))) (b .space .mark) (b .space .free)) b)
+    (space (overwrite (b .space .body) last (pageWith (pageAt (seen (b .space)) last) w (t .last .creates))) (b .space .mark) (b .space .free)) b)
 appendPage b key n last t none = growChain b key n last t
 
 -- ---- an append
@@ -84,12 +84,12 @@ unfoldable pub appendAt : Book → ℕ → ℕ → ShHeadValue → Answer Outcom
 appendAt b key n Empty = accepted (appending key (Inline n 1) 0 (b .space) b)
 appendAt b key n (Inline entry used) = refuseIf (leb n entry) offeredNotRising (moves b key (entry ∷ []) n [])
 appendAt b key n (Slab class used off) =
-    andThen (soundly (slabScan (b .space) class used off))
+    andThen (soundly (slabScan (seen (b .space)) class used off))
     (λ c. refuseIf (leb n (lastOf c)) offeredNotRising (appendSlab b key n class off c))
 appendAt b key n (Extent last) =
-    andThen (soundly (tailAt (b .space) last))
+    andThen (soundly (tailAt (seen (b .space)) last))
     (λ t. refuseIf (leb n (lastOf (t .scan))) offeredNotRising
-    (appendPage b key n last t (spotBehind (pageAt (b .space) last) n (t .scan))))
+    (appendPage b key n last t (spotBehind (pageAt (seen (b .space)) last) n (t .scan))))
 
 -- An append of a number to a key: the number is judged by itself, then the key, then whether the number is above its last.
 unfoldable pub appends : Book → ℕ → ℕ → Answer Outcome

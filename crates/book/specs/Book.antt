@@ -3,7 +3,7 @@ use Prim.Native.Nat.{ℕ, _+_}
 use mathlib.Core.List.{List}
 use lib.Dec.{leb}
 use lib.ListN.{length, getD, set, replicate}
-use Rattle.error.specs.Refusal.{Answer, accepted, refused, refuseIf, told, shapeBad, keyBeyond}
+use Rattle.error.specs.Refusal.{Answer, accepted, refused, refuseIf, valueOr, shapeBad, keyBeyond}
 use Rattle.buffer.specs.Bytes.{overwrite}
 use Rattle.scripthash_layout.specs.Sizes.{pageClass}
 use Rattle.scripthash_layout.specs.Head.{payloadStart, packHead}
@@ -11,11 +11,16 @@ use Rattle.scripthash_layout.specs.declared.head.ShHeadValue.{ShHeadValue}
 use Rattle.book_rules.specs.Calls.{Told, OutcomeOf}
 use Rattle.book_limits.specs.Limits.{outOfShape}
 use Rattle.book_space.specs.Space.{Space, space, Taken, shapeBroken}
+use Rattle.book_keys.specs.Keys.{Ground, ground}
 
 -- A book: the head words, and the space with the body, the mark and the free heads.
 pub record Book : Type 0 where
   pub heads : List ℕ
   pub space : Space
+
+-- A space as keys are read there: the free heads don't matter.
+abbrev pub seen : Space → Ground
+seen s = ground (s .body) (s .mark)
 
 -- A book of a body, its head words, its mark and its free heads.
 abbrev pub book : List ℕ → List ℕ → ℕ → List ℕ → Book
@@ -46,7 +51,7 @@ wordOf key b = getD (b .heads) key 0
 -- The word that stores a place. The 0 is never met: a call makes only places that pack, with a number below 2^62, or a class up to 7 and an
 -- offset within the body.
 unfoldable pub headWord : ShHeadValue → ℕ
-headWord place = told (λ w. w) (packHead place) 0
+headWord place = valueOr (λ w. w) (packHead place) 0
 
 -- A call on a key: turned back where the shape breaks the limits, or the key is beyond the heads.
 unfoldable pub onKey : {A : Type 0} → Book → ℕ → Answer A → Answer A

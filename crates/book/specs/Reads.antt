@@ -8,14 +8,14 @@ use Rattle.buffer.specs.Bytes.{overwrite}
 use Rattle.scripthash_layout.specs.declared.head.ShHeadValue.the-variants.{Empty}
 use Rattle.book_rules.specs.Calls.{Told, loaded, appended, listed, dropped}
 use Rattle.book_space.specs.Space.{release}
-use Rattle.book_keys.specs.Keys.{Content, content}
-use Rattle.book.specs.Book.{Book, Outcome, wordOf, onKey, placing}
+use Rattle.book_keys.specs.Keys.{content}
+use Rattle.book.specs.Book.{Book, Outcome, wordOf, onKey, placing, seen}
 
 -- A read of a key into a lent list with room for some numbers.
 unfoldable pub reads : Book → ℕ → ℕ → Answer Outcome
 reads b key room =
     onKey b key
-    (andThen (content (b .space) (wordOf key b))
+    (andThen (content (seen (b .space)) (wordOf key b))
     (λ c. refuseIf (ltb room (length (c .numbers))) listTooShort
     (accepted (record { told = listed (record { numbers = c .numbers; pages = c .pages }); book = b }))))
 
@@ -23,7 +23,7 @@ reads b key room =
 unfoldable pub drops : Book → ℕ → Answer Outcome
 drops b key =
     onKey b key
-    (andThen (content (b .space) (wordOf key b))
+    (andThen (content (seen (b .space)) (wordOf key b))
     (λ c. accepted (placing (dropped (record { length = length (c .numbers) })) key Empty (release (c .blocks) (b .space)) b)))
 
 -- What a lent list holds after what a call told: a read's numbers at its start.

@@ -17,9 +17,9 @@ use Rattle.scripthash_pages.specs.Entries.{lastOf, spotBehind}
 use Rattle.book_rules.specs.Calls.{Told, dropped, bookAfter, answerOf}
 use Rattle.book_rules.specs.Places.{stays}
 use Rattle.book_space.specs.Space.{Space, InShape, takeBlock, release}
-use Rattle.book_keys.specs.Keys.{soundly, pageAt, slabScan, Chain, walk, Content, contentAt, Tail, tailAt}
+use Rattle.book_keys.specs.Keys.{Ground, soundly, pageAt, slabScan, Chain, walk, Content, contentAt, Tail, tailAt}
 use Rattle.book_blocks.specs.Blocks.{lastPageOf}
-use Rattle.book.specs.Book.{Book, Outcome, placing, filled}
+use Rattle.book.specs.Book.{Book, Outcome, placing, filled, seen}
 use Rattle.book.specs.declared.place.PlaceList.{PlaceList}
 use Rattle.book.specs.declared.place.PlaceList.the-variants.{At, Refused}
 
@@ -75,16 +75,16 @@ pub record ToAppend (b : Book) (key n : ℕ) : Type 0 where
 -- What is known of a key's slab that a number behind its list moves: it is sound, the number is above its last, and doesn't stay.
 pub record SlabMoves (s : Space) (n class used off : ℕ) : Type 0 where
   pub scan : Scan
-  pub sound : slabScan s class used off ≡ accepted scan
+  pub sound : slabScan (seen s) class used off ≡ accepted scan
   pub above : lastOf scan < n
   pub leaves : stays class (used + 1) (scan .taken + ulebLen (n - lastOf scan)) ≡ false
 
 -- What is known of a key's last page that a number passes on to a page more: it is sound, the number is above its last, and it has no spot.
 pub record ChainGrows (s : Space) (n last first creates : ℕ) : Type 0 where
   pub tail : Tail
-  pub sound : tailAt s last ≡ accepted tail
+  pub sound : tailAt (seen s) last ≡ accepted tail
   pub above : lastOf (tail .scan) < n
-  pub full : spotBehind (pageAt s last) n (tail .scan) ≡ none
+  pub full : spotBehind (pageAt (seen s) last) n (tail .scan) ≡ none
   pub first-is : tail .last .first ≡ first
   pub creates-is : tail .last .creates ≡ creates
 
@@ -96,10 +96,10 @@ dropping key c b = placing (dropped (record { length = length (c .numbers) })) k
 
 -- A drop of a key that stands where its head word tells.
 unfoldable pub dropsAt : Book → ℕ → ShHeadValue → Answer Outcome
-dropsAt b key place = andThen (soundly (contentAt (b .space) place)) (λ c. accepted (dropping key c b))
+dropsAt b key place = andThen (soundly (contentAt (seen (b .space)) place)) (λ c. accepted (dropping key c b))
 
 -- A sound chain is walked from an offset on, over pages at these offsets.
-pub record Walks (s : Space) (off : ℕ) (offs : List ℕ) : Type 0 where
+pub record Walks (s : Ground) (off : ℕ) (offs : List ℕ) : Type 0 where
   pub most : ℕ
   pub last : ℕ
   pub prev : ℕ
@@ -108,7 +108,7 @@ pub record Walks (s : Space) (off : ℕ) (offs : List ℕ) : Type 0 where
   pub met : chain .offs ≡ offs
 
 -- So many pages of a sound chain are left, from an offset on, and these are their offsets.
-pub record PagesLeft (s : Space) (off left : ℕ) (offs : List ℕ) : Type 0 where
+pub record PagesLeft (s : Ground) (off left : ℕ) (offs : List ℕ) : Type 0 where
   pub within : s .mark ≤ length (s .body)
   pub count : length offs ≡ left
   pub rest : 0 < left → Walks s off offs

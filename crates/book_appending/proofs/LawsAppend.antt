@@ -6,7 +6,7 @@ use mathlib.Core.Option.{Option, none, some}
 use mathlib.Core.Path.{_≡_, refl, sym, ap, subst, _∙_}
 use native.Mathlib.Omega.{arith}
 use borrow.Author.Tests.{le-leb, lt-leb, ltb-true, leb-false, eqb-false}
-use lib.Dec.{leb, ltb, eqb}
+use lib.Dec.{leb, eqb}
 use lib.ListN.{length, set, take as firsts, length-append}
 use Rattle.error.specs.Refusal.{Answer, accepted, refused, refuseIf, andThen, answered, refusalOf, shapeBad, keyBeyond, offeredNotRising}
 use Rattle.error.specs.Refusal.{keyUnsound}
@@ -32,15 +32,15 @@ use Rattle.book_rules.proofs.LawsOffered.{rising-on, refused-on}
 use Rattle.book_space.specs.Space.{Space, space, takeBlock, release, shapeBroken}
 use Rattle.book_space.proofs.LawsTake.{release-none}
 use Rattle.book_rules.specs.Calls.{Told}
-use Rattle.book_keys.specs.Keys.{soundly, pageAt, slabScan, linkScan, lastAt, createsGood, Last, Tail, tailAt}
-use Rattle.book_keys.specs.Steps.{keySpace, TailEndOf, tailEndOf}
+use Rattle.book_keys.specs.Keys.{soundly, pageAt, slabScan, linkScan, lastAt, createsGood, Last, Tail, tailAt, ground}
+use Rattle.book_keys.specs.Steps.{TailEndOf, tailEndOf}
 use Rattle.book_keys.proofs.LawsSound.{soundly-yes, soundly-no, was-sound, was-unsound, was-sure}
 use Rattle.book_keys.proofs.LawsSlab.{slab-sound}
 use Rattle.book_keys.proofs.LawsPages.{page-read}
 use Rattle.book_blocks.specs.Blocks.{slabWith, lastPageOf, totalWith, pageWith, pageBefore}
 use Rattle.book_blocks.specs.Steps.{PageNumbers}
 use Rattle.book_blocks.proofs.LawsReadsMore.{extent-start, spot-fits, spot-none}
-use Rattle.book.specs.Book.{Book, Outcome, wordOf, onKey}
+use Rattle.book.specs.Book.{Book, Outcome, wordOf, onKey, seen}
 use Rattle.book.specs.Appends.{appending, movesInto, moves, appendSlab, growChain, appendPage, appendAt, appends}
 use Rattle.book.specs.Steps.{Placed, placesInto, spaceWith, SlabMoves, ChainGrows, Does}
 use Rattle.book.proofs.LawsPlace.{stream-at-most}
@@ -67,14 +67,14 @@ one-fits n above low = record { rises = (above, low, tt); fits = omega (arith, s
 -- A key's slab is sound, and its stream takes some bytes up to its last number.
 pub record SlabTold (s : Space) (class used off taken last : ℕ) : Type 0 where
   pub scan : Scan
-  pub sound : slabScan s class used off ≡ accepted scan
+  pub sound : slabScan (seen s) class used off ≡ accepted scan
   pub taken-is : scan .taken ≡ taken
   pub last-is : lastOf scan ≡ last
 
 -- A key's last page is sound, its stream takes some bytes up to its last number, and its header names the first page and creates.
 pub record TailTold (s : Space) (last taken fk first creates : ℕ) : Type 0 where
   pub tail : Tail
-  pub sound : tailAt s last ≡ accepted tail
+  pub sound : tailAt (seen s) last ≡ accepted tail
   pub taken-is : tail .scan .taken ≡ taken
   pub fk-is : lastOf (tail .scan) ≡ fk
   pub first-is : tail .last .first ≡ first
@@ -82,18 +82,18 @@ pub record TailTold (s : Space) (last taken fk first creates : ℕ) : Type 0 whe
 
 module _ (body : List ℕ) (mark : ℕ) (free : List ℕ) where
   -- A key's slab is read without the free heads.
-  pub slab-free : (class used off : ℕ) → slabScan (keySpace body mark) class used off ≡ slabScan (space body mark free) class used off
+  pub slab-free : (class used off : ℕ) → slabScan (ground body mark) class used off ≡ slabScan (seen (space body mark free)) class used off
   unfolding slabScan
   slab-free class used off = refl
 
   -- So is its last page.
-  tail-free : (last : ℕ) → tailAt (keySpace body mark) last ≡ tailAt (space body mark free) last
+  tail-free : (last : ℕ) → tailAt (ground body mark) last ≡ tailAt (seen (space body mark free)) last
   unfolding tailAt lastAt linkScan
   tail-free last = refl
 
   -- A slab's end was told: the slab is sound, with a scan of that end.
   pub slab-told : (class used off : ℕ) {taken last : ℕ} {told : Answer End}
-      → told ≡ answered (endFrom 0) (soundly (slabScan (keySpace body mark) class used off))
+      → told ≡ answered (endFrom 0) (soundly (slabScan (ground body mark) class used off))
       → told ≡ accepted (record { taken = taken; last = last }) → SlabTold (space body mark free) class used off taken last
   slab-told class used off e t =
       let (c, is, ends) = was-accepted (endFrom 0) _ (sym e ∙ t) in
@@ -106,15 +106,15 @@ module _ (body : List ℕ) (mark : ℕ) (free : List ℕ) where
 
   -- A refusal was told: the slab isn't sound.
   pub slab-untold : (class used off : ℕ) {number : ℕ} {told : Answer End}
-      → told ≡ answered (endFrom 0) (soundly (slabScan (keySpace body mark) class used off))
-      → told ≡ refused number → (m : ℕ) × (slabScan (space body mark free) class used off ≡ refused m)
+      → told ≡ answered (endFrom 0) (soundly (slabScan (ground body mark) class used off))
+      → told ≡ refused number → (m : ℕ) × (slabScan (seen (space body mark free)) class used off ≡ refused m)
   slab-untold class used off e t =
       let (m, is) = was-unsound _ (was-refused (endFrom 0) _ (sym e ∙ t)) in
       (m, sym (slab-free class used off) ∙ is)
 
   -- A last page's end was told: the page is sound, with a tail of that end.
   pub tail-told : (last : ℕ) {end : TailEndOf} {told : Answer TailEndOf}
-      → told ≡ answered tailEndOf (soundly (tailAt (keySpace body mark) last))
+      → told ≡ answered tailEndOf (soundly (tailAt (ground body mark) last))
       → told ≡ accepted end → TailTold (space body mark free) last (end .taken) (end .fk) (end .first) (end .creates)
   tail-told last e t =
       let (tail, is, ends) = was-accepted tailEndOf _ (sym e ∙ t) in
@@ -129,8 +129,8 @@ module _ (body : List ℕ) (mark : ℕ) (free : List ℕ) where
 
   -- A refusal was told: the page isn't sound.
   pub tail-untold : (last : ℕ) {number : ℕ} {told : Answer TailEndOf}
-      → told ≡ answered tailEndOf (soundly (tailAt (keySpace body mark) last))
-      → told ≡ refused number → (m : ℕ) × (tailAt (space body mark free) last ≡ refused m)
+      → told ≡ answered tailEndOf (soundly (tailAt (ground body mark) last))
+      → told ≡ refused number → (m : ℕ) × (tailAt (seen (space body mark free)) last ≡ refused m)
   tail-untold last e t =
       let (m, is) = was-unsound _ (was-refused tailEndOf _ (sym e ∙ t)) in
       (m, sym (tail-free last) ∙ is)
@@ -139,19 +139,19 @@ module _ (body : List ℕ) (mark : ℕ) (free : List ℕ) where
 -- and that creates can be one more.
 pub record SoundTail (s : Space) (last : ℕ) (t : Tail) : Type 0 where
   pub stands : isBlock pageClass last (s .mark) ≡ true
-  pub names : namesExtent (pageAt s last) ≡ true
-  pub few : countOf (pageAt s last) ≤ pageSize
+  pub names : namesExtent (pageAt (seen s) last) ≡ true
+  pub few : countOf (pageAt (seen s) last) ≤ pageSize
   pub taken-fits : 24 + t .scan .taken ≤ pageSize
   pub creates-low : t .last .creates + 1 < 2 ^ 32
 
 -- That is known of one that passed its tests.
-pub tail-sound : (s : Space) (last : ℕ) (t : Tail) → tailAt s last ≡ accepted t → SoundTail s last t
+pub tail-sound : (s : Space) (last : ℕ) (t : Tail) → tailAt (seen s) last ≡ accepted t → SoundTail s last t
 unfolding tailAt lastAt linkScan createsGood
 tail-sound s last t e =
-    let page = pageAt s last in
-    let (h, header, e1) = went-on (lastAt s last) _ e in
+    let page = pageAt (seen s) last in
+    let (h, header, e1) = went-on (lastAt (seen s) last) _ e in
     let (good, e2) = was-sure (createsGood (h .creates)) _ e1 in
-    let (c, linked, e3) = went-on (linkScan s 0 last) _ e2 in
+    let (c, linked, e3) = went-on (linkScan (seen s) 0 last) _ e2 in
     let same = accepted-inj e3 in
     let (stands, e4) = was-sure (isBlock pageClass last (s .mark)) _ header in
     let (tests, e5) = was-sure (namesExtent page && isLastLink (linkOf page)) _ e4 in
@@ -278,13 +278,13 @@ module _ (b : Book) (key n : ℕ) where
 
   module _ (class used off : ℕ) where
     -- A slab that isn't sound.
-    pub slab-unsound : {number : ℕ} → slabScan (b .space) class used off ≡ refused number
+    pub slab-unsound : {number : ℕ} → slabScan (seen (b .space)) class used off ≡ refused number
         → appendAt b key n (Slab class used off) ≡ refused keyUnsound
     unfolding appendAt
     slab-unsound e = then-no _ _ (soundly-no _ e)
 
     -- A number above the last of a sound slab goes on.
-    slab-above : (c : Scan) → slabScan (b .space) class used off ≡ accepted c → lastOf c < n
+    slab-above : (c : Scan) → slabScan (seen (b .space)) class used off ≡ accepted c → lastOf c < n
         → appendAt b key n (Slab class used off) ≡ appendSlab b key n class off c
     unfolding appendAt
     slab-above c sound h = then-yes _ _ (soundly-yes _ sound) ∙ refuse-no (leb n (lastOf c)) _ _ (lt-leb n (lastOf c) h)
@@ -295,7 +295,7 @@ module _ (b : Book) (key n : ℕ) where
       slab-moves : appendAt b key n (Slab class used off) ≡ moves b key (m .scan .numbers) n (record { class = class; off = off } ∷ [])
       unfolding appendSlab
       slab-moves =
-          let counted = slab-sound (b .space) class used off (m .scan) (m .sound) .counted in
+          let counted = slab-sound (seen (b .space)) class used off (m .scan) (m .sound) .counted in
           slab-above (m .scan) (m .sound) (m .above) ∙ rw (counted, m .leaves)
 
       -- It moves to where the list is placed, and the slab is given back.
@@ -304,7 +304,7 @@ module _ (b : Book) (key n : ℕ) where
           → freed ≡ release (record { class = class; off = off } ∷ []) after → appendAt b key n (Slab class used off)
           ≡ accepted (appending key place used freed b)
       slab-moved freed e given =
-          let counted = slab-sound (b .space) class used off (m .scan) (m .sound) .counted in
+          let counted = slab-sound (seen (b .space)) class used off (m .scan) (m .sound) .counted in
           slab-moves ∙ moves-yes b key (m .scan .numbers) n (record { class = class; off = off } ∷ []) list is e ∙ rw (counted, given)
 
       -- It is refused where the list can't be placed.
@@ -328,7 +328,7 @@ module _ (b : Book) (key n : ℕ) where
             (appending key (Slab class (used + 1) off) 0 (space written (b .space .mark) (b .space .free)) b)
         unfolding appendSlab
         slab-stays e size is written w =
-            let counted = slab-sound (b .space) class used off (t .scan) (t .sound) .counted in
+            let counted = slab-sound (seen (b .space)) class used off (t .scan) (t .sound) .counted in
             slab-above (t .scan) (t .sound) (omega (arith, t .last-is)) ∙ rw (counted, t .last-is, t .taken-is, e, w, is)
 
         -- One that doesn't stay moves.
@@ -343,13 +343,13 @@ module _ (b : Book) (key n : ℕ) where
 
   module _ (last : ℕ) where
     -- A last page that isn't sound.
-    pub page-unsound : {number : ℕ} → tailAt (b .space) last ≡ refused number → appendAt b key n (Extent last) ≡ refused keyUnsound
+    pub page-unsound : {number : ℕ} → tailAt (seen (b .space)) last ≡ refused number → appendAt b key n (Extent last) ≡ refused keyUnsound
     unfolding appendAt
     page-unsound e = then-no _ _ (soundly-no _ e)
 
     -- A number above the last of a sound last page goes on.
-    page-above : (t : Tail) → tailAt (b .space) last ≡ accepted t → lastOf (t .scan) < n
-        → appendAt b key n (Extent last) ≡ appendPage b key n last t (spotBehind (pageAt (b .space) last) n (t .scan))
+    page-above : (t : Tail) → tailAt (seen (b .space)) last ≡ accepted t → lastOf (t .scan) < n
+        → appendAt b key n (Extent last) ≡ appendPage b key n last t (spotBehind (pageAt (seen (b .space)) last) n (t .scan))
     unfolding appendAt
     page-above t sound h = then-yes _ _ (soundly-yes _ sound) ∙ refuse-no (leb n (lastOf (t .scan))) _ _ (lt-leb n (lastOf (t .scan)) h)
 
@@ -362,8 +362,8 @@ module _ (b : Book) (key n : ℕ) where
           then-yes _ _ (soundly-yes _ (t .sound)) ∙ refuse-yes (leb n (lastOf (t .tail .scan))) _ _ (le-leb n (lastOf (t .tail .scan)) low)
 
       -- its stream starts at byte 24
-      starts : streamOff (pageAt (b .space) last) ≡ 24
-      starts = extent-start (pageAt (b .space) last) (tail-sound (b .space) last (t .tail) (t .sound) .names)
+      starts : streamOff (pageAt (seen (b .space)) last) ≡ 24
+      starts = extent-start (pageAt (seen (b .space)) last) (tail-sound (b .space) last (t .tail) (t .sound) .names)
 
       module _ (above : fk < n) where
         -- One that the page has room for is written there.
@@ -374,7 +374,7 @@ module _ (b : Book) (key n : ℕ) where
             → appendAt b key n (Extent last) ≡ accepted (appending key (Extent last) 0 (space written (b .space .mark) (b .space .free)) b)
         unfolding appendPage
         page-stays fits written w =
-            let spot = spot-fits (pageAt (b .space) last) n (t .tail .scan) (rw (t .taken-is, t .fk-is) (omega (arith, starts))) in
+            let spot = spot-fits (pageAt (seen (b .space)) last) n (t .tail .scan) (rw (t .taken-is, t .fk-is) (omega (arith, starts))) in
             page-above (t .tail) (t .sound) (omega (arith, t .fk-is)) ∙ rw (spot, t .taken-is, t .fk-is, t .creates-is, w)
 
         -- One that it has no room for goes to a page more.
@@ -383,7 +383,7 @@ module _ (b : Book) (key n : ℕ) where
           tail = t .tail;
           sound = t .sound;
           above = omega (arith, t .fk-is);
-          full = spot-none (pageAt (b .space) last) n (t .tail .scan) (rw (t .taken-is, t .fk-is) (omega (arith, starts)));
+          full = spot-none (pageAt (seen (b .space)) last) n (t .tail .scan) (rw (t .taken-is, t .fk-is) (omega (arith, starts)));
           first-is = t .first-is;
           creates-is = t .creates-is;
         }

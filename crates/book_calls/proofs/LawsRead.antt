@@ -1,23 +1,22 @@
 -- A read's answer: its list was lent behind four words, which are written last. Assumes nothing.
-use Prim.Native.Nat.{ℕ, _+_, _-_, _≤_, _<_}
+use Prim.Native.Nat.{ℕ, _+_, _-_, _≤_}
 use mathlib.Core.Bool.{Bool, true, false}
 use mathlib.Core.List.{List, [], _∷_, _++_}
-use mathlib.Core.Logic.{_⊎_, inl, inr, ⊎-elim}
-use mathlib.Core.Path.{_≡_, refl, sym, ap, subst, _∙_}
+use mathlib.Core.Path.{_≡_, refl, ap, _∙_}
 use native.Mathlib.Omega.{arith}
 use borrow.Author.Tests.{ltb-false}
 use borrow.Rule.Slice.PartMut.{midOf, putMid, put-same}
 use lib.Dec.{leb, ltb}
-use lib.ListN.{length, take, drop, length-append, length-take, length-drop}
+use lib.ListN.{length, take, drop, length-take, length-drop}
 use lib.Seq.{drop-at, length-take-le}
 use Rattle.error.specs.Refusal.{Answer, accepted, refused, refuseIf, andThen, answered, shapeBad, keyBeyond, listTooShort}
 use Rattle.error.proofs.LawsAnswer.{accepted-inj}
 use Rattle.buffer.specs.Bytes.{overwrite}
-use Rattle.buffer.proofs.LawsBytes.{overwrite-part, overwrite-one, length-overwrite}
-use Rattle.book_rules.specs.Calls.{Told, Listed as List-told, listed, answerOf}
+use Rattle.buffer.proofs.LawsBytes.{overwrite-part, length-overwrite}
+use Rattle.book_rules.specs.Calls.{Listed as List-told, listed, answerOf}
 use Rattle.book_space.specs.Space.{shapeBroken}
 use Rattle.book_keys.specs.Keys.{Content, content}
-use Rattle.book.specs.Book.{Book, Outcome, wordOf, onKey}
+use Rattle.book.specs.Book.{Book, Outcome, wordOf, onKey, seen}
 use Rattle.book.specs.Reads.{reads, listAfter}
 use Rattle.book.specs.Answers.{Counted, readAnswer, countedOf}
 use Rattle.book.specs.declared.answers.BookRead.{BookRead}
@@ -51,13 +50,13 @@ reads-as b key room = shape (shapeBroken (b .space) (length (b .heads)))
     held (accepted c) = fits c (ltb room (length (c .numbers))) refl
     held (refused number) = turned
 
-    within : (t : Bool) → ReadsAs b room (refuseIf t keyBeyond (andThen (content (b .space) (wordOf key b)) (λ c. listedIn b room c)))
+    within : (t : Bool) → ReadsAs b room (refuseIf t keyBeyond (andThen (content (seen (b .space)) (wordOf key b)) (λ c. listedIn b room c)))
     within true = turned
-    within false = held (content (b .space) (wordOf key b))
+    within false = held (content (seen (b .space)) (wordOf key b))
 
     shape : (t : Bool)
         → ReadsAs b room (refuseIf t shapeBad (refuseIf (leb (length (b .heads)) key) keyBeyond
-        (andThen (content (b .space) (wordOf key b)) (λ c. listedIn b room c))))
+        (andThen (content (seen (b .space)) (wordOf key b)) (λ c. listedIn b room c))))
     shape true = turned
     shape false = within (leb (length (b .heads)) key)
 

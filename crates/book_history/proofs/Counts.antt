@@ -3,18 +3,17 @@
 -- accepted met no count of 0, and only the head word 0 reads as empty. Assumes nothing.
 use Prim.Native.Nat.{ℕ, _+_, _^_, _<_}
 use mathlib.Core.Bool.{false}
-use mathlib.Core.List.{List, [], _∷_, _++_, append-nil}
+use mathlib.Core.List.{List, [], _∷_, append-nil}
 use mathlib.Core.Path.{_≡_, refl, sym, ap, subst, _∙_}
 use native.Mathlib.Omega.{arith}
 use lib.ListN.{length, length-append, length-replicate}
 use Rattle.error.specs.Refusal.{Answer, accepted}
 use Rattle.error.proofs.LawsAnswer.{accepted-inj, was-accepted, passed, went-on}
-use Rattle.scripthash_layout.specs.Head.{packHead, unpackHead}
+use Rattle.scripthash_layout.specs.Head.{packHead}
 use Rattle.scripthash_layout.specs.declared.head.ShHeadValue.{ShHeadValue}
 use Rattle.scripthash_layout.specs.declared.head.ShHeadValue.the-variants.{Empty, Inline, Slab, Extent}
 use Rattle.scripthash_layout.proofs.LawsHead.{pack-unpacked}
 use Rattle.scripthash_stream.specs.Stream.{Scan}
-use Rattle.scripthash_slabs.specs.Slab.{slabUsed}
 use Rattle.scripthash_fields.specs.Page.{countOf}
 use Rattle.book_limits.specs.Limits.{outOfShape}
 use Rattle.book_rules.specs.Calls.{Call, read, Told, loaded, appended, listed, dropped, Listed, answerOf}
@@ -25,14 +24,13 @@ use Rattle.plain_book.specs.Good.{GoodPlain}
 use Rattle.plain_book.proofs.LawsGood.{fresh-good, calls-good, shapes-kept}
 use Rattle.plain_book.proofs.LawsHistory.{fresh-key}
 use Rattle.plain_book.proofs.LawsRecorded.{recorded-from}
-use Rattle.book_space.specs.Space.{Space}
-use Rattle.book_keys.specs.Keys.{blockAt, pageAt, linkScan, Chain, pageThen, chainAt, Content, content, contentAt}
+use Rattle.book_keys.specs.Keys.{pageAt, linkScan, Chain, pageThen, chainAt, Content, content, contentAt, Ground}
 use Rattle.book_keys.proofs.LawsPages.{link-sound}
 use Rattle.book_keys.proofs.LawsChain.{chain-sound}
 use Rattle.book_keys.proofs.LawsSlab.{slab-sound}
 use Rattle.book_keys.proofs.LawsContent.{was-content, was-slab, was-pages}
 use Rattle.book_keys.proofs.LawsKeys.{by-steps, chain-known}
-use Rattle.book.specs.Book.{Book, Outcome, wordOf, fresh}
+use Rattle.book.specs.Book.{Book, Outcome, wordOf, fresh, seen}
 use Rattle.book.specs.Reads.{reads}
 use Rattle.book.specs.Calls.{does, after, answers}
 use Rattle.book_start.specs.Start.{GoodStart}
@@ -49,7 +47,7 @@ use Rattle.book_history.proofs.LawsStartFresh.{fresh-agrees}
 -- ---- a sound key
 
 -- The pages of a sound chain.
-pages-count : (s : Space) (last : ℕ) (c : Chain) → chainAt s last ≡ accepted c → PagesCount s (c .offs) (c .numbers)
+pages-count : (s : Ground) (last : ℕ) (c : Chain) → chainAt s last ≡ accepted c → PagesCount s (c .offs) (c .numbers)
 unfolding PagesCount pageThen
 pages-count s last c e =
     let k = chain-sound s last c e in
@@ -64,7 +62,7 @@ pages-count s last c e =
         record { counts = sym (l .read .counted); above-0 = omega (arith, l .read .counted, l .going .some) }
 
 -- A place.
-place-counts : (s : Space) (place : ShHeadValue) (k : Content) → contentAt s place ≡ accepted k → PlaceCounts s place (k .numbers)
+place-counts : (s : Ground) (place : ShHeadValue) (k : Content) → contentAt s place ≡ accepted k → PlaceCounts s place (k .numbers)
 unfolding PlaceCounts contentAt
 place-counts s Empty k e = ap (λ (x : Content). x .numbers) (sym (accepted-inj e))
 place-counts s (Inline entry used) k e = ap (λ (x : Content). x .numbers) (sym (accepted-inj e))
@@ -81,18 +79,18 @@ place-counts s (Extent last) k e =
     (c, is, subst (PagesCount s (c .offs)) (ap (λ (x : Content). x .numbers) same) (pages-count s last c is))
 
 -- A head word.
-key-counts : (s : Space) (word : ℕ) (k : Content) → content s word ≡ accepted k → KeyCounts s word (k .numbers)
+key-counts : (s : Ground) (word : ℕ) (k : Content) → content s word ≡ accepted k → KeyCounts s word (k .numbers)
 key-counts s word k e = let (place, at, holds) = was-content s word k e in (place, at, place-counts s place k holds)
 
 -- Pages, of which there is one, have a number.
-page-some : (s : Space) (offs : List ℕ) → 0 < length offs → PagesCount s offs [] → ⊥
+page-some : (s : Ground) (offs : List ℕ) → 0 < length offs → PagesCount s offs [] → ⊥
 unfolding PagesCount
 page-some s [] l e = omega arith
 page-some s (o ∷ os) l (part, rest, e, c, more) =
     let z : 0 ≡ length part + length rest = ap length e ∙ length-append part rest in omega (arith, c .counts, c .above-0)
 
 -- A place that has no number is none.
-none-there : (s : Space) (place : ShHeadValue) → PlaceCounts s place [] → place ≡ Empty
+none-there : (s : Ground) (place : ShHeadValue) → PlaceCounts s place [] → place ≡ Empty
 unfolding PlaceCounts
 none-there s Empty e = refl
 none-there s (Inline entry used) e = let z : _≡_ {A = ℕ} 0 1 = ap length e in absurd (omega arith)
@@ -103,11 +101,11 @@ none-there s (Extent last) (c, is, counts) = absurd (page-some s (c .offs) (chai
 
 module _ (b : Book) (key room : ℕ) (l : Listed) (e : answerOf (does b (read key room)) ≡ accepted (listed l)) where
   -- An accepted read found the key sound, and told its numbers.
-  read-found : (k : Content) × (content (b .space) (wordOf key b) ≡ accepted k) × (k .numbers ≡ l .numbers)
+  read-found : (k : Content) × (content (seen (b .space)) (wordOf key b) ≡ accepted k) × (k .numbers ≡ l .numbers)
   unfolding does reads
   read-found =
       let (o, did, tells) = was-accepted (λ (x : Outcome). x .told) (does b (read key room)) e in
-      let (k, is, out) = went-on (content (b .space) (wordOf key b)) _ (on-key b key _ did .2) in
+      let (k, is, out) = went-on (content (seen (b .space)) (wordOf key b)) _ (on-key b key _ did .2) in
       let same : listed (record { numbers = k .numbers; pages = k .pages }) ≡ listed l =
       ap (λ (x : Outcome). x .told) (accepted-inj (passed _ _ _ out .1)) ∙ tells in
       (k, is, ap numbersTold same)
@@ -119,15 +117,15 @@ module _ (b : Book) (key room : ℕ) (l : Listed) (e : answerOf (does b (read ke
       numbersTold (dropped d) = []
 
   -- On any book, a damaged one too: the counts that an accepted read met are those of the list that it tells, and none is 0.
-  pub read-counts : KeyCounts (b .space) (wordOf key b) (l .numbers)
-  read-counts = let (k, is, same) = read-found in subst (KeyCounts (b .space) (wordOf key b)) same (key-counts (b .space) (wordOf key b) k is)
+  pub read-counts : KeyCounts (seen (b .space)) (wordOf key b) (l .numbers)
+  read-counts = let (k, is, same) = read-found in subst (KeyCounts (seen (b .space)) (wordOf key b)) same (key-counts (seen (b .space)) (wordOf key b) k is)
 
   -- On any book whose words have 64 bits: a read that tells an empty list read the head word 0.
   pub empty-word : wordOf key b < 2 ^ 64 → l .numbers ≡ [] → wordOf key b ≡ 0
   unfolding packHead
   empty-word word none =
       let (place, at, counts) = read-counts in
-      let empty = none-there (b .space) place (subst (PlaceCounts (b .space) place) none counts) in
+      let empty = none-there (seen (b .space)) place (subst (PlaceCounts (seen (b .space)) place) none counts) in
       sym (accepted-inj (subst (λ (v : ShHeadValue). packHead v ≡ accepted (wordOf key b)) empty (pack-unpacked (wordOf key b) place word at)))
 
 -- ---- every history
@@ -135,7 +133,7 @@ module _ (b : Book) (key room : ℕ) (l : Listed) (e : answerOf (does b (read ke
 -- A book that stands for a good plain book, in shape, after any calls: the counts of each key are those of what is recorded for it.
 counts-good : (plain : PlainBook) (b : Book) (cs : List Call) → GoodPlain plain → Agrees plain b
     → outOfShape (plain .size) (length (plain .keys)) ≡ false
-    → (key : ℕ) → KeyCounts (after b cs .space) (wordOf key (after b cs)) (recorded key cs (answers b cs) (keyOf key plain .list))
+    → (key : ℕ) → KeyCounts (seen (after b cs .space)) (wordOf key (after b cs)) (recorded key cs (answers b cs) (keyOf key plain .list))
 counts-good plain b cs g a shape key =
     let (size, keys) = shapes-kept plain cs in
     let then = books-agree each-alike plain b cs g a in
@@ -143,26 +141,26 @@ counts-good plain b cs g a shape key =
     let list : keyOf key (plainAfter plain cs) .list ≡ recorded key cs (answers b cs) (keyOf key plain .list)
     = recorded-from plain key cs (g .keys key)
     ∙ ap (λ (told : List (Answer Told)). recorded key cs told (keyOf key plain .list)) (sym (answers-alike each-alike plain b cs g a)) in
-    subst (KeyCounts (after b cs .space) (wordOf key (after b cs))) list
-    (key-counts (after b cs .space) (wordOf key (after b cs)) _
+    subst (KeyCounts (seen (after b cs .space)) (wordOf key (after b cs))) list
+    (key-counts (seen (after b cs .space)) (wordOf key (after b cs)) _
     (content-agrees (plainAfter plain cs) (after b cs) (calls-good cs g) in-shape (then .inside in-shape) key))
 
 -- No history leads to a count of 0: after any calls from a good start the counts of each key are those of what is recorded for it, which
 -- begins with what it was read as at the start.
 pub counts-from : (b : Book) (cs : List Call) → GoodStart b
-    → (key : ℕ) → KeyCounts (after b cs .space) (wordOf key (after b cs)) (recorded key cs (answers b cs) (startList b key))
+    → (key : ℕ) → KeyCounts (seen (after b cs .space)) (wordOf key (after b cs)) (recorded key cs (answers b cs) (startList b key))
 counts-from b cs g key =
-    subst (λ (list : List ℕ). KeyCounts (after b cs .space) (wordOf key (after b cs)) (recorded key cs (answers b cs) list)) (start-list b key)
+    subst (λ (list : List ℕ). KeyCounts (seen (after b cs .space)) (wordOf key (after b cs)) (recorded key cs (answers b cs) list)) (start-list b key)
     (counts-good (plainOf b) b cs (start-good b g) (start-agrees b g) (start-shape b g) key)
 
 -- No history leads to a count of 0: after any calls on a fresh book in shape, whatever its body holds, the counts of each key are those of
 -- what is recorded for it.
 pub counts-fresh : (body : List ℕ) (heads : ℕ) (cs : List Call) → outOfShape (length body) heads ≡ false
     → let b = fresh body heads in
-    (key : ℕ) → KeyCounts (after b cs .space) (wordOf key (after b cs)) (recorded key cs (answers b cs) [])
+    (key : ℕ) → KeyCounts (seen (after b cs .space)) (wordOf key (after b cs)) (recorded key cs (answers b cs) [])
 counts-fresh body heads cs shape key =
     let b = fresh body heads in
-    subst (λ (list : List ℕ). KeyCounts (after b cs .space) (wordOf key (after b cs)) (recorded key cs (answers b cs) list))
+    subst (λ (list : List ℕ). KeyCounts (seen (after b cs .space)) (wordOf key (after b cs)) (recorded key cs (answers b cs) list))
     (ap (λ (k : Key). k .list) (fresh-key (length body) heads key))
     (counts-good (plainFresh (length body) heads) b cs (fresh-good (length body) heads) (fresh-agrees body heads)
     (rw (length-replicate heads emptyKey) shape) key)

@@ -16,7 +16,7 @@ use Rattle.scripthash_pages.specs.Entries.{lastOf, Spot, spotBehind}
 use Rattle.book_rules.specs.Calls.{Call, append, read, bookAfter}
 use Rattle.book_rules.specs.Places.{stays}
 use Rattle.book_keys.specs.Keys.{pageAt, slabScan, Tail, tailAt}
-use Rattle.book.specs.Book.{Book, Outcome, wordOf}
+use Rattle.book.specs.Book.{Book, Outcome, wordOf, seen}
 use Rattle.book.specs.Reads.{listAfter}
 use Rattle.book.specs.Calls.{does}
 use Rattle.book_history.specs.Writes.{Changes}
@@ -38,10 +38,10 @@ demand-1-list b key out number e = list-refused b key out e
 -- word differs at all.
 pub demand-1-word : (b : Book) (key n : ℕ) (o : Outcome) → wordOf key b < 2 ^ 64 → does b (append key n) ≡ accepted o
     → ((class used off : ℕ) (c : Scan) → unpackHead (wordOf key b) ≡ accepted (Slab class used off)
-    → slabScan (b .space) class used off ≡ accepted c → stays class (length (c .numbers) + 1) (c .taken + ulebLen (n - lastOf c)) ≡ true
+    → slabScan (seen (b .space)) class used off ≡ accepted c → stays class (length (c .numbers) + 1) (c .taken + ulebLen (n - lastOf c)) ≡ true
     → (wordOf key b ≡ slabWord class used off) × (wordOf key (o .book) ≡ slabWord class (used + 1) off))
-    × ((last : ℕ) (t : Tail) (w : Spot) → unpackHead (wordOf key b) ≡ accepted (Extent last) → tailAt (b .space) last ≡ accepted t
-    → spotBehind (pageAt (b .space) last) n (t .scan) ≡ some w → o .book .heads ≡ b .heads)
+    × ((last : ℕ) (t : Tail) (w : Spot) → unpackHead (wordOf key b) ≡ accepted (Extent last) → tailAt (seen (b .space)) last ≡ accepted t
+    → spotBehind (pageAt (seen (b .space)) last) n (t .scan) ≡ some w → o .book .heads ≡ b .heads)
 demand-1-word b key n o word e = (
   λ class used off c is scanned stay. slab-word b key n class used off c word is scanned stay e,
   λ last t w is tail spot. page-words b key n last t w word is tail spot e,

@@ -33,7 +33,7 @@ use Rattle.book_keys.specs.Keys.{
 use Rattle.book_keys.specs.Keys.{contentAt, content}
 use Rattle.book_blocks.specs.Blocks.{lastPageOf}
 use Rattle.book.specs.Book.{Book, book}
-use Rattle.book_start.specs.Start.{named}
+use Rattle.book_start.specs.Start.{followed}
 use Rattle.book_history.specs.PlainOf.{keptBy, pageFrom, pagesFrom, placeFrom, countedFrom, listFrom, keyFrom, keysFrom, stacksFrom}
 use Rattle.book_history.specs.PlainOf.{plainOf}
 
@@ -42,7 +42,7 @@ unfoldable pub plainly : Book → PlainBook
 unfolding refuseIf andThen part overwrite isForm value formAt overflows readForm readUleb divided ulebLen shortest unpackHead lastFrom
     streamFrom storedNumber nextNumber scanFrom decodeStream decodeSlab field extentHeader pageOf streamPlace pageScan isBlock written
     soundly
-    sure goOn slabScan linkScan goodExtent lastAt pageThen walk totalGood chainAt pageBlocks contentAt content named keptBy pageFrom
+    sure goOn slabScan linkScan goodExtent lastAt pageThen walk totalGood chainAt pageBlocks contentAt content followed keptBy pageFrom
     pagesFrom
     placeFrom countedFrom listFrom keyFrom keysFrom stacksFrom plainOf
 plainly b = plainOf b

@@ -39,12 +39,12 @@ use Rattle.book.specs.Loads.{loadInto, loadAt, loads}
 use Rattle.book.specs.Reads.{reads, drops}
 use Rattle.book.specs.Calls.{after, does}
 use mathlib.Core.Bool.{Bool, true, false}
-use Rattle.book_history.specs.Writes.{Region, region, CallNames, both, freeingAll, takingPages, taking, filling, writing, moving}
-use Rattle.book_history.specs.Writes.{growingSlab, growingPage, appendNames, loadNames, names}
+use Rattle.book_history.specs.Writes.{Region, region, CallWrites, both, freeingAll, takingPages, taking, filling, writing, moving}
+use Rattle.book_history.specs.Writes.{growingSlab, growingPage, appendWrites, loadWrites, writes}
 use Rattle.book_history.proofs.Examples.{inARow, bodyOf}
 
 -- What a call names after others.
-unfoldable pub namedAfter : Book → List Call → Call → CallNames
+unfoldable pub writesAfter : Book → List Call → Call → CallWrites
 unfolding refuseIf andThen answered part overwrite isForm value formAt overflows readForm readUleb divided ulebLen shortest packHead
     unpackHead lastFrom streamFrom streamLenFrom storedNumber nextNumber scanFrom decodeStream firstClass classFor classWithSlack
     slabPayload
@@ -54,42 +54,42 @@ unfolding refuseIf andThen answered part overwrite isForm value formAt overflows
     sure
     goOn slabScan linkScan goodExtent lastAt pageThen walk totalGood chainAt pageBlocks contentAt content createsGood tailAt headWord onKey
     movesInto moves slabWith appendSlab totalWith pageWith pageBefore growChain appendPage appendAt appends writeRun loadInto loadAt loads
-    reads drops does both freeingAll takingPages taking filling writing moving growingSlab growingPage appendNames loadNames names
-namedAfter b cs c = names (after b cs) c
+    reads drops does both freeingAll takingPages taking filling writing moving growingSlab growingPage appendWrites loadWrites writes
+writesAfter b cs c = writes (after b cs) c
 
 -- What is named.
-abbrev named : List Region → List Region → List Region → Bool → CallNames
-named body heads free mark = record { heads = heads; space = record { body = body; free = free; mark = mark } }
+abbrev writesOf : List Region → List Region → List Region → Bool → CallWrites
+writesOf body heads free mark = record { heads = heads; space = record { body = body; free = free; mark = mark } }
 
 -- The run case: 300 moves to a slab at the mark, 301 stays there, 303 moves to a larger slab and frees the old one, and 10 takes that
 -- again.
-pub run-names :
-    (namedAfter (fresh (bodyOf 8192) 2) (append 0 5 ∷ []) (append 0 300) ≡ named (region 4096 5 ∷ []) (region 0 1 ∷ []) [] true)
-    × (namedAfter (fresh (bodyOf 8192) 2) (append 0 5 ∷ append 0 300 ∷ []) (append 0 301)
-    ≡ named (region 4096 2 ∷ region 4101 1 ∷ []) (region 0 1 ∷ []) [] false)
-    × (namedAfter (fresh (bodyOf 8192) 2) (append 0 5 ∷ append 0 300 ∷ append 0 301 ∷ append 0 302 ∷ []) (append 0 303)
-    ≡ named (region 4112 8 ∷ region 4096 8 ∷ []) (region 0 1 ∷ []) (region 0 1 ∷ []) true)
-    × (namedAfter (fresh (bodyOf 8192) 2) (append 0 5 ∷ append 0 300 ∷ append 0 301 ∷ append 0 302 ∷ append 0 303 ∷ append 1 9 ∷ [])
+pub run-writes :
+    (writesAfter (fresh (bodyOf 8192) 2) (append 0 5 ∷ []) (append 0 300) ≡ writesOf (region 4096 5 ∷ []) (region 0 1 ∷ []) [] true)
+    × (writesAfter (fresh (bodyOf 8192) 2) (append 0 5 ∷ append 0 300 ∷ []) (append 0 301)
+    ≡ writesOf (region 4096 2 ∷ region 4101 1 ∷ []) (region 0 1 ∷ []) [] false)
+    × (writesAfter (fresh (bodyOf 8192) 2) (append 0 5 ∷ append 0 300 ∷ append 0 301 ∷ append 0 302 ∷ []) (append 0 303)
+    ≡ writesOf (region 4112 8 ∷ region 4096 8 ∷ []) (region 0 1 ∷ []) (region 0 1 ∷ []) true)
+    × (writesAfter (fresh (bodyOf 8192) 2) (append 0 5 ∷ append 0 300 ∷ append 0 301 ∷ append 0 302 ∷ append 0 303 ∷ append 1 9 ∷ [])
     (append 1 10)
-    ≡ named (region 4096 4 ∷ []) (region 1 1 ∷ []) (region 0 1 ∷ []) false)
-unfolding namedAfter
-run-names = (refl, refl, refl, refl)
+    ≡ writesOf (region 4096 4 ∷ []) (region 1 1 ∷ []) (region 0 1 ∷ []) false)
+unfolding writesAfter
+run-writes = (refl, refl, refl, refl)
 
 -- A full page gets a page behind it, which then gets a number; a drop frees both.
-pub page-names :
-    (namedAfter (fresh (bodyOf 16384) 1) (load 0 (inARow 1 4072) ∷ []) (append 0 4073)
-    ≡ named (region 8192 4096 ∷ region 4099 5 ∷ region 4116 4 ∷ []) (region 0 1 ∷ []) [] true)
-    × (namedAfter (fresh (bodyOf 16384) 1) (load 0 (inARow 1 4072) ∷ append 0 4073 ∷ []) (append 0 4074)
-    ≡ named (region 8193 2 ∷ region 8218 1 ∷ region 8212 4 ∷ []) (region 0 1 ∷ []) [] false)
-    × (namedAfter (fresh (bodyOf 16384) 1) (load 0 (inARow 1 4072) ∷ append 0 4073 ∷ []) (drop 0)
-    ≡ named (region 4096 8 ∷ region 8192 8 ∷ []) (region 0 1 ∷ []) (region 8 1 ∷ region 8 1 ∷ []) false)
-unfolding namedAfter inARow
-page-names = (refl, refl, refl)
+pub page-writes :
+    (writesAfter (fresh (bodyOf 16384) 1) (load 0 (inARow 1 4072) ∷ []) (append 0 4073)
+    ≡ writesOf (region 8192 4096 ∷ region 4099 5 ∷ region 4116 4 ∷ []) (region 0 1 ∷ []) [] true)
+    × (writesAfter (fresh (bodyOf 16384) 1) (load 0 (inARow 1 4072) ∷ append 0 4073 ∷ []) (append 0 4074)
+    ≡ writesOf (region 8193 2 ∷ region 8218 1 ∷ region 8212 4 ∷ []) (region 0 1 ∷ []) [] false)
+    × (writesAfter (fresh (bodyOf 16384) 1) (load 0 (inARow 1 4072) ∷ append 0 4073 ∷ []) (drop 0)
+    ≡ writesOf (region 4096 8 ∷ region 8192 8 ∷ []) (region 0 1 ∷ []) (region 8 1 ∷ region 8 1 ∷ []) false)
+unfolding writesAfter inARow
+page-writes = (refl, refl, refl)
 
 -- A run of two pages behind a slab of 16 bytes: the gap's eight blocks are freed.
-pub gap-names : namedAfter (fresh (bodyOf 16384) 2) (append 0 1 ∷ append 0 2 ∷ []) (load 1 (inARow 1 4073))
-    ≡ named (region 4112 8 ∷ region 6160 8 ∷ region 7184 8 ∷ region 7696 8 ∷ region 7952 8 ∷ region 8080 8 ∷ region 8144 8 ∷ region 8176 8
+pub gap-writes : writesAfter (fresh (bodyOf 16384) 2) (append 0 1 ∷ append 0 2 ∷ []) (load 1 (inARow 1 4073))
+    ≡ writesOf (region 4112 8 ∷ region 6160 8 ∷ region 7184 8 ∷ region 7696 8 ∷ region 7952 8 ∷ region 8080 8 ∷ region 8144 8 ∷ region 8176 8
     ∷ region 8192 8192 ∷ []) (region 1 1 ∷ [])
     (region 7 1 ∷ region 6 1 ∷ region 5 1 ∷ region 4 1 ∷ region 3 1 ∷ region 2 1 ∷ region 1 1 ∷ region 0 1 ∷ []) true
-unfolding namedAfter inARow
-gap-names = refl
+unfolding writesAfter inARow
+gap-writes = refl

@@ -8,7 +8,7 @@ use mathlib.Core.Option.{none}
 use mathlib.Core.Path.{_≡_, refl, sym, ap, subst, fun-ext, _∙_}
 use native.Mathlib.Omega.{arith}
 use lib.ListN.{length, getD, replicate, length-append, length-replicate}
-use Rattle.error.specs.Refusal.{Answer, accepted, refused, answered, told, noRoom}
+use Rattle.error.specs.Refusal.{Answer, accepted, refused, answered, valueOr, noRoom}
 use Rattle.error.proofs.LawsAnswer.{was-refused}
 use Rattle.buffer.specs.Bytes.{part}
 use Rattle.buffer.proofs.LawsOverwrite.{part-left}
@@ -129,7 +129,7 @@ module _ (b : Book) (bytes : List ℕ) (n : ℕ) (g : GoodStart b)
       let good = grown-good (plainOf b) b bytes n (start-good b g) (start-agrees b g) (start-shape b g) plain-shape in
       let agrees = grown-agrees (plainOf b) b bytes n (start-good b g) (start-agrees b g) (start-shape b g) plain-shape in
       let out = grown-shape (plainOf b) b bytes n (start-good b g) (start-agrees b g) (start-shape b g) plain-shape in
-      ap (λ (x : Answer Content). told (λ c. c .numbers) x []) (content-agrees more (grown bytes n b) good out (agrees .inside out) key)
+      ap (λ (x : Answer Content). valueOr (λ c. c .numbers) x []) (content-agrees more (grown bytes n b) good out (agrees .inside out) key)
       ∙ ap (λ (k : Key). k .list) (empty-behind emptyKey (plainOf b .keys) n key) ∙ start-list b key
 
   -- It answers every list of calls as the plain book does that has so much more.

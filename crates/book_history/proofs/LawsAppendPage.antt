@@ -22,7 +22,6 @@ use Rattle.scripthash_fields.specs.Page.{streamCap}
 use Rattle.scripthash_pages.specs.Entries.{lastOf, Spot, spotBehind}
 use Rattle.scripthash_free.specs.FreeList.{Block, isBlock}
 use Rattle.scripthash_free.proofs.LawsBlock.{block-stands}
-use Rattle.book_rules.specs.Calls.{appended}
 use Rattle.book_limits.specs.Limits.{outOfShape}
 use Rattle.book_limits.proofs.LawsLimits.{in-shape}
 use Rattle.plain_book.specs.Space.{Space as PlainSpace, Taken as PlainTaken, takeBlock as plainTake}
@@ -42,7 +41,7 @@ use Rattle.book_keys.specs.Keys.{pageAt as pageBytes}
 use Rattle.book_blocks.specs.Blocks.{lastPageOf, totalWith, pageWith, pageBefore}
 use Rattle.book_blocks.proofs.LawsTotals.{total-fits}
 use Rattle.book_blocks.proofs.LawsReadsMore.{spot-fits, spot-none, page-more, page-before}
-use Rattle.book.specs.Book.{Book}
+use Rattle.book.specs.Book.{Book, seen}
 use Rattle.book.specs.Appends.{appending, growChain, appendPage, appendAt, appends}
 use Rattle.book_history.specs.Agrees.{scanOf, PageReads, LastReads, NextReads, ChainReads, firstPageOff, SlabIn, PageIn, BlockReads}
 use Rattle.book_history.specs.Agrees.{contentsOf, AgreesSpace, Agrees}
@@ -307,11 +306,11 @@ module _ (plain : PlainBook) (b : Book) (g : GoodPlain plain) (a : Agrees plain 
 
   -- What the last page reads as, in any space that agrees.
   last-known : (inside : PlainSpace) (s : Space) (held : Option Block) → AgreesSpace inside s (places plain) held (contentsOf plain)
-      → PageReads (lastPage noPage ps) (pageBytes s last) × LastReads (firstPageOff ps) total (pageBytes s last)
+      → PageReads (lastPage noPage ps) (pageBytes (seen s) last) × LastReads (firstPageOff ps) total (pageBytes (seen s) last)
   last-known inside s held h =
       let l = one in
-      last-reads (firstPageOff ps) total (length ps - 1) noPage ps (pageBytes s last) (omega arith)
-      (subst (λ (p : Place). PageIn total (length ps - 1) p (pageBytes s last)) is
+      last-reads (firstPageOff ps) total (length ps - 1) noPage ps (pageBytes (seen s) last) (omega arith)
+      (subst (λ (p : Place). PageIn total (length ps - 1) p (pageBytes (seen s) last)) is
       (h .stored (pageOf key (length ps - 1)) (record { class = pageClass; off = last }) (last-owned inside held)))
 
   -- A body is as long after the last page is written.
@@ -324,16 +323,16 @@ module _ (plain : PlainBook) (b : Book) (g : GoodPlain plain) (a : Agrees plain 
       length-overwrite (s .body) last ys (rw long (omega (arith, h .within)))
 
   -- What the last page reads as with the number joined.
-  joined-reads : (w : Spot) → spotBehind (pageBytes (b .space) last) n (tail .scan) ≡ some w
-      → let ys = pageWith (pageBytes (b .space) last) w total in
+  joined-reads : (w : Spot) → spotBehind (pageBytes (seen (b .space)) last) n (tail .scan) ≡ some w
+      → let ys = pageWith (pageBytes (seen (b .space)) last) w total in
       (length ys ≡ pageSize) × (PageReads (longerPage n (lastPage noPage ps)) ys × LastReads (firstPageOff ps) (totalWith total) ys)
   joined-reads w spot =
       let (r, l) = last-known (plain .space) (b .space) none (a .inside shape .space) in
-      more-reads (lastPage noPage ps) (pageBytes (b .space) last) (firstPageOff ps) total n w r l above small few spot
+      more-reads (lastPage noPage ps) (pageBytes (seen (b .space)) last) (firstPageOff ps) total n w r l above small few spot
 
   -- The number joins the last page: the spaces agree.
-  joined-agrees : (w : Spot) → spotBehind (pageBytes (b .space) last) n (tail .scan) ≡ some w
-      → AgreesSpace (plain .space) (space (overwrite (b .space .body) last (pageWith (pageBytes (b .space) last) w total)) (b .space .mark)
+  joined-agrees : (w : Spot) → spotBehind (pageBytes (seen (b .space)) last) n (tail .scan) ≡ some w
+      → AgreesSpace (plain .space) (space (overwrite (b .space .body) last (pageWith (pageBytes (seen (b .space)) last) w total)) (b .space .mark)
       (b .space .free))
       (atKey key (joinedTo n ps) (places plain)) none (placedContents plain key (totalWith total) (joinedTo n ps))
   unfolding has
@@ -345,7 +344,7 @@ module _ (plain : PlainBook) (b : Book) (g : GoodPlain plain) (a : Agrees plain 
       (joined-reads w spot .0) mine others (a .inside shape .space))
     where
       ys : List ℕ
-      ys = pageWith (pageBytes (b .space) last) w total
+      ys = pageWith (pageBytes (seen (b .space)) last) w total
 
       mine : (i : ℕ) → i + 1 ≡ length ps → ChainReads (firstPageOff (joinedPages n ps)) (totalWith total) i (joinedPages n ps) ys
       mine i e =
@@ -377,20 +376,20 @@ module _ (plain : PlainBook) (b : Book) (g : GoodPlain plain) (a : Agrees plain 
   placing = appendLeaves plain key n (keyOf key plain .counted)
 
   -- Both books answer alike where the number joins the last page.
-  joined-alike : (w : Spot) → spotBehind (pageBytes (b .space) last) n (tail .scan) ≡ some w
+  joined-alike : (w : Spot) → spotBehind (pageBytes (seen (b .space)) last) n (tail .scan) ≡ some w
       → Alike (placing (record { place = joinedTo n ps; space = plain .space; rewritten = 0 })) (appendPage b key n last tail (some w))
   unfolding appendPage headOf
   joined-alike w spot =
       append-ends plain b key more (joinedTo n ps) (keyOf key plain .counted) (totalWith total) (Extent last) 0 (plain .space) _ a shape low
       (ap (λ (p : Page). Extent (p .off)) (joined-last n noPage ps one)) (total-is (joinedTo n ps))
-      (last-long (plain .space) (b .space) none (pageWith (pageBytes (b .space) last) w total) (g .space) (a .inside shape .space)
+      (last-long (plain .space) (b .space) none (pageWith (pageBytes (seen (b .space)) last) w total) (g .space) (a .inside shape .space)
       (joined-reads w spot .0))
       (joined-agrees w spot)
 
   -- The number begins a page in hand, and the old last page names it: the spaces agree, and the body is as long.
   begun-agrees : (inside : PlainSpace) (s : Space) (off : ℕ) → Good inside (places plain) (some (record { class = pageClass; off = off }))
       → AgreesSpace inside s (places plain) (some (record { class = pageClass; off = off })) (contentsOf plain)
-      → let body = overwrite (overwrite (s .body) last (pageBefore (pageBytes s last) off)) off
+      → let body = overwrite (overwrite (s .body) last (pageBefore (pageBytes (seen s) last) off)) off
       (lastPageOf (firstPageOff ps) off 1 (totalWith total) (n ∷ [])) in
       AgreesSpace inside (space body (s .mark) (s .free)) (atKey key (begunAt off n ps) (places plain)) none
       (placedContents plain key (totalWith total) (begunAt off n ps))
@@ -418,12 +417,12 @@ module _ (plain : PlainBook) (b : Book) (g : GoodPlain plain) (a : Agrees plain 
 
       -- the old last page, and what it reads as with the next one
       old : List ℕ
-      old = pageBefore (pageBytes s last) off
+      old = pageBefore (pageBytes (seen s) last) off
 
       next : (length old ≡ pageSize) × (PageReads (lastPage noPage ps) old × NextReads off old)
       next =
           let (r, l) = last-known inside s (some (record { class = pageClass; off = off })) h in
-          next-reads (lastPage noPage ps) (pageBytes s last) (firstPageOff ps) total (inside .mark) off r l
+          next-reads (lastPage noPage ps) (pageBytes (seen s) last) (firstPageOff ps) total (inside .mark) off r l
           (last-fits noPage ps (chain key ps g is .fit) .1) high stands
 
       named : Space
@@ -485,7 +484,7 @@ module _ (plain : PlainBook) (b : Book) (g : GoodPlain plain) (a : Agrees plain 
           → AgreesSpace (t .space) (u .space) (places plain) (some (record { class = pageClass; off = t .off })) (contentsOf plain)
           → Alike (placing (record { place = begunAt (t .off) n ps; space = t .space; rewritten = 0 }))
           (accepted (appending key (Extent (u .off)) 0
-          (space (overwrite (overwrite (u .space .body) last (pageBefore (pageBytes (u .space) last) (u .off))) (u .off)
+          (space (overwrite (overwrite (u .space .body) last (pageBefore (pageBytes (seen (u .space)) last) (u .off))) (u .off)
           (lastPageOf (firstPageOff ps) (u .off) 1 (totalWith total) (n ∷ [])))
           (u .space .mark) (u .space .free)) b))
       go t u took took' same long h =
@@ -499,24 +498,24 @@ module _ (plain : PlainBook) (b : Book) (g : GoodPlain plain) (a : Agrees plain 
 
   -- Both books answer alike: they judge by one test whether the number joins the last page.
   behind-alike : Alike (andThen (appendPages (plain .size) ps n (plain .space)) placing)
-      (appendPage b key n last tail (spotBehind (pageBytes (b .space) last) n (tail .scan)))
+      (appendPage b key n last tail (spotBehind (pageBytes (seen (b .space)) last) n (tail .scan)))
   unfolding appendPages appendPage joins longer andThen
   behind-alike = go (joins n ps) refl
     where
-      room : streamCap (pageBytes (b .space) last) ≡ lastPage noPage ps .room
+      room : streamCap (pageBytes (seen (b .space)) last) ≡ lastPage noPage ps .room
       room = last-known (plain .space) (b .space) none (a .inside shape .space) .0 .room
 
       go : (t : Bool) → joins n ps ≡ t
           → Alike (andThen (cond t (accepted (record { place = joinedTo n ps; space = plain .space; rewritten = 0 }))
           (beginPage (plain .size) ps n (plain .space))) placing)
-          (appendPage b key n last tail (spotBehind (pageBytes (b .space) last) n (tail .scan)))
+          (appendPage b key n last tail (spotBehind (pageBytes (seen (b .space)) last) n (tail .scan)))
       go true e =
           let fits = leb-true (longer n (lastPage noPage ps .part) .bytes) (lastPage noPage ps .room) e in
-          let spot = spot-fits (pageBytes (b .space) last) n (tail .scan) (rw room fits) in
+          let spot = spot-fits (pageBytes (seen (b .space)) last) n (tail .scan) (rw room fits) in
           rw spot (joined-alike _ spot)
       go false e =
           let full = leb-false (longer n (lastPage noPage ps .part) .bytes) (lastPage noPage ps .room) e in
-          rw (spot-none (pageBytes (b .space) last) n (tail .scan) (rw room full)) begun-alike
+          rw (spot-none (pageBytes (seen (b .space)) last) n (tail .scan) (rw room full)) begun-alike
 
 -- The two books answer an append alike, where the key has pages.
 pub append-pages : (plain : PlainBook) (b : Book) (key n : ℕ) (ps : List Page) → GoodPlain plain → Agrees plain b
@@ -529,7 +528,7 @@ append-pages plain b key n ps g a is =
     rw (
       is,
       then-yes _ (λ (t : Tail). refuseIf (leb n (lastOf (t .scan))) offeredNotRising
-          (appendPage b key n (lastPage noPage ps .off) t (spotBehind (pageBytes (b .space) (lastPage noPage ps .off)) n (t .scan))))
+          (appendPage b key n (lastPage noPage ps .off) t (spotBehind (pageBytes (seen (b .space)) (lastPage noPage ps .off)) n (t .scan))))
           (tail-agrees plain b g shape h key ps is),
     )
     (alike-both _ _ _ _ _ (ap (leb n) (chain key ps g is .last))

@@ -10,7 +10,7 @@ use native.Mathlib.Omega.{arith}
 use lib.Dec.{leb}
 use lib.ListN.{length, length-append}
 use borrow.Author.Tests.{eq-eqb, leb-false, lt-leb}
-use Rattle.error.specs.Refusal.{Answer, accepted, refuseIf, andThen, offeredNotRising}
+use Rattle.error.specs.Refusal.{Answer, refuseIf, andThen, offeredNotRising}
 use Rattle.error.proofs.LawsAnswer.{refuse-no, then-yes}
 use Rattle.buffer.specs.Bytes.{overwrite}
 use Rattle.buffer.proofs.LawsBytes.{length-overwrite}
@@ -22,7 +22,6 @@ use Rattle.scripthash_stream.specs.Stream.{Rising, lastFrom, streamLen}
 use Rattle.scripthash_slabs.specs.Slab.{slabPayload}
 use Rattle.scripthash_cutting.specs.Cutting.{lastPageRoom}
 use Rattle.scripthash_free.specs.FreeList.{Block, isBlock}
-use Rattle.book_rules.specs.Calls.{appended}
 use Rattle.book_limits.specs.Limits.{outOfShape}
 use Rattle.book_rules.specs.Places.{stays, movesTo}
 use Rattle.book_limits.proofs.LawsLimits.{in-shape}
@@ -42,7 +41,7 @@ use Rattle.book_space.specs.Space.{space, Taken, release}
 use Rattle.book_keys.specs.Keys.{blockAt}
 use Rattle.book_blocks.specs.Blocks.{lastPageOf, slabWith}
 use Rattle.book_blocks.proofs.LawsReadsSlab.{slab-with-long, slab-more}
-use Rattle.book.specs.Book.{Book, Outcome, filled}
+use Rattle.book.specs.Book.{Book, Outcome, filled, seen}
 use Rattle.book.specs.Appends.{movesInto, moves, appendSlab, appendAt, appends}
 use Rattle.book_history.specs.Agrees.{scanOf, SlabReads, PageReads, LastReads, SlabIn, BlockReads, contentsOf, AgreesSpace}
 use Rattle.book_history.specs.Agrees.{AgreesInside}
@@ -205,7 +204,7 @@ module _ (plain : PlainBook) (b : Book) (key n : ℕ) (g : GoodPlain plain) (a :
     y = record { class = class; off = off }
 
     abbrev before : List ℕ
-    before = blockAt (b .space) class off
+    before = blockAt (seen (b .space)) class off
 
     abbrev after : List ℕ
     after = slabWith before (length (kept .numbers)) (kept .bytes) (n - lastFrom 0 (kept .numbers))

@@ -41,7 +41,7 @@ use Rattle.book_keys.specs.Keys.{pageAt as pageBytes}
 use Rattle.book_blocks.specs.Blocks.{lastPageOf, totalWith}
 use Rattle.book_blocks.proofs.LawsTotals.{total-unknown, total-known}
 use Rattle.book_blocks.proofs.LawsReadsPage.{last-page-reads}
-use Rattle.book.specs.Book.{Book, wordOf}
+use Rattle.book.specs.Book.{Book, wordOf, seen}
 use Rattle.book.specs.Appends.{appending, appendAt, appends}
 use Rattle.book.specs.Reads.{reads}
 use Rattle.book.specs.Calls.{does}
@@ -71,7 +71,7 @@ rising-goes-on prev (n ∷ ns) (a, b, r) l = rw (lt-ltb prev n a, lt-ltb (lastFr
 -- A slab that stands below the mark and reads as a kept stream gives it.
 slab-scans : (s : Space) (class off : ℕ) (kept : Kept) → class ≤ maxSlabClass → isBlock class off (s .mark) ≡ true
     → length (kept .numbers) ≤ maxSlabCount
-    → SlabReads kept (blockAt s class off) → goOn 0 (kept .numbers) ≡ true → slabScan s class (length (kept .numbers)) off
+    → SlabReads kept (blockAt (seen s) class off) → goOn 0 (kept .numbers) ≡ true → slabScan (seen s) class (length (kept .numbers)) off
     ≡ accepted (scanOf kept)
 unfolding slabScan
 slab-scans s class off kept c stands few r go =
@@ -80,15 +80,15 @@ slab-scans s class off kept c stands few r go =
     ∙ then-yes _ _ (r .reads) ∙ sure-yes _ _ go
 
 -- A page that stands below the mark and reads as a part of a list gives it, behind a number from which it goes on.
-link-scans : (s : Space) (prev off : ℕ) (p : Page) → isBlock pageClass off (s .mark) ≡ true → PageReads p (pageBytes s off)
-    → Rising (2 ^ 62) prev (p .part .numbers) → 0 < length (p .part .numbers) → linkScan s prev off ≡ accepted (scanOf (p .part))
+link-scans : (s : Space) (prev off : ℕ) (p : Page) → isBlock pageClass off (s .mark) ≡ true → PageReads p (pageBytes (seen s) off)
+    → Rising (2 ^ 62) prev (p .part .numbers) → 0 < length (p .part .numbers) → linkScan (seen s) prev off ≡ accepted (scanOf (p .part))
 unfolding linkScan
 link-scans s prev off p stands r rises l =
     sure-yes _ _ stands ∙ then-yes _ _ (r .reads) ∙ sure-yes _ _ (rising-goes-on prev (p .part .numbers) rises l)
 
 -- A last page's header.
-last-header : (s : Space) (off first creates : ℕ) → isBlock pageClass off (s .mark) ≡ true → LastReads first creates (pageBytes s off)
-    → lastAt s off ≡ accepted (record { first = first; creates = creates })
+last-header : (s : Space) (off first creates : ℕ) → isBlock pageClass off (s .mark) ≡ true → LastReads first creates (pageBytes (seen s) off)
+    → lastAt (seen s) off ≡ accepted (record { first = first; creates = creates })
 unfolding lastAt
 last-header s off first creates stands r =
     sure-yes _ _ stands ∙ sure-yes _ _ (rw (r .extent, r .last)) ∙ then-yes _ _ (r .good) ∙ rw (r .first, r .creates)
@@ -104,7 +104,7 @@ offsOf (p ∷ ps) = p .off ∷ offsOf ps
 -- page is where the last one is.
 pub record Stands (s : Space) (first creates last i : ℕ) (ps : List Page) (off : ℕ) : Type 0 where
   pub block : isBlock pageClass off (s .mark) ≡ true
-  pub reads : ChainReads first creates i ps (pageBytes s off)
+  pub reads : ChainReads first creates i ps (pageBytes (seen s) off)
   pub only : off ≡ last → i + 1 ≡ length ps
 
 -- A walk over pages that stand as they should gives their numbers and offsets.
@@ -112,7 +112,7 @@ walks : (k : ℕ) (s : Space) (first creates last prev : ℕ) (page : Page) (ps 
     → FitPages ps
     → RisesFrom prev ps
     → ((i off : ℕ) → pageNo i ps ≡ some (record { class = pageClass; off = off }) → Stands s first creates last i ps off)
-    → walk k s last prev (firstPageOff ps) ≡ accepted (record { numbers = held ps; offs = offsOf ps })
+    → walk k (seen s) last prev (firstPageOff ps) ≡ accepted (record { numbers = held ps; offs = offsOf ps })
 unfolding walk FitPages RisesFrom held offsOf pageNo ChainReads lastPage pageThen
 walks k s first creates last prev page [] few is fit rises at = absurd fit
 walks zero s first creates last prev page (p ∷ ps) few is fit rises at = absurd (omega arith)
@@ -223,14 +223,14 @@ module _ (plain : PlainBook) (b : Book) (g : GoodPlain plain) (shape : outOfShap
 
   -- A key's slab reads as what it keeps.
   slab-read : (class off : ℕ) (kept : Kept) → keyOf key plain .place ≡ slab class off kept
-      → slabScan (b .space) class (length (keyOf key plain .list)) off ≡ accepted (scanOf kept)
+      → slabScan (seen (b .space)) class (length (keyOf key plain .list)) off ≡ accepted (scanOf kept)
   unfolding has Fits
   slab-read class off kept is =
       let (same, shortest, c, two, few, bytes) = rw is at (g .keys key .fits) in
       rw (← same)
       (slab-scans (b .space) class off kept c (rw (h .space .mark)
       (g .space .apart .stands (slabOf key) (record { class = class; off = off }) (ap slabAt is)))
-      (rw same few) (subst (λ (p : Place). SlabIn p (blockAt (b .space) class off)) is
+      (rw same few) (subst (λ (p : Place). SlabIn p (blockAt (seen (b .space)) class off)) is
       (h .space .stored (slabOf key) (record { class = class; off = off }) (ap slabAt is)))
       (rising-goes-on 0 (kept .numbers) (rw same (g .keys key .rises)) (rw same (omega arith))))
 
@@ -242,7 +242,7 @@ module _ (plain : PlainBook) (b : Book) (g : GoodPlain plain) (shape : outOfShap
   chain-page ps is i off e =
       record {
         block = rw (h .space .mark) (g .space .apart .stands (pageOf key i) (record { class = pageClass; off = off }) (mine i off e));
-        reads = subst (λ (p : Place). PageIn (totalOf (keyOf key plain)) i p (pageBytes (b .space) off)) is
+        reads = subst (λ (p : Place). PageIn (totalOf (keyOf key plain)) i p (pageBytes (seen (b .space)) off)) is
             (h .space .stored (pageOf key i) (record { class = pageClass; off = off }) (mine i off e));
         only = only (eqb (i + 1) (length ps)) refl;
       }
@@ -265,7 +265,7 @@ module _ (plain : PlainBook) (b : Book) (g : GoodPlain plain) (shape : outOfShap
 
   -- As an append looks at it, a key's slab reads as what it keeps.
   pub slab-agrees : (class off : ℕ) (kept : Kept) → keyOf key plain .place ≡ slab class off kept
-      → soundly (slabScan (b .space) class (length (keyOf key plain .list)) off) ≡ accepted (scanOf kept)
+      → soundly (slabScan (seen (b .space)) class (length (keyOf key plain .list)) off) ≡ accepted (scanOf kept)
   slab-agrees class off kept is = soundly-yes _ (slab-read class off kept is)
 
   -- A key in pages has a number.
@@ -280,7 +280,7 @@ module _ (plain : PlainBook) (b : Book) (g : GoodPlain plain) (shape : outOfShap
 
   -- The header of a key's last page.
   last-told : (ps : List Page) → keyOf key plain .place ≡ pages ps
-      → lastAt (b .space) (lastPage noPage ps .off) ≡ accepted (record { first = firstPageOff ps; creates = totalOf (keyOf key plain) })
+      → lastAt (seen (b .space)) (lastPage noPage ps .off) ≡ accepted (record { first = firstPageOff ps; creates = totalOf (keyOf key plain) })
   last-told ps is =
       let one = some-pages ps (chain key ps g is .fit) in
       let k = chain-page ps is (length ps - 1) (lastPage noPage ps .off) (last-page-at (length ps - 1) noPage ps (omega arith)) in
@@ -289,7 +289,7 @@ module _ (plain : PlainBook) (b : Book) (g : GoodPlain plain) (shape : outOfShap
 
   -- As an append looks at it, a key's last page reads as its part of the list, with the first page's offset and the key's total.
   pub tail-agrees : (ps : List Page) → keyOf key plain .place ≡ pages ps
-      → soundly (tailAt (b .space) (lastPage noPage ps .off))
+      → soundly (tailAt (seen (b .space)) (lastPage noPage ps .off))
       ≡ accepted (record {
         scan = scanOf (lastPage noPage ps .part);
         last =
@@ -311,7 +311,7 @@ module _ (plain : PlainBook) (b : Book) (g : GoodPlain plain) (shape : outOfShap
 
   -- A key's chain gives its list, and its pages' offsets.
   chain-agrees : (ps : List Page) → keyOf key plain .place ≡ pages ps
-      → chainAt (b .space) (lastPage noPage ps .off) ≡ accepted (record { numbers = keyOf key plain .list; offs = offsOf ps })
+      → chainAt (seen (b .space)) (lastPage noPage ps .off) ≡ accepted (record { numbers = keyOf key plain .list; offs = offsOf ps })
   unfolding chainAt
   chain-agrees ps is =
       let c = chain key ps g is in
@@ -323,7 +323,7 @@ module _ (plain : PlainBook) (b : Book) (g : GoodPlain plain) (shape : outOfShap
 
   -- What the place that a key's head word tells holds.
   place-agrees : (place : Place) → keyOf key plain .place ≡ place
-      → contentAt (b .space) (headOf (keyOf key plain .list) place)
+      → contentAt (seen (b .space)) (headOf (keyOf key plain .list) place)
       ≡ accepted (record { numbers = keyOf key plain .list; blocks = blocksOf place; pages = pagesOf place })
   unfolding contentAt headOf Fits
   place-agrees empty is =
@@ -338,7 +338,7 @@ module _ (plain : PlainBook) (b : Book) (g : GoodPlain plain) (shape : outOfShap
   place-agrees (pages ps) is = then-yes _ _ (chain-agrees ps is) ∙ rw (offs-many ps)
 
   -- A key holds its list, in its place's blocks.
-  pub content-agrees : content (b .space) (wordOf key b)
+  pub content-agrees : content (seen (b .space)) (wordOf key b)
       ≡ accepted (record {
         numbers = keyOf key plain .list;
         blocks = blocksOf (keyOf key plain .place);

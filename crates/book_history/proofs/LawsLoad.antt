@@ -37,7 +37,7 @@ use Rattle.book_rules.specs.Places.{loadsTo}
 use Rattle.book_limits.proofs.LawsLimits.{in-shape}
 use Rattle.book_rules.proofs.LawsRules.{loads-to}
 use Rattle.plain_book.specs.Space.{Space as PlainSpace, Taken as PlainTaken, takeBlock as plainTake, rounded as plainRounded}
-use Rattle.plain_book.specs.Space.{takeRun as plainTakeRun}
+use Rattle.plain_book.specs.Space.{takeRun as plainTakeRun, runAtMark as plainRunAtMark}
 use Rattle.plain_book.specs.Key.{Page, Place, empty, inline, slab, pages, written, lastPage, noPage, headOf, Key, emptyKey, pagesOf, Placed, keyIn}
 use Rattle.plain_book.specs.Key.{runPages, loadInto as plainLoadInto, loadPlace}
 use Rattle.plain_book.specs.Book.{Book as PlainBook, Outcome as PlainOutcome, keyOf, withKey, inUse, loads as plainLoads, does as plainDoes}
@@ -375,7 +375,7 @@ module _ (plain : PlainBook) (b : Book) (key : ℕ) (ns : List ℕ) (g : GoodPla
   -- a run is taken and written
   load-run : 0 < length (cutting ns)
       → Alike (andThen (plainLoadInto (plain .size) none ns (plain .space)) loadedTo) (loadInto b key ns none)
-  unfolding plainLoadInto loadInto headOf andThen plainTakeRun has
+  unfolding plainLoadInto loadInto headOf andThen plainRunAtMark has
   load-run some' =
       taken-then (λ x y. Alike (andThen x loadedTo) y) (places plain) (λ off. none) (contentsOf plain) (plain .size) _ _ _ _
       (λ number. refused-alike)

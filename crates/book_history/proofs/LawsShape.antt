@@ -7,7 +7,7 @@ use lib.ListN.{length, getD, replicate, length-replicate}
 use Rattle.error.specs.Refusal.{Answer, accepted, refused, shapeBad}
 use Rattle.error.proofs.LawsAnswer.{refuse-yes}
 use Rattle.scripthash_layout.specs.Head.{unpackHead}
-use Rattle.scripthash_free.specs.FreeList.{Names}
+use Rattle.scripthash_free.specs.FreeList.{IsFreeList}
 use Rattle.book_rules.specs.Calls.{Call, load, append, read, drop, bookAfter, afterCalls}
 use Rattle.book_limits.specs.Limits.{outOfShape}
 use Rattle.plain_book.specs.Space.{stackOf}
@@ -56,7 +56,7 @@ plain-still b (c ∷ cs) e = ap (λ (a : Answer _). afterCalls plainDoes (bookAf
 -- A fresh pair out of shape stands alike.
 pub fresh-stands : (body : List ℕ) (heads : ℕ) → outOfShape (length body) (length (plainFresh (length body) heads .keys)) ≡ true
     → Standing (plainFresh (length body) heads) (fresh body heads)
-unfolding unpackHead headOf Names
+unfolding unpackHead headOf IsFreeList
 fresh-stands body heads out =
     record {
       size = refl;
@@ -64,7 +64,7 @@ fresh-stands body heads out =
       heads = λ key. ap unpackHead (all-same 0 heads key)
           ∙ sym (ap (λ (k : Key). accepted (headOf (k .list) (k .place))) (fresh-key (length body) heads key));
       mark = refl;
-      free = λ class l. subst (λ (os : List ℕ). Names body (getD (replicate 9 0) class 0) os) (sym (all-same {A = List ℕ} [] 9 class))
+      free = λ class l. subst (λ (os : List ℕ). IsFreeList body (getD (replicate 9 0) class 0) os) (sym (all-same {A = List ℕ} [] 9 class))
           (all-same 0 9 class);
       reads = λ key room shape l fits. absurd (true≢false (sym out ∙ shape));
     }

@@ -11,7 +11,7 @@ use borrow.Author.Tests.{eq-eqb, ne-eqb, le-ltb}
 use Rattle.buffer.specs.Bytes.{part}
 use Rattle.buffer.specs.LittleEndian.{littleEndian}
 use Rattle.scripthash_layout.specs.Sizes.{slabBytes}
-use Rattle.scripthash_free.specs.FreeList.{Block, nextOf, Names}
+use Rattle.scripthash_free.specs.FreeList.{Block, nextOf, IsFreeList}
 use Rattle.scripthash_free.proofs.LawsBlock.{bytes-from-16, block-stands}
 use Rattle.plain_book.specs.Space.{Space as PlainSpace, stackOf}
 use Rattle.plain_book.specs.Key.{Place}
@@ -59,29 +59,29 @@ Linked class body os =
     (d : ℕ) (x : Block) → atDepth class d os ≡ some x → (0 < x .off) × (x .off + 8 ≤ length body) × (nextOf body (x .off) ≡ under d os)
 
 -- A free list whose blocks are so names the stack.
-names-linked : (class : ℕ) (body : List ℕ) (os : List ℕ) → Linked class body os → Names body (top os) os
-unfolding Names
-names-linked class body [] h = refl
-names-linked class body (o ∷ os) h =
+free-list-linked : (class : ℕ) (body : List ℕ) (os : List ℕ) → Linked class body os → IsFreeList body (top os) os
+unfolding IsFreeList
+free-list-linked class body [] h = refl
+free-list-linked class body (o ∷ os) h =
     let (above, within, next) = h (length os) (record { class = class; off = o }) (top-is class o os) in (
       refl,
       above,
       within,
-      subst (λ (z : ℕ). Names body z os) (sym (next ∙ under-first o os))
-          (names-linked class body os
+      subst (λ (z : ℕ). IsFreeList body z os) (sym (next ∙ under-first o os))
+          (free-list-linked class body os
           (λ d x e.
           let (a, w, n) = h d x (under-top class d o os x e) in
           (a, w, n ∙ under-rest d o os (deep-none class d os x e)))),
     )
 
 -- Each free list of a space that agrees names its stack from the top.
-pub free-named : (plain : PlainSpace) (s : Space) (at : ℕ → Place) (c : Contents) → Good plain at none → AgreesSpace plain s at none c
+pub free-list-is : (plain : PlainSpace) (s : Space) (at : ℕ → Place) (c : Contents) → Good plain at none → AgreesSpace plain s at none c
     → (class : ℕ)
-    → Names (s .body) (getD (s .free) class 0) (stackOf class plain)
+    → IsFreeList (s .body) (getD (s .free) class 0) (stackOf class plain)
 unfolding has
-free-named plain s at c g a class =
-    subst (λ (z : ℕ). Names (s .body) z (stackOf class plain)) (sym (a .tops class))
-    (names-linked class (s .body) (stackOf class plain) linked)
+free-list-is plain s at c g a class =
+    subst (λ (z : ℕ). IsFreeList (s .body) z (stackOf class plain)) (sym (a .tops class))
+    (free-list-linked class (s .body) (stackOf class plain) linked)
   where
     linked : Linked class (s .body) (stackOf class plain)
     linked d x e =
@@ -121,6 +121,6 @@ agrees-stands plain b g a shape =
       count = a .count;
       heads = λ key. head-agrees plain b g shape h key;
       mark = h .space .mark;
-      free = λ class l. free-named (plain .space) (b .space) (places plain) (contentsOf plain) (g .space) (h .space) class;
+      free = λ class l. free-list-is (plain .space) (b .space) (places plain) (contentsOf plain) (g .space) (h .space) class;
       reads = λ key room s l fits. reads-list plain b key room g a shape l fits;
     }

@@ -17,7 +17,7 @@ use Rattle.buffer.proofs.LawsOrder.{lt-or-ge}
 use Rattle.scripthash_layout.specs.Sizes.{slabBytes, pageClass}
 use Rattle.scripthash_layout.specs.Head.{unpackHead}
 use Rattle.scripthash_layout.specs.declared.head.ShHeadValue.{ShHeadValue}
-use Rattle.scripthash_free.specs.FreeList.{Disjoint, Block, nextOf, Names}
+use Rattle.scripthash_free.specs.FreeList.{Disjoint, Block, nextOf, IsFreeList}
 use Rattle.scripthash_free.proofs.LawsBlock.{bytes-from-16}
 use Rattle.book_limits.specs.Limits.{outOfShape}
 use Rattle.plain_book.specs.Space.{stackOf}
@@ -31,11 +31,11 @@ use Rattle.plain_book.proofs.LawsChain.{mark-most}
 use Rattle.book_space.specs.Space.{Space, shapeBroken}
 use Rattle.book_space.proofs.LawsShape.{shape-holds}
 use Rattle.book_keys.specs.Keys.{soundly, Content, contentAt, content}
-use Rattle.book.specs.Book.{Book, wordOf, headWord}
-use Rattle.book_start.specs.Start.{Stands, blocksAt, blocksIn, namedFrom, freedOf, GoodStart}
+use Rattle.book.specs.Book.{Book, wordOf, headWord, seen}
+use Rattle.book_start.specs.Start.{Stands, blocksAt, blocksIn, followedFrom, freedOf, GoodStart, heldOf, listOf}
 use Rattle.book_start.proofs.LawsClaims.{disjoint-sym}
-use Rattle.book_start.proofs.LawsFreed.{named-end}
-use Rattle.book_start.proofs.LawsPairs.{each-in, cross-in, heldOf, listOf, key-apart, keys-apart, list-apart, lists-apart, key-list-apart}
+use Rattle.book_start.proofs.LawsFreed.{followed-end}
+use Rattle.book_start.proofs.LawsPairs.{each-in, cross-in, key-apart, keys-apart, list-apart, lists-apart, key-list-apart}
 use Rattle.book_history.specs.Agrees.{top, under, BlockReads, contentsOf, AgreesSpace, Agrees}
 use Rattle.book_history.specs.PlainOf.{placeFrom, countedFrom, listFrom, keyFrom, keysFrom, stacksFrom, plainOf, startList}
 use Rattle.book_history.proofs.LawsTake.{part-start}
@@ -54,7 +54,7 @@ beyond (x ∷ xs) (suc i) l = beyond xs i (omega arith)
 
 module _ (s : Space) where
   -- The word 0 holds nothing, and its key is empty.
-  pub word-none : content s 0 ≡ accepted (record { numbers = []; blocks = []; pages = 0 })
+  pub word-none : content (seen s) 0 ≡ accepted (record { numbers = []; blocks = []; pages = 0 })
   unfolding content soundly andThen unpackHead contentAt
   word-none = refl
 
@@ -75,9 +75,9 @@ module _ (s : Space) where
   keys-many (w ∷ ws) = ap suc (keys-many ws)
 
   -- The stack of a class.
-  stacks-at : (hs : List ℕ) (class : ℕ) → getD (stacksFrom s hs) class [] ≡ namedFrom s (getD hs class 0)
+  stacks-at : (hs : List ℕ) (class : ℕ) → getD (stacksFrom s hs) class [] ≡ followedFrom s (getD hs class 0)
   unfolding stacksFrom
-  stacks-at [] class = sym (named-end _ (s .body) 0 refl)
+  stacks-at [] class = sym (followed-end _ (s .body) 0 refl)
   stacks-at (h ∷ hs) zero = refl
   stacks-at (h ∷ hs) (suc class) = stacks-at hs class
 
@@ -89,21 +89,21 @@ module _ (s : Space) where
 -- ---- free lists
 
 -- A free list begins at the top of what it names.
-names-top : (body : List ℕ) (head : ℕ) (os : List ℕ) → Names body head os → head ≡ top os
-unfolding Names
-names-top body head [] n = n
-names-top body head (o ∷ os) n = n .0
+free-list-top : (body : List ℕ) (head : ℕ) (os : List ℕ) → IsFreeList body head os → head ≡ top os
+unfolding IsFreeList
+free-list-top body head [] n = n
+free-list-top body head (o ∷ os) n = n .0
 
 -- Each block that it names tells the offset under it.
-names-under : (body : List ℕ) (head class d : ℕ) (os : List ℕ) (x : Block) → Names body head os → atDepth class d os ≡ some x
+free-list-under : (body : List ℕ) (head class d : ℕ) (os : List ℕ) (x : Block) → IsFreeList body head os → atDepth class d os ≡ some x
     → nextOf body (x .off) ≡ under d os
-unfolding Names atDepth under
-names-under body head class d [] x n e = absurd (none-some e)
-names-under body head class d (o ∷ os) x (is, some', within, rest) e =
+unfolding IsFreeList atDepth under
+free-list-under body head class d [] x n e = absurd (none-some e)
+free-list-under body head class d (o ∷ os) x (is, some', within, rest) e =
     ⊎-elim
     (λ (deep, block).
-    rw (eq-eqb d (length os) deep) (ap (λ (y : Block). nextOf body (y .off)) block ∙ names-top body (nextOf body o) os rest))
-    (λ (other, there). rw (ne-eqb d (length os) other) (names-under body (nextOf body o) class d os x rest there))
+    rw (eq-eqb d (length os) deep) (ap (λ (y : Block). nextOf body (y .off)) block ∙ free-list-top body (nextOf body o) os rest))
+    (λ (other, there). rw (ne-eqb d (length os) other) (free-list-under body (nextOf body o) class d os x rest there))
     (below-top class d o os x e)
 
 -- The block at a depth, by its index from the top.
@@ -142,10 +142,10 @@ module _ (b : Book) (g : GoodStart b) where
   start-shape = rw (keys-many (b .space) (b .heads)) (neither _ _ (g .shape) .0)
 
   -- Every key is sound: one beyond the heads holds nothing.
-  sound-all : (key : ℕ) → (c : Content) × (content (b .space) (wordOf key b) ≡ accepted c)
+  sound-all : (key : ℕ) → (c : Content) × (content (seen (b .space)) (wordOf key b) ≡ accepted c)
   sound-all key =
       ⊎-elim (λ (l : key < length (b .heads)). g .sound key l)
-      (λ (l : length (b .heads) ≤ key). (_, ap (content (b .space)) (beyond (b .heads) key l) ∙ word-none (b .space)))
+      (λ (l : length (b .heads) ≤ key). (_, ap (content (seen (b .space))) (beyond (b .heads) key l) ∙ word-none (b .space)))
       (lt-or-ge key (length (b .heads)))
 
   -- What is known of it.
@@ -175,12 +175,12 @@ module _ (b : Book) (g : GoodStart b) where
   freed-none class l =
       let n = g .nine in
       let z = beyond (b .space .free) class (omega arith) in
-      (z, ap (namedFrom (b .space)) z ∙ named-end (b .space .mark / 16) (b .space .body) 0 refl)
+      (z, ap (followedFrom (b .space)) z ∙ followed-end (b .space .mark / 16) (b .space .body) 0 refl)
 
   -- Each free list names its stack.
-  named-all : (class : ℕ) → Names (b .space .body) (getD (b .space .free) class 0) (freedOf (b .space) class)
-  unfolding Names
-  named-all class =
+  followed-all : (class : ℕ) → IsFreeList (b .space .body) (getD (b .space .free) class 0) (freedOf (b .space) class)
+  unfolding IsFreeList
+  followed-all class =
       ⊎-elim (λ (l : class < 9). g .ends class (omega arith)) (λ (l : 9 ≤ class). let (z, none') = freed-none class l in rw (none', z) refl)
       (lt-or-ge class 9)
 
@@ -275,7 +275,7 @@ module _ (b : Book) (g : GoodStart b) where
       let big = bytes-from-16 (x .class) in (
         each-in (Stands (b .space .mark)) x (listOf b class) (g .stand class low) (no-in i x (listOf b class) at),
         ap littleEndian (part-start (b .space .body) (x .off) (slabBytes (x .class)) 8 (omega arith))
-            ∙ rw (stack-is class) (names-under (b .space .body) _ class d (freedOf (b .space) class) x (named-all class) there),
+            ∙ rw (stack-is class) (free-list-under (b .space .body) _ class d (freedOf (b .space) class) x (followed-all class) there),
       )
 
   -- Each owner's block.
@@ -323,7 +323,7 @@ module _ (b : Book) (g : GoodStart b) where
           record {
             mark = refl;
             nine = g .nine;
-            tops = λ class. rw (stack-is class) (names-top (b .space .body) _ _ (named-all class));
+            tops = λ class. rw (stack-is class) (free-list-top (b .space .body) _ _ (followed-all class));
             within = s .within;
             small = s .most;
             stored = λ w x e. owner-reads w x e .1;

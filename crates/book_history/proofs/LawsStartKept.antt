@@ -11,7 +11,7 @@ use native.Mathlib.Omega.{arith}
 use lib.Dec.{eqb}
 use lib.ListN.{length, getD}
 use borrow.Author.Tests.{eqb-true, eqb-false}
-use Rattle.scripthash_free.specs.FreeList.{Disjoint, Block, Each, nextOf, Names}
+use Rattle.scripthash_free.specs.FreeList.{Disjoint, Block, Each, nextOf, IsFreeList}
 use Rattle.scripthash_free.proofs.LawsBlock.{bytes-from-16, block-stands}
 use Rattle.book_rules.specs.Calls.{Call}
 use Rattle.book_limits.specs.Limits.{outOfShape}
@@ -27,15 +27,15 @@ use Rattle.book_space.specs.Space.{shapeBroken}
 use Rattle.book_keys.specs.Keys.{pageBlocks}
 use Rattle.book.specs.Book.{Book}
 use Rattle.book.specs.Calls.{after}
-use Rattle.book_start.specs.Start.{AllApart, Stands, blocksAt, blocksIn, named, namedFrom, freedOf, freedBy, GoodStart}
+use Rattle.book_start.specs.Start.{AllApart, Stands, blocksAt, blocksIn, followed, followedFrom, freedOf, freedBy, GoodStart, heldOf, listOf}
 use Rattle.book_start.proofs.LawsClaims.{Cross}
-use Rattle.book_start.proofs.LawsFreed.{named-end, named-more}
-use Rattle.book_start.proofs.LawsPairs.{gather, gather-same, held-gathered, freed-gathered, heldOf, listOf}
+use Rattle.book_start.proofs.LawsFreed.{followed-end, followed-more}
+use Rattle.book_start.proofs.LawsPairs.{gather, gather-same, held-gathered, freed-gathered}
 use Rattle.book_history.specs.Agrees.{contentsOf, Agrees}
 use Rattle.book_history.specs.PlainOf.{plainOf}
 use Rattle.book_history.proofs.LawsStep.{mark-good}
 use Rattle.book_history.proofs.LawsContent.{offsOf, blocksOf, content-agrees}
-use Rattle.book_history.proofs.LawsStanding.{free-named}
+use Rattle.book_history.proofs.LawsStanding.{free-list-is}
 use Rattle.book_history.proofs.LawsCalls.{books-agree}
 use Rattle.book_history.proofs.LawsEach.{each-alike}
 use Rattle.book_history.proofs.LawsStartApart.{blockNo}
@@ -106,13 +106,13 @@ gather-apart-all (suc n) f own two =
 -- ---- free lists
 
 -- A free list that names so many offsets is followed over all of them.
-names-named : (k : ℕ) (body : List ℕ) (head : ℕ) (os : List ℕ) → Names body head os → length os ≤ k → named k body head ≡ os
-unfolding Names
-names-named k body head [] n l = named-end k body head n
-names-named zero body head (o ∷ os) n l = absurd (omega arith)
-names-named (suc k) body head (o ∷ os) (is, some', within, rest) l =
-    ap (named (suc k) body) is ∙ named-more k body o (λ (z : o ≡ 0). omega arith)
-    ∙ ap (λ (xs : List ℕ). o ∷ xs) (names-named k body (nextOf body o) os rest (omega arith))
+free-list-followed : (k : ℕ) (body : List ℕ) (head : ℕ) (os : List ℕ) → IsFreeList body head os → length os ≤ k → followed k body head ≡ os
+unfolding IsFreeList
+free-list-followed k body head [] n l = followed-end k body head n
+free-list-followed zero body head (o ∷ os) n l = absurd (omega arith)
+free-list-followed (suc k) body head (o ∷ os) (is, some', within, rest) l =
+    ap (followed (suc k) body) is ∙ followed-more k body o (λ (z : o ≡ 0). omega arith)
+    ∙ ap (λ (xs : List ℕ). o ∷ xs) (free-list-followed k body (nextOf body o) os rest (omega arith))
 
 -- The freed block at an index from the top, by its depth.
 no-depth : (class i : ℕ) (os : List ℕ) (x : Block) → blockNo i (blocksAt class os) ≡ some x
@@ -246,12 +246,12 @@ module _ (plain : PlainBook) (b : Book) (g : GoodPlain plain) (a : Agrees plain 
               absurd (⊎-elim (λ d. omega arith) (λ d. omega arith) (stacks-apart class class i j _ _ mine yours (inr (eqb-false i j q))))
 
   -- Each free list names its stack, and is followed over all of it.
-  names-stack : (class : ℕ) → Names (b .space .body) (getD (b .space .free) class 0) (stackOf class (plain .space))
-  names-stack class = free-named (plain .space) (b .space) (places plain) (contentsOf plain) (g .space) (a .inside shape .space) class
+  free-list-stack : (class : ℕ) → IsFreeList (b .space .body) (getD (b .space .free) class 0) (stackOf class (plain .space))
+  free-list-stack class = free-list-is (plain .space) (b .space) (places plain) (contentsOf plain) (g .space) (a .inside shape .space) class
 
   pub freed-is : (class : ℕ) → freedOf (b .space) class ≡ stackOf class (plain .space)
   freed-is class =
-      names-named (b .space .mark / 16) (b .space .body) (getD (b .space .free) class 0) (stackOf class (plain .space)) (names-stack class)
+      free-list-followed (b .space .mark / 16) (b .space .body) (getD (b .space .free) class 0) (stackOf class (plain .space)) (free-list-stack class)
       (stack-few class)
 
   -- ---- all blocks
@@ -287,7 +287,7 @@ module _ (plain : PlainBook) (b : Book) (g : GoodPlain plain) (a : Agrees plain 
   pub freed-gather : freedBy (b .space) 0 (b .space .free) ≡ gather (length (b .space .free)) (listOf b)
   freed-gather =
       freed-gathered (b .space) 0 (b .space .free)
-      ∙ gather-same (length (b .space .free)) (λ i. blocksAt (0 + i) (namedFrom (b .space) (getD (b .space .free) i 0))) (listOf b)
+      ∙ gather-same (length (b .space .free)) (λ i. blocksAt (0 + i) (followedFrom (b .space) (getD (b .space .free) i 0))) (listOf b)
       (λ i. rw (zero-add i))
 
   -- Such a book is a good start.
@@ -302,7 +302,7 @@ module _ (plain : PlainBook) (b : Book) (g : GoodPlain plain) (a : Agrees plain 
         shape = rw (out, bad);
         nine = a .inside shape .space .nine;
         sound = λ key l. (_, content-agrees plain b g shape (a .inside shape) key);
-        ends = λ class l. subst (Names (b .space .body) (getD (b .space .free) class 0)) (sym (freed-is class)) (names-stack class);
+        ends = λ class l. subst (IsFreeList (b .space .body) (getD (b .space .free) class 0)) (sym (freed-is class)) (free-list-stack class);
         stand = λ class l. each-of (Stands (b .space .mark)) (listOf b class)
             (λ i x e. let (d, sum, mine) = stack-owner class i x (rw (freed-is class) at e) in stands (stack class d) x mine);
         apart = rw (held-gathered (b .space) (b .heads), freed-gather)

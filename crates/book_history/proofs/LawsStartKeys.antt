@@ -39,6 +39,7 @@ use Rattle.book_history.specs.PlainOf.{keptBy, pageFrom, pagesFrom, plac
 use Rattle.book_history.proofs.LawsWords.{inline-told}
 use Rattle.book_history.proofs.LawsStartApart.{blockNo}
 use Rattle.book_history.proofs.LawsStartPages.{BlockAs, walk-offs, pages-read}
+use Rattle.book.specs.Book.{seen}
 
 -- ---- what is known of a key
 
@@ -79,18 +80,18 @@ module _ (s : Space) where
       }
 
   -- A key in a slab.
-  slab-read : (class used off : ℕ) (c : Scan) → slabScan s class used off ≡ accepted c → 2 ≤ used
+  slab-read : (class used off : ℕ) (c : Scan) → slabScan (seen s) class used off ≡ accepted c → 2 ≤ used
       → KeyRead s (keyAt (Slab class used off) (c .numbers)) (Slab class used off) (record { class = class; off = off } ∷ [])
   unfolding placeFrom countedFrom Fits headOf keptBy blockNo
   slab-read class used off c is two =
-      let k = slab-sound s class used off c is in
+      let k = slab-sound (seen s) class used off c is in
       let n = k .counted in
       let few = k .used-to-256 in
       let fits = k .taken-fits in
-      let each = scan-accepted 0 (slabUsed (blockAt s class off)) (drop 2 (blockAt s class off)) c (k .payload .scanned) .at-least in
+      let each = scan-accepted 0 (slabUsed (blockAt (seen s) class off)) (drop 2 (blockAt (seen s) class off)) c (k .payload .scanned) .at-least in
       let least = count-least 0 (c .numbers) in
       let kept : Kept = record { numbers = c .numbers; bytes = c .taken } in
-      let reads : SlabReads kept (blockAt s class off) =
+      let reads : SlabReads kept (blockAt (seen s) class off) =
       record { used = k .stored ∙ sym n; reads = k .payload .into (length (c .numbers)) (le-refl (length (c .numbers))) } in
       let fit : Fits (c .numbers) (slab class off kept) = (refl, omega arith, k .class-to-7, omega arith, omega arith, omega arith) in
       rw is
@@ -118,28 +119,28 @@ module _ (s : Space) where
       go false z f = eqb-true creates n f
 
   -- The header of a key's last page.
-  last-reads : (last : ℕ) (h : Last) (n : ℕ) → lastAt s last ≡ accepted h → totalGood (h .creates) n ≡ true
-      → LastReads (h .first) (cond (not (eqb (createsFieldOf (pageBytes s last)) 0)) n 0) (pageBytes s last)
+  last-reads : (last : ℕ) (h : Last) (n : ℕ) → lastAt (seen s) last ≡ accepted h → totalGood (h .creates) n ≡ true
+      → LastReads (h .first) (cond (not (eqb (createsFieldOf (pageBytes (seen s) last)) 0)) n 0) (pageBytes (seen s) last)
   unfolding goodExtent
   last-reads last h n is creates =
-      let k = last-sound s last h is in
-      let made : createsFieldOf (pageBytes s last) ≡ h .creates = ap (λ (x : Last). x .creates) (k .header) in
+      let k = last-sound (seen s) last h is in
+      let made : createsFieldOf (pageBytes (seen s) last) ≡ h .creates = ap (λ (x : Last). x .creates) (k .header) in
       record {
         extent = eq-eqb _ 2 (k .version);
         last = k .last;
         first = ap (λ (x : Last). x .first) (k .header);
         good = k .extent;
-        creates = total-told (createsFieldOf (pageBytes s last)) n (rw made creates);
+        creates = total-told (createsFieldOf (pageBytes (seen s) last)) n (rw made creates);
       }
 
   -- A key in pages.
-  pages-key : (last : ℕ) (c : Chain) → chainAt s last ≡ accepted c
+  pages-key : (last : ℕ) (c : Chain) → chainAt (seen s) last ≡ accepted c
       → KeyRead s (keyAt (Extent last) (c .numbers)) (Extent last) (pageBlocks (c .offs))
   unfolding placeFrom countedFrom Fits headOf pageFrom pagesFrom
   pages-key last c is =
-      let k = chain-sound s last c is in
+      let k = chain-sound (seen s) last c is in
       let first = k .header .first in
-      let total = cond (not (eqb (createsFieldOf (pageBytes s last)) 0)) (length (c .numbers)) 0 in
+      let total = cond (not (eqb (createsFieldOf (pageBytes (seen s) last)) 0)) (length (c .numbers)) 0 in
       let (os, offs) = walk-offs (s .mark / pageSize) s last 0 first c (k .walks) in
       let header = last-reads last (k .header) (length (c .numbers)) (k .header-is) (k .creates) in
       let p = pages-read (s .mark / pageSize) s first total last header 0 first c (k .walks) in
@@ -153,7 +154,7 @@ module _ (s : Space) where
       })
 
   -- What is known of the key of a word whose place holds something.
-  place-read : (word : ℕ) (v : ShHeadValue) (c : Content) → unpackHead word ≡ accepted v → contentAt s v ≡ accepted c
+  place-read : (word : ℕ) (v : ShHeadValue) (c : Content) → unpackHead word ≡ accepted v → contentAt (seen s) v ≡ accepted c
       → KeyRead s (keyAt v (c .numbers)) v (c .blocks)
   unfolding contentAt
   place-read word Empty c told e = rw (← accepted-inj e) empty-read
@@ -161,14 +162,14 @@ module _ (s : Space) where
       let (one, some', low) = inline-told word entry used told in
       rw (← accepted-inj e) (inline-read entry used one some' low)
   place-read word (Slab class used off) c told e =
-      let (got, is, same) = was-slab s class used off c e in
+      let (got, is, same) = was-slab (seen s) class used off c e in
       rw (← same) (slab-read class used off got is (slab-from-two word class used off told))
   place-read word (Extent last) c told e =
-      let (got, is, same) = was-pages s last c e in
+      let (got, is, same) = was-pages (seen s) last c e in
       rw (← same) (pages-key last got is)
 
   -- What is known of the key of a sound head word.
-  pub key-read : (word : ℕ) (c : Content) → content s word ≡ accepted c
+  pub key-read : (word : ℕ) (c : Content) → content (seen s) word ≡ accepted c
       → (v : ShHeadValue) × (unpackHead word ≡ accepted v) × KeyRead s (keyFrom s word) v (c .blocks)
   unfolding keyFrom listFrom
-  key-read word c e = let (v, told, at) = was-content s word c e in (v, told, rw (e, told) (place-read word v c told at))
+  key-read word c e = let (v, told, at) = was-content (seen s) word c e in (v, told, rw (e, told) (place-read word v c told at))

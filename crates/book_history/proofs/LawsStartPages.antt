@@ -29,6 +29,7 @@ use Rattle.book_keys.proofs.LawsPages.{link-sound}
 use Rattle.book_keys.proofs.LawsWalk.{Ends, GoesOn, walk-step}
 use Rattle.book_history.specs.Agrees.{scanOf, PageReads, LastReads, NextReads, ChainReads}
 use Rattle.book_history.specs.PlainOf.{keptBy, pageFrom, pagesFrom}
+use Rattle.book.specs.Book.{seen}
 
 -- A block stands below the mark, and its bytes are so.
 abbrev pub BlockAs : Space → (List ℕ → Type 0) → Block → Type 0
@@ -47,27 +48,27 @@ cap-most page = go (namesExtent page)
 cap-last : (page : List ℕ) → namesExtent page ≡ true → streamCap page ≡ lastPageRoom
 cap-last page e = rw e
 
-module _ (s : Space) (prev off : ℕ) (c : Scan) (is : linkScan s prev off ≡ accepted c) where
+module _ (s : Space) (prev off : ℕ) (c : Scan) (is : linkScan (seen s) prev off ≡ accepted c) where
   -- What a page of a sound chain keeps.
   part-is : pageFrom s off .part ≡ record { numbers = c .numbers; bytes = c .taken }
   unfolding pageFrom keptBy
-  part-is = rw (link-sound s prev off c is .scanned)
+  part-is = rw (link-sound (seen s) prev off c is .scanned)
 
   -- It reads so.
-  page-reads : PageReads (pageFrom s off) (pageBytes s off)
+  page-reads : PageReads (pageFrom s off) (pageBytes (seen s) off)
   unfolding pageFrom
   page-reads =
-      record { reads = link-sound s prev off c is .scanned ∙ ap (λ (k : Kept). accepted (scanOf k)) (sym part-is); room = refl }
+      record { reads = link-sound (seen s) prev off c is .scanned ∙ ap (λ (k : Kept). accepted (scanOf k)) (sym part-is); room = refl }
 
   -- It fits.
   page-fits : FitsPage (pageFrom s off)
   unfolding pageFrom
   page-fits =
-      let k = link-sound s prev off c is in
+      let k = link-sound (seen s) prev off c is in
       let fits = k .read .taken-fits in
-      let each = scan-accepted 0 (countOf (pageBytes s off)) (streamOf (pageBytes s off)) c (k .read .scanned) .at-least in
+      let each = scan-accepted 0 (countOf (pageBytes (seen s) off)) (streamOf (pageBytes (seen s) off)) c (k .read .scanned) .at-least in
       let least = count-least 0 (c .numbers) in
-      rw part-is (k .going .some, omega arith, cap-most (pageBytes s off), omega arith)
+      rw part-is (k .going .some, omega arith, cap-most (pageBytes (seen s) off), omega arith)
 
 -- ---- a walk
 
@@ -81,21 +82,21 @@ pub record PagesRead (s : Space) (first total last prev : ℕ) (numbers offs : L
   pub each : (i : ℕ) (x : Block) → pageNo i (pagesFrom s offs) ≡ some x → BlockAs s (ChainReads first total i (pagesFrom s offs)) x
 
 -- A walk's offsets begin with the one that it begins at.
-pub walk-offs : (k : ℕ) (s : Space) (last prev off : ℕ) (c : Chain) → walk k s last prev off ≡ accepted c
+pub walk-offs : (k : ℕ) (s : Space) (last prev off : ℕ) (c : Chain) → walk k (seen s) last prev off ≡ accepted c
     → (os : List ℕ) × (c .offs ≡ off ∷ os)
 unfolding walk pageThen
 walk-offs zero s last prev off c e = absurd (refused≢accepted e)
 walk-offs (suc k) s last prev off c e =
-    let w = walk-step k s last prev off c e in
+    let w = walk-step k (seen s) last prev off c e in
     ⊎-elim (λ (d : Ends last off (w .page) c). ([], ap (λ (x : Chain). x .offs) (d .whole)))
-    (λ (g : GoesOn k s last prev off (w .page) c). (g .rest .offs, ap (λ (x : Chain). x .offs) (g .whole))) (w .goes)
+    (λ (g : GoesOn k (seen s) last prev off (w .page) c). (g .rest .offs, ap (λ (x : Chain). x .offs) (g .whole))) (w .goes)
 
-module _ (s : Space) (first total last : ℕ) (header : LastReads first total (pageBytes s last)) (prev off : ℕ) (c : Scan)
-    (is : linkScan s prev off ≡ accepted c) where
+module _ (s : Space) (first total last : ℕ) (header : LastReads first total (pageBytes (seen s) last)) (prev off : ℕ) (c : Scan)
+    (is : linkScan (seen s) prev off ≡ accepted c) where
   -- What is read in the first page of a walk is read in its block.
-  first-block : (P : List ℕ → Type 0) → P (pageBytes s off) → (x : Block) → some (record { class = pageClass; off = off }) ≡ some x
+  first-block : (P : List ℕ → Type 0) → P (pageBytes (seen s) off) → (x : Block) → some (record { class = pageClass; off = off }) ≡ some x
       → BlockAs s P x
-  first-block P p x e = subst (BlockAs s P) (some-inj e) (link-sound s prev off c is .stands, p)
+  first-block P p x e = subst (BlockAs s P) (some-inj e) (link-sound (seen s) prev off c is .stands, p)
 
   -- The key's last page.
   one-read : off ≡ last → PagesRead s first total last prev (c .numbers) (off ∷ [])
@@ -103,8 +104,8 @@ module _ (s : Space) (first total last : ℕ) (header : LastReads first total (p
   one-read e =
       record {
         holds = ap (λ (k : Kept). k .numbers ++ []) (part-is s prev off c is) ∙ append-nil (c .numbers);
-        rises = link-sound s prev off c is .going .rising;
-        fit = (page-fits s prev off c is, cap-last (pageBytes s off) (rw e (header .extent)));
+        rises = link-sound (seen s) prev off c is .going .rising;
+        fit = (page-fits s prev off c is, cap-last (pageBytes (seen s) off) (rw e (header .extent)));
         ends = λ page. e;
         each = each;
       }
@@ -112,19 +113,19 @@ module _ (s : Space) (first total last : ℕ) (header : LastReads first total (p
       each : (i : ℕ) (x : Block) → pageNo i (pageFrom s off ∷ []) ≡ some x → BlockAs s (ChainReads first total i (pageFrom s off ∷ [])) x
       each zero x f =
           first-block (λ bytes. PageReads (pageFrom s off) bytes × LastReads first total bytes)
-          (page-reads s prev off c is, subst (λ (o : ℕ). LastReads first total (pageBytes s o)) (sym e) header) x f
+          (page-reads s prev off c is, subst (λ (o : ℕ). LastReads first total (pageBytes (seen s) o)) (sym e) header) x f
       each (suc i) x f = absurd (none-some f)
 
   -- A page before others.
-  more-read : (ns : List ℕ) (next : ℕ) (os : List ℕ) → isLastLink (linkOf (pageBytes s off)) ≡ false
-      → linkOffset (linkOf (pageBytes s off)) ≡ next
+  more-read : (ns : List ℕ) (next : ℕ) (os : List ℕ) → isLastLink (linkOf (pageBytes (seen s) off)) ≡ false
+      → linkOffset (linkOf (pageBytes (seen s) off)) ≡ next
       → PagesRead s first total last (lastFrom prev (c .numbers)) ns (next ∷ os)
       → PagesRead s first total last prev (c .numbers ++ ns) (off ∷ next ∷ os)
   unfolding pageFrom pagesFrom held FitPages lastPage pageNo ChainReads
   more-read ns next os more to rest =
       record {
         holds = ap₂ (λ (k : Kept) (ms : List ℕ). k .numbers ++ ms) (part-is s prev off c is) (rest .holds);
-        rises = rising-append (2 ^ 62) prev (c .numbers) ns (link-sound s prev off c is .going .rising) (rest .rises);
+        rises = rising-append (2 ^ 62) prev (c .numbers) ns (link-sound (seen s) prev off c is .going .rising) (rest .rises);
         fit = (page-fits s prev off c is, rest .fit);
         ends = λ page. rest .ends (pageFrom s off);
         each = each;
@@ -138,16 +139,16 @@ module _ (s : Space) (first total last : ℕ) (header : LastReads first total (p
       each (suc i) x f = rest .each i x f
 
 -- All pages of a walk.
-pub pages-read : (k : ℕ) (s : Space) (first total last : ℕ) → LastReads first total (pageBytes s last) → (prev off : ℕ) (c : Chain)
-    → walk k s last prev off ≡ accepted c → PagesRead s first total last prev (c .numbers) (c .offs)
+pub pages-read : (k : ℕ) (s : Space) (first total last : ℕ) → LastReads first total (pageBytes (seen s) last) → (prev off : ℕ) (c : Chain)
+    → walk k (seen s) last prev off ≡ accepted c → PagesRead s first total last prev (c .numbers) (c .offs)
 unfolding walk pageThen
 pages-read zero s first total last header prev off c e = absurd (refused≢accepted e)
 pages-read (suc k) s first total last header prev off c e =
-    let w = walk-step k s last prev off c e in
+    let w = walk-step k (seen s) last prev off c e in
     ⊎-elim
     (λ (d : Ends last off (w .page) c). rw (d .whole) (one-read s first total last header prev off (w .page) (w .is) (d .there)))
-    (λ (g : GoesOn k s last prev off (w .page) c).
-    let next = linkOffset (linkOf (pageBytes s off)) in
+    (λ (g : GoesOn k (seen s) last prev off (w .page) c).
+    let next = linkOffset (linkOf (pageBytes (seen s) off)) in
     let (os, offs) = walk-offs k s last (lastFrom prev (w .page .numbers)) next (g .rest) (g .walks) in
     let rest = pages-read k s first total last header (lastFrom prev (w .page .numbers)) next (g .rest) (g .walks) in
     rw (g .whole, offs)

@@ -20,7 +20,7 @@ use Rattle.scripthash_free.proofs.LawsBlock.{bytes-from-16, block-stands, slab-
 use Rattle.scripthash_free.proofs.LawsGap.{gap-filled, gap-slabs, adjoin-rises}
 use Rattle.scripthash_free.proofs.LawsFree.{pop-none, pop-yes}
 use Rattle.book_limits.specs.Limits.{pageAfter}
-use Rattle.plain_book.specs.Space.{Space as PlainSpace, Taken as PlainTaken, stackOf, freed, freedAll, runAtMark}
+use Rattle.plain_book.specs.Space.{Space as PlainSpace, Taken as PlainTaken, stackOf, freed, freedAll, runAtMark as plainRunAtMark}
 use Rattle.plain_book.specs.Space.{takeMark as plainTakeMark, rounded as plainRounded, takeRun as plainTakeRun, takeFresh as plainTakeFresh}
 use Rattle.plain_book.specs.Space.{takeFrom, takeBlock as plainTake}
 use Rattle.plain_book.specs.Key.{Place}
@@ -303,7 +303,7 @@ pub run-agrees : (plain : PlainSpace) (s : Space) (at : ℕ → Place) (c : Cont
     → length (s .body) % 4096 ≡ 0
     → AgreesSpace plain s at none c → TakenAlike at (λ off. none) c (length (s .body)) (plainTakeRun (length (s .body)) pages plain)
     (takeRun pages s)
-unfolding plainTakeRun runAtMark
+unfolding plainRunAtMark runAtMark
 run-agrees plain s at c pages g whole a =
     let (all, long) = rounded-agrees plain s at c g whole a in
     mark-agrees (plainRounded plain) (rounded s) at c (length (s .body)) (pages * pageSize) long all

@@ -24,10 +24,10 @@ use Rattle.book_keys.specs.Keys.{Content, content, contentAt, pageBlocks}
 use Rattle.book_keys.proofs.LawsSlab.{slab-sound}
 use Rattle.book_keys.proofs.LawsContent.{was-content, was-slab, was-pages}
 use Rattle.book_keys.proofs.LawsKeys.{Every, chain-known}
-use Rattle.book.specs.Book.{Book, Outcome, wordOf, makesFresh, madeAfter}
+use Rattle.book.specs.Book.{Book, Outcome, wordOf, makesFresh, madeAfter, seen}
 use Rattle.book.specs.Reads.{reads, drops, listAfter}
 use Rattle.book.specs.Calls.{does}
-use Rattle.book_history.specs.Writes.{region, Outside, Only, nothing, wordAnd, freeingAll, names, Differs, Changes}
+use Rattle.book_history.specs.Writes.{region, Outside, Only, nothing, wordAnd, freeingAll, writes, Differs, Changes}
 use Rattle.book_history.proofs.LawsOnly.{only-bytes}
 use Rattle.book_history.proofs.LawsWritesSpace.{wrote-released}
 use Rattle.book_history.proofs.LawsWritesLoad.{on-key, differs-not, differs-placed, load-only}
@@ -42,26 +42,26 @@ pages-within mark [] e = tt
 pages-within mark (o ∷ os) e = ((omega arith, block-stands pageClass o mark (e .0) .ends), pages-within mark os (e .1))
 
 -- The blocks of a place that holds something lie below the mark.
-place-within : (s : Space) (place : ShHeadValue) (k : Content) → contentAt s place ≡ accepted k → Each (Within 0 (s .mark)) (k .blocks)
+place-within : (s : Space) (place : ShHeadValue) (k : Content) → contentAt (seen s) place ≡ accepted k → Each (Within 0 (s .mark)) (k .blocks)
 unfolding contentAt Each
 place-within s Empty k e = subst (λ (k : Content). Each (Within 0 (s .mark)) (k .blocks)) (accepted-inj e) tt
 place-within s (Inline entry used) k e = subst (λ (k : Content). Each (Within 0 (s .mark)) (k .blocks)) (accepted-inj e) tt
 place-within s (Slab class used off) k e =
-    let (c, is, same) = was-slab s class used off k e in
-    let known = slab-sound s class used off c is in
+    let (c, is, same) = was-slab (seen s) class used off k e in
+    let known = slab-sound (seen s) class used off c is in
     subst (λ (k : Content). Each (Within 0 (s .mark)) (k .blocks)) same
     ((omega arith, block-stands class off (s .mark) (known .stands) .ends), tt)
 place-within s (Extent last) k e =
-    let (c, is, same) = was-pages s last k e in
-    subst (λ (k : Content). Each (Within 0 (s .mark)) (k .blocks)) same (pages-within (s .mark) (c .offs) (chain-known s last c is .stands))
+    let (c, is, same) = was-pages (seen s) last k e in
+    subst (λ (k : Content). Each (Within 0 (s .mark)) (k .blocks)) same (pages-within (s .mark) (c .offs) (chain-known (seen s) last c is .stands))
 
 -- A drop.
 drop-only : (b : Book) (key : ℕ) {o : Outcome} → drops b key ≡ accepted o → Changes b (o .book) (drop key)
-unfolding drops names
+unfolding drops writes
 drop-only b key e =
     let k = on-key b key _ e in
-    let (c, is, out) = went-on (content (b .space) (wordOf key b)) _ (k .2) in
-    let (place, at, holds) = was-content (b .space) (wordOf key b) c is in
+    let (c, is, out) = went-on (content (seen (b .space)) (wordOf key b)) _ (k .2) in
+    let (place, at, holds) = was-content (seen (b .space)) (wordOf key b) c is in
     let within = k .0 .within in
     let blocks = each-map (Within 0 (b .space .mark)) (Within 0 (length (b .space .body))) (λ x h. (h .0, omega (arith, h .1))) (c .blocks)
     (place-within (b .space) place c holds) in
@@ -76,7 +76,7 @@ pub read-nothing : (b : Book) (key room : ℕ) {o : Outcome} → does b (read ke
 unfolding does reads
 read-nothing b key room e =
     let k = on-key b key _ e in
-    let (c, is, out) = went-on (content (b .space) (wordOf key b)) _ (k .2) in
+    let (c, is, out) = went-on (content (seen (b .space)) (wordOf key b)) _ (k .2) in
     ap (λ (o : Outcome). o .book) (sym (accepted-inj (passed _ _ _ out .1)))
 
 -- A read writes its numbers at the beginning of its lent list, and nothing else there.
@@ -86,7 +86,7 @@ pub list-only : (b : Book) (key : ℕ) (out : List ℕ) (l : Listed) {o : Outcom
 unfolding does reads listAfter
 list-only b key out l {o} e is =
     let k = on-key b key _ e in
-    let (c, held, answer) = went-on (content (b .space) (wordOf key b)) _ (k .2) in
+    let (c, held, answer) = went-on (content (seen (b .space)) (wordOf key b)) _ (k .2) in
     let p = passed _ _ _ answer in
     let same : listed (record { numbers = c .numbers; pages = c .pages }) ≡ listed l = ap (λ (x : Outcome). x .told) (accepted-inj (p .1))
     ∙ is in
@@ -124,7 +124,7 @@ refused-nothing b c e = rw e
 
 -- An accepted call changes what it names only.
 pub accepted-only : (b : Book) (c : Call) {o : Outcome} → does b c ≡ accepted o → Changes b (o .book) c
-unfolding does names
+unfolding does writes
 accepted-only b (load key ns) e = load-only b key ns e
 accepted-only b (append key n) e = append-only b key n e
 accepted-only b (read key room) e = subst (λ (a : Book). Differs (record { heads = []; space = nothing }) b a)
@@ -136,7 +136,7 @@ after-answer : (b : Book) (c : Call) (a : Answer Outcome) → ((o : Outcome) →
     → Changes b (bookAfter b a) c
 unfolding bookAfter
 after-answer b c (accepted o) f = f o refl
-after-answer b c (refused number) f = differs-not (names b c) b
+after-answer b c (refused number) f = differs-not (writes b c) b
 
 -- So after any call the book differs from the one before in what the call names only.
 pub call-only : (b : Book) (c : Call) → Changes b (bookAfter b (does b c)) c
@@ -149,8 +149,8 @@ outside-key k key other =
     (lt-or-ge k key)
 
 -- A call names no head word but its key's.
-words-named : (b : Book) (c : Call) (k : ℕ) → k ≢ keyOfCall c → Outside (names b c .heads) k
-unfolding names Outside
+words-named : (b : Book) (c : Call) (k : ℕ) → k ≢ keyOfCall c → Outside (writes b c .heads) k
+unfolding writes Outside
 words-named b (load key []) k other = tt
 words-named b (load key (n ∷ [])) k other = (outside-key k key other, tt)
 words-named b (load key (n ∷ m ∷ ns)) k other = (outside-key k key other, tt)

@@ -38,10 +38,10 @@ use Rattle.book_keys.proofs.LawsSlab.{SoundSlab, slab-sound}
 use Rattle.book_keys.proofs.LawsPages.{SoundTail, tail-sound}
 use Rattle.book_blocks.specs.Blocks.{slabWith, lastPageOf, totalWith, pageWith, pageBefore}
 use Rattle.book_blocks.proofs.LawsWrites.{length-payload, length-lastPage}
-use Rattle.book.specs.Book.{Book, Outcome, filled}
+use Rattle.book.specs.Book.{Book, Outcome, filled, seen}
 use Rattle.book.specs.Appends.{movesInto, moves, appendSlab, growChain, appendPage, appendAt, appends}
 use Rattle.book_history.specs.Writes.{region, nothing, bytesAt, wordAnd, both, freeingAll, filling, writing, moving, growingSlab}
-use Rattle.book_history.specs.Writes.{growingPage, appendNames, names, Wrote, Differs, Changes}
+use Rattle.book_history.specs.Writes.{growingPage, appendWrites, writes, Wrote, Differs, Changes}
 use Rattle.book_history.proofs.LawsOnly.{shifted}
 use Rattle.book_history.proofs.LawsWritesBlocks.{only-slab, only-before, only-joined}
 use Rattle.book_history.proofs.LawsWritesSpace.{wrote-between, wrote-same, wrote-then, wrote-bytes, wrote-part, wrote-released}
@@ -95,7 +95,7 @@ module _ (b : Book) (key : ℕ) (ns : List ℕ) (n : ℕ) (old : List Block) (i 
 -- ---- a slab
 
 -- A number behind the stream of a sound slab.
-module _ (b : Book) (key n class used off : ℕ) (c : Scan) (i : InShape (b .space)) (known : SoundSlab (b .space) class used off c)
+module _ (b : Book) (key n class used off : ℕ) (c : Scan) (i : InShape (b .space)) (known : SoundSlab (seen (b .space)) class used off c)
     (small : n < 2 ^ 62) where
   -- The space.
   abbrev s : Space
@@ -112,11 +112,11 @@ module _ (b : Book) (key n class used off : ℕ) (c : Scan) (i : InShape (b .spa
   -- Where it stays, the count and the number's bytes are written.
   stays-wrote : stays class (length (c .numbers) + 1) (c .taken + ulebLen difference) ≡ true
       → Wrote (both (bytesAt off 2) (bytesAt (off + (2 + c .taken)) (ulebLen difference))) s
-      (space (overwrite (s .body) off (slabWith (blockAt s class off) (length (c .numbers)) (c .taken) difference)) (s .mark) (s .free))
+      (space (overwrite (s .body) off (slabWith (blockAt (seen s) class off) (length (c .numbers)) (c .taken) difference)) (s .mark) (s .free))
   unfolding both shifted
   stays-wrote e =
       let held = stays-holds class (length (c .numbers) + 1) (c .taken + ulebLen difference) e in
-      let block = blockAt s class off in
+      let block = blockAt (seen s) class off in
       let fits : 2 + c .taken + ulebLen difference ≤ length block =
       omega (arith, held .2, length-part (s .body) off (slabBytes class) slab-ends) in
       rw (add-zero off) at
@@ -152,7 +152,7 @@ module _ (b : Book) (key n class used off : ℕ) (c : Scan) (i : InShape (b .spa
 -- ---- pages
 
 -- A number behind the stream of a sound key's last page.
-module _ (b : Book) (key n last : ℕ) (t : Tail) (i : InShape (b .space)) (known : SoundTail (b .space) last t) (small : n < 2 ^ 62) where
+module _ (b : Book) (key n last : ℕ) (t : Tail) (i : InShape (b .space)) (known : SoundTail (seen (b .space)) last t) (small : n < 2 ^ 62) where
   -- The space.
   abbrev room : Space
   room = b .space
@@ -162,24 +162,24 @@ module _ (b : Book) (key n last : ℕ) (t : Tail) (i : InShape (b .space)) (know
   page-ends = block-stands pageClass last (room .mark) (known .header .stands) .ends
 
   -- Where it has a spot, the count, the number's bytes and creates are written.
-  joined-wrote : (w : Spot) → spotBehind (pageAt room last) n (t .scan) ≡ some w
+  joined-wrote : (w : Spot) → spotBehind (pageAt (seen room) last) n (t .scan) ≡ some w
       → Wrote (growingPage last (some w) room) room
-      (space (overwrite (room .body) last (pageWith (pageAt room last) w (t .last .creates))) (room .mark) (room .free))
+      (space (overwrite (room .body) last (pageWith (pageAt (seen room) last) w (t .last .creates))) (room .mark) (room .free))
   unfolding growingPage both shifted
   joined-wrote w e =
       let within = i .within in
-      wrote-part room last pageSize (pageWith (pageAt room last) w (t .last .creates))
+      wrote-part room last pageSize (pageWith (pageAt (seen room) last) w (t .last .creates))
       (region 1 2 ∷ region (w .at) (ulebLen (w .difference)) ∷ region 20 4 ∷ [])
-      (omega (arith, page-ends)) (only-joined (pageAt room last) n (t .last .creates) (t .scan) w (known .link .scanned)
+      (omega (arith, page-ends)) (only-joined (pageAt (seen room) last) n (t .last .creates) (t .scan) w (known .link .scanned)
       (known .header .version) e)
 
   -- The link and creates of the page are written.
   old-wrote : (p : Taken) → last + pageSize ≤ length (p .space .body)
       → Wrote (both (bytesAt (last + 3) 5) (bytesAt (last + 20) 4)) (p .space)
-      (space (overwrite (p .space .body) last (pageBefore (pageAt (p .space) last) (p .off))) (p .space .mark) (p .space .free))
+      (space (overwrite (p .space .body) last (pageBefore (pageAt (seen (p .space)) last) (p .off))) (p .space .mark) (p .space .free))
   unfolding both shifted
   old-wrote p fits =
-      let page = pageAt (p .space) last in
+      let page = pageAt (seen (p .space)) last in
       wrote-part (p .space) last pageSize (pageBefore page (p .off)) (region 3 5 ∷ region 20 4 ∷ []) fits
       (only-before page (p .off) (length-part (p .space .body) last pageSize fits))
 
@@ -190,7 +190,7 @@ module _ (b : Book) (key n last : ℕ) (t : Tail) (i : InShape (b .space)) (know
 
   -- Otherwise a page is taken and filled, and of the old one the link and creates are written.
   chain-wrote : (p : Taken) → takeBlock pageClass room ≡ accepted p
-      → let body = overwrite (p .space .body) last (pageBefore (pageAt (p .space) last) (p .off)) in
+      → let body = overwrite (p .space .body) last (pageBefore (pageAt (seen (p .space)) last) (p .off)) in
       Wrote (growingPage last none room) room
       (space (overwrite body (p .off) (lastPageOf (t .last .first) (p .off) 1 (totalWith (t .last .creates)) (n ∷ []))) (p .space .mark)
       (p .space .free))
@@ -208,7 +208,7 @@ module _ (b : Book) (key n last : ℕ) (t : Tail) (i : InShape (b .space)) (know
       (omega (arith, old .body .long))))
 
   -- A number in the page, or in a page more.
-  page-only : (spot : Option Spot) {o : Outcome} → spotBehind (pageAt room last) n (t .scan) ≡ spot
+  page-only : (spot : Option Spot) {o : Outcome} → spotBehind (pageAt (seen room) last) n (t .scan) ≡ spot
       → appendPage b key n last t spot ≡ accepted o
       → Differs (wordAnd key (growingPage last spot room)) b (o .book)
   unfolding appendPage growChain
@@ -224,8 +224,8 @@ module _ (b : Book) (key n last : ℕ) (t : Tail) (i : InShape (b .space)) (know
 
 -- An append to a key that stands where its head word tells.
 at-only : (b : Book) (key n : ℕ) (place : ShHeadValue) {o : Outcome} → InShape (b .space) → n < 2 ^ 62 → appendAt b key n place ≡ accepted o
-    → Differs (wordAnd key (appendNames n (b .space) place)) b (o .book)
-unfolding appendAt appendNames streamLenFrom Each
+    → Differs (wordAnd key (appendWrites n (b .space) place)) b (o .book)
+unfolding appendAt appendWrites streamLenFrom Each
 at-only b key n Empty i small e =
     subst (λ (o : Outcome). Differs (wordAnd key nothing) b (o .book)) (accepted-inj e)
     (differs-placed key _ (b .space) b (wrote-same nothing (b .space)))
@@ -236,21 +236,21 @@ at-only b key n (Inline entry used) i small e =
     (p .1)
 at-only b key n (Slab class used off) i small e =
     let g = went-on _ _ e in
-    let scanned = was-sound (slabScan (b .space) class used off) (g .1) in
+    let scanned = was-sound (slabScan (seen (b .space)) class used off) (g .1) in
     let p = passed _ _ _ (g .2) in
     rw scanned
-    (grown-only b key n class used off (g .0) i (slab-sound (b .space) class used off (g .0) scanned) small (stays _ _ _) refl (p .1))
+    (grown-only b key n class used off (g .0) i (slab-sound (seen (b .space)) class used off (g .0) scanned) small (stays _ _ _) refl (p .1))
 at-only b key n (Extent last) i small e =
     let g = went-on _ _ e in
-    let tail = was-sound (tailAt (b .space) last) (g .1) in
+    let tail = was-sound (tailAt (seen (b .space)) last) (g .1) in
     let p = passed _ _ _ (g .2) in
     rw tail
-    (page-only b key n last (g .0) i (tail-sound (b .space) last (g .0) tail) small (spotBehind (pageAt (b .space) last) n (g .0 .scan))
+    (page-only b key n last (g .0) i (tail-sound (seen (b .space)) last (g .0) tail) small (spotBehind (pageAt (seen (b .space)) last) n (g .0 .scan))
     refl (p .1))
 
 -- An append.
 pub append-only : (b : Book) (key n : ℕ) {o : Outcome} → appends b key n ≡ accepted o → Changes b (o .book) (append key n)
-unfolding appends names
+unfolding appends writes
 append-only b key n e =
     let k = on-key b key _ e in
     let p = offered-on true 0 n _ (k .2) in

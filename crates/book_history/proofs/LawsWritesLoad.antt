@@ -29,7 +29,7 @@ use Rattle.book_blocks.specs.Blocks.{writeRun}
 use Rattle.book_blocks.proofs.LawsWrites.{length-payload}
 use Rattle.book.specs.Book.{Book, Outcome, headWord, onKey, filled}
 use Rattle.book.specs.Loads.{loadInto, loadAt, loads}
-use Rattle.book_history.specs.Writes.{Named, CallNames, nothing, bytesAt, wordAnd, both, takingPages, filling, loadNames, names}
+use Rattle.book_history.specs.Writes.{SpaceWrites, CallWrites, nothing, bytesAt, wordAnd, both, takingPages, filling, loadWrites, writes}
 use Rattle.book_history.specs.Writes.{Wrote, Differs, Changes}
 use Rattle.book_history.proofs.LawsOnly.{only-same, only-set}
 use Rattle.book_history.proofs.LawsWritesSpace.{wrote-same, wrote-then, wrote-run, wrote-filled, only-run}
@@ -45,11 +45,11 @@ on-key b key after e =
     (shape-holds (b .space) (length (b .heads)) (p .0) .0, leb-false (length (b .heads)) key (q .0), q .1)
 
 -- A book that differs in nothing.
-pub differs-not : (n : CallNames) (b : Book) → Differs n b b
+pub differs-not : (n : CallWrites) (b : Book) → Differs n b b
 differs-not n b = record { heads = only-same (n .heads) (b .heads); space = wrote-same (n .space) (b .space) }
 
 -- A key's head word is set, in a space that differs in what is named only.
-pub differs-placed : {n : Named} (key word : ℕ) (s : Space) (b : Book) → Wrote n (b .space) s
+pub differs-placed : {n : SpaceWrites} (key word : ℕ) (s : Space) (b : Book) → Wrote n (b .space) s
     → Differs (wordAnd key n) b (record { heads = set (b .heads) key word; space = s })
 differs-placed key word s b w = record { heads = only-set [] (b .heads) key word; space = w }
 
@@ -76,8 +76,8 @@ run-wrote ns s {t} i r e =
 -- A list of rising numbers, by the class that it is given.
 into-only : (b : Book) (key : ℕ) (ns : List ℕ) (to : Option ℕ) {o : Outcome} → InShape (b .space) → Rising (2 ^ 62) 0 ns
     → loadsTo (length ns) (streamLen ns) ≡ to → loadInto b key ns to ≡ accepted o
-    → Differs (wordAnd key (loadNames ns to (b .space))) b (o .book)
-unfolding loadInto loadNames
+    → Differs (wordAnd key (loadWrites ns to (b .space))) b (o .book)
+unfolding loadInto loadWrites
 into-only b key ns (some class) i r is e =
     let l = loads-to (length ns) (streamLen ns) is in
     let w = went-on (takeBlock class (b .space)) _ e in
@@ -86,13 +86,13 @@ into-only b key ns (some class) i r is e =
     (wrote-filled class (b .space) (omega (arith, l .1)) i (payloadLen (streamLen ns)) (slabPayload ns) (length-payload ns) (l .2) (w .1)))
 into-only b key ns none i r is e =
     let w = went-on (takeRun (length (cutting ns)) (b .space)) _ e in
-    subst (λ (o : Outcome). Differs (wordAnd key (loadNames ns none (b .space))) b (o .book)) (accepted-inj (w .2))
+    subst (λ (o : Outcome). Differs (wordAnd key (loadWrites ns none (b .space))) b (o .book)) (accepted-inj (w .2))
     (differs-placed key _ _ b (run-wrote ns (b .space) i r (w .1)))
 
 -- A list of rising numbers.
 at-only : (b : Book) (key : ℕ) (ns : List ℕ) {o : Outcome} → InShape (b .space) → Rising (2 ^ 62) 0 ns → loadAt b key ns ≡ accepted o
     → Changes b (o .book) (load key ns)
-unfolding loadAt names
+unfolding loadAt writes
 at-only b key [] i r e = subst (λ (o : Outcome). Differs (record { heads = []; space = nothing }) b (o .book)) (accepted-inj e)
     (differs-not (record { heads = []; space = nothing }) b)
 at-only b key (n ∷ []) i r e =

@@ -17,7 +17,7 @@ use Rattle.scripthash_layout.specs.Sizes.{slabBytes, pageClass, pageSize}
 use Rattle.scripthash_free.specs.FreeList.{Lists, firstFreed, nextOf, Block, Pop, pushed, pushAll, gapBlocks, popFree, Each, Within}
 use Rattle.scripthash_free.proofs.LawsBlock.{bytes-from-16, block-stands}
 use Rattle.scripthash_free.proofs.LawsGap.{each-map, gap-filled, adjoin-within}
-use Rattle.scripthash_free.proofs.LawsNames.{length-pushed}
+use Rattle.scripthash_free.proofs.LawsFreeList.{length-pushed}
 use Rattle.scripthash_cutting.specs.Cutting.{pageRoom, lastPageRoom, Fit}
 use Rattle.book_limits.specs.Limits.{pageAfter}
 use Rattle.book_space.specs.Space.{Space, space, listsOf, InShape, Taken, takeMark, rounded, takeRun, takeFresh, takePopped, takeBlock, runAtMark}
@@ -26,13 +26,13 @@ use Rattle.book_space.proofs.LawsTake.{take-took}
 use Rattle.book_blocks.specs.Blocks.{lastPageOf, pageTo, writeRun}
 use Rattle.book_blocks.proofs.LawsWrites.{length-lastPage, length-pageTo}
 use Rattle.book.specs.Book.{filled}
-use Rattle.book_history.specs.Writes.{Region, region, Outside, Only, Named, nothing, bytesAt, freeHead, theMark, both, freeing}
+use Rattle.book_history.specs.Writes.{Region, region, Outside, Only, SpaceWrites, nothing, bytesAt, freeHead, theMark, both, freeing}
 use Rattle.book_history.specs.Writes.{freeingAll, takingPages, taking, filling, Wrote}
 use Rattle.book_history.proofs.LawsOnly.{outside-of, outside-both, only-same, only-then, only-set, only-written, only-bytes}
 use Rattle.book_history.proofs.LawsOnly.{only-covered, shifted, only-part}
 
 -- A space differs in nothing from itself.
-pub wrote-same : (n : Named) (s : Space) → Wrote n s s
+pub wrote-same : (n : SpaceWrites) (s : Space) → Wrote n s s
 wrote-same n s = record {
   body = only-same (n .body) (s .body);
   free = only-same (n .free) (s .free);
@@ -42,7 +42,7 @@ wrote-same n s = record {
 }
 
 -- One part of a call after another.
-pub wrote-then : {m n : Named} {s t u : Space} → Wrote m s t → Wrote n t u → Wrote (both m n) s u
+pub wrote-then : {m n : SpaceWrites} {s t u : Space} → Wrote m s t → Wrote n t u → Wrote (both m n) s u
 unfolding both
 wrote-then {m} {n} v w = record {
   body = only-then (v .body) (w .body);
@@ -59,7 +59,7 @@ outside-swapped ms xs ys i h =
     outside-both ms (xs ++ ys) i (q .0) (outside-both xs ys i (p .1) (q .1))
 
 -- Three parts of a call, of which the one in between is named last.
-pub wrote-between : {m x y : Named} {s t u v : Space} → Wrote m s t → Wrote x t u → Wrote y u v → Wrote (both (both m y) x) s v
+pub wrote-between : {m x y : SpaceWrites} {s t u v : Space} → Wrote m s t → Wrote x t u → Wrote y u v → Wrote (both (both m y) x) s v
 unfolding both
 wrote-between {m} {x} {y} a b c = record {
   body = only-covered (outside-swapped (m .body) (x .body) (y .body)) (only-then (a .body) (only-then (b .body) (c .body)));

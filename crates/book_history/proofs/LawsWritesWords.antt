@@ -6,7 +6,7 @@ use mathlib.Core.Path.{_≡_, sym, ap, subst, _∙_}
 use native.Mathlib.Omega.{arith}
 use lib.ListN.{length, set}
 use lib.Seq.{getD-set-same, set-getD}
-use Rattle.error.specs.Refusal.{accepted, told}
+use Rattle.error.specs.Refusal.{accepted, valueOr}
 use Rattle.error.proofs.LawsAnswer.{accepted-inj, passed, went-on}
 use Rattle.compact.specs.Uleb128.{ulebLen}
 use Rattle.scripthash_layout.specs.Head.{slabWord, packHead, unpackHead}
@@ -24,7 +24,7 @@ use Rattle.book_space.specs.Space.{InShape}
 use Rattle.book_keys.specs.Keys.{pageAt, slabScan, Tail, tailAt}
 use Rattle.book_keys.proofs.LawsSound.{was-sound}
 use Rattle.book_keys.proofs.LawsSlab.{slab-sound}
-use Rattle.book.specs.Book.{Book, Outcome, wordOf, headWord}
+use Rattle.book.specs.Book.{Book, Outcome, wordOf, headWord, seen}
 use Rattle.book.specs.Appends.{appendSlab, appendPage, appendAt, appends}
 use Rattle.book.specs.Calls.{does}
 use Rattle.book_history.proofs.LawsWritesLoad.{on-key}
@@ -32,7 +32,7 @@ use Rattle.book_history.proofs.LawsWritesLoad.{on-key}
 -- A place that packs has its word.
 word-of : (place : ShHeadValue) {word : ℕ} → packHead place ≡ accepted word → headWord place ≡ word
 unfolding headWord
-word-of place e = ap (λ a. told (λ w. w) a 0) e
+word-of place e = ap (λ a. valueOr (λ w. w) a 0) e
 
 -- An accepted append to a key whose word, of 64 bits, tells a place.
 module _ (b : Book) (key n : ℕ) {o : Outcome} (place : ShHeadValue) (word : wordOf key b < 2 ^ 64) (is : unpackHead (wordOf key b)
@@ -54,13 +54,13 @@ module _ (b : Book) (key n : ℕ) {o : Outcome} (place : ShHeadValue) (word : wo
 -- Where the number stays in its slab, the words before and after have the slab's class and offset, and used is one more.
 pub slab-word : (b : Book) (key n class used off : ℕ) (c : Scan) {o : Outcome} → wordOf key b < 2 ^ 64
     → unpackHead (wordOf key b) ≡ accepted (Slab class used off)
-    → slabScan (b .space) class used off ≡ accepted c → stays class (length (c .numbers) + 1) (c .taken + ulebLen (n - lastOf c)) ≡ true
+    → slabScan (seen (b .space)) class used off ≡ accepted c → stays class (length (c .numbers) + 1) (c .taken + ulebLen (n - lastOf c)) ≡ true
     → does b (append key n) ≡ accepted o → (wordOf key b ≡ slabWord class used off) × (wordOf key (o .book) ≡ slabWord class (used + 1) off)
 unfolding appendAt appendSlab
 slab-word b key n class used off c {o} word is scanned stay e =
     let place = Slab class used off in
     let w = went-at b key n place word is e in
-    let known = slab-sound (b .space) class used off c scanned in
+    let known = slab-sound (seen (b .space)) class used off c scanned in
     let g = went-on _ _ (w .2) in
     let same : g .0 ≡ c = accepted-inj (sym (was-sound _ (g .1)) ∙ scanned) in
     let did : appendSlab b key n class off c ≡ accepted o =
@@ -79,7 +79,7 @@ slab-word b key n class used off c {o} word is scanned stay e =
 -- Where the number joins its last page, the head words are as before.
 pub page-words : (b : Book) (key n last : ℕ) (t : Tail) (w : Spot) {o : Outcome} → wordOf key b < 2 ^ 64
     → unpackHead (wordOf key b) ≡ accepted (Extent last)
-    → tailAt (b .space) last ≡ accepted t → spotBehind (pageAt (b .space) last) n (t .scan) ≡ some w → does b (append key n) ≡ accepted o
+    → tailAt (seen (b .space)) last ≡ accepted t → spotBehind (pageAt (seen (b .space)) last) n (t .scan) ≡ some w → does b (append key n) ≡ accepted o
     → o .book .heads ≡ b .heads
 unfolding appendAt appendPage
 page-words b key n last t w {o} word is tail spot e =
@@ -87,8 +87,8 @@ page-words b key n last t w {o} word is tail spot e =
     let a = went-at b key n place word is e in
     let g = went-on _ _ (a .2) in
     let same : g .0 ≡ t = accepted-inj (sym (was-sound _ (g .1)) ∙ tail) in
-    let did : appendPage b key n last t (spotBehind (pageAt (b .space) last) n (t .scan)) ≡ accepted o =
-    subst (λ (x : Tail). appendPage b key n last x (spotBehind (pageAt (b .space) last) n (x .scan)) ≡ accepted o) same
+    let did : appendPage b key n last t (spotBehind (pageAt (seen (b .space)) last) n (t .scan)) ≡ accepted o =
+    subst (λ (x : Tail). appendPage b key n last x (spotBehind (pageAt (seen (b .space)) last) n (x .scan)) ≡ accepted o) same
     (passed _ _ _ (g .2) .1) in
     ap (λ (x : Outcome). x .book .heads) (sym (accepted-inj (rw spot at did))) ∙ ap (set (b .heads) key) (word-is b key n place word is e)
     ∙ set-getD (b .heads) key 0

@@ -3,11 +3,11 @@
 use Prim.Native.Nat.{ℕ, zero, suc, _+_, _-_, _*_, _≤_, _<_}
 use mathlib.Core.Bool.{Bool, true, false}
 use mathlib.Core.List.{List, [], _∷_, _++_}
-use mathlib.Core.Path.{_≡_, refl, sym, ap, subst, _∙_}
+use mathlib.Core.Path.{_≡_, refl, sym, ap, _∙_}
 use native.Mathlib.Nat.{zero-add}
 use native.Mathlib.Omega.{arith}
 use lib.ListN.{length, getD, set, length-replicate}
-use Rattle.scripthash_layout.specs.Sizes.{slabBytes, pageSize}
+use Rattle.scripthash_layout.specs.Sizes.{pageSize}
 use Rattle.scripthash_free.specs.FreeList.{Block}
 use Rattle.book_rules.specs.Calls.{Call}
 use Rattle.book_limits.specs.Limits.{outOfShape}
@@ -20,11 +20,11 @@ use Rattle.plain_book.proofs.LawsFilled.{filled-from}
 use Rattle.plain_book.proofs.LawsGood.{calls-good, shapes-kept}
 use Rattle.book_space.specs.Space.{Space}
 use Rattle.book_keys.specs.Keys.{pageBlocks, content}
-use Rattle.book.specs.Book.{Book, fresh}
+use Rattle.book.specs.Book.{Book, fresh, seen}
 use Rattle.book.specs.Calls.{after}
-use Rattle.book_start.specs.Start.{blocksAt, bytesOf, blocksIn, heldBy, freedBy, blocksOf as allBlocks, GoodStart}
-use Rattle.book_start.specs.Covered.{lostIn, Covered}
-use Rattle.book_start.proofs.LawsPairs.{gather, gather-same, held-gathered, heldOf, listOf}
+use Rattle.book_start.specs.Start.{blocksAt, bytesOf, blocksIn, heldBy, freedBy, blocksOf as allBlocks, GoodStart, heldOf, listOf}
+use Rattle.book_start.specs.Covered.{lostIn, Covered, forgot}
+use Rattle.book_start.proofs.LawsPairs.{gather, gather-same, held-gathered}
 use Rattle.book_start.proofs.LawsCovered.{start-room, start-covered}
 use Rattle.book_history.specs.Agrees.{Agrees}
 use Rattle.book_history.specs.PlainOf.{plainOf}
@@ -165,28 +165,24 @@ module _ (body : List ℕ) (heads : ℕ) (cs : List Call) where
 
 -- ---- a head word that is lost
 
--- A book in which a key's head word became 0.
-abbrev pub forgot : ℕ → Book → Book
-forgot key b = record { heads = set (b .heads) key 0; space = b .space }
-
-empty-bytes : (s : Space) → bytesOf (blocksIn (content s 0)) ≡ 0
+empty-bytes : (s : Space) → bytesOf (blocksIn (content (seen s) 0)) ≡ 0
 unfolding blocksIn bytesOf
 empty-bytes s = rw (word-none s) refl
 
 -- The blocks of the other keys.
 forgot-bytes : (s : Space) (ws : List ℕ) (key : ℕ) → key < length ws
-    → bytesOf (heldBy s (set ws key 0)) + bytesOf (blocksIn (content s (getD ws key 0))) ≡ bytesOf (heldBy s ws)
+    → bytesOf (heldBy s (set ws key 0)) + bytesOf (blocksIn (content (seen s) (getD ws key 0))) ≡ bytesOf (heldBy s ws)
 unfolding heldBy
 forgot-bytes s [] key l = absurd (omega arith)
 forgot-bytes s (w ∷ ws) zero l =
-    let none' : bytesOf (blocksIn (content s 0)) ≡ 0 = empty-bytes s in
-    let new = both-bytes (blocksIn (content s 0)) (heldBy s ws) in
-    let old = both-bytes (blocksIn (content s w)) (heldBy s ws) in
+    let none' : bytesOf (blocksIn (content (seen s) 0)) ≡ 0 = empty-bytes s in
+    let new = both-bytes (blocksIn (content (seen s) 0)) (heldBy s ws) in
+    let old = both-bytes (blocksIn (content (seen s) w)) (heldBy s ws) in
     omega arith
 forgot-bytes s (w ∷ ws) (suc key) l =
     let rest = forgot-bytes s ws key (omega arith) in
-    let new = both-bytes (blocksIn (content s w)) (heldBy s (set ws key 0)) in
-    let old = both-bytes (blocksIn (content s w)) (heldBy s ws) in
+    let new = both-bytes (blocksIn (content (seen s) w)) (heldBy s (set ws key 0)) in
+    let old = both-bytes (blocksIn (content (seen s) w)) (heldBy s ws) in
     omega arith
 
 -- A lost head word shows: as many bytes more belong to nobody as the key's slab or pages take. One of a number in the head word doesn't.

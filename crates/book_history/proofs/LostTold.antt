@@ -2,7 +2,7 @@
 -- and more by the blocks of a head word or of a free head that was lost. Assumes nothing.
 use Prim.Native.Nat.{ℕ, zero, suc, _+_, _/_, _≤_, _<_}
 use mathlib.Core.Bool.{Bool, true, false}
-use mathlib.Core.List.{List, [], _∷_, _++_}
+use mathlib.Core.List.{List, [], _++_}
 use mathlib.Core.Logic.{_≢_}
 use mathlib.Core.Path.{_≡_, refl, sym, ap, subst, _∙_}
 use native.Mathlib.Nat.{zero-add}
@@ -15,7 +15,7 @@ use Rattle.error.specs.Refusal.{accepted}
 use Rattle.scripthash_layout.specs.Sizes.{pageClass}
 use Rattle.scripthash_layout.specs.Head.{unpackHead}
 use Rattle.scripthash_layout.specs.declared.head.ShHeadValue.the-variants.{Inline}
-use Rattle.scripthash_free.specs.FreeList.{Block, Disjoint, Each, Names}
+use Rattle.scripthash_free.specs.FreeList.{Block, Disjoint, Each, IsFreeList}
 use Rattle.scripthash_free.proofs.LawsGap.{each-map}
 use Rattle.book_rules.specs.Calls.{Call}
 use Rattle.book_limits.specs.Limits.{outOfShape}
@@ -23,25 +23,24 @@ use Rattle.plain_book.proofs.LawsGood.{shapes-kept}
 use Rattle.book_space.specs.Space.{space, shapeBroken}
 use Rattle.book_keys.specs.Keys.{soundly, Content, content}
 use Rattle.book_keys.proofs.LawsContent.{content-at, content-inline}
-use Rattle.book_keys.proofs.LawsFree.{content-free}
-use Rattle.book.specs.Book.{Book, fresh, wordOf}
+use Rattle.book.specs.Book.{Book, fresh, wordOf, seen}
 use Rattle.book.specs.Calls.{after}
-use Rattle.book_start.specs.Start.{AllApart, Stands, blocksAt, bytesOf, blocksIn, heldBy, named, namedFrom, freedOf, freedBy, GoodStart}
+use Rattle.book_start.specs.Start.{AllApart, Stands, blocksAt, bytesOf, blocksIn, heldBy, followed, followedFrom, freedOf, freedBy, GoodStart, heldOf, listOf}
 use Rattle.book_start.specs.Start.{good, judges}
-use Rattle.book_start.specs.Covered.{lostIn}
+use Rattle.book_start.specs.Covered.{lostIn, forgot, forgotList}
 use Rattle.book_start.proofs.LawsClaims.{Cross}
 use Rattle.book_start.proofs.LawsCovered.{start-room, whole-units}
-use Rattle.book_start.proofs.LawsFreed.{named-end}
+use Rattle.book_start.proofs.LawsFreed.{followed-end}
 use Rattle.book_start.proofs.LawsJudged.{start-judges}
 use Rattle.book_start.proofs.LawsPairs.{gather, gather-same, each-left, each-right, apart-left, apart-right, apart-cross, held-gathered}
-use Rattle.book_start.proofs.LawsPairs.{freed-gathered, heldOf, listOf}
+use Rattle.book_start.proofs.LawsPairs.{freed-gathered}
 use Rattle.book_history.specs.PlainOf.{plainOf}
 use Rattle.book_history.proofs.LawsCalls.{books-agree}
 use Rattle.book_history.proofs.LawsEach.{each-alike}
 use Rattle.book_history.proofs.LawsStart.{word-none, start-good, start-agrees}
 use Rattle.book_history.proofs.LawsStartFresh.{fresh-start}
 use Rattle.book_history.proofs.LawsStartKept.{each-both, apart-both, start-kept}
-use Rattle.book_history.proofs.Leaked.{both-bytes, from-4096, lost-kept, nothing-lost, forgot, forgot-shows}
+use Rattle.book_history.proofs.Leaked.{both-bytes, from-4096, lost-kept, nothing-lost, forgot-shows}
 
 -- ---- any list of calls
 
@@ -149,19 +148,19 @@ module _ (b : Book) (key : ℕ) (g : GoodStart b) (l : key < length (b .heads)) 
   unfolding blocksIn
   held-out =
       record {
-        gone = ap (λ (w : ℕ). blocksIn (content (b .space) w)) word-gone ∙ ap blocksIn (word-none (b .space));
-        same = λ i d. ap (λ (w : ℕ). blocksIn (content (b .space) w)) (word-other i d);
+        gone = ap (λ (w : ℕ). blocksIn (content (seen (b .space)) w)) word-gone ∙ ap blocksIn (word-none (b .space));
+        same = λ i d. ap (λ (w : ℕ). blocksIn (content (seen (b .space)) w)) (word-other i d);
       }
 
-  still-sound : (i : ℕ) → i < length (b .heads) → (c : Content) × (content (b .space) (wordOf i (forgot key b)) ≡ accepted c)
+  still-sound : (i : ℕ) → i < length (b .heads) → (c : Content) × (content (seen (b .space)) (wordOf i (forgot key b)) ≡ accepted c)
   still-sound i h = go (eqb i key) refl
     where
-      go : (t : Bool) → eqb i key ≡ t → (c : Content) × (content (b .space) (wordOf i (forgot key b)) ≡ accepted c)
+      go : (t : Bool) → eqb i key ≡ t → (c : Content) × (content (seen (b .space)) (wordOf i (forgot key b)) ≡ accepted c)
       go true e =
           let here = eqb-true i key e in
-          (_, ap (content (b .space)) (ap (λ (k : ℕ). wordOf k (forgot key b)) here ∙ word-gone) ∙ word-none (b .space))
+          (_, ap (content (seen (b .space))) (ap (λ (k : ℕ). wordOf k (forgot key b)) here ∙ word-gone) ∙ word-none (b .space))
       go false e =
-          let s = g .sound i h in (s .0, ap (content (b .space)) (word-other i (eqb-false i key e)) ∙ s .1)
+          let s = g .sound i h in (s .0, ap (content (seen (b .space))) (word-other i (eqb-false i key e)) ∙ s .1)
 
   abbrev freed : List Block
   freed = freedBy (b .space) 0 (b .space .free)
@@ -209,21 +208,17 @@ module _ (b : Book) (key : ℕ) (g : GoodStart b) (l : key < length (b .heads)) 
   unfolding blocksIn bytesOf soundly
   forgot-hidden room entry used long e =
       let none' : heldOf b key ≡ []
-      = ap blocksIn (content-at (b .space) (wordOf key b) (Inline entry used) e ∙ ap soundly (content-inline (b .space) entry used)) in
+      = ap blocksIn (content-at (seen (b .space)) (wordOf key b) (Inline entry used) e ∙ ap soundly (content-inline (seen (b .space)) entry used)) in
       let same : lostIn b / 16 + bytesOf (heldOf b key) / 16 ≡ lostIn b / 16 = let z = ap bytesOf none' in omega arith in
       forgot-told room long ∙ ap (λ (n : ℕ). accepted (good n)) same ∙ sym (start-judges b (g .nine) room long g)
 
 -- ---- the head of a free list that is lost
 
--- A book in which the head of a class's free list became 0.
-abbrev pub forgotList : ℕ → Book → Book
-forgotList class b = record { heads = b .heads; space = space (b .space .body) (b .space .mark) (set (b .space .free) class 0) }
-
 -- The freed blocks of a book, list by list.
 lists-gathered : (b : Book) → freedBy (b .space) 0 (b .space .free) ≡ gather (length (b .space .free)) (listOf b)
 lists-gathered b =
     freed-gathered (b .space) 0 (b .space .free)
-    ∙ gather-same (length (b .space .free)) (λ i. blocksAt (0 + i) (namedFrom (b .space) (getD (b .space .free) i 0))) (listOf b)
+    ∙ gather-same (length (b .space .free)) (λ i. blocksAt (0 + i) (followedFrom (b .space) (getD (b .space .free) i 0))) (listOf b)
     (λ i. rw (zero-add i))
 
 module _ (b : Book) (class : ℕ) (g : GoodStart b) (l : class ≤ pageClass) where
@@ -247,10 +242,10 @@ module _ (b : Book) (class : ℕ) (g : GoodStart b) (l : class ≤ pageClass) wh
   head-other i d = getD-set-other free class i 0 0 d
 
   list-gone : freedOf (now .space) class ≡ []
-  list-gone = named-end (b .space .mark / 16) (b .space .body) (getD (set free class 0) class 0) head-gone
+  list-gone = followed-end (b .space .mark / 16) (b .space .body) (getD (set free class 0) class 0) head-gone
 
   list-other : (i : ℕ) → i ≢ class → freedOf (now .space) i ≡ freedOf (b .space) i
-  list-other i d = ap (named (b .space .mark / 16) (b .space .body)) (head-other i d)
+  list-other i d = ap (followed (b .space .mark / 16) (b .space .body)) (head-other i d)
 
   -- Its free lists name the same blocks, but for the class's.
   lists-out : LeftOut class (listOf b) (listOf now)
@@ -259,33 +254,29 @@ module _ (b : Book) (class : ℕ) (g : GoodStart b) (l : class ≤ pageClass) wh
       record { gone = ap (blocksAt class) list-gone; same = λ i d. ap (blocksAt i) (list-other i d) }
 
   -- Its keys hold the same blocks.
-  content-same : (w : ℕ) → content (now .space) w ≡ content (b .space) w
-  content-same w =
-      content-free (b .space .body) (b .space .mark) (set free class 0) w ∙ sym (content-free (b .space .body) (b .space .mark) free w)
-
   held-same : heldBy (now .space) (b .heads) ≡ heldBy (b .space) (b .heads)
   held-same =
       held-gathered (now .space) (b .heads)
-      ∙ gather-same (length (b .heads)) (heldOf now) (heldOf b) (λ i. ap blocksIn (content-same (wordOf i b)))
+      ∙ gather-same (length (b .heads)) (heldOf now) (heldOf b) (λ i. refl)
       ∙ sym (held-gathered (b .space) (b .heads))
 
   freed-now : freedBy (now .space) 0 (set free class 0) ≡ gather (length free) (listOf now)
   freed-now = lists-gathered now ∙ ap (λ (n : ℕ). gather n (listOf now)) as-many
 
-  still-ends : (i : ℕ) → Names (b .space .body) (getD free i 0) (freedOf (b .space) i)
-      → Names (b .space .body) (getD (set free class 0) i 0) (freedOf (now .space) i)
-  unfolding Names
+  still-ends : (i : ℕ) → IsFreeList (b .space .body) (getD free i 0) (freedOf (b .space) i)
+      → IsFreeList (b .space .body) (getD (set free class 0) i 0) (freedOf (now .space) i)
+  unfolding IsFreeList
   still-ends i e = go (eqb i class) refl
     where
-      go : (t : Bool) → eqb i class ≡ t → Names (b .space .body) (getD (set free class 0) i 0) (freedOf (now .space) i)
+      go : (t : Bool) → eqb i class ≡ t → IsFreeList (b .space .body) (getD (set free class 0) i 0) (freedOf (now .space) i)
       go true q =
           let here : i ≡ class = eqb-true i class q in
-          subst (λ (k : ℕ). Names (b .space .body) (getD (set free class 0) k 0) (freedOf (now .space) k)) (sym here)
-          (subst (λ (os : List ℕ). Names (b .space .body) (getD (set free class 0) class 0) os) (sym list-gone) head-gone)
+          subst (λ (k : ℕ). IsFreeList (b .space .body) (getD (set free class 0) k 0) (freedOf (now .space) k)) (sym here)
+          (subst (λ (os : List ℕ). IsFreeList (b .space .body) (getD (set free class 0) class 0) os) (sym list-gone) head-gone)
       go false q =
           let other = eqb-false i class q in
-          subst (λ (h : ℕ). Names (b .space .body) h (freedOf (now .space) i)) (sym (head-other i other))
-          (subst (λ (os : List ℕ). Names (b .space .body) (getD free i 0) os) (sym (list-other i other)) e)
+          subst (λ (h : ℕ). IsFreeList (b .space .body) h (freedOf (now .space) i)) (sym (head-other i other))
+          (subst (λ (os : List ℕ). IsFreeList (b .space .body) (getD free i 0) os) (sym (list-other i other)) e)
 
   still-stand : (i : ℕ) → Each (Stands (b .space .mark)) (listOf b i) → Each (Stands (b .space .mark)) (listOf now i)
   unfolding Each
@@ -316,7 +307,7 @@ module _ (b : Book) (class : ℕ) (g : GoodStart b) (l : class ≤ pageClass) wh
       record {
         shape = g .shape;
         nine = as-many ∙ g .nine;
-        sound = λ i h. let s = g .sound i h in (s .0, content-same (wordOf i b) ∙ s .1);
+        sound = λ i h. g .sound i h;
         ends = λ i h. still-ends i (g .ends i h);
         stand = λ i h. still-stand i (g .stand i h);
         apart = subst (λ (xs : List Block). AllApart (xs ++ freedBy (now .space) 0 (set free class 0))) (sym held-same)

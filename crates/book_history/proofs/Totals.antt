@@ -13,7 +13,7 @@ use Rattle.scripthash_layout.specs.declared.head.ShHeadValue.the-variants.{Exte
 use Rattle.scripthash_fields.specs.Page.{createsFieldOf}
 use Rattle.book_rules.specs.Calls.{Call}
 use Rattle.book_limits.specs.Limits.{outOfShape}
-use Rattle.plain_book.specs.Key.{Key, Page, Place, empty, inline, slab, pages, lastPage, noPage, totalOf, headOf}
+use Rattle.plain_book.specs.Key.{Key, Place, empty, inline, slab, pages, lastPage, noPage, totalOf, headOf}
 use Rattle.plain_book.specs.Book.{Book as PlainBook, fresh as plainFresh, after as plainAfter, keyOf, NeverDropped}
 use Rattle.plain_book.specs.Good.{GoodPlain}
 use Rattle.plain_book.proofs.LawsHistory.{fresh-key}
@@ -21,7 +21,7 @@ use Rattle.plain_book.proofs.LawsGood.{fresh-good, calls-good, shapes-kept}
 use Rattle.plain_book.proofs.LawsChain.{chain}
 use Rattle.plain_book.proofs.LawsTotals.{counted-from, total-exact, uncounted-from}
 use Rattle.book_keys.specs.Keys.{pageAt}
-use Rattle.book.specs.Book.{Book, fresh, wordOf}
+use Rattle.book.specs.Book.{Book, fresh, wordOf, seen}
 use Rattle.book.specs.Calls.{after}
 use Rattle.book_start.specs.Start.{GoodStart}
 use Rattle.book_history.specs.Agrees.{firstPageOff, AgreesInside, Agrees}
@@ -34,14 +34,14 @@ use Rattle.book_history.proofs.LawsStartFresh.{fresh-agrees}
 
 -- The last page that a key's head word names tells the key's total.
 told : (plain : PlainBook) (b : Book) → GoodPlain plain → outOfShape (plain .size) (length (plain .keys)) ≡ false → AgreesInside plain b
-    → (key last : ℕ) → unpackHead (wordOf key b) ≡ accepted (Extent last) → createsFieldOf (pageAt (b .space) last)
+    → (key last : ℕ) → unpackHead (wordOf key b) ≡ accepted (Extent last) → createsFieldOf (pageAt (seen (b .space)) last)
     ≡ totalOf (keyOf key plain)
 unfolding headOf
 told plain b g shape h key last word =
     go (keyOf key plain .place) refl (accepted-inj (sym (head-agrees plain b g shape h key) ∙ word))
   where
     go : (place : Place) → keyOf key plain .place ≡ place → headOf (keyOf key plain .list) place ≡ Extent last
-        → createsFieldOf (pageAt (b .space) last) ≡ totalOf (keyOf key plain)
+        → createsFieldOf (pageAt (seen (b .space)) last) ≡ totalOf (keyOf key plain)
     go empty is e = let z : _≡_ {A = ℕ} 0 1 = cc in absurd (omega arith)
     go inline is e = let z : _≡_ {A = ℕ} 0 1 = cc in absurd (omega arith)
     go (slab class off kept) is e = let z : _≡_ {A = ℕ} 0 1 = cc in absurd (omega arith)
@@ -50,14 +50,14 @@ told plain b g shape h key last word =
         let one = some-pages ps (chain key ps g is .fit) in
         let k = chain-page plain b g shape h key ps is (length ps - 1) (lastPage noPage ps .off)
         (last-page-at (length ps - 1) noPage ps (omega arith)) in
-        ap (λ (o : ℕ). createsFieldOf (pageAt (b .space) o)) (sym same)
+        ap (λ (o : ℕ). createsFieldOf (pageAt (seen (b .space)) o)) (sym same)
         ∙ last-reads (firstPageOff ps) (totalOf (keyOf key plain)) (length ps - 1) noPage ps _ (omega arith) (k .reads) .1 .creates
 
 module _ (plain : PlainBook) (b : Book) (cs : List Call) (g : GoodPlain plain) (a : Agrees plain b)
     (shape : outOfShape (plain .size) (length (plain .keys)) ≡ false) (key last : ℕ)
     (word : unpackHead (wordOf key (after b cs)) ≡ accepted (Extent last)) where
   -- What it tells after the calls.
-  tells : createsFieldOf (pageAt (after b cs .space) last) ≡ totalOf (keyOf key (plainAfter plain cs))
+  tells : createsFieldOf (pageAt (seen (after b cs .space)) last) ≡ totalOf (keyOf key (plainAfter plain cs))
   tells =
       let (size, keys) = shapes-kept plain cs in
       let out : outOfShape (plainAfter plain cs .size) (length (plainAfter plain cs .keys)) ≡ false = rw (size, keys) shape in
@@ -65,22 +65,22 @@ module _ (plain : PlainBook) (b : Book) (cs : List Call) (g : GoodPlain plain) (
 
   -- A total that was told is exact after any calls: the length of the list that the key then reads as.
   pub total-kept : keyOf key plain .counted ≡ true
-      → createsFieldOf (pageAt (after b cs .space) last) ≡ length (keyOf key (plainAfter plain cs) .list)
+      → createsFieldOf (pageAt (seen (after b cs .space)) last) ≡ length (keyOf key (plainAfter plain cs) .list)
   total-kept counted = tells ∙ total-exact (keyOf key (plainAfter plain cs)) (counted-from plain key cs counted)
 
   -- One that was never counted is unknown after any calls without a drop of the key.
-  pub unknown-kept : keyOf key plain .counted ≡ false → NeverDropped key cs → createsFieldOf (pageAt (after b cs .space) last) ≡ 0
+  pub unknown-kept : keyOf key plain .counted ≡ false → NeverDropped key cs → createsFieldOf (pageAt (seen (after b cs .space)) last) ≡ 0
   unknown-kept counted never = tells ∙ uncounted-from plain key cs (g .keys key) counted never
 
 -- So it is from every good start: of a key whose last page tells its total then, and of one whose last page doesn't.
 module _ (b : Book) (cs : List Call) (g : GoodStart b) (key last : ℕ)
     (word : unpackHead (wordOf key (after b cs)) ≡ accepted (Extent last)) where
   pub total-from : keyOf key (plainOf b) .counted ≡ true
-      → createsFieldOf (pageAt (after b cs .space) last) ≡ length (keyOf key (plainAfter (plainOf b) cs) .list)
+      → createsFieldOf (pageAt (seen (after b cs .space)) last) ≡ length (keyOf key (plainAfter (plainOf b) cs) .list)
   total-from counted = total-kept (plainOf b) b cs (start-good b g) (start-agrees b g) (start-shape b g) key last word counted
 
   pub unknown-from : keyOf key (plainOf b) .counted ≡ false → NeverDropped key cs
-      → createsFieldOf (pageAt (after b cs .space) last) ≡ 0
+      → createsFieldOf (pageAt (seen (after b cs .space)) last) ≡ 0
   unknown-from counted never =
       unknown-kept (plainOf b) b cs (start-good b g) (start-agrees b g) (start-shape b g) key last word counted never
 
@@ -88,7 +88,7 @@ module _ (b : Book) (cs : List Call) (g : GoodStart b) (key last : ℕ)
 pub total-fresh-book : (body : List ℕ) (heads : ℕ) (cs : List Call)
     → outOfShape (length body) (length (plainFresh (length body) heads .keys)) ≡ false → (key last : ℕ)
     → unpackHead (wordOf key (after (fresh body heads) cs)) ≡ accepted (Extent last)
-    → createsFieldOf (pageAt (after (fresh body heads) cs .space) last)
+    → createsFieldOf (pageAt (seen (after (fresh body heads) cs .space)) last)
     ≡ length (keyOf key (plainAfter (plainFresh (length body) heads) cs) .list)
 total-fresh-book body heads cs shape key last word =
     total-kept (plainFresh (length body) heads) (fresh body heads) cs (fresh-good (length body) heads) (fresh-agrees body heads)

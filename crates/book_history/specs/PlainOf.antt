@@ -5,7 +5,7 @@ use mathlib.Core.Bool.{Bool, true, not}
 use mathlib.Core.List.{List, [], _∷_}
 use lib.Dec.{eqb}
 use lib.ListN.{length}
-use Rattle.error.specs.Refusal.{Answer, accepted, refused, told}
+use Rattle.error.specs.Refusal.{Answer, accepted, refused, valueOr}
 use Rattle.scripthash_layout.specs.Head.{unpackHead}
 use Rattle.scripthash_layout.specs.declared.head.ShHeadValue.{ShHeadValue}
 use Rattle.scripthash_layout.specs.declared.head.ShHeadValue.the-variants.{Empty, Inline, Slab, Extent}
@@ -16,8 +16,8 @@ use Rattle.plain_book.specs.Key.{Kept, written, Page, Place, empty, inline, sla
 use Rattle.plain_book.specs.Book.{Book as PlainBook}
 use Rattle.book_space.specs.Space.{Space}
 use Rattle.book_keys.specs.Keys.{pageAt, slabScan, chainAt, content}
-use Rattle.book.specs.Book.{Book, wordOf}
-use Rattle.book_start.specs.Start.{namedFrom}
+use Rattle.book.specs.Book.{Book, wordOf, seen}
+use Rattle.book_start.specs.Start.{followedFrom}
 
 -- ---- keys
 
@@ -28,7 +28,7 @@ keptBy (refused number) = written []
 
 -- The page at an offset, with the room that its version leaves for a stream.
 unfoldable pub pageFrom : Space → ℕ → Page
-pageFrom s off = record { off = off; room = streamCap (pageAt s off); part = keptBy (pageScan (pageAt s off)) }
+pageFrom s off = record { off = off; room = streamCap (pageAt (seen s) off); part = keptBy (pageScan (pageAt (seen s) off)) }
 
 -- The pages at some offsets.
 unfoldable pub pagesFrom : Space → List ℕ → List Page
@@ -39,27 +39,27 @@ pagesFrom s (o ∷ os) = pageFrom s o ∷ pagesFrom s os
 unfoldable pub placeFrom : Space → ShHeadValue → Place
 placeFrom s Empty = empty
 placeFrom s (Inline entry used) = inline
-placeFrom s (Slab class used off) = slab class off (keptBy (slabScan s class used off))
-placeFrom s (Extent last) = pages (pagesFrom s (told (λ c. c .offs) (chainAt s last) []))
+placeFrom s (Slab class used off) = slab class off (keptBy (slabScan (seen s) class used off))
+placeFrom s (Extent last) = pages (pagesFrom s (valueOr (λ c. c .offs) (chainAt (seen s) last) []))
 
 -- Whether the place that a head word tells says how many numbers it has: a last page with creates 0 doesn't.
 unfoldable pub countedFrom : Space → ShHeadValue → Bool
 countedFrom s Empty = true
 countedFrom s (Inline entry used) = true
 countedFrom s (Slab class used off) = true
-countedFrom s (Extent last) = not (eqb (createsFieldOf (pageAt s last)) 0)
+countedFrom s (Extent last) = not (eqb (createsFieldOf (pageAt (seen s) last)) 0)
 
 -- The numbers that the key of a head word holds.
 unfoldable pub listFrom : Space → ℕ → List ℕ
-listFrom s word = told (λ c. c .numbers) (content s word) []
+listFrom s word = valueOr (λ c. c .numbers) (content (seen s) word) []
 
 -- The key of a head word.
 unfoldable pub keyFrom : Space → ℕ → Key
 keyFrom s word =
     record {
       list = listFrom s word;
-      place = told (placeFrom s) (unpackHead word) empty;
-      counted = told (countedFrom s) (unpackHead word) true;
+      place = valueOr (placeFrom s) (unpackHead word) empty;
+      counted = valueOr (countedFrom s) (unpackHead word) true;
     }
 
 -- The keys of head words.
@@ -72,7 +72,7 @@ keysFrom s (w ∷ ws) = keyFrom s w ∷ keysFrom s ws
 -- The offsets that the free lists of some free heads name.
 unfoldable pub stacksFrom : Space → List ℕ → List (List ℕ)
 stacksFrom s [] = []
-stacksFrom s (h ∷ hs) = namedFrom s h ∷ stacksFrom s hs
+stacksFrom s (h ∷ hs) = followedFrom s h ∷ stacksFrom s hs
 
 -- ---- the book
 

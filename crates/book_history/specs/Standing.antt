@@ -7,7 +7,7 @@ use lib.ListN.{length, getD}
 use Rattle.error.specs.Refusal.{accepted}
 use Rattle.scripthash_layout.specs.Sizes.{pageClass}
 use Rattle.scripthash_layout.specs.Head.{unpackHead}
-use Rattle.scripthash_free.specs.FreeList.{Names}
+use Rattle.scripthash_free.specs.FreeList.{IsFreeList}
 use Rattle.book_rules.specs.Calls.{listed}
 use Rattle.book_limits.specs.Limits.{outOfShape}
 use Rattle.plain_book.specs.Space.{stackOf}
@@ -26,7 +26,7 @@ pub record Standing (plain : PlainBook) (b : Book) : Type 0 where
   -- The marks are one.
   pub mark : b .space .mark ≡ plain .space .mark
   -- Each free list names its stack from the top.
-  pub free : (class : ℕ) → class ≤ pageClass → Names (b .space .body) (getD (b .space .free) class 0) (stackOf class (plain .space))
+  pub free : (class : ℕ) → class ≤ pageClass → IsFreeList (b .space .body) (getD (b .space .free) class 0) (stackOf class (plain .space))
   -- Each key reads as the list that is held there, save where 1 applies; a long enough list is lent.
   pub reads : (key room : ℕ) → outOfShape (plain .size) (length (plain .keys)) ≡ false → key < length (plain .keys)
       → length (keyOf key plain .list) ≤ room

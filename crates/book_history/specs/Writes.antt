@@ -1,5 +1,5 @@
--- What each call names (document 01, "Append" to "drop"): the bytes of the body, the head words and the free heads that may differ after
--- it, and whether the mark may. This is said of any book, a damaged one too.
+-- What each call may write, which document 01 ("Append" to "drop") names: the bytes of the body, the head words and the free heads that
+-- may differ after it, and whether the mark may. This is said of any book, a damaged one too.
 use Prim.Native.Nat.{ℕ, _+_, _-_, _*_, _≤_, _<_}
 use mathlib.Core.Bool.{Bool, true, false, cond, _||_}
 use mathlib.Core.List.{List, [], _∷_, _++_}
@@ -8,7 +8,7 @@ use mathlib.Core.Option.{Option, none, some}
 use mathlib.Core.Path.{_≡_}
 use lib.Dec.{eqb}
 use lib.ListN.{length, getD}
-use Rattle.error.specs.Refusal.{told}
+use Rattle.error.specs.Refusal.{valueOr}
 use Rattle.compact.specs.Uleb128.{ulebLen}
 use Rattle.scripthash_layout.specs.Sizes.{pageClass, pageSize}
 use Rattle.scripthash_layout.specs.Head.{unpackHead}
@@ -23,7 +23,7 @@ use Rattle.book_rules.specs.Places.{payloadLen, stays, movesTo, loadsTo}
 use Rattle.book_limits.specs.Limits.{pageAfter}
 use Rattle.book_space.specs.Space.{Space, takeBlock}
 use Rattle.book_keys.specs.Keys.{pageAt, slabScan, tailAt, content}
-use Rattle.book.specs.Book.{Book, wordOf}
+use Rattle.book.specs.Book.{Book, wordOf, seen}
 
 -- ---- regions
 
@@ -46,68 +46,68 @@ pub record Only (regions : List Region) (before after : List ℕ) : Type 0 where
   pub long : length after ≡ length before
   pub same : (i : ℕ) → Outside regions i → getD after i 0 ≡ getD before i 0
 
--- What is named of a space: bytes of the body, free heads by their classes, and the mark or not.
-pub record Named : Type 0 where
+-- What may be written of a space: bytes of the body, free heads by their classes, and the mark or not.
+pub record SpaceWrites : Type 0 where
   pub body : List Region
   pub free : List Region
   pub mark : Bool
 
 -- Nothing.
-abbrev pub nothing : Named
+abbrev pub nothing : SpaceWrites
 nothing = record { body = []; free = []; mark = false }
 
 -- So many bytes of the body from an offset on.
-abbrev pub bytesAt : ℕ → ℕ → Named
+abbrev pub bytesAt : ℕ → ℕ → SpaceWrites
 bytesAt off len = record { body = region off len ∷ []; free = []; mark = false }
 
 -- The free head of a class.
-abbrev pub freeHead : ℕ → Named
+abbrev pub freeHead : ℕ → SpaceWrites
 freeHead class = record { body = []; free = region class 1 ∷ []; mark = false }
 
 -- The mark.
-abbrev pub theMark : Named
+abbrev pub theMark : SpaceWrites
 theMark = record { body = []; free = []; mark = true }
 
--- What one part of a call names, and what another names.
-unfoldable pub both : Named → Named → Named
+-- What one part of a call may write, and what another may.
+unfoldable pub both : SpaceWrites → SpaceWrites → SpaceWrites
 both m n = record { body = m .body ++ n .body; free = m .free ++ n .free; mark = m .mark || n .mark }
 
 -- ---- blocks
 
 -- A block that is freed: its first 8 bytes, which name the next one, and the free head of its class.
-abbrev pub freeing : Block → Named
+abbrev pub freeing : Block → SpaceWrites
 freeing x = both (bytesAt (x .off) 8) (freeHead (x .class))
 
 -- Blocks that are freed.
-unfoldable pub freeingAll : List Block → Named
+unfoldable pub freeingAll : List Block → SpaceWrites
 freeingAll [] = nothing
 freeingAll (x ∷ xs) = both (freeing x) (freeingAll xs)
 
 -- A page or a run taken at the mark: the blocks of the gap before it are freed, and the mark rises.
-unfoldable pub takingPages : Space → Named
+unfoldable pub takingPages : Space → SpaceWrites
 takingPages s = both (freeingAll (gapBlocks (s .mark) (pageAfter (s .mark)))) theMark
 
 -- A block taken: the free head of its class where that isn't 0; otherwise the mark, and for a page the gap before it.
-unfoldable pub taking : ℕ → Space → Named
+unfoldable pub taking : ℕ → Space → SpaceWrites
 taking class s = cond (eqb (getD (s .free) class 0) 0) (cond (eqb class pageClass) (takingPages s) theMark) (freeHead class)
 
 -- A block taken, and its first bytes filled.
-unfoldable pub filling : ℕ → ℕ → Space → Named
-filling class len s = told (λ t. both (taking class s) (bytesAt (t .off) len)) (takeBlock class s) nothing
+unfoldable pub filling : ℕ → ℕ → Space → SpaceWrites
+filling class len s = valueOr (λ t. both (taking class s) (bytesAt (t .off) len)) (takeBlock class s) nothing
 
 -- A list written to a taken block: the payload in a slab of a class, or else a whole page.
-unfoldable pub writing : List ℕ → Option ℕ → Space → Named
+unfoldable pub writing : List ℕ → Option ℕ → Space → SpaceWrites
 writing list (some class) s = filling class (payloadLen (streamLen list)) s
 writing list none s = filling pageClass pageSize s
 
 -- ---- an append
 
 -- A list with its new number that moves: it is written to a taken block, and its old block, where it had one, is freed.
-unfoldable pub moving : List ℕ → List Block → Space → Named
+unfoldable pub moving : List ℕ → List Block → Space → SpaceWrites
 moving list old s = both (writing list (movesTo (length list) (streamLen list)) s) (freeingAll old)
 
 -- A number behind the stream of a slab: where it stays, the slab's count and the number's bytes; otherwise it moves.
-unfoldable pub growingSlab : ℕ → ℕ → ℕ → Scan → Space → Named
+unfoldable pub growingSlab : ℕ → ℕ → ℕ → Scan → Space → SpaceWrites
 growingSlab n class off c s =
     let bytes = ulebLen (n - lastOf c) in
     cond (stays class (length (c .numbers) + 1) (c .taken + bytes)) (both (bytesAt off 2) (bytesAt (off + (2 + c .taken)) bytes))
@@ -115,57 +115,57 @@ growingSlab n class off c s =
 
 -- A number behind the stream of a last page: where it has a spot, the page's count, the number's bytes and creates; otherwise a page is
 -- taken and filled, and of the old one the link and creates.
-unfoldable pub growingPage : ℕ → Option Spot → Space → Named
+unfoldable pub growingPage : ℕ → Option Spot → Space → SpaceWrites
 growingPage last (some w) s = both (bytesAt (last + 1) 2) (both (bytesAt (last + w .at) (ulebLen (w .difference))) (bytesAt (last + 20) 4))
 growingPage last none s = both (filling pageClass pageSize s) (both (bytesAt (last + 3) 5) (bytesAt (last + 20) 4))
 
 -- An append to a key that stands where its head word tells.
-unfoldable pub appendNames : ℕ → Space → ShHeadValue → Named
-appendNames n s Empty = nothing
-appendNames n s (Inline entry used) = moving (entry ∷ n ∷ []) [] s
-appendNames n s (Slab class used off) = told (λ c. growingSlab n class off c s) (slabScan s class used off) nothing
-appendNames n s (Extent last) = told (λ t. growingPage last (spotBehind (pageAt s last) n (t .scan)) s) (tailAt s last) nothing
+unfoldable pub appendWrites : ℕ → Space → ShHeadValue → SpaceWrites
+appendWrites n s Empty = nothing
+appendWrites n s (Inline entry used) = moving (entry ∷ n ∷ []) [] s
+appendWrites n s (Slab class used off) = valueOr (λ c. growingSlab n class off c s) (slabScan (seen s) class used off) nothing
+appendWrites n s (Extent last) = valueOr (λ t. growingPage last (spotBehind (pageAt (seen s) last) n (t .scan)) s) (tailAt (seen s) last) nothing
 
 -- ---- a load
 
 -- A load of two numbers or more: the payload of a taken slab of a class, or else the pages of a taken run.
-unfoldable pub loadNames : List ℕ → Option ℕ → Space → Named
-loadNames list (some class) s = filling class (payloadLen (streamLen list)) s
-loadNames list none s = both (takingPages s) (bytesAt (pageAfter (s .mark)) (length (cutting list) * pageSize))
+unfoldable pub loadWrites : List ℕ → Option ℕ → Space → SpaceWrites
+loadWrites list (some class) s = filling class (payloadLen (streamLen list)) s
+loadWrites list none s = both (takingPages s) (bytesAt (pageAfter (s .mark)) (length (cutting list) * pageSize))
 
 -- ---- calls
 
--- What a call names: head words by their keys, and what of the space.
-pub record CallNames : Type 0 where
+-- What a call may write: head words by their keys, and what of the space.
+pub record CallWrites : Type 0 where
   pub heads : List Region
-  pub space : Named
+  pub space : SpaceWrites
 
 -- The head word of a key, and something of the space.
-abbrev pub wordAnd : ℕ → Named → CallNames
+abbrev pub wordAnd : ℕ → SpaceWrites → CallWrites
 wordAnd key n = record { heads = region key 1 ∷ []; space = n }
 
--- What a call on a book names.
-unfoldable pub names : Book → Call → CallNames
-names b (load key []) = record { heads = []; space = nothing }
-names b (load key (n ∷ [])) = wordAnd key nothing
-names b (load key (n ∷ m ∷ ns)) =
-    let list = n ∷ m ∷ ns in wordAnd key (loadNames list (loadsTo (length list) (streamLen list)) (b .space))
-names b (append key n) = wordAnd key (told (appendNames n (b .space)) (unpackHead (wordOf key b)) nothing)
-names b (read key room) = record { heads = []; space = nothing }
-names b (drop key) = wordAnd key (told (λ c. freeingAll (c .blocks)) (content (b .space) (wordOf key b)) nothing)
+-- What a call on a book may write.
+unfoldable pub writes : Book → Call → CallWrites
+writes b (load key []) = record { heads = []; space = nothing }
+writes b (load key (n ∷ [])) = wordAnd key nothing
+writes b (load key (n ∷ m ∷ ns)) =
+    let list = n ∷ m ∷ ns in wordAnd key (loadWrites list (loadsTo (length list) (streamLen list)) (b .space))
+writes b (append key n) = wordAnd key (valueOr (appendWrites n (b .space)) (unpackHead (wordOf key b)) nothing)
+writes b (read key room) = record { heads = []; space = nothing }
+writes b (drop key) = wordAnd key (valueOr (λ c. freeingAll (c .blocks)) (content (seen (b .space)) (wordOf key b)) nothing)
 
--- The space after differs from the one before in what is named only; the mark doesn't fall.
-pub record Wrote (n : Named) (before after : Space) : Type 0 where
+-- The space after differs from the one before only in what may be written; the mark doesn't fall.
+pub record Wrote (n : SpaceWrites) (before after : Space) : Type 0 where
   pub body : Only (n .body) (before .body) (after .body)
   pub free : Only (n .free) (before .free) (after .free)
   pub mark : n .mark ≡ false → after .mark ≡ before .mark
   pub rises : before .mark ≤ after .mark
 
--- The book after differs from the one before in what is named only.
-pub record Differs (n : CallNames) (before after : Book) : Type 0 where
+-- The book after differs from the one before only in what may be written.
+pub record Differs (n : CallWrites) (before after : Book) : Type 0 where
   pub heads : Only (n .heads) (before .heads) (after .heads)
   pub space : Wrote (n .space) (before .space) (after .space)
 
--- The book after a call differs from the one before in what the call names only.
+-- The book after a call differs from the one before only in what the call may write.
 abbrev pub Changes : Book → Book → Call → Type 0
-Changes before after c = Differs (names before c) before after
+Changes before after c = Differs (writes before c) before after

@@ -6,14 +6,13 @@ use lib.ListN.{length, getD}
 use Rattle.error.specs.Refusal.{accepted, refused, keyUnsound}
 use Rattle.error.proofs.LawsAnswer.{accepted-inj, then-yes, then-no, went-on}
 use Rattle.scripthash_layout.specs.Sizes.{pageSize}
-use Rattle.book_space.specs.Space.{Space}
-use Rattle.book_keys.specs.Keys.{sure, Last, lastAt, Chain, walk, totalGood, chainAt}
+use Rattle.book_keys.specs.Keys.{sure, Last, lastAt, Chain, walk, totalGood, chainAt, Ground}
 use Rattle.book_keys.proofs.LawsSound.{sure-yes, sure-no, was-sure}
 use Rattle.book_keys.proofs.LawsWalk.{walk-first}
 
 -- ---- the tests
 
-module _ (s : Space) (last : ℕ) where
+module _ (s : Ground) (last : ℕ) where
   -- no good header
   pub chain-no : {number : ℕ} → lastAt s last ≡ refused number → chainAt s last ≡ refused number
   unfolding chainAt
@@ -41,14 +40,14 @@ module _ (s : Space) (last : ℕ) where
 -- ---- what is known of a sound one
 
 -- What is known of a sound chain: the last page's header, and the walk from the page that it names.
-pub record SoundChain (s : Space) (last : ℕ) (c : Chain) : Type 0 where
+pub record SoundChain (s : Ground) (last : ℕ) (c : Chain) : Type 0 where
   pub header : Last
   pub header-is : lastAt s last ≡ accepted header
   pub walks : walk (s .mark / pageSize) s last 0 (header .first) ≡ accepted c
   pub creates : totalGood (header .creates) (length (c .numbers)) ≡ true
   pub begins : getD (c .offs) 0 0 ≡ header .first
 
-pub chain-sound : (s : Space) (last : ℕ) (c : Chain) → chainAt s last ≡ accepted c → SoundChain s last c
+pub chain-sound : (s : Ground) (last : ℕ) (c : Chain) → chainAt s last ≡ accepted c → SoundChain s last c
 unfolding chainAt
 chain-sound s last c e =
     let head = went-on (lastAt s last) _ e in
@@ -65,7 +64,7 @@ chain-sound s last c e =
     }
 
 -- its walk, by the offset of its first page
-pub chain-walks : (s : Space) (last first : ℕ) (c : Chain) → chainAt s last ≡ accepted c → first ≡ getD (c .offs) 0 0
+pub chain-walks : (s : Ground) (last first : ℕ) (c : Chain) → chainAt s last ≡ accepted c → first ≡ getD (c .offs) 0 0
     → walk (s .mark / pageSize) s last 0 first ≡ accepted c
 chain-walks s last first c e f =
     let k = chain-sound s last c e in

@@ -14,8 +14,7 @@ use Rattle.scripthash_layout.specs.Head.{modeOf, payloadOf, offsetOf, usedOf, c
 use Rattle.scripthash_layout.specs.declared.head.ShHeadValue.{ShHeadValue}
 use Rattle.scripthash_layout.specs.declared.head.ShHeadValue.the-variants.{Empty, Inline, Slab, Extent}
 use Rattle.scripthash_stream.specs.Stream.{Scan}
-use Rattle.book_space.specs.Space.{Space}
-use Rattle.book_keys.specs.Keys.{soundly, slabScan, Chain, chainAt, Content, pageBlocks, contentAt, content}
+use Rattle.book_keys.specs.Keys.{soundly, slabScan, Chain, chainAt, Content, pageBlocks, contentAt, content, Ground}
 use Rattle.book_keys.proofs.LawsSound.{soundly-no, was-sound}
 
 -- What a key in a slab holds.
@@ -26,7 +25,7 @@ inSlab class off c = record { numbers = c .numbers; blocks = record { class = cl
 abbrev pub inPages : Chain → Content
 inPages c = record { numbers = c .numbers; blocks = pageBlocks (c .offs); pages = length (c .offs) }
 
-module _ (s : Space) where
+module _ (s : Ground) where
   -- an empty key, and one with a number in its head
   pub content-empty : contentAt s Empty ≡ accepted (record { numbers = []; blocks = []; pages = 0 })
   unfolding contentAt

@@ -12,8 +12,7 @@ use Rattle.error.proofs.LawsAnswer.{accepted-inj, refused≢accepted, then-yes}
 use Rattle.scripthash_stream.specs.Stream.{Rising, Scan, lastFrom}
 use Rattle.scripthash_fields.specs.Page.{linkOf, isLastLink, linkOffset}
 use Rattle.scripthash_pages.specs.Entries.{pageScan}
-use Rattle.book_space.specs.Space.{Space}
-use Rattle.book_keys.specs.Keys.{pageAt, linkScan, Chain, walk}
+use Rattle.book_keys.specs.Keys.{pageAt, linkScan, Chain, walk, Ground}
 use Rattle.book_keys.proofs.LawsSound.{last-above, Going}
 use Rattle.book_keys.proofs.LawsPages.{link-sound}
 use Rattle.book_keys.proofs.LawsWalk.{Ends, GoesOn, walk-step, walk-last, walk-more}
@@ -27,7 +26,7 @@ going-above prev [] g = absurd (omega (arith, g .some))
 going-above prev (n ∷ ns) g = let r = g .rising in omega (arith, r .0, last-above (2 ^ 62) n ns (r .2))
 
 -- a page of a chain isn't met again behind its last number, nor behind a later one
-pub page-once : (s : Space) (prev off : ℕ) (c : Scan) → linkScan s prev off ≡ accepted c → (later o : ℕ) (d : Scan)
+pub page-once : (s : Ground) (prev off : ℕ) (c : Scan) → linkScan s prev off ≡ accepted c → (later o : ℕ) (d : Scan)
     → linkScan s later o ≡ accepted d
     → lastFrom prev (c .numbers) ≤ later → o ≡ off → ⊥
 page-once s prev off c e later o d f h same =
@@ -41,21 +40,21 @@ page-once s prev off c e later o d f h same =
 -- ---- the same pages elsewhere
 
 -- Another space has the same mark, and the same bytes at each page that reads behind a number or a later one.
-pub record SameBehind (s t : Space) (prev : ℕ) : Type 0 where
+pub record SameBehind (s t : Ground) (prev : ℕ) : Type 0 where
   pub mark : t .mark ≡ s .mark
   pub pages : (later off : ℕ) (c : Scan) → prev ≤ later → linkScan s later off ≡ accepted c → pageAt t off ≡ pageAt s off
 
 -- what is the same behind a number is so behind a later one
-pub same-later : {s t : Space} (prev later : ℕ) → prev ≤ later → SameBehind s t prev → SameBehind s t later
+pub same-later : {s t : Ground} (prev later : ℕ) → prev ≤ later → SameBehind s t prev → SameBehind s t later
 same-later prev later h b = record { mark = b .mark; pages = λ l off c k e. b .pages l off c (omega arith) e }
 
 -- a page with the same bytes reads the same
-pub link-same : (s t : Space) (prev off : ℕ) → t .mark ≡ s .mark → pageAt t off ≡ pageAt s off → linkScan t prev off ≡ linkScan s prev off
+pub link-same : (s t : Ground) (prev off : ℕ) → t .mark ≡ s .mark → pageAt t off ≡ pageAt s off → linkScan t prev off ≡ linkScan s prev off
 unfolding linkScan
 link-same s t prev off mark page = rw (mark, page)
 
 -- a chain that is walked in a space is walked in another one that has the same behind the number before it
-pub walk-same : (k : ℕ) (s t : Space) (last prev off : ℕ) (c : Chain) → SameBehind s t prev → walk k s last prev off ≡ accepted c
+pub walk-same : (k : ℕ) (s t : Ground) (last prev off : ℕ) (c : Chain) → SameBehind s t prev → walk k s last prev off ≡ accepted c
     → walk k t last prev off ≡ accepted c
 unfolding walk
 walk-same zero s t last prev off c b e = absurd (refused≢accepted e)

@@ -18,8 +18,7 @@ use Rattle.scripthash_stream.proofs.LawsLent.{lent, putBack, length-lent}
 use Rattle.scripthash_fields.specs.Page.{nextOff, countOf, linkOf, streamOf, linkOffset}
 use Rattle.scripthash_pages.specs.EntryAnswers.{PageRead as Told}
 use Rattle.scripthash_pages.specs.Entries.{pageScan, pageEntries, pageReadOf}
-use Rattle.book_space.specs.Space.{Space}
-use Rattle.book_keys.specs.Keys.{pageAt, linkScan, Chain, pageThen, walk}
+use Rattle.book_keys.specs.Keys.{pageAt, linkScan, Chain, pageThen, walk, Ground}
 use Rattle.book_keys.specs.Steps.{pageInto, PageFilled}
 use Rattle.book_keys.proofs.LawsPages.{PageRead, page-read, link-sound, into-on}
 use Rattle.book_keys.proofs.LawsWalk.{Ends, GoesOn, walk-step}
@@ -77,7 +76,7 @@ filled-as told before after {page} {page'} {a} {a'} e f h =
     subst (λ (x : Answer Scan). PageFilled told before after page' x) f (subst (λ (p : List ℕ). PageFilled told before after p a) e h)
 
 -- a sound page that fits the list is read
-pub into-sound : (room : ℕ) (s : Space) (prev off : ℕ) (c : Scan) → linkScan s prev off ≡ accepted c → length (c .numbers) ≤ room
+pub into-sound : (room : ℕ) (s : Ground) (prev off : ℕ) (c : Scan) → linkScan s prev off ≡ accepted c → length (c .numbers) ≤ room
     → pageInto room s off ≡ accepted c
 unfolding pageEntries
 into-sound room s prev off c e h =
@@ -101,7 +100,7 @@ length-put out at part h e = simp (length-append, length-take, length-drop) (ome
 -- ---- what is left
 
 -- At most k pages are left to walk, from the one at an offset on, and their numbers, written from an index on, make the whole list.
-pub record Filling (k : ℕ) (s : Space) (last : ℕ) (before : List ℕ) (whole : Chain) (out : List ℕ) (at off : ℕ) : Type 0 where
+pub record Filling (k : ℕ) (s : Ground) (last : ℕ) (before : List ℕ) (whole : Chain) (out : List ℕ) (at off : ℕ) : Type 0 where
   pub prev : ℕ
   pub rest : Chain
   pub walks : walk k s last prev off ≡ accepted rest
@@ -109,19 +108,19 @@ pub record Filling (k : ℕ) (s : Space) (last : ℕ) (before : List ℕ) (whole
   pub writes : overwrite out at (rest .numbers) ≡ overwrite before 0 (whole .numbers)
 
 -- the same by other terms
-pub filling-as : (k : ℕ) (s : Space) (last : ℕ) (before : List ℕ) (whole : Chain) {out out' : List ℕ} {at at' off off' : ℕ}
+pub filling-as : (k : ℕ) (s : Ground) (last : ℕ) (before : List ℕ) (whole : Chain) {out out' : List ℕ} {at at' off off' : ℕ}
     → out ≡ out' → at ≡ at' → off ≡ off' → Filling k s last before whole out at off → Filling k s last before whole out' at' off'
 filling-as k s last before whole {out} {out'} {at} {at'} {off} {off'} e f g h =
     subst (λ (o : ℕ). Filling k s last before whole out' at' o) g
     (subst (λ (a : ℕ). Filling k s last before whole out' a off) f (subst (λ (l : List ℕ). Filling k s last before whole l at off) e h))
 
 -- at first all pages are left
-pub fill-start : (most : ℕ) (s : Space) (last : ℕ) (out : List ℕ) (whole : Chain) (first : ℕ) → walk most s last 0 first ≡ accepted whole
+pub fill-start : (most : ℕ) (s : Ground) (last : ℕ) (out : List ℕ) (whole : Chain) (first : ℕ) → walk most s last 0 first ≡ accepted whole
     → length (whole .numbers) ≤ length out → Filling (most - 0) s last out whole out 0 first
 fill-start most s last out whole first e h =
     record { prev = 0; rest = whole; walks = rw (sub-zero most) e; fits = omega arith; writes = refl }
 
-module _ (s : Space) (last : ℕ) (before : List ℕ) (whole : Chain) (out : List ℕ) (at off : ℕ) where
+module _ (s : Ground) (last : ℕ) (before : List ℕ) (whole : Chain) (out : List ℕ) (at off : ℕ) where
   -- some page is left
   pub fill-some : Filling 0 s last before whole out at off → ⊥
   unfolding walk

@@ -6,15 +6,14 @@ use mathlib.Core.Logic.{_⊎_, ⊎-elim}
 use mathlib.Core.Path.{_≡_, refl, sym, ap, subst}
 use native.Mathlib.Omega.{arith}
 use lib.ListN.{length, length-append}
-use Rattle.error.specs.Refusal.{accepted, refused}
+use Rattle.error.specs.Refusal.{accepted}
 use Rattle.error.proofs.LawsAnswer.{refused≢accepted}
 use Rattle.scripthash_layout.specs.Sizes.{pageClass, pageSize}
 use Rattle.scripthash_stream.specs.Stream.{Rising, Scan, lastFrom}
 use Rattle.scripthash_stream.proofs.LawsStream.{rising-append}
 use Rattle.scripthash_fields.specs.Page.{linkOf, isLastLink, linkOffset}
 use Rattle.scripthash_free.specs.FreeList.{isBlock}
-use Rattle.book_space.specs.Space.{Space}
-use Rattle.book_keys.specs.Keys.{pageAt, linkScan, Chain, pageThen, walk, chainAt}
+use Rattle.book_keys.specs.Keys.{pageAt, linkScan, Chain, pageThen, walk, chainAt, Ground}
 use Rattle.book_keys.proofs.LawsPages.{link-sound}
 use Rattle.book_keys.proofs.LawsWalk.{alone, Ends, GoesOn, walk-step}
 use Rattle.book_keys.proofs.LawsChain.{chain-sound}
@@ -29,7 +28,7 @@ Every P (o ∷ os) = P o × Every P os
 -- ---- by steps
 
 -- What holds of the first page alone, and of a page and more behind it, holds of every walk.
-module _ (P : ℕ → ℕ → Chain → Type 0) (s : Space) (last : ℕ)
+module _ (P : ℕ → ℕ → Chain → Type 0) (s : Ground) (last : ℕ)
     (ends : (prev : ℕ) (page : Scan) → linkScan s prev last ≡ accepted page → P prev last (alone last page))
     (goes : (prev off : ℕ) (page : Scan) (rest : Chain) → linkScan s prev off ≡ accepted page → (off ≡ last → ⊥)
     → isLastLink (linkOf (pageAt s off)) ≡ false
@@ -54,7 +53,7 @@ module _ (P : ℕ → ℕ → Chain → Type 0) (s : Space) (last : ℕ)
 
 -- ---- a sound chain
 
-module _ (s : Space) (last : ℕ) where
+module _ (s : Ground) (last : ℕ) where
   -- the numbers rise from above the number before, and stay below 2 ^ 62
   pub walk-rising : (k prev off : ℕ) (c : Chain) → walk k s last prev off ≡ accepted c → Rising (2 ^ 62) prev (c .numbers)
   unfolding pageThen
@@ -96,7 +95,7 @@ module _ (s : Space) (last : ℕ) where
       (λ prev off page rest is n u ih. (omega arith, omega (arith, length-append (page .numbers) (rest .numbers), ih .1)))
 
 -- there are no more pages than were to be walked
-pub walk-few : (k : ℕ) (s : Space) (last prev off : ℕ) (c : Chain) → walk k s last prev off ≡ accepted c → length (c .offs) ≤ k
+pub walk-few : (k : ℕ) (s : Ground) (last prev off : ℕ) (c : Chain) → walk k s last prev off ≡ accepted c → length (c .offs) ≤ k
 unfolding walk pageThen
 walk-few zero s last prev off c e = absurd (refused≢accepted e)
 walk-few (suc k) s last prev off c e =
@@ -111,7 +110,7 @@ walk-few (suc k) s last prev off c e =
     (w .goes)
 
 -- What is known of a sound chain's list and pages.
-pub record ChainKnown (s : Space) (last : ℕ) (c : Chain) : Type 0 where
+pub record ChainKnown (s : Ground) (last : ℕ) (c : Chain) : Type 0 where
   pub rising : Rising (2 ^ 62) 0 (c .numbers)
   pub stands : Every (λ o. isBlock pageClass o (s .mark) ≡ true) (c .offs)
   pub few : length (c .offs) ≤ s .mark / pageSize
@@ -119,7 +118,7 @@ pub record ChainKnown (s : Space) (last : ℕ) (c : Chain) : Type 0 where
   pub some : (0 < length (c .offs)) × (0 < length (c .numbers))
   pub ends : lastFrom 0 (c .offs) ≡ last
 
-pub chain-known : (s : Space) (last : ℕ) (c : Chain) → chainAt s last ≡ accepted c → ChainKnown s last c
+pub chain-known : (s : Ground) (last : ℕ) (c : Chain) → chainAt s last ≡ accepted c → ChainKnown s last c
 chain-known s last c e =
     let k = chain-sound s last c e in
     let most = s .mark / pageSize in

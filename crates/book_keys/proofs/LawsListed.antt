@@ -2,12 +2,12 @@
 use Prim.Native.Nat.{ℕ, _^_, _≤_, _<_}
 use mathlib.Core.Bool.{Bool, true, false}
 use mathlib.Core.List.{List}
-use mathlib.Core.Path.{_≡_, refl, sym, ap, _∙_}
+use mathlib.Core.Path.{_≡_, sym, ap, _∙_}
 use native.Mathlib.Omega.{arith}
 use borrow.Author.Tests.{lt-ltb, le-ltb}
 use lib.Dec.{ltb}
 use lib.ListN.{length, drop}
-use Rattle.error.specs.Refusal.{Answer, accepted, refused, answered, listTooShort, keyUnsound}
+use Rattle.error.specs.Refusal.{Answer, accepted, refused, listTooShort, keyUnsound}
 use Rattle.error.proofs.LawsAnswer.{then-yes, then-no, refuse-yes, refuse-no, answered-yes, answered-no}
 use Rattle.buffer.specs.Bytes.{overwrite}
 use Rattle.scripthash_layout.specs.Sizes.{maxSlabCount}
@@ -15,8 +15,7 @@ use Rattle.scripthash_layout.specs.declared.head.ShHeadValue.the-variants.{Slab
 use Rattle.scripthash_stream.specs.Stream.{Scan, scan}
 use Rattle.scripthash_forms.specs.Quick.{ShortRead, unread as unread-stream, short as short-stream}
 use Rattle.scripthash_slabs.specs.Slab.{slabUsed}
-use Rattle.book_space.specs.Space.{Space}
-use Rattle.book_keys.specs.Keys.{soundly, slabScan, Content, contentAt}
+use Rattle.book_keys.specs.Keys.{soundly, slabScan, Content, contentAt, Ground}
 use Rattle.book_keys.specs.Steps.{slabRead, Counts, countsOf, ShortList, unread, short, inRoom, afterRead, KeyRead}
 use Rattle.book_keys.proofs.LawsSound.{soundly-yes, soundly-no}
 use Rattle.book_keys.proofs.LawsSlab.{slab-short, slab-payload}
@@ -81,7 +80,7 @@ short-slab slab used told before after few e l (short-stream c some is size fits
 -- ---- a slab's list
 
 -- a key whose slab's bytes read
-module _ (s : Space) (class used off : ℕ) (slab out after : List ℕ) (at : slabScan s class used off ≡ slabRead slab used) where
+module _ (s : Ground) (class used off : ℕ) (slab out after : List ℕ) (at : slabScan s class used off ≡ slabRead slab used) where
   -- they don't
   pub slab-unsound : {number : ℕ} → slabRead slab used ≡ refused number → after ≡ out
       → KeyRead (refused keyUnsound) out after (soundly (contentAt s (Slab class used off)))
@@ -106,7 +105,7 @@ module _ (s : Space) (class used off : ℕ) (slab out after : List ℕ) (at : sl
         read-listed out after _ (inSlab class off c) holds _ (ap (λ (n : ℕ). record { length = n; pages = 0 }) slab-counted) h f
 
 -- a try that read a slab's list
-pub slab-tried : (s : Space) (class used off : ℕ) (slab out after : List ℕ) → slabScan s class used off ≡ slabRead slab used
+pub slab-tried : (s : Ground) (class used off : ℕ) (slab out after : List ℕ) → slabScan s class used off ≡ slabRead slab used
     → (did : Bool) → ShortList did out after (slabRead slab used) → did ≡ true
     → KeyRead (accepted (record { length = used; pages = 0 })) out after (soundly (contentAt s (Slab class used off)))
 slab-tried s class used off slab out after at did (unread e f) g = let z : _≡_ {A = ℕ} 0 1 = cc in absurd (omega arith)

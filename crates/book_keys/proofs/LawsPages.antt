@@ -24,8 +24,7 @@ use Rattle.scripthash_pages.specs.Entries.{pageScan, pageEntries}
 use Rattle.scripthash_pages.proofs.LawsEntries.{place-accepted, scan-placed}
 use Rattle.scripthash_free.specs.FreeList.{isBlock}
 use Rattle.scripthash_free.proofs.LawsBlock.{both, block-stands}
-use Rattle.book_space.specs.Space.{Space}
-use Rattle.book_keys.specs.Keys.{sure, goOn, goodExtent, createsGood, pageAt, linkScan, Last, lastAt, Tail, tailAt}
+use Rattle.book_keys.specs.Keys.{sure, goOn, goodExtent, createsGood, pageAt, linkScan, Last, lastAt, Tail, tailAt, Ground}
 use Rattle.book_keys.specs.Steps.{soundLast, linkRead, lastOfPage, lastRead, tailRead, pageInto}
 use Rattle.book_keys.proofs.LawsSound.{sure-yes, sure-no, was-sure, goes-on, Going, going, lastSound, first-by-last}
 
@@ -180,7 +179,7 @@ creates-fine n h = lt-ltb n (2 ^ 32 - 1) h
 
 -- ---- where pages stand
 
-module _ (s : Space) (off : ℕ) where
+module _ (s : Ground) (off : ℕ) where
   -- a page that can't stand
   pub last-off : isBlock pageClass off (s .mark) ≡ false → lastAt s off ≡ refused keyUnsound
   unfolding lastAt
@@ -213,11 +212,11 @@ module _ (s : Space) (off : ℕ) where
     page-inside body h = omega (arith, block-stands pageClass off (s .mark) stands .ends)
 
 -- reading a page into a lent list: where it can't stand, and where it can
-pub into-off : (room : ℕ) (s : Space) (off : ℕ) → isBlock pageClass off (s .mark) ≡ false → pageInto room s off ≡ refused keyUnsound
+pub into-off : (room : ℕ) (s : Ground) (off : ℕ) → isBlock pageClass off (s .mark) ≡ false → pageInto room s off ≡ refused keyUnsound
 unfolding pageInto
 into-off room s off e = sure-no (isBlock pageClass off (s .mark)) _ e
 
-pub into-on : (room : ℕ) (s : Space) (off : ℕ) → isBlock pageClass off (s .mark) ≡ true
+pub into-on : (room : ℕ) (s : Ground) (off : ℕ) → isBlock pageClass off (s .mark) ≡ true
     → pageInto room s off ≡ pageEntries room (pageAt s off)
 unfolding pageInto
 into-on room s off e = sure-yes (isBlock pageClass off (s .mark)) _ e
@@ -225,13 +224,13 @@ into-on room s off e = sure-yes (isBlock pageClass off (s .mark)) _ e
 -- ---- what is known of sound ones
 
 -- What is known of a page of a chain behind a number: where it stands, its bytes, and its numbers.
-pub record SoundLink (s : Space) (prev off : ℕ) (c : Scan) : Type 0 where
+pub record SoundLink (s : Ground) (prev off : ℕ) (c : Scan) : Type 0 where
   pub stands : isBlock pageClass off (s .mark) ≡ true
   pub scanned : pageScan (pageAt s off) ≡ accepted c
   pub read : PageRead (pageAt s off) c
   pub going : Going prev (c .numbers)
 
-pub link-sound : (s : Space) (prev off : ℕ) (c : Scan) → linkScan s prev off ≡ accepted c → SoundLink s prev off c
+pub link-sound : (s : Ground) (prev off : ℕ) (c : Scan) → linkScan s prev off ≡ accepted c → SoundLink s prev off c
 unfolding linkScan
 link-sound s prev off c e =
     let there = was-sure (isBlock pageClass off (s .mark)) _ e in
@@ -244,14 +243,14 @@ link-sound s prev off c e =
     record { stands = there .0; scanned = scanned; read = known; going = going prev (c .numbers) (known .rising) goes }
 
 -- What is known of a key's last page by its header.
-pub record SoundLast (s : Space) (off : ℕ) (h : Last) : Type 0 where
+pub record SoundLast (s : Ground) (off : ℕ) (h : Last) : Type 0 where
   pub stands : isBlock pageClass off (s .mark) ≡ true
   pub version : versionOf (pageAt s off) ≡ 2
   pub last : isLastLink (linkOf (pageAt s off)) ≡ true
   pub extent : extentNamed (extentBaseOf (pageAt s off)) (extentCountOf (pageAt s off)) ≡ accepted tt
   pub header : lastOfPage (pageAt s off) ≡ h
 
-pub last-sound : (s : Space) (off : ℕ) (h : Last) → lastAt s off ≡ accepted h → SoundLast s off h
+pub last-sound : (s : Ground) (off : ℕ) (h : Last) → lastAt s off ≡ accepted h → SoundLast s off h
 unfolding lastAt goodExtent
 last-sound s off h e =
     let page = pageAt s off in
@@ -268,12 +267,12 @@ last-sound s off h e =
     }
 
 -- What is known of a key's last page as an append looks at it.
-pub record SoundTail (s : Space) (off : ℕ) (t : Tail) : Type 0 where
+pub record SoundTail (s : Ground) (off : ℕ) (t : Tail) : Type 0 where
   pub header : SoundLast s off (t .last)
   pub creates-below : t .last .creates < 2 ^ 32 - 1
   pub link : SoundLink s 0 off (t .scan)
 
-pub tail-sound : (s : Space) (off : ℕ) (t : Tail) → tailAt s off ≡ accepted t → SoundTail s off t
+pub tail-sound : (s : Ground) (off : ℕ) (t : Tail) → tailAt s off ≡ accepted t → SoundTail s off t
 unfolding tailAt createsGood
 tail-sound s off t e =
     let head = went-on (lastAt s off) _ e in

@@ -18,8 +18,7 @@ use Rattle.scripthash_slabs.specs.Slab.{slabUsed, decodeSlab}
 use Rattle.scripthash_slabs.proofs.LawsSlab.{unslab-as-stream}
 use Rattle.scripthash_free.specs.FreeList.{isBlock}
 use Rattle.scripthash_free.proofs.LawsBlock.{both}
-use Rattle.book_space.specs.Space.{Space}
-use Rattle.book_keys.specs.Keys.{sure, goOn, blockAt, slabScan}
+use Rattle.book_keys.specs.Keys.{sure, goOn, blockAt, slabScan, Ground}
 use Rattle.book_keys.specs.Steps.{soundLast, slabRead}
 use Rattle.book_keys.proofs.LawsSound.{sure-yes, sure-no, was-sure, last-above, going, lastSound, first-by-last}
 use Rattle.book_keys.proofs.LawsBlocks.{isSlab, slab-lies}
@@ -77,7 +76,7 @@ slab-short slab used c few e l is some low =
 
 -- ---- where it stands
 
-module _ (s : Space) (class used off : ℕ) where
+module _ (s : Ground) (class used off : ℕ) where
   -- a slab that can't stand is refused
   pub slab-no : isSlab class off (s .mark) ≡ false → slabScan s class used off ≡ refused keyUnsound
   unfolding slabScan
@@ -130,7 +129,7 @@ slab-payload slab used c e =
     )
 
 -- What is known of a sound slab: where it stands, how many numbers its head and its bytes tell, and its numbers.
-pub record SoundSlab (s : Space) (class used off : ℕ) (c : Scan) : Type 0 where
+pub record SoundSlab (s : Ground) (class used off : ℕ) (c : Scan) : Type 0 where
   pub class-to-7 : class ≤ maxSlabClass
   pub stands : isBlock class off (s .mark) ≡ true
   pub used-to-256 : used ≤ maxSlabCount
@@ -142,7 +141,7 @@ pub record SoundSlab (s : Space) (class used off : ℕ) (c : Scan) : Type 0 wher
   pub rising : Rising (2 ^ 62) 0 (c .numbers)
   pub taken-fits : c .taken + 2 ≤ slabBytes class
 
-module _ (s : Space) (class used off : ℕ) where
+module _ (s : Ground) (class used off : ℕ) where
   -- it stands, and its bytes read
   pub slab-there : {c : Scan} → slabScan s class used off ≡ accepted c
       → (isSlab class off (s .mark) ≡ true) × (slabRead (blockAt s class off) used ≡ accepted c)

@@ -13,8 +13,7 @@ use Rattle.error.specs.Refusal.{Answer, accepted, refused, andThen, answered, k
 use Rattle.error.proofs.LawsAnswer.{accepted-inj, refused≢accepted, then-yes, then-no, went-on}
 use Rattle.scripthash_stream.specs.Stream.{Scan, lastFrom}
 use Rattle.scripthash_fields.specs.Page.{linkOf, isLastLink, linkOffset}
-use Rattle.book_space.specs.Space.{Space}
-use Rattle.book_keys.specs.Keys.{soundly, sure, pageAt, linkScan, Chain, pageThen, walk}
+use Rattle.book_keys.specs.Keys.{soundly, sure, pageAt, linkScan, Chain, pageThen, walk, Ground}
 use Rattle.book_keys.specs.Steps.{Walked, walkedFrom}
 use Rattle.book_keys.proofs.LawsSound.{was-unsound, sure-yes, sure-no, was-sure, turned-back, let-through}
 use Rattle.book_keys.proofs.LawsPages.{link-sound}
@@ -24,7 +23,7 @@ abbrev pub alone : ℕ → Scan → Chain
 alone off c = record { numbers = c .numbers; offs = off ∷ [] }
 
 -- A walk that goes on behind a page that isn't the key's last.
-abbrev behind : ℕ → Space → ℕ → ℕ → ℕ → Scan → Answer Chain
+abbrev behind : ℕ → Ground → ℕ → ℕ → ℕ → Scan → Answer Chain
 behind k s last prev off page =
     sure (not (isLastLink (linkOf (pageAt s off))))
     (andThen (walk k s last (lastFrom prev (page .numbers)) (linkOffset (linkOf (pageAt s off))))
@@ -32,7 +31,7 @@ behind k s last prev off page =
 
 -- ---- a step
 
-module _ (k : ℕ) (s : Space) (last prev off : ℕ) where
+module _ (k : ℕ) (s : Ground) (last prev off : ℕ) where
   -- a page that isn't sound ends the walk
   pub walk-refused : {number : ℕ} → linkScan s prev off ≡ refused number → walk (suc k) s last prev off ≡ refused number
   unfolding walk
@@ -67,7 +66,7 @@ pub record Ends (last off : ℕ) (page : Scan) (c : Chain) : Type 0 where
   pub whole : c ≡ alone off page
 
 -- The walk goes on behind its first page.
-pub record GoesOn (k : ℕ) (s : Space) (last prev off : ℕ) (page : Scan) (c : Chain) : Type 0 where
+pub record GoesOn (k : ℕ) (s : Ground) (last prev off : ℕ) (page : Scan) (c : Chain) : Type 0 where
   pub not-there : off ≡ last → ⊥
   pub unflagged : isLastLink (linkOf (pageAt s off)) ≡ false
   pub rest : Chain
@@ -75,12 +74,12 @@ pub record GoesOn (k : ℕ) (s : Space) (last prev off : ℕ) (page : Scan) (c :
   pub whole : c ≡ pageThen off page rest
 
 -- What an accepted walk is made of: its first page, with which it ends, or behind which it goes on.
-pub record Step (k : ℕ) (s : Space) (last prev off : ℕ) (c : Chain) : Type 0 where
+pub record Step (k : ℕ) (s : Ground) (last prev off : ℕ) (c : Chain) : Type 0 where
   pub page : Scan
   pub is : linkScan s prev off ≡ accepted page
   pub goes : Ends last off page c ⊎ GoesOn k s last prev off page c
 
-pub walk-step : (k : ℕ) (s : Space) (last prev off : ℕ) (c : Chain) → walk (suc k) s last prev off ≡ accepted c → Step k s last prev off c
+pub walk-step : (k : ℕ) (s : Ground) (last prev off : ℕ) (c : Chain) → walk (suc k) s last prev off ≡ accepted c → Step k s last prev off c
 unfolding walk
 walk-step k s last prev off c e =
     let got = went-on (linkScan s prev off) _ e in
@@ -101,7 +100,7 @@ walk-step k s last prev off c e =
         })
 
 -- a walk begins where it was told to
-pub walk-first : (k : ℕ) (s : Space) (last prev off : ℕ) (c : Chain) → walk k s last prev off ≡ accepted c → getD (c .offs) 0 0 ≡ off
+pub walk-first : (k : ℕ) (s : Ground) (last prev off : ℕ) (c : Chain) → walk k s last prev off ≡ accepted c → getD (c .offs) 0 0 ≡ off
 unfolding walk pageThen
 walk-first zero s last prev off c e = absurd (refused≢accepted e)
 walk-first (suc k) s last prev off c e =
@@ -112,7 +111,7 @@ walk-first (suc k) s last prev off c e =
 -- ---- the pages left to walk
 
 -- So many numbers and pages were passed, and at most k pages are left to walk: what the whole walk tells.
-unfoldable pub told : ℕ → ℕ → ℕ → Space → ℕ → ℕ → ℕ → Answer Walked
+unfoldable pub told : ℕ → ℕ → ℕ → Ground → ℕ → ℕ → ℕ → Answer Walked
 told count pages k s last prev off = answered (walkedFrom count pages) (soundly (walk k s last prev off))
 
 -- what is told of a page and more behind it
@@ -127,7 +126,7 @@ told-linked count pages off page (accepted rest) =
     rw (numbers, offs)
 told-linked count pages off page (refused number) = refl
 
-module _ (count pages most : ℕ) (s : Space) (last prev off : ℕ) (h : pages < most) where
+module _ (count pages most : ℕ) (s : Ground) (last prev off : ℕ) (h : pages < most) where
   left : most - pages ≡ suc (most - (pages + 1))
   left = omega arith
 
@@ -166,14 +165,14 @@ module _ (count pages most : ℕ) (s : Space) (last prev off : ℕ) (h : pages <
         ∙ ap (λ (p : ℕ). answered (walkedFrom (count + length (c .numbers)) (pages + 1)) (soundly (walk k s last p next))) same))
 
 -- no page is left
-pub told-none : (count pages most : ℕ) (s : Space) (last prev off : ℕ) → most ≤ pages
+pub told-none : (count pages most : ℕ) (s : Ground) (last prev off : ℕ) → most ≤ pages
     → refused keyUnsound ≡ told count pages (most - pages) s last prev off
 unfolding told walk
 told-none count pages most s last prev off h = let none : most - pages ≡ 0 = omega arith in
     rw none (turned-back (walkedFrom count pages) (walk 0 s last prev off) refl)
 
 -- at first all are left
-pub told-start : (most : ℕ) (s : Space) (last off : ℕ)
+pub told-start : (most : ℕ) (s : Ground) (last off : ℕ)
     → told 0 0 (most - 0) s last 0 off ≡ answered (walkedFrom 0 0) (soundly (walk most s last 0 off))
 unfolding told
 told-start most s last off = rw (sub-zero most)

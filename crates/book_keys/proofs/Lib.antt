@@ -7,6 +7,5 @@ pub mod LawsChain
 pub mod LawsFill
 pub mod LawsContent
 pub mod LawsKeys
-pub mod LawsFree
 pub mod LawsDistinct
 pub mod LawsListed

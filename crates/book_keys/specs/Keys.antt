@@ -15,7 +15,15 @@ use Rattle.scripthash_slabs.specs.Slab.{slabUsed, decodeSlab}
 use Rattle.scripthash_fields.specs.Page.{linkOf, extentBaseOf, extentCountOf, createsFieldOf, namesExtent, isLastLink, linkOffset, onExtent}
 use Rattle.scripthash_pages.specs.Entries.{pageScan}
 use Rattle.scripthash_free.specs.FreeList.{Block, isBlock}
-use Rattle.book_space.specs.Space.{Space}
+
+-- The ground of keys: a body's bytes, and the mark below which blocks lie.
+pub record Ground : Type 0 where
+  pub body : List ℕ
+  pub mark : ℕ
+
+-- A body and its mark.
+abbrev pub ground : List ℕ → ℕ → Ground
+ground body mark = record { body = body; mark = mark }
 
 -- What is asked of a key: any refusal says that the key isn't sound.
 unfoldable pub soundly : {A : Type 0} → Answer A → Answer A
@@ -34,11 +42,11 @@ goOn prev (n ∷ ns) = ltb prev n && ltb (lastFrom n ns) (2 ^ 62)
 -- ---- a slab
 
 -- The bytes of a block of a class at an offset.
-abbrev pub blockAt : Space → ℕ → ℕ → List ℕ
+abbrev pub blockAt : Ground → ℕ → ℕ → List ℕ
 blockAt s class off = part (s .body) off (slabBytes class)
 
 -- The stream of a slab: its class is up to 7, it lies below the mark, it has as many numbers as the head says, at most 256, and reads.
-unfoldable pub slabScan : Space → ℕ → ℕ → ℕ → Answer Scan
+unfoldable pub slabScan : Ground → ℕ → ℕ → ℕ → Answer Scan
 slabScan s class used off =
     sure (leb class maxSlabClass && isBlock class off (s .mark))
     (sure (leb used maxSlabCount && eqb (slabUsed (blockAt s class off)) used)
@@ -47,11 +55,11 @@ slabScan s class used off =
 -- ---- pages
 
 -- The bytes of the page at an offset.
-abbrev pub pageAt : Space → ℕ → List ℕ
+abbrev pub pageAt : Ground → ℕ → List ℕ
 pageAt s off = blockAt s pageClass off
 
 -- The stream of a page behind a number: the page lies below the mark, it reads, and its numbers go on behind that number.
-unfoldable pub linkScan : Space → ℕ → ℕ → Answer Scan
+unfoldable pub linkScan : Ground → ℕ → ℕ → Answer Scan
 linkScan s prev off =
     sure (isBlock pageClass off (s .mark)) (andThen (pageScan (pageAt s off)) (λ c. sure (goOn prev (c .numbers)) (accepted c)))
 
@@ -65,7 +73,7 @@ pub record Last : Type 0 where
   pub creates : ℕ
 
 -- The header of a key's last page, at an offset: it lies below the mark, it is version 2 with LAST, and names a good extent.
-unfoldable pub lastAt : Space → ℕ → Answer Last
+unfoldable pub lastAt : Ground → ℕ → Answer Last
 lastAt s off =
     sure (isBlock pageClass off (s .mark))
     (sure (namesExtent (pageAt s off) && isLastLink (linkOf (pageAt s off)))
@@ -82,7 +90,7 @@ unfoldable pub pageThen : ℕ → Scan → Chain → Chain
 pageThen off c rest = record { numbers = c .numbers ++ rest .numbers; offs = off ∷ rest .offs }
 
 -- Walking a chain from a page on, behind a number, up to the key's last page, over at most so many pages; no other page has LAST.
-unfoldable pub walk : ℕ → Space → ℕ → ℕ → ℕ → Answer Chain
+unfoldable pub walk : ℕ → Ground → ℕ → ℕ → ℕ → Answer Chain
 walk zero s last prev off = refused keyUnsound
 walk (suc k) s last prev off =
     andThen (linkScan s prev off)
@@ -96,7 +104,7 @@ totalGood creates n = eqb creates 0 || eqb creates n
 
 -- The chain of a key whose last page is at an offset: from the first page that the last one names, no more than mark / 4,096 pages, and the
 -- last page's creates is the length of the list, or unknown.
-unfoldable pub chainAt : Space → ℕ → Answer Chain
+unfoldable pub chainAt : Ground → ℕ → Answer Chain
 chainAt s last =
     andThen (lastAt s last)
     (λ h. andThen (walk (s .mark / pageSize) s last 0 (h .first)) (λ c. sure (totalGood (h .creates) (length (c .numbers))) (accepted c)))
@@ -115,7 +123,7 @@ pageBlocks [] = []
 pageBlocks (o ∷ os) = record { class = pageClass; off = o } ∷ pageBlocks os
 
 -- What the place that a head word tells holds.
-unfoldable pub contentAt : Space → ShHeadValue → Answer Content
+unfoldable pub contentAt : Ground → ShHeadValue → Answer Content
 contentAt s Empty = accepted (record { numbers = []; blocks = []; pages = 0 })
 contentAt s (Inline entry used) = accepted (record { numbers = entry ∷ []; blocks = []; pages = 0 })
 contentAt s (Slab class used off) =
@@ -125,7 +133,7 @@ contentAt s (Extent last) =
     andThen (chainAt s last) (λ c. accepted (record { numbers = c .numbers; blocks = pageBlocks (c .offs); pages = length (c .offs) }))
 
 -- What the key of a head word holds, or 31 where it isn't sound.
-unfoldable pub content : Space → ℕ → Answer Content
+unfoldable pub content : Ground → ℕ → Answer Content
 content s word = soundly (andThen (unpackHead word) (contentAt s))
 
 -- ---- an append's look at a key
@@ -140,7 +148,7 @@ pub record Tail : Type 0 where
   pub last : Last
 
 -- The last page of a key as an append looks at it: not at where its first offset leads.
-unfoldable pub tailAt : Space → ℕ → Answer Tail
+unfoldable pub tailAt : Ground → ℕ → Answer Tail
 tailAt s last =
     andThen (lastAt s last)
     (λ h. sure (createsGood (h .creates)) (andThen (linkScan s 0 last) (λ c. accepted (record { scan = c; last = h }))))

@@ -2,7 +2,7 @@
 -- code tell each other.
 use Prim.Native.Nat.{ℕ, _+_, _^_, _≤_}
 use mathlib.Core.Bool.{Bool, true, false, _&&_}
-use mathlib.Core.List.{List, []}
+use mathlib.Core.List.{List}
 use mathlib.Core.Path.{_≡_}
 use lib.Dec.{leb, ltb, eqb}
 use lib.ListN.{length, getD}
@@ -15,12 +15,7 @@ use Rattle.scripthash_fields.specs.Page.{linkOf, createsFieldOf, namesExtent, i
 use Rattle.scripthash_pages.specs.EntryAnswers.{PageRead}
 use Rattle.scripthash_pages.specs.Entries.{pageScan, pageEntries, pageReadOf}
 use Rattle.scripthash_free.specs.FreeList.{isBlock}
-use Rattle.book_space.specs.Space.{Space, space}
-use Rattle.book_keys.specs.Keys.{sure, goOn, goodExtent, pageAt, createsGood, Last, Chain, Content, Tail}
-
--- A body and its mark as keys are read there: the free heads don't matter.
-abbrev pub keySpace : List ℕ → ℕ → Space
-keySpace body mark = space body mark []
+use Rattle.book_keys.specs.Keys.{sure, goOn, goodExtent, pageAt, createsGood, Last, Chain, Content, Tail, Ground}
 
 -- A last number that a sound block may have: it isn't 0, which would say that there is none, and it is below 2^62.
 unfoldable pub soundLast : ℕ → Bool
@@ -107,7 +102,7 @@ countsOf c = record { length = length (c .numbers); pages = c .pages }
 -- ---- lists that are written out
 
 -- Reading the page at an offset into a lent list with room for some numbers: the page lies below the mark, reads, and fits.
-unfoldable pub pageInto : ℕ → Space → ℕ → Answer Scan
+unfoldable pub pageInto : ℕ → Ground → ℕ → Answer Scan
 pageInto room s off = sure (isBlock pageClass off (s .mark)) (pageEntries room (pageAt s off))
 
 -- What filling a list from a page does, whose reading would be `a`: where that is accepted, it tells as much and the list holds the

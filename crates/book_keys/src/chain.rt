@@ -8,8 +8,8 @@ ghost use Rattle.scripthash_layout.specs.declared.head.ShHeadValue.the-variants
 ghost use Rattle.scripthash_pages.specs.EntryAnswers.{sliceAnswer};
 ghost use Rattle.scripthash_pages.specs.Entries.{pageEntries};
 ghost use Rattle.book_keys.specs.Keys.{soundly, pageAt, linkScan, lastAt, walk, Chain as ChainIs, totalGood, chainAt};
-ghost use Rattle.book_keys.specs.Keys.{tailAt, contentAt};
-ghost use Rattle.book_keys.specs.Steps.{keySpace, linkRead, lastRead, tailRead, tailEndOf, linkEndOf, walkedFrom, chainEndOf};
+ghost use Rattle.book_keys.specs.Keys.{tailAt, contentAt, ground};
+ghost use Rattle.book_keys.specs.Steps.{linkRead, lastRead, tailRead, tailEndOf, linkEndOf, walkedFrom, chainEndOf};
 ghost use Rattle.book_keys.specs.Steps.{pageInto, PageFilled, Written, KeyRead};
 ghost use Rattle.book_keys.specs.Answers.{lastPageAnswer, tailAnswer, linkEndAnswer, walkAnswer, chainAnswer, countsAnswer};
 use crate::key::KeyCounts;
@@ -190,7 +190,7 @@ fn read_link(page: &[u8], prev: u64) -> LinkEnd
 // The header of a key's last page, at an offset.
 fn last_page(body: &[u8], mark: u64, last: u64) -> LastPage
     requires { ⌜ mark ≤ length (now body) ⌝ }
-    ensures { λ r. ⌜ lastPageAnswer r ≡ soundly (lastAt (keySpace (now (body .entry)) mark) last) ⌝ }
+    ensures { λ r. ⌜ lastPageAnswer r ≡ soundly (lastAt (ground (now (body .entry)) mark) last) ⌝ }
 {
     if !is_page(last, mark) {
         return LastPage::Refused(error::KEY_UNSOUND);
@@ -202,7 +202,7 @@ fn last_page(body: &[u8], mark: u64, last: u64) -> LastPage
 // A key's last page as an append looks at it, at an offset: it is scanned once. 31 where it isn't sound.
 pub fn tail_end(body: &[u8], mark: u64, last: u64) -> TailEnd
     requires { ⌜ mark ≤ length (now body) ⌝ }
-    ensures { λ r. ⌜ tailAnswer r ≡ answered tailEndOf (soundly (tailAt (keySpace (now (body .entry)) mark) last)) ⌝ }
+    ensures { λ r. ⌜ tailAnswer r ≡ answered tailEndOf (soundly (tailAt (ground (now (body .entry)) mark) last)) ⌝ }
 {
     if !is_page(last, mark) {
         return TailEnd::Refused(error::KEY_UNSOUND);
@@ -215,8 +215,8 @@ pub fn tail_end(body: &[u8], mark: u64, last: u64) -> TailEnd
 fn link_end(body: &[u8], mark: u64, prev: u64, off: u64) -> LinkEnd
     requires { ⌜ mark ≤ length (now body) ⌝ }
     ensures { λ r. ⌜ linkEndAnswer r
-        ≡ answered (linkEndOf (pageAt (keySpace (now (body .entry)) mark) off))
-        (soundly (linkScan (keySpace (now (body .entry)) mark) prev off)) ⌝ }
+        ≡ answered (linkEndOf (pageAt (ground (now (body .entry)) mark) off))
+        (soundly (linkScan (ground (now (body .entry)) mark) prev off)) ⌝ }
 {
     if !is_page(off, mark) {
         return LinkEnd::Refused(error::KEY_UNSOUND);
@@ -229,7 +229,7 @@ fn link_end(body: &[u8], mark: u64, prev: u64, off: u64) -> LinkEnd
 fn walk_pages(body: &[u8], mark: u64, first: u64, last: u64) -> WalkEnd
     requires { ⌜ mark ≤ length (now body) ⌝ }
     ensures { λ r. ⌜ walkAnswer r
-        ≡ answered (walkedFrom 0 0) (soundly (walk (mark / pageSize) (keySpace (now (body .entry)) mark) last 0 first)) ⌝ }
+        ≡ answered (walkedFrom 0 0) (soundly (walk (mark / pageSize) (ground (now (body .entry)) mark) last 0 first)) ⌝ }
 {
     let most = mark / SH_PAGE_BYTES;
     let mut off = first;
@@ -274,7 +274,7 @@ fn total_good(creates: u32, length: u64) -> bool
 // A key's chain whose last page is at an offset, or 31 where it isn't sound.
 pub fn chain_end(body: &[u8], mark: u64, last: u64) -> ChainEnd
     requires { ⌜ mark ≤ length (now body) ⌝ }
-    ensures { λ r. ⌜ chainAnswer r ≡ answered chainEndOf (soundly (chainAt (keySpace (now (body .entry)) mark) last)) ⌝ }
+    ensures { λ r. ⌜ chainAnswer r ≡ answered chainEndOf (soundly (chainAt (ground (now (body .entry)) mark) last)) ⌝ }
 {
     let header = last_page(body, mark, last);
     let LastPage::Header { first, creates } = header else {
@@ -315,8 +315,8 @@ fn fill_page(page: &[u8], out: &mut [u64]) -> PageSlice
 // The same for the page at an offset.
 fn page_into(body: &[u8], mark: u64, off: u64, out: &mut [u64]) -> PageSlice
     requires { ⌜ mark ≤ length (now body) ⌝ }
-    ensures { λ r. ⌜ PageFilled (sliceAnswer r) (now (out .entry)) (now (out .exit)) (pageAt (keySpace (now (body .entry)) mark) off)
-        (pageInto (length (now (out .entry))) (keySpace (now (body .entry)) mark) off) ⌝ }
+    ensures { λ r. ⌜ PageFilled (sliceAnswer r) (now (out .entry)) (now (out .exit)) (pageAt (ground (now (body .entry)) mark) off)
+        (pageInto (length (now (out .entry))) (ground (now (body .entry)) mark) off) ⌝ }
 {
     if !is_page(off, mark) {
         return PageSlice::Refused(error::KEY_UNSOUND);
@@ -328,7 +328,7 @@ fn page_into(body: &[u8], mark: u64, off: u64, out: &mut [u64]) -> PageSlice
 // Writes the numbers of a sound chain to the start of out, page by page.
 fn chain_into(body: &[u8], mark: u64, first: u64, last: u64, out: &mut [u64])
     requires { ⌜ mark ≤ length (now body) ⌝ }
-    ensures { λ _. ⌜ ((c : ChainIs) → soundly (chainAt (keySpace (now (body .entry)) mark) last) ≡ accepted c → first ≡ getD (c .offs) 0 0
+    ensures { λ _. ⌜ ((c : ChainIs) → soundly (chainAt (ground (now (body .entry)) mark) last) ≡ accepted c → first ≡ getD (c .offs) 0 0
         → Written (now (out .entry)) (now (out .exit)) (c .numbers)) ⌝ }
 {
     let most = mark / SH_PAGE_BYTES;
@@ -353,7 +353,7 @@ fn chain_into(body: &[u8], mark: u64, first: u64, last: u64, out: &mut [u64])
 pub fn read_chain(body: &[u8], mark: u64, last: u64, out: &mut [u64]) -> KeyCounts
     requires { ⌜ mark ≤ length (now body) ⌝ }
     ensures { λ r. ⌜ KeyRead (countsAnswer r) (now (out .entry)) (now (out .exit))
-        (soundly (contentAt (keySpace (now (body .entry)) mark) (Extent last))) ⌝ }
+        (soundly (contentAt (ground (now (body .entry)) mark) (Extent last))) ⌝ }
 {
     let got = chain_end(body, mark, last);
     let ChainEnd::Chain {

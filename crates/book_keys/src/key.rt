@@ -4,9 +4,8 @@ ghost use Prim.Native.Nat.{ℕ, _≤_};
 ghost use lib.ListN.{length};
 ghost use Rattle.error.specs.Refusal.{answered, refusalOf};
 ghost use Rattle.scripthash_layout.specs.declared.head.ShHeadValue.the-variants.{Inline};
-ghost use Rattle.book_space.specs.Space.{Space};
-ghost use Rattle.book_keys.specs.Keys.{soundly, contentAt, content};
-ghost use Rattle.book_keys.specs.Steps.{keySpace, countsOf, inRoom, afterRead, KeyRead};
+ghost use Rattle.book_keys.specs.Keys.{soundly, contentAt, content, Ground, ground};
+ghost use Rattle.book_keys.specs.Steps.{countsOf, inRoom, afterRead, KeyRead};
 ghost use Rattle.book_keys.specs.Answers.{countsAnswer};
 use crate::chain::read_chain;
 use crate::slab::read_stored;
@@ -37,7 +36,7 @@ impl KeyCounts {
 
 // Reads the one number of a key into the start of out.
 fn read_inline(entry: u64, out: &mut [u64]) -> KeyCounts
-    ensures { λ r. ⌜ ((s : Space) (used : ℕ)
+    ensures { λ r. ⌜ ((s : Ground) (used : ℕ)
         → KeyRead (countsAnswer r) (now (out .entry)) (now (out .exit)) (soundly (contentAt s (Inline entry used)))) ⌝ }
 {
     if out.len() < 1 {
@@ -54,7 +53,7 @@ fn read_inline(entry: u64, out: &mut [u64]) -> KeyCounts
 fn read_place(body: &[u8], mark: u64, place: ShHeadValue, out: &mut [u64]) -> KeyCounts
     requires { ⌜ mark ≤ length (now body) ⌝ }
     ensures { λ r. ⌜ KeyRead (countsAnswer r) (now (out .entry)) (now (out .exit))
-        (soundly (contentAt (keySpace (now (body .entry)) mark) place)) ⌝ }
+        (soundly (contentAt (ground (now (body .entry)) mark) place)) ⌝ }
 {
     match place {
         ShHeadValue::Empty => KeyCounts::Counts {
@@ -72,9 +71,9 @@ fn read_place(body: &[u8], mark: u64, place: ShHeadValue, out: &mut [u64]) -> Ke
 pub fn read_key(body: &[u8], mark: u64, word: u64, out: &mut [u64]) -> KeyCounts
     requires { ⌜ mark ≤ length (now body) ⌝ }
     ensures answer { λ r. ⌜ countsAnswer r
-        ≡ answered countsOf (inRoom (length (now (out .entry))) (content (keySpace (now (body .entry)) mark) word)) ⌝ }
+        ≡ answered countsOf (inRoom (length (now (out .entry))) (content (ground (now (body .entry)) mark) word)) ⌝ }
     ensures list { λ r. ⌜ now (out .exit)
-        ≡ afterRead (now (out .entry)) (inRoom (length (now (out .entry))) (content (keySpace (now (body .entry)) mark) word)) ⌝ }
+        ≡ afterRead (now (out .entry)) (inRoom (length (now (out .entry))) (content (ground (now (body .entry)) mark) word)) ⌝ }
 {
     let got = scripthash_layout::unpack8(word);
     let Unpacked::Head(place) = got else {

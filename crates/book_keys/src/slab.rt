@@ -10,9 +10,8 @@ ghost use Rattle.scripthash_stream.specs.Stream.{Scan, endFrom};
 ghost use Rattle.scripthash_stream.specs.Answers.{scanAnswer};
 ghost use Rattle.scripthash_free.specs.FreeList.{isBlock};
 ghost use Rattle.scripthash_layout.specs.declared.head.ShHeadValue.the-variants.{Slab};
-ghost use Rattle.book_space.specs.Space.{Space};
-ghost use Rattle.book_keys.specs.Keys.{soundly, slabScan, contentAt};
-ghost use Rattle.book_keys.specs.Steps.{keySpace, soundLast, slabRead, Written, ShortList, KeyRead};
+ghost use Rattle.book_keys.specs.Keys.{soundly, slabScan, contentAt, Ground, ground};
+ghost use Rattle.book_keys.specs.Steps.{soundLast, slabRead, Written, ShortList, KeyRead};
 ghost use Rattle.book_keys.specs.Answers.{countsAnswer};
 use crate::key::KeyCounts;
 use scripthash_free::is_slab;
@@ -69,7 +68,7 @@ fn read_slab(slab: &[u8], used: u16) -> ScanStream
 // Scans a key's slab once: how many bytes its stream takes and its last number, or 31 where it isn't sound.
 pub fn slab_end(body: &[u8], mark: u64, class: u8, used: u16, off: u64) -> ScanStream
     requires { ⌜ mark ≤ length (now body) ⌝ }
-    ensures { λ r. ⌜ scanAnswer r ≡ answered (endFrom 0) (soundly (slabScan (keySpace (now (body .entry)) mark) class used off)) ⌝ }
+    ensures { λ r. ⌜ scanAnswer r ≡ answered (endFrom 0) (soundly (slabScan (ground (now (body .entry)) mark) class used off)) ⌝ }
 {
     if !slab_stands(class, off, mark) {
         return ScanStream::Refused(error::KEY_UNSOUND);
@@ -106,7 +105,7 @@ fn short_slab(slab: &[u8], used: u16, out: &mut [u64]) -> bool
 // Reads a slab, by its bytes, into the start of out: in one pass where it is short, else it is judged and then read.
 fn slab_list(slab: &[u8], used: u16, out: &mut [u64]) -> KeyCounts
     requires { ⌜ 2 ≤ length (now slab) ⌝ }
-    ensures { λ r. ⌜ ((s : Space) (class off : ℕ) → slabScan s class used off ≡ slabRead (now (slab .entry)) used
+    ensures { λ r. ⌜ ((s : Ground) (class off : ℕ) → slabScan s class used off ≡ slabRead (now (slab .entry)) used
         → KeyRead (countsAnswer r) (now (out .entry)) (now (out .exit)) (soundly (contentAt s (Slab class used off)))) ⌝ }
 {
     if short_slab(slab, used, out) {
@@ -140,7 +139,7 @@ pub fn read_stored(
 ) -> KeyCounts
     requires { ⌜ mark ≤ length (now body) ⌝ }
     ensures { λ r. ⌜ KeyRead (countsAnswer r) (now (out .entry)) (now (out .exit))
-        (soundly (contentAt (keySpace (now (body .entry)) mark) (Slab class used off))) ⌝ }
+        (soundly (contentAt (ground (now (body .entry)) mark) (Slab class used off))) ⌝ }
 {
     if !slab_stands(class, off, mark) {
         return KeyCounts::Refused(error::KEY_UNSOUND);
@@ -153,7 +152,7 @@ pub fn read_stored(
 // Writes the numbers of a sound slab to the start of out.
 pub fn slab_into(body: &[u8], class: u8, off: u64, out: &mut [u64])
     requires { ⌜ (class ≤ maxSlabClass) × (off + slabBytes class ≤ length (now body)) ⌝ }
-    ensures { λ _. ⌜ ((mark used : ℕ) (c : Scan) → soundly (slabScan (keySpace (now (body .entry)) mark) class used off) ≡ accepted c
+    ensures { λ _. ⌜ ((mark used : ℕ) (c : Scan) → soundly (slabScan (ground (now (body .entry)) mark) class used off) ≡ accepted c
         → Written (now (out .entry)) (now (out .exit)) (c .numbers)) ⌝ }
 {
     let start = off as usize;

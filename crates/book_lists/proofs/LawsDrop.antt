@@ -27,7 +27,7 @@ use Rattle.book_rules.specs.Calls.{dropped}
 use Rattle.book_space.specs.Space.{Space, shapeBroken, release}
 use Rattle.book_space.proofs.LawsLists.{stands-further, each-one}
 use Rattle.book_space.proofs.LawsTake.{InBody, release-none, release-first, release-mark, release-size, release-outside}
-use Rattle.book_keys.specs.Keys.{soundly, pageAt, linkScan, pageThen, Chain, walk, chainAt, Content, pageBlocks, contentAt, content}
+use Rattle.book_keys.specs.Keys.{Ground, soundly, pageAt, linkScan, pageThen, Chain, walk, chainAt, Content, pageBlocks, contentAt, content}
 use Rattle.book_keys.specs.Steps.{ChainEndOf, chainEndOf}
 use Rattle.book_keys.proofs.LawsSound.{soundly-yes, soundly-no}
 use Rattle.book_keys.proofs.LawsPages.{link-sound}
@@ -35,7 +35,7 @@ use Rattle.book_keys.proofs.LawsWalk.{Ends, GoesOn, walk-step}
 use Rattle.book_keys.proofs.LawsChain.{chain-sound}
 use Rattle.book_keys.proofs.LawsContent.{content-at, content-nowhere}
 use Rattle.book_keys.proofs.LawsDistinct.{page-once, SameBehind, walk-same}
-use Rattle.book.specs.Book.{Book, wordOf, headWord, placing}
+use Rattle.book.specs.Book.{Book, wordOf, headWord, placing, seen}
 use Rattle.book.specs.Reads.{drops}
 use Rattle.book.specs.Steps.{dropping, dropsAt, PagesLeft}
 use Rattle.book.proofs.LawsKey.{key-broken, key-beyond, key-there}
@@ -50,19 +50,19 @@ empty-word = refl
 -- A drop of a key at a place.
 module _ (b : Book) (key : ℕ) (place : ShHeadValue) where
   -- One that isn't sound is refused.
-  pub drop-no : {number : ℕ} → contentAt (b .space) place ≡ refused number → dropsAt b key place ≡ refused keyUnsound
+  pub drop-no : {number : ℕ} → contentAt (seen (b .space)) place ≡ refused number → dropsAt b key place ≡ refused keyUnsound
   unfolding dropsAt
-  drop-no e = then-no (soundly (contentAt (b .space) place)) _ (soundly-no (contentAt (b .space) place) e)
+  drop-no e = then-no (soundly (contentAt (seen (b .space)) place)) _ (soundly-no (contentAt (seen (b .space)) place) e)
 
   -- A sound one is emptied, in the space with its blocks given back.
-  pub drop-yes : (c : Content) (count : ℕ) (s : Space) → contentAt (b .space) place ≡ accepted c → length (c .numbers) ≡ count
+  pub drop-yes : (c : Content) (count : ℕ) (s : Space) → contentAt (seen (b .space)) place ≡ accepted c → length (c .numbers) ≡ count
       → s ≡ release (c .blocks) (b .space)
       → accepted (placing (dropped (record { length = count })) key Empty s b) ≡ dropsAt b key place
   unfolding dropsAt
   drop-yes c count s e n r =
       ap (λ (m : ℕ). accepted (placing (dropped (record { length = m })) key Empty s b)) (sym n)
       ∙ ap (λ (t : Space). accepted (placing (dropped (record { length = length (c .numbers) })) key Empty t b)) r
-      ∙ sym (then-yes (soundly (contentAt (b .space) place)) _ (soundly-yes (contentAt (b .space) place) e))
+      ∙ sym (then-yes (soundly (contentAt (seen (b .space)) place)) _ (soundly-yes (contentAt (seen (b .space)) place) e))
 
 -- A drop of a key of a book.
 module _ (b : Book) (key : ℕ) where
@@ -82,14 +82,14 @@ module _ (b : Book) (key : ℕ) where
       pub drop-nowhere : {number : ℕ} → unpackHead (wordOf key b) ≡ refused number → drops b key ≡ refused keyUnsound
       unfolding drops
       drop-nowhere e = key-there b key _ whole h
-          ∙ then-no (content (b .space) (wordOf key b)) _ (content-nowhere (b .space) (wordOf key b) e)
+          ∙ then-no (content (seen (b .space)) (wordOf key b)) _ (content-nowhere (seen (b .space)) (wordOf key b) e)
 
       -- Its place decides.
       pub drop-there : (place : ShHeadValue) → unpackHead (wordOf key b) ≡ accepted place → drops b key ≡ dropsAt b key place
       unfolding drops dropsAt
       drop-there place e =
           key-there b key _ whole h
-          ∙ ap (λ (a : Answer Content). andThen a (λ c. accepted (dropping key c b))) (content-at (b .space) (wordOf key b) place e)
+          ∙ ap (λ (a : Answer Content). andThen a (λ c. accepted (dropping key c b))) (content-at (seen (b .space)) (wordOf key b) place e)
 
 -- ---- pages given back
 
@@ -111,25 +111,25 @@ apart-pages o off p q n = by-test (ltb o off) refl
 pub given-size : (s : Space) (off : ℕ) → isBlock pageClass off (length (s .body)) ≡ true → length (given off s .body) ≡ length (s .body)
 given-size s off stands = release-size _ s (each-one (InBody s) _ stands)
 
-module _ (s : Space) (within : s .mark ≤ length (s .body)) (prev off : ℕ) (c : Scan) (is : linkScan s prev off ≡ accepted c) where
+module _ (s : Space) (within : s .mark ≤ length (s .body)) (prev off : ℕ) (c : Scan) (is : linkScan (seen s) prev off ≡ accepted c) where
   -- A page of a chain stands within the body.
   pub page-stands : isBlock pageClass off (length (s .body)) ≡ true
-  page-stands = stands-further pageClass off (s .mark) (length (s .body)) within (link-sound s prev off c is .stands)
+  page-stands = stands-further pageClass off (s .mark) (length (s .body)) within (link-sound (seen s) prev off c is .stands)
 
   -- The pages behind it stay.
-  pub given-same : SameBehind s (given off s) (lastFrom prev (c .numbers))
+  pub given-same : SameBehind (seen s) (seen (given off s)) (lastFrom prev (c .numbers))
   given-same = record { mark = release-mark _ s; pages = same }
     where
-      same : (later o : ℕ) (d : Scan) → lastFrom prev (c .numbers) ≤ later → linkScan s later o ≡ accepted d
-          → pageAt (given off s) o ≡ pageAt s o
+      same : (later o : ℕ) (d : Scan) → lastFrom prev (c .numbers) ≤ later → linkScan (seen s) later o ≡ accepted d
+          → pageAt (seen (given off s)) o ≡ pageAt (seen s) o
       same later o d h e =
           let here = block-stands pageClass off (length (s .body)) page-stands in
-          let there = block-stands pageClass o (s .mark) (link-sound s later o d e .stands) in
+          let there = block-stands pageClass o (s .mark) (link-sound (seen s) later o d e .stands) in
           release-outside _ s off (off + 4096) (each-one (Within off (off + 4096)) _ (omega arith, omega arith)) (here .ends) o 4096
-          (apart-pages o off (there .aligned) (here .aligned) (page-once s prev off c is later o d e h))
+          (apart-pages o off (there .aligned) (here .aligned) (page-once (seen s) prev off c is later o d e h))
 
 -- All pages of a sound chain are left, from its first on.
-pub chain-left : (s : Space) (last : ℕ) (c : Chain) (end : ChainEndOf) → s .mark ≤ length (s .body) → chainAt s last ≡ accepted c
+pub chain-left : (s : Ground) (last : ℕ) (c : Chain) (end : ChainEndOf) → s .mark ≤ length (s .body) → chainAt s last ≡ accepted c
     → chainEndOf c ≡ end
     → PagesLeft s (end .first) (end .pages) (c .offs)
 chain-left s last c end within e told =
@@ -153,21 +153,21 @@ pub record Turn (s : Space) (off left : ℕ) (offs : List ℕ) : Type 0 where
   pub stands : isBlock pageClass off (length (s .body)) ≡ true
   pub behind : List ℕ
   pub gives : release (pageBlocks behind) (given off s) ≡ release (pageBlocks offs) s
-  pub rest : PagesLeft (given off s) (linkOffset (linkOf (pageAt s off))) (left - 1) behind
+  pub rest : PagesLeft (seen (given off s)) (linkOffset (linkOf (pageAt (seen s) off))) (left - 1) behind
 
 -- A turn of a walk.
-walk-turn : (k : ℕ) (s : Space) (last prev off left : ℕ) (offs : List ℕ) (c : Chain) → walk k s last prev off ≡ accepted c → c .offs ≡ offs
+walk-turn : (k : ℕ) (s : Space) (last prev off left : ℕ) (offs : List ℕ) (c : Chain) → walk k (seen s) last prev off ≡ accepted c → c .offs ≡ offs
     → s .mark ≤ length (s .body) → length offs ≡ left → Turn s off left offs
 unfolding walk pageThen pageBlocks
 walk-turn zero s last prev off left offs c e met within count = absurd (refused≢accepted e)
 walk-turn (suc k) s last prev off left offs c e met within count =
-    let w = walk-step k s last prev off c e in ⊎-elim (by-end (w .page) (w .is)) (by-rest (w .page) (w .is)) (w .goes)
+    let w = walk-step k (seen s) last prev off c e in ⊎-elim (by-end (w .page) (w .is)) (by-rest (w .page) (w .is)) (w .goes)
   where
-    inside : (p : Scan) → linkScan s prev off ≡ accepted p → given off s .mark ≤ length (given off s .body)
+    inside : (p : Scan) → linkScan (seen s) prev off ≡ accepted p → given off s .mark ≤ length (given off s .body)
     inside p is = let size = given-size s off (page-stands s within prev off p is) in let mark =
         release-mark (record { class = pageClass; off = off } ∷ []) s in omega arith
 
-    by-end : (p : Scan) → linkScan s prev off ≡ accepted p → Ends last off p c → Turn s off left offs
+    by-end : (p : Scan) → linkScan (seen s) prev off ≡ accepted p → Ends last off p c → Turn s off left offs
     by-end p is d =
         let all : offs ≡ off ∷ [] = sym met ∙ ap (λ (x : Chain). x .offs) (d .whole) in
         let one = ap length all in
@@ -178,7 +178,7 @@ walk-turn (suc k) s last prev off left offs c e met within count =
           rest = record { within = inside p is; count = omega arith; rest = λ h. absurd (omega arith) };
         }
 
-    by-rest : (p : Scan) → linkScan s prev off ≡ accepted p → GoesOn k s last prev off p c → Turn s off left offs
+    by-rest : (p : Scan) → linkScan (seen s) prev off ≡ accepted p → GoesOn k (seen s) last prev off p c → Turn s off left offs
     by-rest p is g =
         let all : offs ≡ off ∷ g .rest .offs = sym met ∙ ap (λ (x : Chain). x .offs) (g .whole) in
         let more = ap length all in
@@ -195,7 +195,7 @@ walk-turn (suc k) s last prev off left offs c e met within count =
               last = last;
               prev = next;
               chain = g .rest;
-              walks = walk-same k s (given off s) last next (linkOffset (linkOf (pageAt s off))) (g .rest)
+              walks = walk-same k (seen s) (seen (given off s)) last next (linkOffset (linkOf (pageAt (seen s) off))) (g .rest)
                   (given-same s within prev off p is) (g .walks);
               met = refl;
             };
@@ -203,7 +203,7 @@ walk-turn (suc k) s last prev off left offs c e met within count =
         }
 
 -- A turn of giving back the pages that are left.
-pub page-turn : (s : Space) (off left : ℕ) (offs : List ℕ) → 0 < left → PagesLeft s off left offs → Turn s off left offs
+pub page-turn : (s : Space) (off left : ℕ) (offs : List ℕ) → 0 < left → PagesLeft (seen s) off left offs → Turn s off left offs
 page-turn s off left offs h p = let w =
     p .rest h in walk-turn (w .most) s (w .last) (w .prev) off left offs (w .chain) (w .walks) (w .met) (p .within) (p .count)
 
@@ -215,12 +215,12 @@ no-pages s = release-none s
 -- Some pages are left, and giving them back makes a space of it.
 pub record Giving (s : Space) (off left : ℕ) (done : Space) : Type 0 where
   pub offs : List ℕ
-  pub pages : PagesLeft s off left offs
+  pub pages : PagesLeft (seen s) off left offs
   pub gives : release (pageBlocks offs) s ≡ done
 
 -- The first of them given back, the others make the same.
 pub giving-turn : (s : Space) (off left : ℕ) (done : Space) → 0 < left → Giving s off left done
-    → Giving (given off s) (linkOffset (linkOf (pageAt s off))) (left - 1) done
+    → Giving (given off s) (linkOffset (linkOf (pageAt (seen s) off))) (left - 1) done
 giving-turn s off left done h g =
     let t = page-turn s off left (g .offs) h (g .pages) in record { offs = t .behind; pages = t .rest; gives = t .gives ∙ g .gives }
 

@@ -12,7 +12,7 @@ use Rattle.book_rules.specs.Calls.{listed, answerOf}
 use Rattle.book_space.specs.Space.{shapeBroken}
 use Rattle.book_keys.specs.Keys.{Content, content}
 use Rattle.book_keys.specs.Steps.{Counts, countsOf, inRoom, afterRead, KeyRead}
-use Rattle.book.specs.Book.{Book, Outcome, wordOf}
+use Rattle.book.specs.Book.{Book, Outcome, wordOf, seen}
 use Rattle.book.specs.Reads.{reads, listAfter}
 use Rattle.book.specs.Answers.{Counted, countedOf}
 use Rattle.book.proofs.LawsKey.{key-broken, key-beyond, key-there}
@@ -49,9 +49,9 @@ module _ (b : Book) (key room : ℕ) where
 
     -- It isn't: what the key holds decides, and the room.
     pub read-key : key < length (b .heads)
-        → reads b key room ≡ answered (λ c. reading c b) (inRoom room (content (b .space) (wordOf key b)))
+        → reads b key room ≡ answered (λ c. reading c b) (inRoom room (content (seen (b .space)) (wordOf key b)))
     unfolding reads
-    read-key h = key-there b key _ whole h ∙ read-fitting b room (content (b .space) (wordOf key b))
+    read-key h = key-there b key _ whole h ∙ read-fitting b room (content (seen (b .space)) (wordOf key b))
 
 -- A read tells what an answer of its definition says, and its list is left as that says.
 abbrev pub ReadDoes : Answer Outcome → List ℕ → List ℕ → Answer Counted → Type 0

@@ -12,7 +12,7 @@ ghost use Rattle.book_rules.specs.Calls.{dropped, bookAfter, answerOf};
 ghost use Rattle.book_space.specs.Space.{release};
 ghost use Rattle.book_space.specs.Answers.{spaceOf};
 ghost use Rattle.book_keys.specs.Keys.{pageBlocks};
-ghost use Rattle.book.specs.Book.{Book, Outcome, placing};
+ghost use Rattle.book.specs.Book.{Book, Outcome, placing, seen};
 ghost use Rattle.book.specs.Reads.{drops};
 ghost use Rattle.book.specs.Answers.{bookOf, dropAnswer};
 ghost use Rattle.book.specs.Steps.{dropsAt, Does, PagesLeft};
@@ -64,8 +64,8 @@ pub fn next_page(body: &[u8], off: u64) -> u64
 
 // Gives back the pages of a sound chain, the first first: each page's link is read before its first bytes are written.
 fn release_chain(body: &mut [u8], state: State, first: u64, pages: u64) -> State
-    requires { ⌜ ((offs : List ℕ) × PagesLeft (spaceOf (now body) state) first pages offs) ⌝ }
-    ensures { λ r. ⌜ ((offs : List ℕ) → PagesLeft (spaceOf (now (body .entry)) state) first pages offs
+    requires { ⌜ ((offs : List ℕ) × PagesLeft (seen (spaceOf (now body) state)) first pages offs) ⌝ }
+    ensures { λ r. ⌜ ((offs : List ℕ) → PagesLeft (seen (spaceOf (now (body .entry)) state)) first pages offs
         → spaceOf (now (body .exit)) r ≡ release (pageBlocks offs) (spaceOf (now (body .entry)) state)) ⌝ }
 {
     let mut off = first;

@@ -26,7 +26,7 @@ AnsweredBy size heads (drop key) a numbers = Unit {0}
 -- A history on a book with a body of so many bytes and so many heads keeps the licence's sentence, when some numbers are recorded for each
 -- key before it: each call has an answer, and each read's is by what is recorded then.
 unfoldable pub Licensed : ℕ → ℕ → (ℕ → List ℕ) → List Call → List (Answer Told) → Type 0
-Licensed size heads before [] told = Unit {0}
+Licensed size heads before [] rest = Unit {0}
 Licensed size heads before (c ∷ cs) [] = ⊥
-Licensed size heads before (c ∷ cs) (a ∷ told) =
-    AnsweredBy size heads c a (before (keyOfCall c)) × Licensed size heads (λ key. recordedAfter key c a (before key)) cs told
+Licensed size heads before (c ∷ cs) (a ∷ rest) =
+    AnsweredBy size heads c a (before (keyOfCall c)) × Licensed size heads (λ key. recordedAfter key c a (before key)) cs rest

@@ -34,6 +34,6 @@ tallied key c (accepted told) t = cond (eqb (keyOfCall c) key) (talliedBy told t
 
 -- The tally of a key after a list of calls, by the answers that they got.
 unfoldable pub tallyOf : ℕ → List Call → List (Answer Told) → Tally → Tally
-tallyOf key [] told t = t
+tallyOf key [] rest t = t
 tallyOf key (c ∷ cs) [] t = t
-tallyOf key (c ∷ cs) (a ∷ told) t = tallyOf key cs told (tallied key c a t)
+tallyOf key (c ∷ cs) (a ∷ rest) t = tallyOf key cs rest (tallied key c a t)

@@ -20,6 +20,6 @@ recordedAfter key c (accepted told) before = cond (eqb (keyOfCall c) key) (recor
 
 -- What is recorded for a key by a list of calls with their answers, in order.
 unfoldable pub recorded : ℕ → List Call → List (Answer Told) → List ℕ → List ℕ
-recorded key [] told before = before
+recorded key [] rest before = before
 recorded key (c ∷ cs) [] before = before
-recorded key (c ∷ cs) (a ∷ told) before = recorded key cs told (recordedAfter key c a before)
+recorded key (c ∷ cs) (a ∷ rest) before = recorded key cs rest (recordedAfter key c a before)

@@ -17,7 +17,7 @@ use Rattle.buffer.proofs.LawsOverwrite.{part-before, part-after}
 use Rattle.scripthash_layout.specs.Sizes.{pageClass}
 use Rattle.scripthash_free.specs.FreeList.{Lists, Block, Pop, firstFreed, nextOf, isBlock, pushed, pushAll, popFree, Each, Within}
 use Rattle.scripthash_free.proofs.LawsBlock.{bytes-from-16, block-stands, stands-block}
-use Rattle.scripthash_free.proofs.LawsNames.{length-pushed, length-pushed-heads}
+use Rattle.scripthash_free.proofs.LawsFreeList.{length-pushed, length-pushed-heads}
 
 -- Blocks that are pushed keep the number of free heads.
 pub heads-stay : (bs : List Block) (l : Lists) → length (pushAll bs l .heads) ≡ length (l .heads)

@@ -16,11 +16,11 @@ use Rattle.scripthash_free.specs.FreeList.{Block, Disjoint, Each, Within}
 use Rattle.scripthash_free.proofs.LawsBlock.{bytes-from-16, block-stands}
 use Rattle.scripthash_free.proofs.LawsGap.{each-map}
 use Rattle.book.specs.Book.{Book}
-use Rattle.book_start.specs.Start.{claimed, claimAll, AllApart, Stands, blocksAt, bytesOf, namedFrom, heldBy, freedBy, blocksOf}
+use Rattle.book_start.specs.Start.{claimed, claimAll, AllApart, Stands, blocksAt, bytesOf, followedFrom, heldBy, freedBy, blocksOf, heldOf, listOf}
 use Rattle.book_start.specs.Start.{GoodStart}
 use Rattle.book_start.specs.Covered.{Has, OneHas, lostIn, Covered}
 use Rattle.book_start.proofs.LawsClaims.{claims-first, claim-step}
-use Rattle.book_start.proofs.LawsPairs.{gather, gather-same, held-gathered, freed-gathered, heldOf, listOf, held-stand}
+use Rattle.book_start.proofs.LawsPairs.{gather, gather-same, held-gathered, freed-gathered, held-stand}
 
 -- ---- blocks on either side of an offset
 
@@ -217,7 +217,7 @@ module _ (b : Book) (g : GoodStart b) where
       let n = g .nine in
       let lists : freedBy (b .space) 0 (b .space .free) ≡ gather (length (b .space .free)) (listOf b)
       = freed-gathered (b .space) 0 (b .space .free)
-      ∙ gather-same (length (b .space .free)) (λ i. blocksAt (0 + i) (namedFrom (b .space) (getD (b .space .free) i 0))) (listOf b)
+      ∙ gather-same (length (b .space .free)) (λ i. blocksAt (0 + i) (followedFrom (b .space) (getD (b .space .free) i 0))) (listOf b)
       (λ i. rw (zero-add i)) in
       each-both (Stands (b .space .mark)) (heldBy (b .space) (b .heads)) (freedBy (b .space) 0 (b .space .free))
       (rw (held-gathered (b .space) (b .heads))

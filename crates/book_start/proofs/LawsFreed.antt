@@ -8,15 +8,15 @@ use native.Mathlib.Omega.{arith}
 use borrow.Author.Tests.{eqb-true, eqb-false, eq-eqb, ne-eqb}
 use lib.Dec.{eqb}
 use lib.ListN.{length}
-use Rattle.scripthash_free.specs.FreeList.{Block, isBlock, nextOf, Names, Each}
+use Rattle.scripthash_free.specs.FreeList.{Block, isBlock, nextOf, IsFreeList, Each}
 use Rattle.scripthash_free.proofs.LawsBlock.{block-stands, bytes-from-16}
 use Rattle.book_space.specs.Space.{Space}
-use Rattle.book_start.specs.Start.{Stands, block, blocksAt, named, sharesOne, claimed, unfit, shared, claimAll, claimFreed}
+use Rattle.book_start.specs.Start.{Stands, block, blocksAt, followed, sharesOne, claimed, unfit, shared, claimAll, claimFreed}
 use Rattle.book_start.proofs.LawsClaims.{shared≢claimed, unfit≢claimed, claim-none, claim-step, claims-first}
 
 -- A free list that ends, each of its blocks one that 35 would pass.
 pub record Ending (s : Space) (class off : ℕ) (os : List ℕ) : Type 0 where
-  pub names : Names (s .body) off os
+  pub names : IsFreeList (s .body) off os
   pub stand : Each (Stands (s .mark)) (blocksAt class os)
 
 -- ---- steps
@@ -57,15 +57,15 @@ freed-none-left s class before off more = rw (ne-eqb off 0 more)
 -- ---- whole lists
 
 -- 0 names nothing.
-pub named-end : (k : ℕ) (body : List ℕ) (off : ℕ) → off ≡ 0 → named k body off ≡ []
-unfolding named
-named-end zero body off z = refl
-named-end (suc k) body off z = rw (eq-eqb off 0 z)
+pub followed-end : (k : ℕ) (body : List ℕ) (off : ℕ) → off ≡ 0 → followed k body off ≡ []
+unfolding followed
+followed-end zero body off z = refl
+followed-end (suc k) body off z = rw (eq-eqb off 0 z)
 
 -- Another offset is named, and then what its block names.
-pub named-more : (k : ℕ) (body : List ℕ) (off : ℕ) → (off ≡ 0 → ⊥) → named (suc k) body off ≡ off ∷ named k body (nextOf body off)
-unfolding named
-named-more k body off more = rw (ne-eqb off 0 more)
+pub followed-more : (k : ℕ) (body : List ℕ) (off : ℕ) → (off ≡ 0 → ⊥) → followed (suc k) body off ≡ off ∷ followed k body (nextOf body off)
+unfolding followed
+followed-more k body off more = rw (ne-eqb off 0 more)
 
 -- A claimed block of a free list, and the rest of it.
 record Goes (k : ℕ) (s : Space) (class : ℕ) (before : List Block) (off : ℕ) (after : List Block) : Type 0 where
@@ -105,13 +105,13 @@ freed-was k s class before off {after} e = by-end (eqb off 0) refl e
 
 -- A list that names nothing ends.
 ending-none : (s : Space) (class off : ℕ) → off ≡ 0 → Ending s class off []
-unfolding Names blocksAt Each
+unfolding IsFreeList blocksAt Each
 ending-none s class off z = record { names = z; stand = tt }
 
 -- A block that stands before a list that ends.
 ending-more : (s : Space) (class off : ℕ) (os : List ℕ) → s .mark ≤ length (s .body) → isBlock class off (s .mark) ≡ true
     → Ending s class (nextOf (s .body) off) os → Ending s class off (off ∷ os)
-unfolding Names blocksAt Each
+unfolding IsFreeList blocksAt Each
 ending-more s class off os within stands n =
     let b = block-stands class off (s .mark) stands in
     let low = b .begins in
@@ -142,8 +142,8 @@ claims-more s class before off os after within stands alone r =
 
 -- A free list that is claimed ends, and its blocks stand and are claimed.
 pub freed-claimed : (k : ℕ) (s : Space) (class : ℕ) (before : List Block) (off : ℕ) {after : List Block} → s .mark ≤ length (s .body)
-    → claimFreed k s class before off ≡ claimed after → FreedClaims s class before off (named k (s .body) off) after
-unfolding claimFreed named
+    → claimFreed k s class before off ≡ claimed after → FreedClaims s class before off (followed k (s .body) off) after
+unfolding claimFreed followed
 freed-claimed zero s class before off {after} within e = by-end (eqb off 0) refl e
   where
     by-end : (t : Bool) → eqb off 0 ≡ t → cond t (claimed before) shared ≡ claimed after → FreedClaims s class before off [] after
@@ -152,11 +152,11 @@ freed-claimed zero s class before off {after} within e = by-end (eqb off 0) refl
 freed-claimed (suc k) s class before off {after} within e =
     ⊎-elim
     (λ (z : (off ≡ 0) × (before ≡ after)).
-    subst (λ (os : List ℕ). FreedClaims s class before off os after) (sym (named-end (suc k) (s .body) off (z .0)))
+    subst (λ (os : List ℕ). FreedClaims s class before off os after) (sym (followed-end (suc k) (s .body) off (z .0)))
     (claims-none s class before off after (z .0) (z .1)))
     (λ (g : Goes k s class before off after).
-    subst (λ (os : List ℕ). FreedClaims s class before off os after) (sym (named-more k (s .body) off (g .more)))
-    (claims-more s class before off (named k (s .body) (nextOf (s .body) off)) after within (g .stands) (g .alone)
+    subst (λ (os : List ℕ). FreedClaims s class before off os after) (sym (followed-more k (s .body) off (g .more)))
+    (claims-more s class before off (followed k (s .body) (nextOf (s .body) off)) after within (g .stands) (g .alone)
     (freed-claimed k s class (block class off ∷ before) (nextOf (s .body) off) within (g .rest))))
     (freed-was k s class before off e)
 
@@ -164,7 +164,7 @@ freed-claimed (suc k) s class before off {after} within e =
 pub claimed-freed : (k : ℕ) (s : Space) (class : ℕ) (before : List Block) (off : ℕ) (os : List ℕ) {after : List Block}
     → length os ≤ k → Ending s class off os → claimAll before (blocksAt class os) ≡ claimed after
     → claimFreed k s class before off ≡ claimed after
-unfolding claimAll blocksAt Each Names
+unfolding claimAll blocksAt Each IsFreeList
 claimed-freed k s class before off [] few n e = freed-end k s class before off (n .names) ∙ e
 claimed-freed zero s class before off (o ∷ os) few n e = absurd (omega arith)
 claimed-freed (suc k) s class before off (o ∷ os) {after} few n e =
@@ -179,11 +179,11 @@ claimed-freed (suc k) s class before off (o ∷ os) {after} few n e =
     (record { names = n .names .3; stand = n .stand .1 }) (sym (claim-step before (block class o) (blocksAt class os) (p .0)) ∙ e)
 
 -- Following a list over so many blocks names at most so many.
-pub named-few : (k : ℕ) (body : List ℕ) (off : ℕ) → length (named k body off) ≤ k
-unfolding named
-named-few zero body off = omega arith
-named-few (suc k) body off = by-end (eqb off 0) (named-few k body (nextOf body off))
+pub followed-few : (k : ℕ) (body : List ℕ) (off : ℕ) → length (followed k body off) ≤ k
+unfolding followed
+followed-few zero body off = omega arith
+followed-few (suc k) body off = by-end (eqb off 0) (followed-few k body (nextOf body off))
   where
-    by-end : (t : Bool) → length (named k body (nextOf body off)) ≤ k → length (cond t [] (off ∷ named k body (nextOf body off))) ≤ suc k
+    by-end : (t : Bool) → length (followed k body (nextOf body off)) ≤ k → length (cond t [] (off ∷ followed k body (nextOf body off))) ≤ suc k
     by-end true h = omega arith
     by-end false h = omega arith

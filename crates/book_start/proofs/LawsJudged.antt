@@ -14,14 +14,14 @@ use Rattle.scripthash_free.specs.FreeList.{Block, Each}
 use Rattle.book_space.specs.Space.{Space, shapeBroken}
 use Rattle.book_space.proofs.LawsShape.{shape-holds}
 use Rattle.book_keys.specs.Keys.{Content, content}
-use Rattle.book.specs.Book.{Book}
-use Rattle.book_start.specs.Start.{blocksAt, bytesOf, blocksIn, heldBy, namedFrom, freedBy, blocksOf, GoodStart}
+use Rattle.book.specs.Book.{Book, seen}
+use Rattle.book_start.specs.Start.{blocksAt, bytesOf, blocksIn, heldBy, followedFrom, freedBy, blocksOf, GoodStart}
 use Rattle.book_start.specs.Start.{Verdict, good, keyUnsound, keyShares, freeStrays, freeShares, Claim, claimed, unfit, shared}
 use Rattle.book_start.specs.Start.{claimAll, claimContent, claimFreed, onward, judgeLists, judgeKeys, verdictOf, judges}
 use Rattle.book_start.specs.Covered.{lostIn}
 use Rattle.book_start.proofs.LawsClaims.{Claims, Cross, claim-none, claim-both, claims-left, claims-apart, apart-claims}
 use Rattle.book_start.proofs.LawsCovered.{whole-units, claimed-bytes}
-use Rattle.book_start.proofs.LawsFreed.{Ending, freed-claimed, claimed-freed, named-few}
+use Rattle.book_start.proofs.LawsFreed.{Ending, freed-claimed, claimed-freed, followed-few}
 
 -- ---- going on
 
@@ -58,10 +58,10 @@ leftBy s claims = (s .mark - (4096 + bytesOf claims)) / 16
 
 -- The free lists of classes from one on, with these heads, end, and hold only blocks that stand.
 abbrev pub ListsEnd : Space → ℕ → List ℕ → Type 0
-ListsEnd s class hs = (i : ℕ) → i < length hs → Ending s (class + i) (getD hs i 0) (namedFrom s (getD hs i 0))
+ListsEnd s class hs = (i : ℕ) → i < length hs → Ending s (class + i) (getD hs i 0) (followedFrom s (getD hs i 0))
 
 -- The first of some free lists, and the others.
-lists-more : (s : Space) (class h : ℕ) (hs : List ℕ) → Ending s class h (namedFrom s h) → ListsEnd s (class + 1) hs
+lists-more : (s : Space) (class h : ℕ) (hs : List ℕ) → Ending s class h (followedFrom s h) → ListsEnd s (class + 1) hs
     → ListsEnd s class (h ∷ hs)
 lists-more s class h hs one more zero l = let same : class + 0 ≡ class = omega arith in rw same one
 lists-more s class h hs one more (suc i) l = let same : class + suc i ≡ class + 1 + i = omega arith in rw same (more i (omega arith))
@@ -69,7 +69,7 @@ lists-more s class h hs one more (suc i) l = let same : class + suc i ≡ class 
 lists-rest : (s : Space) (class h : ℕ) (hs : List ℕ) → ListsEnd s class (h ∷ hs) → ListsEnd s (class + 1) hs
 lists-rest s class h hs all i l = let same : class + 1 + i ≡ class + suc i = omega arith in rw same (all (suc i) (omega arith))
 
-lists-first : (s : Space) (class h : ℕ) (hs : List ℕ) → ListsEnd s class (h ∷ hs) → Ending s class h (namedFrom s h)
+lists-first : (s : Space) (class h : ℕ) (hs : List ℕ) → ListsEnd s class (h ∷ hs) → Ending s class h (followedFrom s h)
 lists-first s class h hs all = let same : class + 0 ≡ class = omega arith in rw same at (all 0 (omega arith))
 
 -- Free lists that are judged good end, and their blocks are claimed; the figure is what all claims leave.
@@ -88,7 +88,7 @@ lists-good s class (h ∷ hs) before n within e =
       (
         record {
           after = rest .1 .0 .after;
-          is = claim-both before (blocksAt class (namedFrom s h)) (freedBy s (class + 1) hs) (one .is)
+          is = claim-both before (blocksAt class (followedFrom s h)) (freedBy s (class + 1) hs) (one .is)
               ∙ rest .1 .0 .is;
         },
         rest .1 .1,
@@ -101,14 +101,14 @@ pub good-lists : (s : Space) (class : ℕ) (hs : List ℕ) (before : List Block)
 unfolding judgeLists freedBy
 good-lists s class [] before ends c = let same : before ≡ c .after = let e = c .is in let n = claim-none before in cc in rw same
 good-lists s class (h ∷ hs) before ends c =
-    let one = claims-left before (blocksAt class (namedFrom s h)) (freedBy s (class + 1) hs) c in
-    let is = claimed-freed (s .mark / 16) s class before h (namedFrom s h) (named-few (s .mark / 16) (s .body) h)
+    let one = claims-left before (blocksAt class (followedFrom s h)) (freedBy s (class + 1) hs) c in
+    let is = claimed-freed (s .mark / 16) s class before h (followedFrom s h) (followed-few (s .mark / 16) (s .body) h)
     (lists-first s class h hs ends) (one .is) in
     onward-yes (claimFreed (s .mark / 16) s class before h) _ _ _ is
     ∙ good-lists s (class + 1) hs (one .after) (lists-rest s class h hs ends)
     (record {
       after = c .after;
-      is = sym (claim-both before (blocksAt class (namedFrom s h)) (freedBy s (class + 1) hs) (one .is))
+      is = sym (claim-both before (blocksAt class (followedFrom s h)) (freedBy s (class + 1) hs) (one .is))
           ∙ c .is;
     })
 
@@ -116,7 +116,7 @@ good-lists s class (h ∷ hs) before ends c =
 
 -- A sound key.
 abbrev pub Sound : Space → ℕ → Type 0
-Sound s word = (c : Content) × (content s word ≡ accepted c)
+Sound s word = (c : Content) × (content (seen s) word ≡ accepted c)
 
 -- The keys with these head words are sound.
 abbrev pub KeysSound : Space → List ℕ → Type 0
@@ -152,12 +152,12 @@ keys-good s key [] before n e =
     record { sound = λ i l. absurd (omega arith); held = record { after = before; is = claim-none before }; lists = e }
 keys-good s key (w ∷ ws) before n e =
     let f = no-fault key n in
-    let g = went-onward (claimContent before (content s w)) _ _ _ e (f .0) (f .1) in
-    let one = content-claimed before (content s w) (g .1) in
+    let g = went-onward (claimContent before (content (seen s) w)) _ _ _ e (f .0) (f .1) in
+    let one = content-claimed before (content (seen s) w) (g .1) in
     let rest = keys-good s (key + 1) ws (g .0) n (g .2) in
     record {
       sound = keys-more s w ws (one .0) (rest .sound);
-      held = record { after = rest .held .after; is = claim-both before (blocksIn (content s w)) (heldBy s ws) (one .1) ∙ rest .held .is };
+      held = record { after = rest .held .after; is = claim-both before (blocksIn (content (seen s) w)) (heldBy s ws) (one .1) ∙ rest .held .is };
       lists = rest .lists;
     }
 
@@ -167,10 +167,10 @@ pub good-keys : (s : Space) (key : ℕ) (ws : List ℕ) (before : List Block) �
 unfolding judgeKeys heldBy
 good-keys s key [] before sound c = let same : before ≡ c .after = let e = c .is in let n = claim-none before in cc in rw same
 good-keys s key (w ∷ ws) before sound c =
-    let one = claims-left before (blocksIn (content s w)) (heldBy s ws) c in
-    onward-yes (claimContent before (content s w)) _ _ _ (claimed-content before (content s w) (sound 0 (omega arith) .1) ∙ one .is)
+    let one = claims-left before (blocksIn (content (seen s) w)) (heldBy s ws) c in
+    onward-yes (claimContent before (content (seen s) w)) _ _ _ (claimed-content before (content (seen s) w) (sound 0 (omega arith) .1) ∙ one .is)
     ∙ good-keys s (key + 1) ws (one .after) (λ i l. sound (suc i) (omega arith))
-    (record { after = c .after; is = sym (claim-both before (blocksIn (content s w)) (heldBy s ws) (one .is)) ∙ c .is })
+    (record { after = c .after; is = sym (claim-both before (blocksIn (content (seen s) w)) (heldBy s ws) (one .is)) ∙ c .is })
 
 -- ---- a book
 

@@ -19,9 +19,9 @@ use Rattle.book_keys.specs.Keys.{Content, pageBlocks, contentAt, content}
 use Rattle.book_keys.proofs.LawsSlab.{slab-sound}
 use Rattle.book_keys.proofs.LawsContent.{content-empty, content-inline, was-slab, was-pages, was-content}
 use Rattle.book_keys.proofs.LawsKeys.{Every, chain-known}
-use Rattle.book.specs.Book.{Book, wordOf}
+use Rattle.book.specs.Book.{Book, wordOf, seen}
 use Rattle.error.proofs.LawsAnswer.{accepted-inj}
-use Rattle.book_start.specs.Start.{AllApart, Stands, blocksAt, blocksIn, heldBy, namedFrom, freedOf, freedBy}
+use Rattle.book_start.specs.Start.{AllApart, Stands, blocksAt, blocksIn, heldBy, followedFrom, freedOf, freedBy, heldOf, listOf}
 use Rattle.book_start.specs.Start.{GoodStart}
 use Rattle.book_start.proofs.LawsClaims.{Cross, disjoint-sym}
 
@@ -125,28 +125,20 @@ gather-cross n f a i j differ l k =
 
 -- ---- a good start
 
--- The blocks that a key holds.
-abbrev pub heldOf : Book → ℕ → List Block
-heldOf b key = blocksIn (content (b .space) (wordOf key b))
-
--- The blocks that the free list of a class names.
-abbrev pub listOf : Book → ℕ → List Block
-listOf b class = blocksAt class (freedOf (b .space) class)
-
-pub held-gathered : (s : Space) (ws : List ℕ) → heldBy s ws ≡ gather (length ws) (λ i. blocksIn (content s (getD ws i 0)))
+pub held-gathered : (s : Space) (ws : List ℕ) → heldBy s ws ≡ gather (length ws) (λ i. blocksIn (content (seen s) (getD ws i 0)))
 unfolding heldBy gather
 held-gathered s [] = refl
 held-gathered s (w ∷ ws) = rw (held-gathered s ws)
 
 pub freed-gathered : (s : Space) (class : ℕ) (hs : List ℕ)
-    → freedBy s class hs ≡ gather (length hs) (λ i. blocksAt (class + i) (namedFrom s (getD hs i 0)))
+    → freedBy s class hs ≡ gather (length hs) (λ i. blocksAt (class + i) (followedFrom s (getD hs i 0)))
 unfolding freedBy gather
 freed-gathered s class [] = refl
 freed-gathered s class (h ∷ hs) =
     let first : class + 0 ≡ class = omega arith in
-    rw first (ap (λ (l : List Block). blocksAt class (namedFrom s h) ++ l)
-    (freed-gathered s (class + 1) hs ∙ gather-same (length hs) (λ i. blocksAt (class + 1 + i) (namedFrom s (getD hs i 0)))
-    (λ i. blocksAt (class + suc i) (namedFrom s (getD hs i 0))) (λ i. let same : class + 1 + i ≡ class + suc i = omega arith in rw same)))
+    rw first (ap (λ (l : List Block). blocksAt class (followedFrom s h) ++ l)
+    (freed-gathered s (class + 1) hs ∙ gather-same (length hs) (λ i. blocksAt (class + 1 + i) (followedFrom s (getD hs i 0)))
+    (λ i. blocksAt (class + suc i) (followedFrom s (getD hs i 0))) (λ i. let same : class + 1 + i ≡ class + suc i = omega arith in rw same)))
 
 module _ (b : Book) (g : GoodStart b) where
   held-all : AllApart (gather (length (b .heads)) (heldOf b))
@@ -156,7 +148,7 @@ module _ (b : Book) (g : GoodStart b) where
   lists-all : gather 9 (λ class. listOf b class) ≡ freedBy (b .space) 0 (b .space .free)
   lists-all =
       sym (freed-gathered (b .space) 0 (b .space .free)
-      ∙ gather-same (length (b .space .free)) (λ i. blocksAt (0 + i) (namedFrom (b .space) (getD (b .space .free) i 0))) (listOf b)
+      ∙ gather-same (length (b .space .free)) (λ i. blocksAt (0 + i) (followedFrom (b .space) (getD (b .space .free) i 0))) (listOf b)
       (λ i. rw (zero-add i))
       ∙ ap (λ (n : ℕ). gather n (listOf b)) (g .nine))
 
@@ -197,21 +189,21 @@ pages-stand mark [] e = tt
 pages-stand mark (o ∷ os) (p, e) = (p, pages-stand mark os e)
 
 -- The blocks of a sound key's place stand below the mark.
-pub place-stands : (s : Space) (place : ShHeadValue) (c : Content) → contentAt s place ≡ accepted c → Each (Stands (s .mark)) (c .blocks)
+pub place-stands : (s : Space) (place : ShHeadValue) (c : Content) → contentAt (seen s) place ≡ accepted c → Each (Stands (s .mark)) (c .blocks)
 unfolding Each
-place-stands s Empty c e = let same = accepted-inj (sym (content-empty s) ∙ e) in rw (← same) tt
-place-stands s (Inline entry used) c e = let same = accepted-inj (sym (content-inline s entry used) ∙ e) in rw (← same) tt
-place-stands s (Slab class used off) c e = let w = was-slab s class used off c e in rw (← w .2) (
-  slab-sound s class used off (w .0)
+place-stands s Empty c e = let same = accepted-inj (sym (content-empty (seen s)) ∙ e) in rw (← same) tt
+place-stands s (Inline entry used) c e = let same = accepted-inj (sym (content-inline (seen s) entry used) ∙ e) in rw (← same) tt
+place-stands s (Slab class used off) c e = let w = was-slab (seen s) class used off c e in rw (← w .2) (
+  slab-sound (seen s) class used off (w .0)
       (w .1) .stands,
   tt,
 )
 place-stands s (Extent last) c e =
-    let w = was-pages s last c e in rw (← w .2) (pages-stand (s .mark) (w .0 .offs) (chain-known s last (w .0) (w .1) .stands))
+    let w = was-pages (seen s) last c e in rw (← w .2) (pages-stand (s .mark) (w .0 .offs) (chain-known (seen s) last (w .0) (w .1) .stands))
 
 -- The blocks of a sound key stand below the mark.
-pub content-stands : (s : Space) (word : ℕ) (c : Content) → content s word ≡ accepted c → Each (Stands (s .mark)) (c .blocks)
-content-stands s word c e = let w = was-content s word c e in place-stands s (w .0) c (w .2)
+pub content-stands : (s : Space) (word : ℕ) (c : Content) → content (seen s) word ≡ accepted c → Each (Stands (s .mark)) (c .blocks)
+content-stands s word c e = let w = was-content (seen s) word c e in place-stands s (w .0) c (w .2)
 
 -- So do those of a key of a good start.
 pub held-stand : (b : Book) → GoodStart b → (key : ℕ) → key < length (b .heads) → Each (Stands (b .space .mark)) (heldOf b key)

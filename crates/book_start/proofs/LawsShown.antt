@@ -16,7 +16,7 @@ use Rattle.scripthash_fields.specs.Page.{linkOf, linkOffset}
 use Rattle.scripthash_free.specs.FreeList.{Block, Each, isBlock, nextOf}
 use Rattle.scripthash_free.proofs.LawsBlock.{block-stands, bytes-from-16}
 use Rattle.book_space.specs.Space.{Space}
-use Rattle.book_keys.specs.Keys.{soundly, pageAt, linkScan, Chain, pageThen, walk, Content, pageBlocks}
+use Rattle.book_keys.specs.Keys.{soundly, pageAt, linkScan, Chain, pageThen, walk, Content, pageBlocks, Ground}
 use Rattle.book_keys.proofs.LawsPages.{link-sound}
 use Rattle.book_keys.proofs.LawsWalk.{Ends, GoesOn, walk-step}
 use Rattle.book.specs.Steps.{PagesLeft}
@@ -152,13 +152,13 @@ block-fits mark class off n long stands = let e = block-stands class off mark st
 -- ---- pages
 
 -- A turn of going over the pages that are left: the first stands below the mark, and the others are left behind it.
-pub record PageTurn (s : Space) (off left : ℕ) (offs : List ℕ) : Type 0 where
+pub record PageTurn (s : Ground) (off left : ℕ) (offs : List ℕ) : Type 0 where
   pub stands : isBlock pageClass off (s .mark) ≡ true
   pub behind : List ℕ
   pub whole : offs ≡ off ∷ behind
   pub rest : PagesLeft s (linkOffset (linkOf (pageAt s off))) (left - 1) behind
 
-walk-turn : (k : ℕ) (s : Space) (last prev off left : ℕ) (offs : List ℕ) (c : Chain) → walk k s last prev off ≡ accepted c → c .offs ≡ offs
+walk-turn : (k : ℕ) (s : Ground) (last prev off left : ℕ) (offs : List ℕ) (c : Chain) → walk k s last prev off ≡ accepted c → c .offs ≡ offs
     → s .mark ≤ length (s .body) → length offs ≡ left → PageTurn s off left offs
 unfolding walk pageThen
 walk-turn zero s last prev off left offs c e met within count = absurd (refused≢accepted e)
@@ -198,13 +198,13 @@ walk-turn (suc k) s last prev off left offs c e met within count =
           };
         }
 
-pub page-turn : (s : Space) (off left : ℕ) (offs : List ℕ) → 0 < left → PagesLeft s off left offs → PageTurn s off left offs
+pub page-turn : (s : Ground) (off left : ℕ) (offs : List ℕ) → 0 < left → PagesLeft s off left offs → PageTurn s off left offs
 page-turn s off left offs h p =
     let w = p .rest h in walk-turn (w .most) s (w .last) (w .prev) off left offs (w .chain) (w .walks) (w .met) (p .within) (p .count)
 
 -- Of so many pages some are left, and claiming them behind what the work list shows gives what is wanted; the others were claimed behind
 -- what was before.
-pub record PagesGo (units mark : ℕ) (lent : List ℕ) (before : List Block) (want : Claim) (s : Space) (all off left : ℕ)
+pub record PagesGo (units mark : ℕ) (lent : List ℕ) (before : List Block) (want : Claim) (s : Ground) (all off left : ℕ)
     (work : List ℕ) : Type 0 where
   pub offs : List ℕ
   pub pages : PagesLeft s off left offs
@@ -213,7 +213,7 @@ pub record PagesGo (units mark : ℕ) (lent : List ℕ) (before : List Block) (w
   pub gives : claimAll claims (pageBlocks offs) ≡ want
   pub took : bytesOf claims + 4096 * left ≡ bytesOf before + 4096 * all
 
-module _ (units : ℕ) (lent : List ℕ) (before : List Block) (want : Claim) (s : Space) (all off left : ℕ) (work : List ℕ)
+module _ (units : ℕ) (lent : List ℕ) (before : List Block) (want : Claim) (s : Ground) (all off left : ℕ) (work : List ℕ)
     (g : PagesGo units (s .mark) lent before want s all off left work) where
   module _ (more : 0 < left) (after : List ℕ) where
     -- The first of them is claimed.

@@ -14,9 +14,7 @@ use Rattle.error.proofs.LawsAnswer.{refuse-yes, refuse-no}
 use Rattle.buffer.specs.Bytes.{overwrite}
 use Rattle.scripthash_free.specs.FreeList.{Block, Each}
 use Rattle.book_space.specs.Space.{Space, space, shapeBroken}
-use Rattle.book_keys.specs.Keys.{content}
-use Rattle.book_keys.specs.Steps.{keySpace}
-use Rattle.book_keys.proofs.LawsFree.{content-free}
+use Rattle.book_keys.specs.Keys.{content, ground}
 use Rattle.book.specs.Book.{Book}
 use Rattle.book_start.specs.Start.{AllApart, bytesOf, Verdict, good, keyUnsound, keyShares, freeStrays, freeShares, Claim}
 use Rattle.book_start.specs.Start.{claimed, unfit, shared}
@@ -143,16 +141,16 @@ pub record KeysGo (units : ℕ) (lent : List ℕ) (want : Verdict) (s : Space) (
 module _ (units : ℕ) (lent : List ℕ) (want : Verdict) (s : Space) (heads : List ℕ) (key : ℕ) (work : List ℕ) (lost : ℕ)
     (g : KeysGo units lent want s heads key work lost) where
   module _ (more : key < length heads) where
-    first-key : want ≡ onward (claimContent (g .claims) (content (keySpace (s .body) (s .mark)) (getD heads key 0))) (keyUnsound key)
+    first-key : want ≡ onward (claimContent (g .claims) (content (ground (s .body) (s .mark)) (getD heads key 0))) (keyUnsound key)
         (keyShares key)
         (λ bs. judgeKeys s (key + 1) (drop (key + 1) heads) bs)
     unfolding judgeKeys
     first-key =
         sym (g .gives) ∙ ap (λ (ws : List ℕ). judgeKeys s key ws (g .claims)) (drop-cons heads key 0 more)
-        ∙ rw (add-one key, content-free (s .body) (s .mark) (s .free) (getD heads key 0))
+        ∙ rw (add-one key)
 
     module _ (after : List ℕ) (tells : Claiming)
-        (c : ClaimsAs units (s .mark) lent (g .claims) (claimContent (g .claims) (content (keySpace (s .body) (s .mark))
+        (c : ClaimsAs units (s .mark) lent (g .claims) (claimContent (g .claims) (content (ground (s .body) (s .mark))
         (getD heads key 0))) tells after) where
       told-key : want ≡ onward (claimOf tells (c .claims)) (keyUnsound key) (keyShares key) (λ bs. judgeKeys s (key + 1) (drop
           (key + 1) heads) bs)

@@ -2,8 +2,10 @@
 use Prim.Native.Nat.{ℕ, _+_, _-_, _≤_, _<_}
 use mathlib.Core.List.{List, [], _∷_}
 use mathlib.Core.Logic.{_⊎_}
+use lib.ListN.{set}
 use Rattle.scripthash_layout.specs.Sizes.{slabBytes}
 use Rattle.scripthash_free.specs.FreeList.{Block}
+use Rattle.book_space.specs.Space.{space}
 use Rattle.book.specs.Book.{Book}
 use Rattle.book_start.specs.Start.{bytesOf, blocksOf}
 
@@ -23,3 +25,11 @@ lostIn b = b .space .mark - (4096 + bytesOf (blocksOf b))
 -- Every byte from 4,096 up to the mark belongs to a block that a key holds or that a free list names.
 abbrev pub Covered : Book → Type 0
 Covered b = (o : ℕ) → 4096 ≤ o → o < b .space .mark → OneHas o (blocksOf b)
+
+-- A book in which a key's head word became 0.
+abbrev pub forgot : ℕ → Book → Book
+forgot key b = record { heads = set (b .heads) key 0; space = b .space }
+
+-- A book in which the head of a class's free list became 0.
+abbrev pub forgotList : ℕ → Book → Book
+forgotList class b = record { heads = b .heads; space = space (b .space .body) (b .space .mark) (set (b .space .free) class 0) }

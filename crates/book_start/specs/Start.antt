@@ -8,10 +8,10 @@ use lib.Dec.{ltb, eqb}
 use lib.ListN.{length, getD}
 use Rattle.error.specs.Refusal.{Answer, accepted, refused, refuseIf, shapeBad, listTooShort}
 use Rattle.scripthash_layout.specs.Sizes.{slabBytes, pageClass}
-use Rattle.scripthash_free.specs.FreeList.{Block, Disjoint, isBlock, nextOf, Names, Each}
+use Rattle.scripthash_free.specs.FreeList.{Block, Disjoint, isBlock, nextOf, IsFreeList, Each}
 use Rattle.book_space.specs.Space.{Space, shapeBroken}
 use Rattle.book_keys.specs.Keys.{Content, content}
-use Rattle.book.specs.Book.{Book, wordOf}
+use Rattle.book.specs.Book.{Book, wordOf, seen}
 
 -- ---- blocks
 
@@ -45,28 +45,36 @@ unfoldable pub blocksIn : Answer Content → List Block
 blocksIn (accepted c) = c .blocks
 blocksIn (refused number) = []
 
+-- The blocks that a key of a book holds.
+abbrev pub heldOf : Book → ℕ → List Block
+heldOf b key = blocksIn (content (seen (b .space)) (wordOf key b))
+
 -- The blocks of all keys with these head words, in order.
 unfoldable pub heldBy : Space → List ℕ → List Block
 heldBy s [] = []
-heldBy s (w ∷ ws) = blocksIn (content s w) ++ heldBy s ws
+heldBy s (w ∷ ws) = blocksIn (content (seen s) w) ++ heldBy s ws
 
--- The offsets that a free list names from a head on, followed over at most so many blocks.
-unfoldable pub named : ℕ → List ℕ → ℕ → List ℕ
-named zero body off = []
-named (suc k) body off = cond (eqb off 0) [] (off ∷ named k body (nextOf body off))
+-- The offsets that a free list leads to from a head on, followed over at most so many blocks.
+unfoldable pub followed : ℕ → List ℕ → ℕ → List ℕ
+followed zero body off = []
+followed (suc k) body off = cond (eqb off 0) [] (off ∷ followed k body (nextOf body off))
 
--- The offsets that the free list of a head names: each block takes 16 bytes at least, so a list that ends has no more than mark / 16.
-abbrev pub namedFrom : Space → ℕ → List ℕ
-namedFrom s head = named (s .mark / 16) (s .body) head
+-- The offsets of the free list of a head: each block takes 16 bytes at least, so a list that ends has no more than mark / 16.
+abbrev pub followedFrom : Space → ℕ → List ℕ
+followedFrom s head = followed (s .mark / 16) (s .body) head
 
 -- The offsets that the free list of a class names, from the top.
 abbrev pub freedOf : Space → ℕ → List ℕ
-freedOf s class = namedFrom s (getD (s .free) class 0)
+freedOf s class = followedFrom s (getD (s .free) class 0)
+
+-- The blocks of the free list of a class, from the top.
+abbrev pub listOf : Book → ℕ → List Block
+listOf b class = blocksAt class (freedOf (b .space) class)
 
 -- The freed blocks of the classes from one on that have these free heads.
 unfoldable pub freedBy : Space → ℕ → List ℕ → List Block
 freedBy s class [] = []
-freedBy s class (h ∷ hs) = blocksAt class (namedFrom s h) ++ freedBy s (class + 1) hs
+freedBy s class (h ∷ hs) = blocksAt class (followedFrom s h) ++ freedBy s (class + 1) hs
 
 -- All blocks of a book: those that keys hold, keys rising, then those that free lists name, classes rising.
 abbrev pub blocksOf : Book → List Block
@@ -79,9 +87,9 @@ pub record GoodStart (b : Book) : Type 0 where
   -- There is a free head for each of the classes 0 to 8.
   pub nine : length (b .space .free) ≡ 9
   -- Every key is sound.
-  pub sound : (key : ℕ) → key < length (b .heads) → (c : Content) × (content (b .space) (wordOf key b) ≡ accepted c)
+  pub sound : (key : ℕ) → key < length (b .heads) → (c : Content) × (content (seen (b .space)) (wordOf key b) ≡ accepted c)
   -- Every free list ends.
-  pub ends : (class : ℕ) → class ≤ pageClass → Names (b .space .body) (getD (b .space .free) class 0) (freedOf (b .space) class)
+  pub ends : (class : ℕ) → class ≤ pageClass → IsFreeList (b .space .body) (getD (b .space .free) class 0) (freedOf (b .space) class)
   -- Every free list holds only blocks that 35 would pass.
   pub stand : (class : ℕ) → class ≤ pageClass → Each (Stands (b .space .mark)) (blocksAt class (freedOf (b .space) class))
   -- No two blocks, held or free, share a byte.
@@ -158,7 +166,7 @@ judgeLists s class (h ∷ hs) before =
 unfoldable pub judgeKeys : Space → ℕ → List ℕ → List Block → Verdict
 judgeKeys s key [] before = judgeLists s 0 (s .free) before
 judgeKeys s key (w ∷ ws) before =
-    onward (claimContent before (content s w)) (keyUnsound key) (keyShares key) (λ bs. judgeKeys s (key + 1) ws bs)
+    onward (claimContent before (content (seen s) w)) (keyUnsound key) (keyShares key) (λ bs. judgeKeys s (key + 1) ws bs)
 
 -- The verdict on a book in shape: blocks are claimed one after the other, keys rising and then classes rising, and the first fault decides.
 unfoldable pub verdictOf : Book → Verdict

@@ -6,8 +6,7 @@ ghost use Rattle.scripthash_layout.specs.Sizes.{pageClass};
 ghost use Rattle.scripthash_layout.specs.declared.head.ShHeadValue.the-variants.{Slab, Extent};
 ghost use Rattle.scripthash_free.specs.FreeList.{Block};
 ghost use Rattle.book_space.specs.Space.{space};
-ghost use Rattle.book_keys.specs.Keys.{content, contentAt, pageBlocks, soundly};
-ghost use Rattle.book_keys.specs.Steps.{keySpace};
+ghost use Rattle.book_keys.specs.Keys.{content, contentAt, ground, pageBlocks, soundly};
 ghost use Rattle.book.specs.Steps.{PagesLeft};
 ghost use Rattle.book_start.specs.Start.{claimAll, claimContent, claimFreed};
 ghost use Rattle.book_start.specs.Units.{Marked, Shows, ClaimsAs};
@@ -30,8 +29,8 @@ pub enum Claiming {
 
 // Claims the pages of a sound chain, the first first.
 fn claim_pages(body: &[u8], mark: u64, work: &mut [u8], first: u64, pages: u64) -> Claiming
-    requires { ⌜ Shows mark (now work) × ((offs : List ℕ) × PagesLeft (keySpace (now body) mark) first pages offs) ⌝ }
-    ensures { λ r. ⌜ ((offs : List ℕ) → PagesLeft (keySpace (now (body .entry)) mark) first pages offs
+    requires { ⌜ Shows mark (now work) × ((offs : List ℕ) × PagesLeft (ground (now body) mark) first pages offs) ⌝ }
+    ensures { λ r. ⌜ ((offs : List ℕ) → PagesLeft (ground (now (body .entry)) mark) first pages offs
         → (units : ℕ) (lent : List ℕ) (claims : List Block) → Marked units mark lent claims (now (work .entry))
         → ClaimsAs units mark lent claims (claimAll claims (pageBlocks offs)) r (now (work .exit))) ⌝ }
 {
@@ -52,7 +51,7 @@ fn claim_slab(body: &[u8], mark: u64, work: &mut [u8], class: u8, used: u16, off
     requires { ⌜ (mark ≤ length (now body)) × Shows mark (now work) ⌝ }
     ensures { λ r. ⌜ ((units : ℕ) (lent : List ℕ) (claims : List Block) → Marked units mark lent claims (now (work .entry))
         → ClaimsAs units mark lent claims
-        (claimContent claims (soundly (contentAt (keySpace (now (body .entry)) mark) (Slab class used off)))) r (now (work .exit))) ⌝ }
+        (claimContent claims (soundly (contentAt (ground (now (body .entry)) mark) (Slab class used off)))) r (now (work .exit))) ⌝ }
 {
     let end = book_keys::slab_end(body, mark, class, used, off);
     let ScanStream::Scanned { taken: _, last: _ } = end else {
@@ -68,7 +67,7 @@ fn claim_slab(body: &[u8], mark: u64, work: &mut [u8], class: u8, used: u16, off
 fn claim_chain(body: &[u8], mark: u64, work: &mut [u8], last: u64) -> Claiming
     requires { ⌜ (mark ≤ length (now body)) × Shows mark (now work) ⌝ }
     ensures { λ r. ⌜ ((units : ℕ) (lent : List ℕ) (claims : List Block) → Marked units mark lent claims (now (work .entry))
-        → ClaimsAs units mark lent claims (claimContent claims (soundly (contentAt (keySpace (now (body .entry)) mark) (Extent last)))) r
+        → ClaimsAs units mark lent claims (claimContent claims (soundly (contentAt (ground (now (body .entry)) mark) (Extent last)))) r
         (now (work .exit))) ⌝ }
 {
     let end = book_keys::chain_end(body, mark, last);
@@ -87,7 +86,7 @@ fn claim_chain(body: &[u8], mark: u64, work: &mut [u8], last: u64) -> Claiming
 fn claim_place(body: &[u8], mark: u64, work: &mut [u8], place: ShHeadValue) -> Claiming
     requires { ⌜ (mark ≤ length (now body)) × Shows mark (now work) ⌝ }
     ensures { λ r. ⌜ ((units : ℕ) (lent : List ℕ) (claims : List Block) → Marked units mark lent claims (now (work .entry))
-        → ClaimsAs units mark lent claims (claimContent claims (soundly (contentAt (keySpace (now (body .entry)) mark) place))) r
+        → ClaimsAs units mark lent claims (claimContent claims (soundly (contentAt (ground (now (body .entry)) mark) place))) r
         (now (work .exit))) ⌝ }
 {
     match place {
@@ -102,7 +101,7 @@ fn claim_place(body: &[u8], mark: u64, work: &mut [u8], place: ShHeadValue) -> C
 pub fn claim_key(body: &[u8], mark: u64, work: &mut [u8], word: u64) -> Claiming
     requires { ⌜ (mark ≤ length (now body)) × Shows mark (now work) ⌝ }
     ensures { λ r. ⌜ ((units : ℕ) (lent : List ℕ) (claims : List Block) → Marked units mark lent claims (now (work .entry))
-        → ClaimsAs units mark lent claims (claimContent claims (content (keySpace (now (body .entry)) mark) word)) r (now (work .exit))) ⌝ }
+        → ClaimsAs units mark lent claims (claimContent claims (content (ground (now (body .entry)) mark) word)) r (now (work .exit))) ⌝ }
 {
     let head = scripthash_layout::unpack8(word);
     let Unpacked::Head(place) = head else {

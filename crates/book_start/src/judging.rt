@@ -3,7 +3,7 @@ ghost use mathlib.Core.List.{List, []};
 ghost use mathlib.Core.Path.{_≡_};
 ghost use Prim.Native.Nat.{ℕ, _/_, _%_, _≤_};
 ghost use lib.ListN.{length};
-ghost use Rattle.error.specs.Refusal.{refusalOf, told};
+ghost use Rattle.error.specs.Refusal.{refusalOf, valueOr};
 ghost use Rattle.scripthash_free.specs.FreeList.{Block};
 ghost use Rattle.book_space.specs.Space.{space};
 ghost use Rattle.book.specs.Answers.{bookOf};
@@ -47,7 +47,7 @@ impl JudgeStart {
 
     // The number of the fault's ground, 0 where there is none.
     pub fn ground(self) -> u32
-        ensures { λ r. ⌜ r ≡ told groundOf (startAnswer self) 0 ⌝ }
+        ensures { λ r. ⌜ r ≡ valueOr groundOf (startAnswer self) 0 ⌝ }
     {
         match self {
             JudgeStart::Good(_) => 0,
@@ -61,7 +61,7 @@ impl JudgeStart {
 
     // The key of a fault, or the class of its free list, 0 where there is none.
     pub fn which(self) -> u64
-        ensures { λ r. ⌜ r ≡ told whichOf (startAnswer self) 0 ⌝ }
+        ensures { λ r. ⌜ r ≡ valueOr whichOf (startAnswer self) 0 ⌝ }
     {
         match self {
             JudgeStart::Good(_) => 0,
@@ -75,7 +75,7 @@ impl JudgeStart {
 
     // The units below the mark that belong to nobody, where the start is good; 0 where it isn't.
     pub fn lost(self) -> u64
-        ensures { λ r. ⌜ r ≡ told lostOf (startAnswer self) 0 ⌝ }
+        ensures { λ r. ⌜ r ≡ valueOr lostOf (startAnswer self) 0 ⌝ }
     {
         match self {
             JudgeStart::Good(lost) => lost,

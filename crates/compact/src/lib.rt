@@ -2,7 +2,7 @@
 ghost use mathlib.Core.Path.{_≡_};
 ghost use Prim.Native.Nat.{_≤_, _<_};
 ghost use lib.ListN.{length};
-ghost use Rattle.error.specs.Refusal.{refusalOf, told};
+ghost use Rattle.error.specs.Refusal.{refusalOf, valueOr};
 ghost use Rattle.buffer.specs.Bytes.{overwrite};
 ghost use Rattle.compact.specs.Uleb128.{piece, passes, readUleb, ulebLen, shortest, writeUleb, afterWrite};
 ghost use Rattle.compact.specs.Answers.{readUlebAnswer, writeUlebAnswer};
@@ -76,8 +76,8 @@ fn passes_64_bits(i: usize, b: u8) -> bool
 // form go out where it is read, and the answer is then 0; both stay as they were where it is refused.
 pub fn read_form(buf: &[u8], value: &mut u64, len: &mut usize) -> Refusal
     ensures number { λ r. ⌜ r ≡ refusalOf (readUleb (now (buf .entry))) ⌝ }
-    ensures value { λ r. ⌜ now (value .exit) ≡ told (λ x. x .value) (readUleb (now (buf .entry))) (now (value .entry)) ⌝ }
-    ensures len { λ r. ⌜ now (len .exit) ≡ told (λ x. x .len) (readUleb (now (buf .entry))) (now (len .entry)) ⌝ }
+    ensures value { λ r. ⌜ now (value .exit) ≡ valueOr (λ x. x .value) (readUleb (now (buf .entry))) (now (value .entry)) ⌝ }
+    ensures len { λ r. ⌜ now (len .exit) ≡ valueOr (λ x. x .len) (readUleb (now (buf .entry))) (now (len .entry)) ⌝ }
 {
     let mut sum: u64 = 0;
     let mut i: usize = 0;

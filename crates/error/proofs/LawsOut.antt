@@ -2,7 +2,7 @@
 use Prim.Native.Nat.{ℕ, _<_}
 use mathlib.Core.Path.{_≡_, refl}
 use native.Mathlib.Omega.{arith}
-use Rattle.error.specs.Refusal.{Answer, accepted, refused, answered, refusalOf, told}
+use Rattle.error.specs.Refusal.{Answer, accepted, refused, answered, refusalOf, valueOr}
 
 module _ {A : Type 0} {a : Answer A} where
   -- the number of an accepted answer, and of a refused one
@@ -13,16 +13,16 @@ module _ {A : Type 0} {a : Answer A} where
   number-refused e = rw e
 
   -- a value of an accepted answer
-  pub told-accepted : {B : Type 0} (f : A → B) (before : B) {x : A} → a ≡ accepted x → f x ≡ told f a before
-  told-accepted f before e = rw e
+  pub value-accepted : {B : Type 0} (f : A → B) (before : B) {x : A} → a ≡ accepted x → f x ≡ valueOr f a before
+  value-accepted f before e = rw e
 
   -- no value of a refused one
-  pub told-refused : {B : Type 0} (f : A → B) (before : B) {number : ℕ} → a ≡ refused number → before ≡ told f a before
-  told-refused f before e = rw e
+  pub value-refused : {B : Type 0} (f : A → B) (before : B) {number : ℕ} → a ≡ refused number → before ≡ valueOr f a before
+  value-refused f before e = rw e
 
   -- a value of an answer that is another
-  pub told-same : {B : Type 0} (f : A → B) (before : B) {b : Answer A} → a ≡ b → told f a before ≡ told f b before
-  told-same f before e = rw e
+  pub value-same : {B : Type 0} (f : A → B) (before : B) {b : Answer A} → a ≡ b → valueOr f a before ≡ valueOr f b before
+  value-same f before e = rw e
 
 module _ {A : Type 0} where
   -- an answer whose number is 0 is accepted, where no refusal of it has that number
@@ -41,8 +41,8 @@ unfolding answered
 number-answered f (accepted x) = refl
 number-answered f (refused number) = refl
 
-pub told-answered : {A B C : Type 0} (g : B → C) (f : A → B) (before : C) (a : Answer A)
-    → told g (answered f a) before ≡ told (λ x. g (f x)) a before
+pub value-answered : {A B C : Type 0} (g : B → C) (f : A → B) (before : C) (a : Answer A)
+    → valueOr g (answered f a) before ≡ valueOr (λ x. g (f x)) a before
 unfolding answered
-told-answered g f before (accepted x) = refl
-told-answered g f before (refused number) = refl
+value-answered g f before (accepted x) = refl
+value-answered g f before (refused number) = refl

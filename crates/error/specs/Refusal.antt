@@ -27,9 +27,9 @@ refusalOf (accepted x) = 0
 refusalOf (refused number) = number
 
 -- What an out-parameter holds after an answer: a value of it where it is accepted, else what it held before.
-abbrev pub told : {A B : Type 0} → (A → B) → Answer A → B → B
-told f (accepted x) before = f x
-told f (refused number) before = before
+abbrev pub valueOr : {A B : Type 0} → (A → B) → Answer A → B → B
+valueOr f (accepted x) before = f x
+valueOr f (refused number) before = before
 
 -- The book's shape breaks its limits.
 abbrev pub shapeBad : ℕ

@@ -1,7 +1,7 @@
 // Cutting a list into the parts that pages hold.
 ghost use mathlib.Core.Path.{_≡_};
 ghost use lib.ListN.{length};
-ghost use Rattle.error.specs.Refusal.{refusalOf, told};
+ghost use Rattle.error.specs.Refusal.{refusalOf, valueOr};
 ghost use Rattle.scripthash_cutting.specs.Answers.{chunkAnswer};
 ghost use Rattle.scripthash_cutting.specs.Cutting.{chunkRanges, afterChunkRanges, splitLast, afterSplitLast};
 use scripthash_cutting::ChunkRanges;
@@ -9,7 +9,7 @@ use scripthash_cutting::ChunkRanges;
 // Hands out a count of parts.
 fn put_parts(got: ChunkRanges, parts: &mut usize) -> u32
     ensures number { λ r. ⌜ r ≡ refusalOf (chunkAnswer got) ⌝ }
-    ensures parts { λ r. ⌜ now (parts .exit) ≡ told (λ x. x) (chunkAnswer got) 0 ⌝ }
+    ensures parts { λ r. ⌜ now (parts .exit) ≡ valueOr (λ x. x) (chunkAnswer got) 0 ⌝ }
 {
     let ChunkRanges::Parts(k) = got else {
         *parts = 0;
@@ -28,7 +28,7 @@ pub extern "C" fn ouriscado_sh_page_chunk_ranges(
 ) -> u32
     ensures number { λ r. ⌜ r ≡ refusalOf (chunkRanges (length (now (out .entry))) (now (fks .entry))) ⌝ }
     ensures list { λ r. ⌜ now (out .exit) ≡ afterChunkRanges (now (out .entry)) (now (fks .entry)) ⌝ }
-    ensures parts { λ r. ⌜ now (parts .exit) ≡ told (λ x. x) (chunkRanges (length (now (out .entry))) (now (fks .entry))) 0 ⌝ }
+    ensures parts { λ r. ⌜ now (parts .exit) ≡ valueOr (λ x. x) (chunkRanges (length (now (out .entry))) (now (fks .entry))) 0 ⌝ }
 {
     put_parts(scripthash_cutting::sh_page_chunk_ranges(fks, out), parts)
 }
@@ -44,7 +44,7 @@ pub extern "C" fn ouriscado_split_last_chunk_for_extent(
 ) -> u32
     ensures number { λ r. ⌜ r ≡ refusalOf (splitLast (now (fks .entry)) (now (chunks .entry)) count) ⌝ }
     ensures list { λ r. ⌜ now (chunks .exit) ≡ afterSplitLast (now (fks .entry)) (now (chunks .entry)) count ⌝ }
-    ensures parts { λ r. ⌜ now (parts .exit) ≡ told (λ x. x) (splitLast (now (fks .entry)) (now (chunks .entry)) count) 0 ⌝ }
+    ensures parts { λ r. ⌜ now (parts .exit) ≡ valueOr (λ x. x) (splitLast (now (fks .entry)) (now (chunks .entry)) count) 0 ⌝ }
 {
     put_parts(
         scripthash_cutting::split_last_chunk_for_extent(fks, chunks, count),

@@ -1,6 +1,6 @@
 // Free lists: a lent body, and the free heads of the classes 0 to 8, each the offset of the class's first freed block, or 0.
 ghost use mathlib.Core.Path.{_≡_};
-ghost use Rattle.error.specs.Refusal.{refusalOf, told};
+ghost use Rattle.error.specs.Refusal.{refusalOf, valueOr};
 ghost use Rattle.scripthash_free.specs.FreeList.{lists, pushFree, popFree, carveGap, relocClass, listsAfter, headsAfter};
 ghost use Rattle.scripthash_free.specs.Answers.{classAnswer, popAnswer};
 ghost use mathlib.Core.Option.{Option·getD};
@@ -28,7 +28,7 @@ fn put_reloc_class(choice: RelocClass, class: &mut u8) -> bool
 // Hands out the offset of a popped block, 0 where there is none.
 fn put_block(answer: PopFree, off: &mut u64) -> u32
     ensures number { λ r. ⌜ r ≡ refusalOf (popAnswer answer) ⌝ }
-    ensures off { λ r. ⌜ now (off .exit) ≡ told (λ o. Option·getD o 0) (popAnswer answer) 0 ⌝ }
+    ensures off { λ r. ⌜ now (off .exit) ≡ valueOr (λ o. Option·getD o 0) (popAnswer answer) 0 ⌝ }
 {
     match answer {
         PopFree::Block(at) => {
@@ -85,7 +85,7 @@ pub extern "C" fn ouriscado_pop_free_head(
     ensures heads { λ r. ⌜ now (heads .exit)
         ≡ headsAfter (popFree class mark (lists (now (body .entry)) (now (heads .entry)))) (now (heads .entry)) ⌝ }
     ensures off { λ r. ⌜ now (off .exit)
-        ≡ told (λ p. Option·getD (p .block) 0) (popFree class mark (lists (now (body .entry)) (now (heads .entry)))) 0 ⌝ }
+        ≡ valueOr (λ p. Option·getD (p .block) 0) (popFree class mark (lists (now (body .entry)) (now (heads .entry)))) 0 ⌝ }
 {
     let answer = scripthash_free::pop_lent(body, heads, class, mark);
     put_block(answer, off)

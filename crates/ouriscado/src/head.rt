@@ -1,7 +1,7 @@
 // Head words. A head value crosses the boundary as four numbers: its kind (0 none, 1 an inline number, 2 a slab, 3 pages), class, used, and
 // place, which is the number itself, the slab's offset or the last page's; what a kind doesn't have is 0.
 ghost use mathlib.Core.Path.{_≡_};
-ghost use Rattle.error.specs.Refusal.{refusalOf, told};
+ghost use Rattle.error.specs.Refusal.{refusalOf, valueOr};
 ghost use Rattle.buffer.specs.LittleEndian.{littleEndian};
 ghost use Rattle.scripthash_layout.specs.Head.{headBytes, packHead, unpackHead};
 ghost use Rattle.scripthash_layout.specs.AnswersHead.{packAnswer, unpackAnswer};
@@ -23,7 +23,7 @@ fn refusal_of(packed: Packed) -> u32
 // Hands out a packed word.
 fn put_word(packed: Packed, word: &mut u64) -> u32
     ensures number { λ r. ⌜ r ≡ refusalOf (packAnswer packed) ⌝ }
-    ensures word { λ r. ⌜ now (word .exit) ≡ told (λ x. x) (packAnswer packed) 0 ⌝ }
+    ensures word { λ r. ⌜ now (word .exit) ≡ valueOr (λ x. x) (packAnswer packed) 0 ⌝ }
 {
     match packed {
         Packed::Word(w) => {
@@ -41,7 +41,7 @@ fn put_word(packed: Packed, word: &mut u64) -> u32
 #[no_mangle]
 pub extern "C" fn ouriscado_pack8_empty(word: &mut u64) -> u32
     ensures number { λ r. ⌜ r ≡ refusalOf (packHead ShHeadValue.Empty) ⌝ }
-    ensures word { λ r. ⌜ now (word .exit) ≡ told (λ x. x) (packHead ShHeadValue.Empty) 0 ⌝ }
+    ensures word { λ r. ⌜ now (word .exit) ≡ valueOr (λ x. x) (packHead ShHeadValue.Empty) 0 ⌝ }
 {
     put_word(scripthash_layout::pack8(ShHeadValue::Empty), word)
 }
@@ -50,7 +50,7 @@ pub extern "C" fn ouriscado_pack8_empty(word: &mut u64) -> u32
 #[no_mangle]
 pub extern "C" fn ouriscado_pack8_inline(entry: u64, used: u8, word: &mut u64) -> u32
     ensures number { λ r. ⌜ r ≡ refusalOf (packHead (ShHeadValue.Inline entry used)) ⌝ }
-    ensures word { λ r. ⌜ now (word .exit) ≡ told (λ x. x) (packHead (ShHeadValue.Inline entry used)) 0 ⌝ }
+    ensures word { λ r. ⌜ now (word .exit) ≡ valueOr (λ x. x) (packHead (ShHeadValue.Inline entry used)) 0 ⌝ }
 {
     put_word(
         scripthash_layout::pack8(ShHeadValue::Inline { entry, used }),
@@ -62,7 +62,7 @@ pub extern "C" fn ouriscado_pack8_inline(entry: u64, used: u8, word: &mut u64) -
 #[no_mangle]
 pub extern "C" fn ouriscado_pack8_slab(class: u8, used: u16, off: u64, word: &mut u64) -> u32
     ensures number { λ r. ⌜ r ≡ refusalOf (packHead (ShHeadValue.Slab class used off)) ⌝ }
-    ensures word { λ r. ⌜ now (word .exit) ≡ told (λ x. x) (packHead (ShHeadValue.Slab class used off)) 0 ⌝ }
+    ensures word { λ r. ⌜ now (word .exit) ≡ valueOr (λ x. x) (packHead (ShHeadValue.Slab class used off)) 0 ⌝ }
 {
     put_word(
         scripthash_layout::pack8(ShHeadValue::Slab { class, used, off }),
@@ -74,7 +74,7 @@ pub extern "C" fn ouriscado_pack8_slab(class: u8, used: u16, off: u64, word: &mu
 #[no_mangle]
 pub extern "C" fn ouriscado_pack8_extent(last: u64, word: &mut u64) -> u32
     ensures number { λ r. ⌜ r ≡ refusalOf (packHead (ShHeadValue.Extent last)) ⌝ }
-    ensures word { λ r. ⌜ now (word .exit) ≡ told (λ x. x) (packHead (ShHeadValue.Extent last)) 0 ⌝ }
+    ensures word { λ r. ⌜ now (word .exit) ≡ valueOr (λ x. x) (packHead (ShHeadValue.Extent last)) 0 ⌝ }
 {
     put_word(
         scripthash_layout::pack8(ShHeadValue::Extent { last_page: last }),
@@ -200,10 +200,10 @@ pub fn put_head(
     place: &mut u64,
 ) -> u32
     ensures number { λ r. ⌜ r ≡ refusalOf (unpackAnswer got) ⌝ }
-    ensures kind { λ r. ⌜ now (kind .exit) ≡ told kindOut (unpackAnswer got) 0 ⌝ }
-    ensures class { λ r. ⌜ now (class .exit) ≡ told classOut (unpackAnswer got) 0 ⌝ }
-    ensures used { λ r. ⌜ now (used .exit) ≡ told usedOut (unpackAnswer got) 0 ⌝ }
-    ensures place { λ r. ⌜ now (place .exit) ≡ told placeOut (unpackAnswer got) 0 ⌝ }
+    ensures kind { λ r. ⌜ now (kind .exit) ≡ valueOr kindOut (unpackAnswer got) 0 ⌝ }
+    ensures class { λ r. ⌜ now (class .exit) ≡ valueOr classOut (unpackAnswer got) 0 ⌝ }
+    ensures used { λ r. ⌜ now (used .exit) ≡ valueOr usedOut (unpackAnswer got) 0 ⌝ }
+    ensures place { λ r. ⌜ now (place .exit) ≡ valueOr placeOut (unpackAnswer got) 0 ⌝ }
 {
     match got {
         Unpacked::Refused(number) => {
@@ -233,10 +233,10 @@ pub extern "C" fn ouriscado_unpack8(
     place: &mut u64,
 ) -> u32
     ensures number { λ r. ⌜ r ≡ refusalOf (unpackHead w) ⌝ }
-    ensures kind { λ r. ⌜ now (kind .exit) ≡ told kindOut (unpackHead w) 0 ⌝ }
-    ensures class { λ r. ⌜ now (class .exit) ≡ told classOut (unpackHead w) 0 ⌝ }
-    ensures used { λ r. ⌜ now (used .exit) ≡ told usedOut (unpackHead w) 0 ⌝ }
-    ensures place { λ r. ⌜ now (place .exit) ≡ told placeOut (unpackHead w) 0 ⌝ }
+    ensures kind { λ r. ⌜ now (kind .exit) ≡ valueOr kindOut (unpackHead w) 0 ⌝ }
+    ensures class { λ r. ⌜ now (class .exit) ≡ valueOr classOut (unpackHead w) 0 ⌝ }
+    ensures used { λ r. ⌜ now (used .exit) ≡ valueOr usedOut (unpackHead w) 0 ⌝ }
+    ensures place { λ r. ⌜ now (place .exit) ≡ valueOr placeOut (unpackHead w) 0 ⌝ }
 {
     put_head(scripthash_layout::unpack8(w), kind, class, used, place)
 }
@@ -251,10 +251,10 @@ pub extern "C" fn ouriscado_unpack8_bytes(
     place: &mut u64,
 ) -> u32
     ensures number { λ r. ⌜ r ≡ refusalOf (unpackHead (littleEndian (now (buf .entry)))) ⌝ }
-    ensures kind { λ r. ⌜ now (kind .exit) ≡ told kindOut (unpackHead (littleEndian (now (buf .entry)))) 0 ⌝ }
-    ensures class { λ r. ⌜ now (class .exit) ≡ told classOut (unpackHead (littleEndian (now (buf .entry)))) 0 ⌝ }
-    ensures used { λ r. ⌜ now (used .exit) ≡ told usedOut (unpackHead (littleEndian (now (buf .entry)))) 0 ⌝ }
-    ensures place { λ r. ⌜ now (place .exit) ≡ told placeOut (unpackHead (littleEndian (now (buf .entry)))) 0 ⌝ }
+    ensures kind { λ r. ⌜ now (kind .exit) ≡ valueOr kindOut (unpackHead (littleEndian (now (buf .entry)))) 0 ⌝ }
+    ensures class { λ r. ⌜ now (class .exit) ≡ valueOr classOut (unpackHead (littleEndian (now (buf .entry)))) 0 ⌝ }
+    ensures used { λ r. ⌜ now (used .exit) ≡ valueOr usedOut (unpackHead (littleEndian (now (buf .entry)))) 0 ⌝ }
+    ensures place { λ r. ⌜ now (place .exit) ≡ valueOr placeOut (unpackHead (littleEndian (now (buf .entry)))) 0 ⌝ }
 {
     put_head(
         scripthash_layout::unpack8_bytes(buf),

@@ -2,7 +2,7 @@
 ghost use mathlib.Core.Bool.{false};
 ghost use mathlib.Core.Path.{_≡_};
 ghost use lib.ListN.{length};
-ghost use Rattle.error.specs.Refusal.{refusalOf, told};
+ghost use Rattle.error.specs.Refusal.{refusalOf, valueOr};
 ghost use Rattle.scripthash_stream.specs.Stream.{afterDecode};
 ghost use Rattle.scripthash_fields.specs.Page.{nextOff};
 ghost use Rattle.scripthash_pages.specs.Entries.{pageScan, lastOf, pageEntries, readCount, appendSpot, hasSpot, afterAppend, writeStream};
@@ -23,8 +23,8 @@ pub extern "C" fn ouriscado_sh_page_stream_tail(
     last: &mut u64,
 ) -> u32
     ensures number { λ r. ⌜ r ≡ refusalOf (pageScan (now (page .entry))) ⌝ }
-    ensures taken { λ r. ⌜ now (taken .exit) ≡ told (λ s. s .taken) (pageScan (now (page .entry))) 0 ⌝ }
-    ensures last { λ r. ⌜ now (last .exit) ≡ told lastOf (pageScan (now (page .entry))) 0 ⌝ }
+    ensures taken { λ r. ⌜ now (taken .exit) ≡ valueOr (λ s. s .taken) (pageScan (now (page .entry))) 0 ⌝ }
+    ensures last { λ r. ⌜ now (last .exit) ≡ valueOr lastOf (pageScan (now (page .entry))) 0 ⌝ }
 {
     let got = scripthash_pages::sh_page_stream_tail(page);
     let ScanStream::Scanned { taken: t, last: l } = got else {
@@ -41,7 +41,7 @@ pub extern "C" fn ouriscado_sh_page_stream_tail(
 #[no_mangle]
 pub extern "C" fn ouriscado_sh_page_last_fk(page: &[u8], last: &mut u64) -> u32
     ensures number { λ r. ⌜ r ≡ refusalOf (pageScan (now (page .entry))) ⌝ }
-    ensures last { λ r. ⌜ now (last .exit) ≡ told lastOf (pageScan (now (page .entry))) 0 ⌝ }
+    ensures last { λ r. ⌜ now (last .exit) ≡ valueOr lastOf (pageScan (now (page .entry))) 0 ⌝ }
 {
     let got = scripthash_pages::sh_page_last_fk(page);
     let PageLastFk::Last(l) = got else {
@@ -61,7 +61,7 @@ pub extern "C" fn ouriscado_sh_page_entries_into(
 ) -> u32
     ensures number { λ r. ⌜ r ≡ refusalOf (pageEntries (length (now (out .entry))) (now (page .entry))) ⌝ }
     ensures list { λ r. ⌜ now (out .exit) ≡ afterDecode (now (out .entry)) (pageEntries (length (now (out .entry))) (now (page .entry))) ⌝ }
-    ensures count { λ r. ⌜ now (count .exit) ≡ told readCount (pageEntries (length (now (out .entry))) (now (page .entry))) 0 ⌝ }
+    ensures count { λ r. ⌜ now (count .exit) ≡ valueOr readCount (pageEntries (length (now (out .entry))) (now (page .entry))) 0 ⌝ }
 {
     let got = scripthash_pages::sh_page_entries_into(page, out);
     let PageEntries::Entries(n) = got else {
@@ -83,9 +83,9 @@ pub extern "C" fn ouriscado_sh_page_decode_slice_into(
 ) -> u32
     ensures number { λ r. ⌜ r ≡ refusalOf (pageEntries (length (now (out .entry))) (now (page .entry))) ⌝ }
     ensures list { λ r. ⌜ now (out .exit) ≡ afterDecode (now (out .entry)) (pageEntries (length (now (out .entry))) (now (page .entry))) ⌝ }
-    ensures count { λ r. ⌜ now (count .exit) ≡ told readCount (pageEntries (length (now (out .entry))) (now (page .entry))) 0 ⌝ }
+    ensures count { λ r. ⌜ now (count .exit) ≡ valueOr readCount (pageEntries (length (now (out .entry))) (now (page .entry))) 0 ⌝ }
     ensures next { λ r. ⌜ now (next .exit)
-        ≡ told (λ _. nextOff (now (page .entry))) (pageEntries (length (now (out .entry))) (now (page .entry))) 0 ⌝ }
+        ≡ valueOr (λ _. nextOff (now (page .entry))) (pageEntries (length (now (out .entry))) (now (page .entry))) 0 ⌝ }
 {
     let got = scripthash_pages::sh_page_decode_slice_into(page, out);
     let PageSlice::Decoded { count: n, next: o } = got else {
@@ -101,7 +101,7 @@ pub extern "C" fn ouriscado_sh_page_decode_slice_into(
 // Hands out whether a number was appended.
 fn put_appended(got: TryAppend, appended: &mut bool) -> u32
     ensures number { λ r. ⌜ r ≡ refusalOf (tryAnswer got) ⌝ }
-    ensures appended { λ r. ⌜ now (appended .exit) ≡ told (λ x. x) (tryAnswer got) false ⌝ }
+    ensures appended { λ r. ⌜ now (appended .exit) ≡ valueOr (λ x. x) (tryAnswer got) false ⌝ }
 {
     *appended = false;
     match got {
@@ -119,7 +119,7 @@ fn put_appended(got: TryAppend, appended: &mut bool) -> u32
 pub extern "C" fn ouriscado_sh_page_try_append(page: &mut [u8], fk: u64, appended: &mut bool) -> u32
     ensures number { λ r. ⌜ r ≡ refusalOf (appendSpot (now (page .entry)) fk) ⌝ }
     ensures bytes { λ r. ⌜ now (page .exit) ≡ afterAppend (now (page .entry)) (appendSpot (now (page .entry)) fk) ⌝ }
-    ensures appended { λ r. ⌜ now (appended .exit) ≡ told hasSpot (appendSpot (now (page .entry)) fk) false ⌝ }
+    ensures appended { λ r. ⌜ now (appended .exit) ≡ valueOr hasSpot (appendSpot (now (page .entry)) fk) false ⌝ }
 {
     let got = scripthash_pages::sh_page_try_append(page, fk);
     put_appended(got, appended)
@@ -135,7 +135,7 @@ pub extern "C" fn ouriscado_sh_page_write_stream(
     ensures number { λ r. ⌜ r ≡ refusalOf (writeStream (now (page .entry)) (now (fks .entry))) ⌝ }
     ensures bytes { λ r. ⌜ now (page .exit)
         ≡ afterWriteStream (now (page .entry)) (now (fks .entry)) (writeStream (now (page .entry)) (now (fks .entry))) ⌝ }
-    ensures len { λ r. ⌜ now (len .exit) ≡ told (λ x. x) (writeStream (now (page .entry)) (now (fks .entry))) 0 ⌝ }
+    ensures len { λ r. ⌜ now (len .exit) ≡ valueOr (λ x. x) (writeStream (now (page .entry)) (now (fks .entry))) 0 ⌝ }
 {
     let got = scripthash_pages::sh_page_write_stream(page, fks);
     put_bytes(got, len)

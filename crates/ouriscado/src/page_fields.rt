@@ -1,7 +1,7 @@
 // A page's fields. A buffer that isn't a page is refused with 4 by each.
 ghost use mathlib.Core.Path.{_≡_};
 ghost use mathlib.Core.Bool.{true, false};
-ghost use Rattle.error.specs.Refusal.{refusalOf, told};
+ghost use Rattle.error.specs.Refusal.{refusalOf, valueOr};
 ghost use Rattle.scripthash_fields.specs.Fields.{readLink, isLast, firstOff, nextOffOf, extentOf, createsOf, nFks, requireDelta};
 ghost use Rattle.scripthash_fields.specs.Fields.{streamOffOf, streamCapOf, writeLink, setExtent, setCreates, setCount, initEmpty, afterSet};
 ghost use Rattle.scripthash_fields.specs.FieldAnswers.{linkAnswer, lastAnswer, offsetAnswer, extentAnswer, createsAnswer, countAnswer};
@@ -16,8 +16,8 @@ use scripthash_fields::PageOffset;
 // Hands out what a link says.
 fn put_link(got: PageLink, last: &mut bool, off: &mut u64) -> u32
     ensures number { λ r. ⌜ r ≡ refusalOf (linkAnswer got) ⌝ }
-    ensures last { λ r. ⌜ now (last .exit) ≡ told (λ l. l .last) (linkAnswer got) false ⌝ }
-    ensures off { λ r. ⌜ now (off .exit) ≡ told (λ l. l .off) (linkAnswer got) 0 ⌝ }
+    ensures last { λ r. ⌜ now (last .exit) ≡ valueOr (λ l. l .last) (linkAnswer got) false ⌝ }
+    ensures off { λ r. ⌜ now (off .exit) ≡ valueOr (λ l. l .off) (linkAnswer got) 0 ⌝ }
 {
     match got {
         PageLink::Link { last: l, off: o } => {
@@ -36,7 +36,7 @@ fn put_link(got: PageLink, last: &mut bool, off: &mut u64) -> u32
 // Hands out whether a page is LAST.
 fn put_last(got: PageLast, last: &mut bool) -> u32
     ensures number { λ r. ⌜ r ≡ refusalOf (lastAnswer got) ⌝ }
-    ensures last { λ r. ⌜ now (last .exit) ≡ told (λ x. x) (lastAnswer got) false ⌝ }
+    ensures last { λ r. ⌜ now (last .exit) ≡ valueOr (λ x. x) (lastAnswer got) false ⌝ }
 {
     match got {
         PageLast::Last(l) => {
@@ -53,7 +53,7 @@ fn put_last(got: PageLast, last: &mut bool) -> u32
 // Hands out the offset of a page.
 fn put_offset(got: PageOffset, off: &mut u64) -> u32
     ensures number { λ r. ⌜ r ≡ refusalOf (offsetAnswer got) ⌝ }
-    ensures off { λ r. ⌜ now (off .exit) ≡ told (λ x. x) (offsetAnswer got) 0 ⌝ }
+    ensures off { λ r. ⌜ now (off .exit) ≡ valueOr (λ x. x) (offsetAnswer got) 0 ⌝ }
 {
     match got {
         PageOffset::Offset(o) => {
@@ -70,7 +70,7 @@ fn put_offset(got: PageOffset, off: &mut u64) -> u32
 // Hands out a count.
 fn put_count(got: PageCount, n: &mut usize) -> u32
     ensures number { λ r. ⌜ r ≡ refusalOf (countAnswer got) ⌝ }
-    ensures count { λ r. ⌜ now (n .exit) ≡ told (λ x. x) (countAnswer got) 0 ⌝ }
+    ensures count { λ r. ⌜ now (n .exit) ≡ valueOr (λ x. x) (countAnswer got) 0 ⌝ }
 {
     match got {
         PageCount::Count(c) => {
@@ -87,7 +87,7 @@ fn put_count(got: PageCount, n: &mut usize) -> u32
 // Hands out a page's creates.
 fn put_creates(got: PageCreates, n: &mut u32) -> u32
     ensures number { λ r. ⌜ r ≡ refusalOf (createsAnswer got) ⌝ }
-    ensures creates { λ r. ⌜ now (n .exit) ≡ told (λ x. x) (createsAnswer got) 0 ⌝ }
+    ensures creates { λ r. ⌜ now (n .exit) ≡ valueOr (λ x. x) (createsAnswer got) 0 ⌝ }
 {
     match got {
         PageCreates::Creates(c) => {
@@ -104,8 +104,8 @@ fn put_creates(got: PageCreates, n: &mut u32) -> u32
 // Hands out an extent, 0 and 0 where there is none.
 fn put_extent(got: PageExtent, base: &mut u64, n: &mut u32) -> u32
     ensures number { λ r. ⌜ r ≡ refusalOf (extentAnswer got) ⌝ }
-    ensures base { λ r. ⌜ now (base .exit) ≡ told baseOr0 (extentAnswer got) 0 ⌝ }
-    ensures count { λ r. ⌜ now (n .exit) ≡ told countOr0 (extentAnswer got) 0 ⌝ }
+    ensures base { λ r. ⌜ now (base .exit) ≡ valueOr baseOr0 (extentAnswer got) 0 ⌝ }
+    ensures count { λ r. ⌜ now (n .exit) ≡ valueOr countOr0 (extentAnswer got) 0 ⌝ }
 {
     match got {
         PageExtent::Extent { base: b, n: c } => {
@@ -130,8 +130,8 @@ fn put_extent(got: PageExtent, base: &mut u64, n: &mut u32) -> u32
 #[no_mangle]
 pub extern "C" fn ouriscado_sh_page_read_packed(page: &[u8], last: &mut bool, off: &mut u64) -> u32
     ensures number { λ r. ⌜ r ≡ refusalOf (readLink (now (page .entry))) ⌝ }
-    ensures last { λ r. ⌜ now (last .exit) ≡ told (λ l. l .last) (readLink (now (page .entry))) false ⌝ }
-    ensures off { λ r. ⌜ now (off .exit) ≡ told (λ l. l .off) (readLink (now (page .entry))) 0 ⌝ }
+    ensures last { λ r. ⌜ now (last .exit) ≡ valueOr (λ l. l .last) (readLink (now (page .entry))) false ⌝ }
+    ensures off { λ r. ⌜ now (off .exit) ≡ valueOr (λ l. l .off) (readLink (now (page .entry))) 0 ⌝ }
 {
     put_link(scripthash_fields::sh_page_read_packed(page), last, off)
 }
@@ -140,7 +140,7 @@ pub extern "C" fn ouriscado_sh_page_read_packed(page: &[u8], last: &mut bool, of
 #[no_mangle]
 pub extern "C" fn ouriscado_sh_page_is_last(page: &[u8], last: &mut bool) -> u32
     ensures number { λ r. ⌜ r ≡ refusalOf (isLast (now (page .entry))) ⌝ }
-    ensures last { λ r. ⌜ now (last .exit) ≡ told (λ x. x) (isLast (now (page .entry))) false ⌝ }
+    ensures last { λ r. ⌜ now (last .exit) ≡ valueOr (λ x. x) (isLast (now (page .entry))) false ⌝ }
 {
     put_last(scripthash_fields::sh_page_is_last(page), last)
 }
@@ -149,7 +149,7 @@ pub extern "C" fn ouriscado_sh_page_is_last(page: &[u8], last: &mut bool) -> u32
 #[no_mangle]
 pub extern "C" fn ouriscado_sh_page_first_off(page: &[u8], off: &mut u64) -> u32
     ensures number { λ r. ⌜ r ≡ refusalOf (firstOff (now (page .entry))) ⌝ }
-    ensures off { λ r. ⌜ now (off .exit) ≡ told (λ x. x) (firstOff (now (page .entry))) 0 ⌝ }
+    ensures off { λ r. ⌜ now (off .exit) ≡ valueOr (λ x. x) (firstOff (now (page .entry))) 0 ⌝ }
 {
     put_offset(scripthash_fields::sh_page_first_off(page), off)
 }
@@ -158,7 +158,7 @@ pub extern "C" fn ouriscado_sh_page_first_off(page: &[u8], off: &mut u64) -> u32
 #[no_mangle]
 pub extern "C" fn ouriscado_sh_page_next(page: &[u8], off: &mut u64) -> u32
     ensures number { λ r. ⌜ r ≡ refusalOf (nextOffOf (now (page .entry))) ⌝ }
-    ensures off { λ r. ⌜ now (off .exit) ≡ told (λ x. x) (nextOffOf (now (page .entry))) 0 ⌝ }
+    ensures off { λ r. ⌜ now (off .exit) ≡ valueOr (λ x. x) (nextOffOf (now (page .entry))) 0 ⌝ }
 {
     put_offset(scripthash_fields::sh_page_next(page), off)
 }
@@ -197,7 +197,7 @@ pub extern "C" fn ouriscado_sh_page_set_next(page: &mut [u8], off: u64) -> u32
 #[no_mangle]
 pub extern "C" fn ouriscado_sh_page_stream_off(page: &[u8], off: &mut usize) -> u32
     ensures number { λ r. ⌜ r ≡ refusalOf (streamOffOf (now (page .entry))) ⌝ }
-    ensures off { λ r. ⌜ now (off .exit) ≡ told (λ x. x) (streamOffOf (now (page .entry))) 0 ⌝ }
+    ensures off { λ r. ⌜ now (off .exit) ≡ valueOr (λ x. x) (streamOffOf (now (page .entry))) 0 ⌝ }
 {
     put_count(scripthash_fields::sh_page_stream_off(page), off)
 }
@@ -206,7 +206,7 @@ pub extern "C" fn ouriscado_sh_page_stream_off(page: &[u8], off: &mut usize) -> 
 #[no_mangle]
 pub extern "C" fn ouriscado_sh_page_stream_cap(page: &[u8], cap: &mut usize) -> u32
     ensures number { λ r. ⌜ r ≡ refusalOf (streamCapOf (now (page .entry))) ⌝ }
-    ensures cap { λ r. ⌜ now (cap .exit) ≡ told (λ x. x) (streamCapOf (now (page .entry))) 0 ⌝ }
+    ensures cap { λ r. ⌜ now (cap .exit) ≡ valueOr (λ x. x) (streamCapOf (now (page .entry))) 0 ⌝ }
 {
     put_count(scripthash_fields::sh_page_stream_cap(page), cap)
 }
@@ -215,8 +215,8 @@ pub extern "C" fn ouriscado_sh_page_stream_cap(page: &[u8], cap: &mut usize) -> 
 #[no_mangle]
 pub extern "C" fn ouriscado_sh_page_extent(page: &[u8], base: &mut u64, n: &mut u32) -> u32
     ensures number { λ r. ⌜ r ≡ refusalOf (extentOf (now (page .entry))) ⌝ }
-    ensures base { λ r. ⌜ now (base .exit) ≡ told baseOr0 (extentOf (now (page .entry))) 0 ⌝ }
-    ensures count { λ r. ⌜ now (n .exit) ≡ told countOr0 (extentOf (now (page .entry))) 0 ⌝ }
+    ensures base { λ r. ⌜ now (base .exit) ≡ valueOr baseOr0 (extentOf (now (page .entry))) 0 ⌝ }
+    ensures count { λ r. ⌜ now (n .exit) ≡ valueOr countOr0 (extentOf (now (page .entry))) 0 ⌝ }
 {
     put_extent(scripthash_fields::sh_page_extent(page), base, n)
 }
@@ -235,7 +235,7 @@ pub extern "C" fn ouriscado_sh_page_set_extent(page: &mut [u8], base: u64, n: u3
 #[no_mangle]
 pub extern "C" fn ouriscado_sh_page_extent_creates(page: &[u8], n: &mut u32) -> u32
     ensures number { λ r. ⌜ r ≡ refusalOf (createsOf (now (page .entry))) ⌝ }
-    ensures creates { λ r. ⌜ now (n .exit) ≡ told (λ x. x) (createsOf (now (page .entry))) 0 ⌝ }
+    ensures creates { λ r. ⌜ now (n .exit) ≡ valueOr (λ x. x) (createsOf (now (page .entry))) 0 ⌝ }
 {
     put_creates(scripthash_fields::sh_page_extent_creates(page), n)
 }
@@ -254,7 +254,7 @@ pub extern "C" fn ouriscado_sh_page_set_extent_creates(page: &mut [u8], n: u32) 
 #[no_mangle]
 pub extern "C" fn ouriscado_sh_page_n_fks(page: &[u8], n: &mut usize) -> u32
     ensures number { λ r. ⌜ r ≡ refusalOf (nFks (now (page .entry))) ⌝ }
-    ensures count { λ r. ⌜ now (n .exit) ≡ told (λ x. x) (nFks (now (page .entry))) 0 ⌝ }
+    ensures count { λ r. ⌜ now (n .exit) ≡ valueOr (λ x. x) (nFks (now (page .entry))) 0 ⌝ }
 {
     put_count(scripthash_fields::sh_page_n_fks(page), n)
 }

@@ -2,7 +2,7 @@
 ghost use mathlib.Core.Path.{_≡_};
 ghost use Prim.Native.Nat.{_+_};
 ghost use lib.ListN.{length};
-ghost use Rattle.error.specs.Refusal.{refusalOf, told};
+ghost use Rattle.error.specs.Refusal.{refusalOf, valueOr};
 ghost use Rattle.scripthash_stream.specs.Stream.{afterDecode};
 ghost use Rattle.scripthash_slabs.specs.Slab.{encodeSlab, afterEncodeSlab, decodeSlab};
 use crate::stream::put_bytes;
@@ -18,7 +18,7 @@ pub extern "C" fn ouriscado_encode_slab_payload_into(
     ensures number { λ r. ⌜ r ≡ refusalOf (encodeSlab (length (now (out .entry))) (now (fks .entry))) ⌝ }
     ensures bytes { λ r. ⌜ now (out .exit)
         ≡ afterEncodeSlab (now (out .entry)) (now (fks .entry)) (encodeSlab (length (now (out .entry))) (now (fks .entry))) ⌝ }
-    ensures len { λ r. ⌜ now (len .exit) ≡ told (λ x. x) (encodeSlab (length (now (out .entry))) (now (fks .entry))) 0 ⌝ }
+    ensures len { λ r. ⌜ now (len .exit) ≡ valueOr (λ x. x) (encodeSlab (length (now (out .entry))) (now (fks .entry))) 0 ⌝ }
 {
     let got = scripthash_slabs::encode_slab_payload_into(out, fks);
     put_bytes(got, len)
@@ -36,8 +36,8 @@ pub extern "C" fn ouriscado_decode_slab_payload_into(
     ensures number { λ r. ⌜ r ≡ refusalOf (decodeSlab (length (now (out .entry))) (now (buf .entry))) ⌝ }
     ensures list { λ r. ⌜ now (out .exit) ≡ afterDecode (now (out .entry)) (decodeSlab (length (now (out .entry))) (now (buf .entry))) ⌝ }
     ensures used { λ r. ⌜ now (used .exit)
-        ≡ told (λ s. length (s .numbers)) (decodeSlab (length (now (out .entry))) (now (buf .entry))) 0 ⌝ }
-    ensures len { λ r. ⌜ now (len .exit) ≡ told (λ s. 2 + s .taken) (decodeSlab (length (now (out .entry))) (now (buf .entry))) 0 ⌝ }
+        ≡ valueOr (λ s. length (s .numbers)) (decodeSlab (length (now (out .entry))) (now (buf .entry))) 0 ⌝ }
+    ensures len { λ r. ⌜ now (len .exit) ≡ valueOr (λ s. 2 + s .taken) (decodeSlab (length (now (out .entry))) (now (buf .entry))) 0 ⌝ }
 {
     let got = scripthash_slabs::decode_slab_payload_into(buf, out);
     let SlabPayload::Numbers { used: u, len: l } = got else {

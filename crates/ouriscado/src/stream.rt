@@ -1,7 +1,7 @@
 // Streams of rising numbers.
 ghost use mathlib.Core.Path.{_≡_};
 ghost use lib.ListN.{length};
-ghost use Rattle.error.specs.Refusal.{refusalOf, told};
+ghost use Rattle.error.specs.Refusal.{refusalOf, valueOr};
 ghost use Rattle.scripthash_stream.specs.Stream.{encodeStream, afterEncode, decodeStream, afterDecode};
 ghost use Rattle.scripthash_stream.specs.Answers.{bytesAnswer};
 use scripthash_stream::StreamBytes;
@@ -9,7 +9,7 @@ use scripthash_stream::StreamBytes;
 // Hands out how many bytes a stream takes.
 pub fn put_bytes(got: StreamBytes, len: &mut usize) -> u32
     ensures number { λ r. ⌜ r ≡ refusalOf (bytesAnswer got) ⌝ }
-    ensures len { λ r. ⌜ now (len .exit) ≡ told (λ x. x) (bytesAnswer got) 0 ⌝ }
+    ensures len { λ r. ⌜ now (len .exit) ≡ valueOr (λ x. x) (bytesAnswer got) 0 ⌝ }
 {
     match got {
         StreamBytes::Bytes(n) => {
@@ -33,7 +33,7 @@ pub extern "C" fn ouriscado_encode_fk_delta_stream_into(
     ensures number { λ r. ⌜ r ≡ refusalOf (encodeStream (length (now (out .entry))) (now (fks .entry))) ⌝ }
     ensures bytes { λ r. ⌜ now (out .exit)
         ≡ afterEncode (now (out .entry)) (now (fks .entry)) (encodeStream (length (now (out .entry))) (now (fks .entry))) ⌝ }
-    ensures len { λ r. ⌜ now (len .exit) ≡ told (λ x. x) (encodeStream (length (now (out .entry))) (now (fks .entry))) 0 ⌝ }
+    ensures len { λ r. ⌜ now (len .exit) ≡ valueOr (λ x. x) (encodeStream (length (now (out .entry))) (now (fks .entry))) 0 ⌝ }
 {
     let got = scripthash_stream::encode_fk_delta_stream_into(out, fks);
     put_bytes(got, len)
@@ -50,7 +50,7 @@ pub extern "C" fn ouriscado_decode_fk_delta_stream_into(
     ensures number { λ r. ⌜ r ≡ refusalOf (decodeStream (length (now (out .entry))) n (now (buf .entry))) ⌝ }
     ensures list { λ r. ⌜ now (out .exit)
         ≡ afterDecode (now (out .entry)) (decodeStream (length (now (out .entry))) n (now (buf .entry))) ⌝ }
-    ensures taken { λ r. ⌜ now (taken .exit) ≡ told (λ s. s .taken) (decodeStream (length (now (out .entry))) n (now (buf .entry))) 0 ⌝ }
+    ensures taken { λ r. ⌜ now (taken .exit) ≡ valueOr (λ s. s .taken) (decodeStream (length (now (out .entry))) n (now (buf .entry))) 0 ⌝ }
 {
     let got = scripthash_scan::decode_fk_delta_stream_into(buf, n, out);
     put_bytes(got, taken)

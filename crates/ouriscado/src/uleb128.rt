@@ -1,7 +1,7 @@
 // ULEB128 forms.
 ghost use mathlib.Core.Path.{_≡_};
 ghost use lib.ListN.{length};
-ghost use Rattle.error.specs.Refusal.{refusalOf, told};
+ghost use Rattle.error.specs.Refusal.{refusalOf, valueOr};
 ghost use Rattle.compact.specs.Uleb128.{readUleb, ulebLen, writeUleb, afterWrite};
 use compact::WriteUleb128;
 
@@ -17,8 +17,8 @@ pub extern "C" fn ouriscado_uleb128_len(n: u64) -> usize
 #[no_mangle]
 pub extern "C" fn ouriscado_read_uleb128(buf: &[u8], value: &mut u64, len: &mut usize) -> u32
     ensures number { λ r. ⌜ r ≡ refusalOf (readUleb (now (buf .entry))) ⌝ }
-    ensures value { λ r. ⌜ now (value .exit) ≡ told (λ x. x .value) (readUleb (now (buf .entry))) 0 ⌝ }
-    ensures len { λ r. ⌜ now (len .exit) ≡ told (λ x. x .len) (readUleb (now (buf .entry))) 0 ⌝ }
+    ensures value { λ r. ⌜ now (value .exit) ≡ valueOr (λ x. x .value) (readUleb (now (buf .entry))) 0 ⌝ }
+    ensures len { λ r. ⌜ now (len .exit) ≡ valueOr (λ x. x .len) (readUleb (now (buf .entry))) 0 ⌝ }
 {
     *value = 0;
     *len = 0;
@@ -30,7 +30,7 @@ pub extern "C" fn ouriscado_read_uleb128(buf: &[u8], value: &mut u64, len: &mut 
 pub extern "C" fn ouriscado_write_uleb128_into(dst: &mut [u8], n: u64, len: &mut usize) -> u32
     ensures number { λ r. ⌜ r ≡ refusalOf (writeUleb (length (now (dst .entry))) n) ⌝ }
     ensures bytes { λ r. ⌜ now (dst .exit) ≡ afterWrite (now (dst .entry)) n ⌝ }
-    ensures len { λ r. ⌜ now (len .exit) ≡ told (λ x. x) (writeUleb (length (now (dst .entry))) n) 0 ⌝ }
+    ensures len { λ r. ⌜ now (len .exit) ≡ valueOr (λ x. x) (writeUleb (length (now (dst .entry))) n) 0 ⌝ }
 {
     let got = compact::write_uleb128_into(dst, n);
     let WriteUleb128::Written(w) = got else {

@@ -26,6 +26,6 @@ FewestPages (drop key) a = Unit {0}
 
 -- Each load of a history does, and each call has an answer.
 unfoldable pub EachFewest : List Call → List (Answer Told) → Type 0
-EachFewest [] told = Unit {0}
+EachFewest [] rest = Unit {0}
 EachFewest (c ∷ cs) [] = ⊥
-EachFewest (c ∷ cs) (a ∷ told) = FewestPages c a × EachFewest cs told
+EachFewest (c ∷ cs) (a ∷ rest) = FewestPages c a × EachFewest cs rest

@@ -26,4 +26,4 @@ RefusedBy numbers (refused m) = isOneOf m numbers ≡ true
 -- So is each of some answers.
 unfoldable pub EachRefusedBy : {A : Type 0} → List ℕ → List (Answer A) → Type 0
 EachRefusedBy numbers [] = Unit {0}
-EachRefusedBy numbers (a ∷ told) = RefusedBy numbers a × EachRefusedBy numbers told
+EachRefusedBy numbers (a ∷ rest) = RefusedBy numbers a × EachRefusedBy numbers rest

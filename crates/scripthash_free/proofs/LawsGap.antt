@@ -13,9 +13,9 @@ use borrow.Author.Tests.{eqb-true, eqb-false}
 use Rattle.scripthash_layout.specs.Sizes.{slabBytes}
 use Rattle.scripthash_free.specs.FreeList.{Lists, Block, relocClass, blockThen, carve, gapBlocks, pushed, pushAll, isBlock}
 use Rattle.scripthash_free.specs.FreeList.{firstFreed}
-use Rattle.scripthash_free.specs.FreeList.{Names, Clear, Each, Within, IsSlab, Adjoin, stackAfter}
+use Rattle.scripthash_free.specs.FreeList.{IsFreeList, Clear, Each, Within, IsSlab, Adjoin, stackAfter}
 use Rattle.scripthash_free.proofs.LawsBlock.{bytes-from-16, slab-stands, Gap, largest-none, largest-some, largest-nothing}
-use Rattle.scripthash_free.proofs.LawsNames.{clear-within, length-pushed, length-pushed-heads, names-push, names-other}
+use Rattle.scripthash_free.proofs.LawsFreeList.{clear-within, length-pushed, length-pushed-heads, free-list-push, free-list-other}
 
 -- A block is found, and the others are carved behind it.
 carve-found : (k off n : ℕ) {class : ℕ} → relocClass n ≡ some class
@@ -174,14 +174,14 @@ module _ (d class off : ℕ) (os : List ℕ) (l : Lists) (above : 0 < off) (fits
   write-fits : off + 8 ≤ length (l .body)
   write-fits = omega (arith, bytes-from-16 class)
 
-  names-one : (same : Bool) → eqb class d ≡ same → Clear (slabBytes d) off 8 os → Names (l .body) (firstFreed d l) os
-      → Names (pushed class off l .body) (firstFreed d (pushed class off l)) (cond same (off ∷ os) os)
-  names-one true e c n =
+  free-list-one : (same : Bool) → eqb class d ≡ same → Clear (slabBytes d) off 8 os → IsFreeList (l .body) (firstFreed d l) os
+      → IsFreeList (pushed class off l .body) (firstFreed d (pushed class off l)) (cond same (off ∷ os) os)
+  free-list-one true e c n =
       let z : class ≡ d = eqb-true class d e in
-      subst (λ (x : ℕ). Names (pushed class off l .body) (firstFreed x (pushed class off l)) (off ∷ os)) z
-      (names-push class off l above write-fits has os small
-      (subst (λ (x : ℕ). Clear (slabBytes x) off 8 os) (sym z) c) (subst (λ (x : ℕ). Names (l .body) (firstFreed x l) os) (sym z) n))
-  names-one false e c n = names-other class off l above write-fits has d os (λ z. eqb-false class d e (sym z)) c n
+      subst (λ (x : ℕ). IsFreeList (pushed class off l .body) (firstFreed x (pushed class off l)) (off ∷ os)) z
+      (free-list-push class off l above write-fits has os small
+      (subst (λ (x : ℕ). Clear (slabBytes x) off 8 os) (sym z) c) (subst (λ (x : ℕ). IsFreeList (l .body) (firstFreed x l) os) (sym z) n))
+  free-list-one false e c n = free-list-other class off l above write-fits has d os (λ z. eqb-false class d e (sym z)) c n
 
   clear-one : (same : Bool) (m : ℕ) → eqb class d ≡ same → slabBytes class ≤ m → Clear (slabBytes d) off m os
       → Clear (slabBytes d) (off + slabBytes class) (m - slabBytes class) (cond same (off ∷ os) os)
@@ -192,14 +192,14 @@ module _ (d class off : ℕ) (os : List ℕ) (l : Lists) (above : 0 < off) (fits
   clear-one false m e h c = clear-within (slabBytes d) off m (off + slabBytes class) (m - slabBytes class) os (omega arith) (omega arith) c
 
 -- What each free list names after blocks side by side were pushed: those of its class, the last on top, and then what it named before.
-pub names-carved : (d off end : ℕ) (bs : List Block) (os : List ℕ) (l : Lists) → 0 < off → end ≤ length (l .body)
+pub free-list-carved : (d off end : ℕ) (bs : List Block) (os : List ℕ) (l : Lists) → 0 < off → end ≤ length (l .body)
     → length (l .body) < 256 ^ 8
     → Adjoin off bs end → Each (λ b. b .class < length (l .heads)) bs → Clear (slabBytes d) off (end - off) os
-    → Names (l .body) (firstFreed d l) os
-    → Names (pushAll bs l .body) (firstFreed d (pushAll bs l)) (stackAfter d bs os)
+    → IsFreeList (l .body) (firstFreed d l) os
+    → IsFreeList (pushAll bs l .body) (firstFreed d (pushAll bs l)) (stackAfter d bs os)
 unfolding Adjoin Each pushAll stackAfter
-names-carved d off end [] os l above fits small a has c n = n
-names-carved d off end (b ∷ bs) os l above fits small a has c n =
+free-list-carved d off end [] os l above fits small a has c n = n
+free-list-carved d off end (b ∷ bs) os l above fits small a has c n =
     let size = bytes-from-16 (b .class) in
     let rises = adjoin-rises (off + slabBytes (b .class)) bs end (a .1) in
     let room : off + slabBytes (b .class) ≤ length (l .body) = omega arith in
@@ -209,8 +209,8 @@ names-carved d off end (b ∷ bs) os l above fits small a has c n =
     let less : end - off - slabBytes (b .class) ≡ end - (off + slabBytes (b .class)) = omega arith in
     let near : Clear (slabBytes d) off 8 os = clear-within (slabBytes d) off (end - off) off 8 os (omega arith) (omega arith) c in
     rw at
-    (names-carved d (off + slabBytes (b .class)) end bs (cond (eqb (b .class) d) (off ∷ os) os) (pushed (b .class) off l)
+    (free-list-carved d (off + slabBytes (b .class)) end bs (cond (eqb (b .class) d) (off ∷ os) os) (pushed (b .class) off l)
     (omega arith) (omega arith) (omega arith) (a .1)
     (each-map (λ x. x .class < length (l .heads)) (λ x. x .class < length (pushed (b .class) off l .heads)) (λ x h. rw heads h) bs (has .1))
     (rw less at (clear-one d (b .class) off os l above room (has .0) small (eqb (b .class) d) (end - off) refl (omega arith) c))
-    (names-one d (b .class) off os l above room (has .0) small (eqb (b .class) d) refl near n))
+    (free-list-one d (b .class) off os l above room (has .0) small (eqb (b .class) d) refl near n))

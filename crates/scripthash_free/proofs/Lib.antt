@@ -1,4 +1,4 @@
 pub mod LawsBlock
 pub mod LawsFree
 pub mod LawsGap
-pub mod LawsNames
+pub mod LawsFreeList

@@ -119,9 +119,9 @@ headsAfter (refused number) before = before
 
 -- The free list that begins at a head names these offsets, from the top: each is a block's whose first 8 bytes lie in the body and
 -- name the next, and 0 ends the list.
-unfoldable pub Names : List ℕ → ℕ → List ℕ → Type 0
-Names body head [] = head ≡ 0
-Names body head (o ∷ os) = (head ≡ o) × (0 < o) × (o + 8 ≤ length body) × Names body (nextOf body o) os
+unfoldable pub IsFreeList : List ℕ → ℕ → List ℕ → Type 0
+IsFreeList body head [] = head ≡ 0
+IsFreeList body head (o ∷ os) = (head ≡ o) × (0 < o) × (o + 8 ≤ length body) × IsFreeList body (nextOf body o) os
 
 -- Blocks of a size at these offsets keep clear of n bytes from an offset on.
 unfoldable pub Clear : ℕ → ℕ → ℕ → List ℕ → Type 0

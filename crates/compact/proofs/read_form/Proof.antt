@@ -8,8 +8,8 @@ use borrow.Author.Needs.{needs}
 use borrow.Author.Tests.{lt-ltb}
 use mathlib.Core.List.{List, []}
 use lib.ListN.{length, drop, getD, drop-of-length-le}
-use Rattle.error.specs.Refusal.{refused, refusalOf, told, ulebCutShort, ulebOverflow}
-use Rattle.error.proofs.LawsOut.{number-accepted, number-refused, told-accepted, told-refused}
+use Rattle.error.specs.Refusal.{refused, refusalOf, valueOr, ulebCutShort, ulebOverflow}
+use Rattle.error.proofs.LawsOut.{number-accepted, number-refused, value-accepted, value-refused}
 use Rattle.compact.specs.Uleb128.{piece, passes, readUleb}
 use Rattle.compact.proofs.LawsReadFrom.{readFrom, from-start, from-nil, at-over, at-last, at-more, Room, room}
 use Rattle.compact.proofs.read_form.Statement.{statement}
@@ -59,9 +59,9 @@ late i b h = rw (lt-ltb 9 i h)
 -- what goes out of a refusal
 out : (l : tie.At-loop Inv-loop μ-loop) {number : ℕ} → readUleb (bytes l) ≡ refused number
     → (number ≡ refusalOf (readUleb (bytes l)))
-    × ((l .loop .value ≡ told (λ x. x .value) (readUleb (bytes l)) (l .before .before .args .value .now))
-    × (l .loop .len ≡ told (λ x. x .len) (readUleb (bytes l)) (l .before .before .args .len .now)))
-out l e = (number-refused e, (l .loop .inv .4 ∙ told-refused (λ x. x .value) _ e, l .loop .inv .5 ∙ told-refused (λ x. x .len) _ e))
+    × ((l .loop .value ≡ valueOr (λ x. x .value) (readUleb (bytes l)) (l .before .before .args .value .now))
+    × (l .loop .len ≡ valueOr (λ x. x .len) (readUleb (bytes l)) (l .before .before .args .len .now)))
+out l e = (number-refused e, (l .loop .inv .4 ∙ value-refused (λ x. x .value) _ e, l .loop .inv .5 ∙ value-refused (λ x. x .len) _ e))
 
 -- the bytes end where a byte is wanted
 ended : (l : tie.At-loop Inv-loop μ-loop) → length (bytes l) ≤ at l → readUleb (bytes l) ≡ refused ulebCutShort
@@ -111,7 +111,7 @@ returns-3 c =
     let d = c .before in
     let l = loc d in
     let yes = sym (l .loop .inv .3) ∙ at-last (bytes l) (at l) (sum l) (omega arith) (stays d) (omega arith) in
-    (number-accepted yes, (added d ∙ told-accepted (λ x. x .value) _ yes, told-accepted (λ x. x .len) _ yes))
+    (number-accepted yes, (added d ∙ value-accepted (λ x. x .value) _ yes, value-accepted (λ x. x .len) _ yes))
 
 loop-less : tie.Need-loop-less Inv-loop μ-loop
 loop-less c = search needs

@@ -4,7 +4,7 @@ use mathlib.Core.Path.{_≡_, sym, ap, _∙_}
 use native.Mathlib.Omega.{arith}
 use borrow.Author.Needs.{needs}
 use Rattle.error.specs.Refusal.{accepted, refused, refusalOf}
-use Rattle.error.proofs.LawsOut.{told-accepted, out-accepted, out-refused}
+use Rattle.error.proofs.LawsOut.{value-accepted, out-accepted, out-refused}
 use Rattle.compact.specs.Uleb128.{Reading, readUleb}
 use Rattle.compact.proofs.LawsRead.{read-refused}
 use Rattle.compact.proofs.read_uleb128.Statement.{statement}
@@ -23,8 +23,8 @@ returns c =
     let e = c .before .read-form .ensures in
     let zero : refusalOf (readUleb bytes) ≡ 0 = omega arith in
     let got = out-accepted (readUleb bytes) (read-refused bytes) zero in
-    ap accepted (reading (got .0) (e .1 .0 ∙ sym (told-accepted (λ x. x .value) _ (got .1))) (e .1 .1
-    ∙ sym (told-accepted (λ x. x .len) _ (got .1))))
+    ap accepted (reading (got .0) (e .1 .0 ∙ sym (value-accepted (λ x. x .value) _ (got .1))) (e .1 .1
+    ∙ sym (value-accepted (λ x. x .len) _ (got .1))))
     ∙ sym (got .1)
 
 returns-2 : tie.Need-returns-2

@@ -9,7 +9,7 @@ use Rattle.scripthash_layout.specs.Sizes.{pageSize}
 use Rattle.scripthash_layout.specs.declared.head.ShHeadValue.the-variants.{Extent}
 use Rattle.book_keys.specs.Answers.{tailAnswer}
 use Rattle.book_keys.proofs.LawsPages.{page-inside}
-use Rattle.book.specs.Book.{Book}
+use Rattle.book.specs.Book.{Book, seen}
 use Rattle.book.specs.Answers.{bookOf}
 use Rattle.book.specs.Appends.{appendAt}
 use Rattle.book_appending.proofs.LawsAppend.{
@@ -143,7 +143,7 @@ grow-page-requires c κs =
     let k = l .before .before in
     let known = sound k in
     let a = start k .args in (
-      page-inside (b (start k) .space) (a .last) (known .stands) (a .body .now) (start k .pre .shape .within),
+      page-inside (seen (b (start k) .space)) (a .last) (known .stands) (a .body .now) (start k .pre .shape .within),
       eqb-true _ 2 (known .names),
       omega (arith, known .few),
       omega (arith, l .uleb128-len .ensures, c .before .if2 .left),

@@ -14,7 +14,7 @@ use Rattle.book_rules.specs.Places.{stays}
 use Rattle.book_rules.proofs.LawsRules.{bytes-mono, stays-holds}
 use Rattle.book_keys.proofs.LawsBlocks.{slab-size}
 use Rattle.book_keys.proofs.LawsSlab.{SoundSlab, slab-sound}
-use Rattle.book.specs.Book.{Book}
+use Rattle.book.specs.Book.{Book, seen}
 use Rattle.book.specs.Answers.{bookOf}
 use Rattle.book.specs.Appends.{appendAt}
 use Rattle.book_appending.proofs.LawsAppend.{
@@ -57,8 +57,8 @@ module _ (k : tie.After-known-told) where
       (ended .slab-end .ensures) (ap scanAnswer (k .before .end .given .1))
 
   -- what is known of it then
-  sound : SoundSlab (b start .space) (start .args .class) (start .args .used) (start .args .off) (told .scan)
-  sound = slab-sound (b start .space) (start .args .class) (start .args .used) (start .args .off) (told .scan) (told .sound)
+  sound : SoundSlab (seen (b start .space)) (start .args .class) (start .args .used) (start .args .off) (told .scan)
+  sound = slab-sound (seen (b start .space)) (start .args .class) (start .args .used) (start .args .off) (told .scan) (told .sound)
 
   -- the stream takes few bytes
   few : taken < 2048

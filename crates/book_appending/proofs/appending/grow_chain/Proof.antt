@@ -13,7 +13,7 @@ use Rattle.book_space.specs.Space.{Space, takeBlock}
 use Rattle.book_space.specs.Answers.{spaceOf, takeAnswer}
 use Rattle.book_keys.proofs.LawsPages.{page-inside}
 use Rattle.book_blocks.specs.Blocks.{lastPageOf}
-use Rattle.book.specs.Book.{Book}
+use Rattle.book.specs.Book.{Book, seen}
 use Rattle.book.specs.Answers.{bookOf}
 use Rattle.book.specs.Appends.{appendAt}
 use Rattle.book.proofs.LawsPlace.{refused-as, took-at, took-none, block-lies, page-named}
@@ -38,7 +38,7 @@ module _ (t : tie.After-take-block) where
 
   -- the old last page lies within the body
   last-inside : start .args .last + pageSize ≤ length (start .args .body .now)
-  last-inside = page-inside (b .space) (start .args .last) (sound .stands) (start .args .body .now) (start .pre .0 .shape .within)
+  last-inside = page-inside (seen (b .space)) (start .args .last) (sound .stands) (start .args .body .now) (start .pre .0 .shape .within)
 
 -- a page was taken
 module _ (k : tie.After-known-told) where

@@ -14,7 +14,7 @@ use Rattle.book_space.specs.Answers.{spaceOf}
 use Rattle.book_space.proofs.LawsLists.{stands-further}
 use Rattle.book_keys.proofs.LawsSound.{soundly-yes}
 use Rattle.book_keys.proofs.LawsSlab.{SoundSlab, slab-sound}
-use Rattle.book.specs.Book.{Book}
+use Rattle.book.specs.Book.{Book, seen}
 use Rattle.book.specs.Answers.{bookOf}
 use Rattle.book.specs.Appends.{appendAt}
 use Rattle.book.specs.Steps.{placeAnswer}
@@ -38,8 +38,8 @@ module _ (s : tie.Start) where
   b = bookOf (s .args .body .now) (s .args .heads .now) (s .args .state)
 
   -- what is known of the slab
-  sound : SoundSlab (b .space) (s .args .class) (s .args .used) (s .args .off) (s .pre .1 .scan)
-  sound = slab-sound (b .space) (s .args .class) (s .args .used) (s .args .off) (s .pre .1 .scan) (s .pre .1 .sound)
+  sound : SoundSlab (seen (b .space)) (s .args .class) (s .args .used) (s .args .off) (s .pre .1 .scan)
+  sound = slab-sound (seen (b .space)) (s .args .class) (s .args .used) (s .args .off) (s .pre .1 .scan) (s .pre .1 .sound)
 
 -- the list was read
 module _ (r : tie.After-slab-into) where

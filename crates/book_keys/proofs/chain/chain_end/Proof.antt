@@ -8,9 +8,8 @@ use lib.ListN.{length, getD}
 use Rattle.error.specs.Refusal.{accepted}
 use Rattle.error.proofs.LawsAnswer.{was-accepted, was-refused}
 use Rattle.scripthash_layout.specs.Sizes.{pageSize}
-use Rattle.book_space.specs.Space.{Space}
-use Rattle.book_keys.specs.Keys.{soundly, Last, lastAt, Chain, walk, totalGood}
-use Rattle.book_keys.specs.Steps.{keySpace, Walked, walkedFrom, chainEndOf}
+use Rattle.book_keys.specs.Keys.{soundly, Last, lastAt, Chain, walk, totalGood, Ground, ground}
+use Rattle.book_keys.specs.Steps.{Walked, walkedFrom, chainEndOf}
 use Rattle.book_keys.specs.Answers.{lastPageAnswer, walkAnswer}
 use Rattle.book_keys.proofs.LawsSound.{was-sound, was-unsound, turned-back, let-through}
 use Rattle.book_keys.proofs.LawsWalk.{walk-first}
@@ -23,8 +22,8 @@ module _ (c : tie.After-header) where
   abbrev at : tie.Start
   at = c .before .before .before .before
 
-  abbrev s : Space
-  s = keySpace (at .args .body .now) (at .args .mark)
+  abbrev s : Ground
+  s = ground (at .args .body .now) (at .args .mark)
 
   abbrev last : ℕ
   last = at .args .last
@@ -69,7 +68,7 @@ returns : tie.Need-returns
 returns c =
     let a = c .before .before .before .before .args in
     let bad = was-unsound _ (sym (c .before .before .last-page .ensures) ∙ ap lastPageAnswer (c .enum-told .given .1)) in
-    turned-back chainEndOf _ (chain-no (keySpace (a .body .now) (a .mark)) (a .last) (bad .1))
+    turned-back chainEndOf _ (chain-no (ground (a .body .now) (a .mark)) (a .last) (bad .1))
 
 walk-pages-requires : tie.Need-walk-pages-requires
 walk-pages-requires c κs = search needs

@@ -15,9 +15,8 @@ use Rattle.scripthash_stream.proofs.LawsLent.{lent, putBack, length-lent}
 use Rattle.scripthash_pages.specs.EntryAnswers.{PageRead, sliceAnswer}
 use Rattle.scripthash_fields.specs.Page.{nextOff}
 use Rattle.scripthash_pages.specs.Entries.{pageReadOf}
-use Rattle.book_space.specs.Space.{Space}
-use Rattle.book_keys.specs.Keys.{pageAt, Chain, walk}
-use Rattle.book_keys.specs.Steps.{keySpace, pageInto}
+use Rattle.book_keys.specs.Keys.{pageAt, Chain, walk, Ground, ground}
+use Rattle.book_keys.specs.Steps.{pageInto}
 use Rattle.book_keys.proofs.LawsSound.{was-sound}
 use Rattle.book_keys.proofs.LawsChain.{chain-walks}
 use Rattle.book_keys.proofs.LawsFill.{read-told, page-written, length-put, Filling, filling-as, fill-start, fill-some, Turn}
@@ -28,8 +27,8 @@ use Rattle.book_keys.proofs.chain.chain_into.Tie as tie
 abbrev Inv-loop : tie.InvT-loop
 Inv-loop body mark first last out₀ most off₀ at₀ pages₀ out off at pages =
     (pages ≤ most) × (at ≤ length out) × (length out ≡ length out₀)
-    × ((w : Chain) → walk most (keySpace body mark) last 0 first ≡ accepted w → length (w .numbers) ≤ length out₀
-    → Filling (most - pages) (keySpace body mark) last out₀ w out at off)
+    × ((w : Chain) → walk most (ground body mark) last 0 first ≡ accepted w → length (w .numbers) ≤ length out₀
+    → Filling (most - pages) (ground body mark) last out₀ w out at off)
 
 abbrev μ-loop : tie.MeasureT-loop
 μ-loop body mark first last out₀ most off₀ at₀ pages₀ out off at pages = most - pages
@@ -42,8 +41,8 @@ module _ (c : tie.After-page-into Inv-loop μ-loop) where
   abbrev start : tie.Start Inv-loop μ-loop
   start = turn .before .before .before .before
 
-  abbrev s : Space
-  s = keySpace (start .args .body .now) (start .args .mark)
+  abbrev s : Ground
+  s = ground (start .args .body .now) (start .args .mark)
 
   abbrev most : ℕ
   most = start .args .mark / pageSize
@@ -122,7 +121,7 @@ loop-holds c =
       omega arith,
       zero-le,
       refl,
-      λ w e h. fill-start (a .mark / 4096) (keySpace (a .body .now) (a .mark)) (a .last) (a .out .now) w
+      λ w e h. fill-start (a .mark / 4096) (ground (a .body .now) (a .mark)) (a .last) (a .out .now) w
           (a .first) e h,
     )
 
@@ -201,7 +200,7 @@ returns-3 : tie.Need-returns-3 Inv-loop μ-loop
 returns-3 c k e first h =
     let a = c .before .before .before .before .args in
     let l = c .before .loop in
-    let space = keySpace (a .body .now) (a .mark) in
+    let space = ground (a .body .now) (a .mark) in
     let walks = chain-walks space (a .last) (a .first) k (was-sound _ e) first in
     let none : a .mark / pageSize - l .pages ≡ 0 = omega (arith, c .loop-test .left) in
     absurd (fill-some space (a .last) (a .out .now) k (l .out) (l .at) (l .off)

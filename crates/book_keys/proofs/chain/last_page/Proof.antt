@@ -9,9 +9,8 @@ use borrow.Author.Tests.{not-true, not-false}
 use lib.ListN.{length}
 use Rattle.scripthash_layout.specs.Sizes.{pageClass, pageSize}
 use Rattle.scripthash_free.specs.FreeList.{isBlock}
-use Rattle.book_space.specs.Space.{Space}
-use Rattle.book_keys.specs.Keys.{soundly}
-use Rattle.book_keys.specs.Steps.{keySpace, lastRead}
+use Rattle.book_keys.specs.Keys.{soundly, Ground, ground}
+use Rattle.book_keys.specs.Steps.{lastRead}
 use Rattle.book_keys.proofs.LawsSound.{soundly-no}
 use Rattle.book_keys.proofs.LawsBlocks.{span}
 use Rattle.book_keys.proofs.LawsPages.{page-inside, last-off, last-on}
@@ -23,8 +22,8 @@ module _ (c : tie.Else1) where
   abbrev at : tie.Start
   at = c .before .before .before
 
-  abbrev s : Space
-  s = keySpace (at .args .body .now) (at .args .mark)
+  abbrev s : Ground
+  s = ground (at .args .body .now) (at .args .mark)
 
   abbrev off : ℕ
   off = at .args .last
@@ -41,7 +40,7 @@ is-page-requires c κs = search needs
 returns : tie.Need-returns
 returns c =
     let a = c .before .before .before .args in
-    sym (soundly-no _ (last-off (keySpace (a .body .now) (a .mark)) (a .last)
+    sym (soundly-no _ (last-off (ground (a .body .now) (a .mark)) (a .last)
     (sym (c .before .is-page .ensures) ∙ not-true _ (c .if1 .taken))))
 
 add-read-last : tie.Need-add-read-last

@@ -10,9 +10,8 @@ use lib.ListN.{length}
 use Rattle.error.specs.Refusal.{answered}
 use Rattle.scripthash_layout.specs.Sizes.{pageClass, pageSize}
 use Rattle.scripthash_free.specs.FreeList.{isBlock}
-use Rattle.book_space.specs.Space.{Space}
-use Rattle.book_keys.specs.Keys.{soundly, pageAt}
-use Rattle.book_keys.specs.Steps.{keySpace, linkRead, linkEndOf}
+use Rattle.book_keys.specs.Keys.{soundly, pageAt, Ground, ground}
+use Rattle.book_keys.specs.Steps.{linkRead, linkEndOf}
 use Rattle.book_keys.proofs.LawsSound.{turned-back}
 use Rattle.book_keys.proofs.LawsBlocks.{span}
 use Rattle.book_keys.proofs.LawsPages.{page-inside, link-off, link-on}
@@ -24,8 +23,8 @@ module _ (c : tie.Else1) where
   abbrev at : tie.Start
   at = c .before .before .before
 
-  abbrev s : Space
-  s = keySpace (at .args .body .now) (at .args .mark)
+  abbrev s : Ground
+  s = ground (at .args .body .now) (at .args .mark)
 
   abbrev off : ℕ
   off = at .args .off
@@ -42,7 +41,7 @@ is-page-requires c κs = search needs
 returns : tie.Need-returns
 returns c =
     let a = c .before .before .before .args in
-    let s = keySpace (a .body .now) (a .mark) in
+    let s = ground (a .body .now) (a .mark) in
     turned-back (linkEndOf (pageAt s (a .off))) _
     (link-off s (a .off) (a .prev) (sym (c .before .is-page .ensures) ∙ not-true _ (c .if1 .taken)))
 

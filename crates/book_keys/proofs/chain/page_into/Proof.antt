@@ -10,9 +10,7 @@ use lib.ListN.{length, length-take, length-drop}
 use Rattle.scripthash_layout.specs.Sizes.{pageClass, pageSize}
 use Rattle.scripthash_pages.specs.Entries.{pageEntries}
 use Rattle.scripthash_free.specs.FreeList.{isBlock}
-use Rattle.book_space.specs.Space.{Space}
-use Rattle.book_keys.specs.Keys.{pageAt}
-use Rattle.book_keys.specs.Steps.{keySpace}
+use Rattle.book_keys.specs.Keys.{pageAt, Ground, ground}
 use Rattle.book_keys.proofs.LawsBlocks.{span}
 use Rattle.book_keys.proofs.LawsPages.{page-inside, into-off, into-on}
 use Rattle.book_keys.proofs.LawsFill.{page-nowhere, filled-as}
@@ -24,8 +22,8 @@ module _ (c : tie.Else1) where
   abbrev at : tie.Start
   at = c .before .before .before .before
 
-  abbrev s : Space
-  s = keySpace (at .args .body .now) (at .args .mark)
+  abbrev s : Ground
+  s = ground (at .args .body .now) (at .args .mark)
 
   abbrev off : ℕ
   off = at .args .off
@@ -42,7 +40,7 @@ is-page-requires c κs = search needs
 returns : tie.Need-returns
 returns c =
     let a = c .before .before .before .before .args in
-    let s = keySpace (a .body .now) (a .mark) in
+    let s = ground (a .body .now) (a .mark) in
     page-nowhere (pageAt s (a .off)) (a .out .now) _
     (into-off (length (a .out .now)) s (a .off) (sym (c .before .is-page .ensures) ∙ not-true _ (c .if1 .taken)))
 

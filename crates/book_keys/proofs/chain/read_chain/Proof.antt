@@ -1,14 +1,13 @@
 -- `read_chain` meets its contract: the whole chain is judged, then the room, and then it is read. Assumes nothing.
-use Prim.Native.Nat.{ℕ, _≤_}
+use Prim.Native.Nat.{_≤_}
 use mathlib.Core.Path.{_≡_, refl, sym, ap, _∙_}
 use native.Mathlib.Omega.{arith}
 use borrow.Author.Needs.{needs}
 use lib.ListN.{length}
 use Rattle.error.specs.Refusal.{accepted}
 use Rattle.error.proofs.LawsAnswer.{was-accepted, was-refused}
-use Rattle.book_space.specs.Space.{Space}
-use Rattle.book_keys.specs.Keys.{soundly, Chain, chainAt}
-use Rattle.book_keys.specs.Steps.{keySpace, ChainEndOf, chainEndOf}
+use Rattle.book_keys.specs.Keys.{soundly, Chain, chainAt, Ground, ground}
+use Rattle.book_keys.specs.Steps.{ChainEndOf, chainEndOf}
 use Rattle.book_keys.specs.Answers.{chainAnswer}
 use Rattle.book_keys.proofs.LawsSound.{was-sound, was-unsound, soundly-yes, soundly-no}
 use Rattle.book_keys.proofs.LawsContent.{inPages, content-pages, content-no-pages}
@@ -21,8 +20,8 @@ module _ (c : tie.After-got) where
   abbrev start : tie.Start
   start = c .before .before .before .before .before
 
-  abbrev s : Space
-  s = keySpace (start .args .body .now) (start .args .mark)
+  abbrev s : Ground
+  s = ground (start .args .body .now) (start .args .mark)
 
   abbrev told : ChainEndOf
   told = record { first = c .got .given .0 .0; length = c .got .given .0 .1 .0; pages = c .got .given .0 .1 .1 .0 }
@@ -48,7 +47,7 @@ returns c =
     let a = e .before .before .before .args in
     let stop = was-refused chainEndOf _ (sym (e .chain-end .ensures) ∙ ap chainAnswer (c .enum-told .given .1)) in
     read-unsound (a .out .now) _ _
-    (soundly-no _ (content-no-pages (keySpace (a .body .now) (a .mark)) (a .last) (was-unsound _ stop .1))) refl
+    (soundly-no _ (content-no-pages (ground (a .body .now) (a .mark)) (a .last) (was-unsound _ stop .1))) refl
 
 returns-2 : tie.Need-returns-2
 returns-2 c =

@@ -10,9 +10,8 @@ use lib.ListN.{length}
 use Rattle.error.specs.Refusal.{answered}
 use Rattle.scripthash_layout.specs.Sizes.{pageClass, pageSize}
 use Rattle.scripthash_free.specs.FreeList.{isBlock}
-use Rattle.book_space.specs.Space.{Space}
-use Rattle.book_keys.specs.Keys.{soundly}
-use Rattle.book_keys.specs.Steps.{keySpace, tailRead, tailEndOf}
+use Rattle.book_keys.specs.Keys.{soundly, Ground, ground}
+use Rattle.book_keys.specs.Steps.{tailRead, tailEndOf}
 use Rattle.book_keys.proofs.LawsSound.{turned-back}
 use Rattle.book_keys.proofs.LawsBlocks.{span}
 use Rattle.book_keys.proofs.LawsPages.{page-inside, tail-off, tail-on}
@@ -24,8 +23,8 @@ module _ (c : tie.Else1) where
   abbrev at : tie.Start
   at = c .before .before .before
 
-  abbrev s : Space
-  s = keySpace (at .args .body .now) (at .args .mark)
+  abbrev s : Ground
+  s = ground (at .args .body .now) (at .args .mark)
 
   abbrev off : ℕ
   off = at .args .last
@@ -42,7 +41,7 @@ is-page-requires c κs = search needs
 returns : tie.Need-returns
 returns c =
     let a = c .before .before .before .args in
-    turned-back tailEndOf _ (tail-off (keySpace (a .body .now) (a .mark)) (a .last)
+    turned-back tailEndOf _ (tail-off (ground (a .body .now) (a .mark)) (a .last)
     (sym (c .before .is-page .ensures) ∙ not-true _ (c .if1 .taken)))
 
 add-read-tail : tie.Need-add-read-tail

@@ -9,9 +9,8 @@ use Rattle.error.specs.Refusal.{accepted, answered}
 use Rattle.error.proofs.LawsAnswer.{was-accepted, was-refused}
 use Rattle.scripthash_layout.specs.Sizes.{pageSize}
 use Rattle.scripthash_stream.specs.Stream.{Scan}
-use Rattle.book_space.specs.Space.{Space}
-use Rattle.book_keys.specs.Keys.{soundly, pageAt, linkScan, walk}
-use Rattle.book_keys.specs.Steps.{keySpace, LinkEndOf, linkEndOf, walkedFrom}
+use Rattle.book_keys.specs.Keys.{soundly, pageAt, linkScan, walk, Ground, ground}
+use Rattle.book_keys.specs.Steps.{LinkEndOf, linkEndOf, walkedFrom}
 use Rattle.book_keys.specs.Answers.{linkEndAnswer}
 use Rattle.book_keys.proofs.LawsSound.{was-sound}
 use Rattle.book_keys.proofs.LawsPages.{link-sound}
@@ -22,8 +21,8 @@ use Rattle.book_keys.proofs.chain.walk_pages.Tie as tie
 abbrev Inv-loop : tie.InvT-loop
 Inv-loop body mark first last most off₀ prev₀ length₀ pages₀ off prev length pages =
     (pages ≤ most) × (length ≤ 4096 * pages)
-    × (told length pages (most - pages) (keySpace body mark) last prev off
-    ≡ answered (walkedFrom 0 0) (soundly (walk most (keySpace body mark) last 0 first)))
+    × (told length pages (most - pages) (ground body mark) last prev off
+    ≡ answered (walkedFrom 0 0) (soundly (walk most (ground body mark) last 0 first)))
 
 abbrev μ-loop : tie.MeasureT-loop
 μ-loop body mark first last most off₀ prev₀ length₀ pages₀ off prev length pages = most - pages
@@ -33,8 +32,8 @@ module _ (t : tie.In-loop Inv-loop μ-loop) where
   abbrev at : tie.Start Inv-loop μ-loop
   at = t .before .before .before
 
-  abbrev s : Space
-  s = keySpace (at .args .body .now) (at .args .mark)
+  abbrev s : Ground
+  s = ground (at .args .body .now) (at .args .mark)
 
   abbrev most : ℕ
   most = at .args .mark / pageSize
@@ -81,7 +80,7 @@ module _ (c : tie.After-got Inv-loop μ-loop) where
 
 loop-holds : tie.Need-loop-holds Inv-loop μ-loop
 loop-holds c = let a = c .before .args in
-    (omega arith, omega arith, told-start (a .mark / 4096) (keySpace (a .body .now) (a .mark)) (a .last) (a .first))
+    (omega arith, omega arith, told-start (a .mark / 4096) (ground (a .body .now) (a .mark)) (a .last) (a .first))
 
 link-end-requires : tie.Need-link-end-requires Inv-loop μ-loop
 link-end-requires c κs = search needs
@@ -145,7 +144,7 @@ returns-4 : tie.Need-returns-4 Inv-loop μ-loop
 returns-4 c =
     let a = c .before .before .before .args in
     let l = c .before .loop in
-    told-none (l .length) (l .pages) (a .mark / pageSize) (keySpace (a .body .now) (a .mark)) (a .last) (l .prev) (l .off)
+    told-none (l .length) (l .pages) (a .mark / pageSize) (ground (a .body .now) (a .mark)) (a .last) (l .prev) (l .off)
     (c .loop-test .left) ∙ l .inv .2
 
 pub walk-pages-spec : {M : Type 1} → statement M

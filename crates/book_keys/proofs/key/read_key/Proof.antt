@@ -1,11 +1,10 @@
 -- `read_key` meets its contract: the word unpacks, and then its place decides. Assumes nothing.
-use mathlib.Core.List.{List}
 use mathlib.Core.Path.{refl, sym, ap, _∙_, subst}
 use borrow.Author.Needs.{needs}
 use Rattle.error.specs.Refusal.{Answer}
 use Rattle.scripthash_layout.specs.AnswersHead.{unpackAnswer}
-use Rattle.book_keys.specs.Keys.{Content}
-use Rattle.book_keys.specs.Steps.{keySpace, KeyRead}
+use Rattle.book_keys.specs.Keys.{Content, ground}
+use Rattle.book_keys.specs.Steps.{KeyRead}
 use Rattle.book_keys.specs.Answers.{countsAnswer}
 use Rattle.book_keys.proofs.LawsContent.{content-at, content-nowhere}
 use Rattle.book_keys.proofs.LawsListed.{read-unsound}
@@ -25,7 +24,7 @@ returns : tie.Need-returns
 returns c =
     let a = c .before .before .before .before .before .args in
     read-unsound (a .out .now) _ _
-    (content-nowhere (keySpace (a .body .now) (a .mark)) (a .word) (sym (c .before .before .unpack8 .ensures)
+    (content-nowhere (ground (a .body .now) (a .mark)) (a .word) (sym (c .before .before .unpack8 .ensures)
     ∙ ap unpackAnswer (c .enum-told .given .1))) refl
 
 read-place-requires : tie.Need-read-place-requires
@@ -39,7 +38,7 @@ returns-2 c =
     let g = c .before .before .before .before .before in
     let a = g .before .before .before .before .before .args in
     let r = c .before .before .read-place in
-    let told = content-at (keySpace (a .body .now) (a .mark)) (a .word) (g .got .given .0 .0) (sym (g .before .before .unpack8 .ensures)
+    let told = content-at (ground (a .body .now) (a .mark)) (a .word) (g .got .given .0 .0) (sym (g .before .before .unpack8 .ensures)
     ∙ ap unpackAnswer (g .got .given .1)) in
     subst (λ (x : Answer Content). KeyRead (countsAnswer (r .result)) (a .out .now) (r .last .1 .1 .1 .0) x) (sym told) (r .ensures)
 

@@ -7,9 +7,8 @@ use Rattle.error.specs.Refusal.{Answer}
 use Prim.Native.Nat.{ℕ}
 use Rattle.buffer.proofs.LawsBytes.{overwrite-nil}
 use Rattle.scripthash_layout.specs.declared.head.ShHeadValue.{ShHeadValue}
-use Rattle.book_space.specs.Space.{Space}
-use Rattle.book_keys.specs.Keys.{soundly, contentAt}
-use Rattle.book_keys.specs.Steps.{keySpace, Counts, KeyRead}
+use Rattle.book_keys.specs.Keys.{soundly, contentAt, Ground, ground}
+use Rattle.book_keys.specs.Steps.{Counts, KeyRead}
 use Rattle.book_keys.proofs.LawsSound.{soundly-yes}
 use Rattle.book_keys.proofs.LawsContent.{content-empty}
 use Rattle.book_keys.proofs.LawsListed.{read-listed}
@@ -17,11 +16,11 @@ use Rattle.book_keys.proofs.key.read_place.Statement.{statement}
 use Rattle.book_keys.proofs.key.read_place.Tie as tie
 
 -- the space of a call
-abbrev spaceOf : tie.Start → Space
-spaceOf c = keySpace (c .args .body .now) (c .args .mark)
+abbrev spaceOf : tie.Start → Ground
+spaceOf c = ground (c .args .body .now) (c .args .mark)
 
 -- a read of a key by its place's case
-by-place : (s : Space) (told : Answer Counts) (before after : List ℕ) {place is : ShHeadValue} → place ≡ is
+by-place : (s : Ground) (told : Answer Counts) (before after : List ℕ) {place is : ShHeadValue} → place ≡ is
     → KeyRead told before after (soundly (contentAt s is)) → KeyRead told before after (soundly (contentAt s place))
 by-place s told before after e h = subst (λ (p : ShHeadValue). KeyRead told before after (soundly (contentAt s p))) (sym e) h
 

@@ -9,8 +9,7 @@ use borrow.Author.Tests.{not-true, not-false}
 use lib.ListN.{length, length-take, length-drop}
 use Rattle.scripthash_layout.specs.Sizes.{slabBytes}
 use Rattle.scripthash_free.proofs.LawsBlock.{block-stands, bytes-from-16}
-use Rattle.book_space.specs.Space.{Space}
-use Rattle.book_keys.specs.Steps.{keySpace, slabRead}
+use Rattle.book_keys.specs.Steps.{slabRead}
 use Rattle.book_keys.proofs.LawsSound.{soundly-no}
 use Rattle.book_keys.proofs.LawsBlocks.{isSlab, slab-lies, slab-size, span}
 use Rattle.book_keys.proofs.LawsSlab.{slab-no, slab-yes}
@@ -18,6 +17,7 @@ use Rattle.book_keys.proofs.LawsContent.{content-no-slab}
 use Rattle.book_keys.proofs.LawsListed.{read-unsound}
 use Rattle.book_keys.proofs.slab.read_stored.Statement.{statement}
 use Rattle.book_keys.proofs.slab.read_stored.Tie as tie
+use Rattle.book_keys.specs.Keys.{Ground, ground}
 
 -- the slab stands, and its size was computed
 module _ (c : tie.After-slab-bytes) where
@@ -27,8 +27,8 @@ module _ (c : tie.After-slab-bytes) where
   abbrev body : List ℕ
   body = at .args .body .now
 
-  abbrev s : Space
-  s = keySpace body (at .args .mark)
+  abbrev s : Ground
+  s = ground body (at .args .mark)
 
   abbrev class : ℕ
   class = at .args .class
@@ -54,7 +54,7 @@ slab-stands-requires c κs = search needs
 returns : tie.Need-returns
 returns c =
     let a = c .before .before .before .before .args in
-    let s = keySpace (a .body .now) (a .mark) in
+    let s = ground (a .body .now) (a .mark) in
     let stop = slab-no s (a .class) (a .used) (a .off) (sym (c .before .slab-stands .ensures) ∙ not-true _ (c .if1 .taken)) in
     read-unsound (a .out .now) _ _ (soundly-no _ (content-no-slab s (a .class) (a .used) (a .off) stop)) refl
 

@@ -11,9 +11,8 @@ use Rattle.error.specs.Refusal.{answered}
 use Rattle.scripthash_layout.specs.Sizes.{slabBytes}
 use Rattle.scripthash_stream.specs.Stream.{endFrom}
 use Rattle.scripthash_free.proofs.LawsBlock.{block-stands, bytes-from-16}
-use Rattle.book_space.specs.Space.{Space}
-use Rattle.book_keys.specs.Keys.{soundly}
-use Rattle.book_keys.specs.Steps.{keySpace, slabRead}
+use Rattle.book_keys.specs.Keys.{soundly, Ground, ground}
+use Rattle.book_keys.specs.Steps.{slabRead}
 use Rattle.book_keys.proofs.LawsSound.{turned-back}
 use Rattle.book_keys.proofs.LawsBlocks.{isSlab, slab-lies, slab-size, span}
 use Rattle.book_keys.proofs.LawsSlab.{slab-no, slab-yes}
@@ -28,8 +27,8 @@ module _ (c : tie.After-slab-bytes) where
   abbrev body : List ℕ
   body = at .args .body .now
 
-  abbrev s : Space
-  s = keySpace body (at .args .mark)
+  abbrev s : Ground
+  s = ground body (at .args .mark)
 
   abbrev class : ℕ
   class = at .args .class
@@ -56,7 +55,7 @@ returns : tie.Need-returns
 returns c =
     let a = c .before .before .before .args in
     turned-back (endFrom 0) _
-    (slab-no (keySpace (a .body .now) (a .mark)) (a .class) (a .used) (a .off) (sym (c .before .slab-stands .ensures)
+    (slab-no (ground (a .body .now) (a .mark)) (a .class) (a .used) (a .off) (sym (c .before .slab-stands .ensures)
     ∙ not-true _ (c .if1 .taken)))
 
 slab-bytes-requires : tie.Need-slab-bytes-requires

@@ -7,12 +7,13 @@ use borrow.Author.Needs.{needs}
 use lib.ListN.{length, length-take, length-drop}
 use Rattle.scripthash_layout.specs.Sizes.{slabBytes}
 use Rattle.scripthash_free.proofs.LawsBlock.{bytes-from-16}
-use Rattle.book_keys.specs.Steps.{keySpace, slabRead}
+use Rattle.book_keys.specs.Steps.{slabRead}
 use Rattle.book_keys.proofs.LawsSound.{was-sound}
 use Rattle.book_keys.proofs.LawsBlocks.{slab-size, span}
 use Rattle.book_keys.proofs.LawsSlab.{slab-there}
 use Rattle.book_keys.proofs.slab.slab_into.Statement.{statement}
 use Rattle.book_keys.proofs.slab.slab_into.Tie as tie
+use Rattle.book_keys.specs.Keys.{ground}
 
 -- the slab's size was computed
 module _ (c : tie.After-slab-bytes) where
@@ -54,7 +55,7 @@ returns : tie.Need-returns
 returns c mark used read e h =
     let d = c .before .before .before .before .before in
     let a = at d .args in
-    let there = slab-there (keySpace (a .body .now) mark) (a .class) used (a .off) (was-sound _ e) in
+    let there = slab-there (ground (a .body .now) mark) (a .class) used (a .off) (was-sound _ e) in
     c .before .before .fill-slab .ensures used read
     (ap (λ (bs : List ℕ). slabRead bs used) (span (a .body .now) (a .off) (d .slab-bytes .result) (slabBytes (a .class)) (size d))
     ∙ there .1) h

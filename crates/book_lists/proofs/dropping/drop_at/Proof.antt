@@ -5,7 +5,7 @@ use borrow.Author.Needs.{needs}
 use Rattle.scripthash_layout.specs.declared.head.ShHeadValue.the-variants.{Empty, Inline}
 use Rattle.book_space.proofs.LawsTake.{release-none}
 use Rattle.book_keys.proofs.LawsContent.{content-empty, content-inline}
-use Rattle.book.specs.Book.{Book}
+use Rattle.book.specs.Book.{Book, seen}
 use Rattle.book.specs.Answers.{bookOf}
 use Rattle.book.specs.Steps.{dropsAt}
 use Rattle.book.proofs.LawsKey.{does-same}
@@ -52,7 +52,7 @@ returns c =
     let b = book t in
     let key = t .args .key in
     does-same
-    (drop-yes b key Empty (record { numbers = []; blocks = []; pages = 0 }) 0 (b .space) (content-empty (b .space)) refl
+    (drop-yes b key Empty (record { numbers = []; blocks = []; pages = 0 }) 0 (b .space) (content-empty (seen (b .space))) refl
     (sym (release-none (b .space)))
     ∙ ap (dropsAt b key) (sym (d .enum-told .given .1)))
     (c .before .before .accept-drop .ensures b (t .args .body .now) refl)
@@ -70,7 +70,7 @@ returns-2 c =
     let used = d .enum-told2 .given .0 .1 .0 in
     does-same
     (drop-yes b key (Inline entry used) (record { numbers = entry ∷ []; blocks = []; pages = 0 }) 1 (b .space)
-    (content-inline (b .space) entry used) refl
+    (content-inline (seen (b .space)) entry used) refl
     (sym (release-none (b .space))) ∙ ap (dropsAt b key) (sym (d .enum-told2 .given .1)))
     (c .before .before .accept-drop2 .ensures b (t .args .body .now) refl)
 

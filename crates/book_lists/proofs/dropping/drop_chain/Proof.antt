@@ -11,8 +11,7 @@ use Rattle.book_keys.specs.Steps.{ChainEndOf, chainEndOf}
 use Rattle.book_keys.specs.Answers.{chainAnswer}
 use Rattle.book_keys.proofs.LawsSound.{was-sound, was-unsound}
 use Rattle.book_keys.proofs.LawsContent.{inPages, content-pages, content-no-pages}
-use Rattle.book_keys.proofs.LawsFree.{chain-free}
-use Rattle.book.specs.Book.{Book}
+use Rattle.book.specs.Book.{Book, seen}
 use Rattle.book.specs.Answers.{bookOf}
 use Rattle.book.specs.Steps.{PagesLeft}
 use Rattle.book.proofs.LawsKey.{does-same}
@@ -33,17 +32,16 @@ module _ (c : tie.After-end) where
   abbrev end : ChainEndOf
   end = record { first = c .end .given .0 .0; length = c .end .given .0 .1 .0; pages = c .end .given .0 .1 .1 .0 }
 
-  walked : (x : Chain) × (chainAt (book at .space) (at .args .last) ≡ accepted x) × (chainEndOf x ≡ end)
+  walked : (x : Chain) × (chainAt (seen (book at .space)) (at .args .last) ≡ accepted x) × (chainEndOf x ≡ end)
   walked =
       let got = was-accepted chainEndOf _ (sym (c .before .before .chain-end .ensures) ∙ ap chainAnswer (c .end .given .1)) in (
         got .0,
-        chain-free (at .args .body .now) (at .args .state .mark) (at .args .state .free) (at .args .last)
-            ∙ was-sound _ (got .1),
+        was-sound _ (got .1),
         got .2,
       )
 
-  left : PagesLeft (book at .space) (end .first) (end .pages) (walked .0 .offs)
-  left = chain-left (book at .space) (at .args .last) (walked .0) end (at .pre .0) (walked .1) (walked .2)
+  left : PagesLeft (seen (book at .space)) (end .first) (end .pages) (walked .0 .offs)
+  left = chain-left (seen (book at .space)) (at .args .last) (walked .0) end (at .pre .0) (walked .1) (walked .2)
 
 chain-end-requires : tie.Need-chain-end-requires
 chain-end-requires c κs = search needs
@@ -69,7 +67,7 @@ returns c =
     let bad = was-unsound _ stop in
     c .refuse-drop .ensures (a .body .now) (a .heads .now) _
     (drop-no (book t) (a .key) (Extent (a .last))
-    (content-no-pages (book t .space) (a .last) (chain-free (a .body .now) (a .state .mark) (a .state .free) (a .last) ∙ bad .1)))
+    (content-no-pages (seen (book t .space)) (a .last) (bad .1)))
 
 release-chain-requires : tie.Need-release-chain-requires
 release-chain-requires c κs = let d = c .before .before in (walked d .0 .offs, left d)
@@ -94,7 +92,7 @@ returns-2 c =
     does-same
     (drop-yes (book t) (a .key) (Extent (a .last)) (inPages (k .0)) (end d .length)
     (spaceOf (r .release-chain .last .0) (r .release-chain .result))
-    (content-pages (book t .space) (a .last) (k .0) (k .1)) (ap (λ (x : ChainEndOf). x .length) (k .2))
+    (content-pages (seen (book t .space)) (a .last) (k .0) (k .1)) (ap (λ (x : ChainEndOf). x .length) (k .2))
     (r .release-chain .ensures (k .0 .offs) (left d)))
     (done .ensures (book t) (r .release-chain .last .0) refl)
 

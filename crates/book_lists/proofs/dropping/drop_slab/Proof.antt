@@ -13,8 +13,7 @@ use Rattle.book_keys.specs.Keys.{slabScan}
 use Rattle.book_keys.proofs.LawsSound.{was-sound, was-unsound}
 use Rattle.book_keys.proofs.LawsSlab.{SoundSlab, slab-sound}
 use Rattle.book_keys.proofs.LawsContent.{inSlab, content-slab, content-no-slab}
-use Rattle.book_keys.proofs.LawsFree.{slab-free}
-use Rattle.book.specs.Book.{Book}
+use Rattle.book.specs.Book.{Book, seen}
 use Rattle.book.specs.Answers.{bookOf}
 use Rattle.book.proofs.LawsKey.{does-same}
 use Rattle.book_lists.proofs.LawsDrop.{drop-no, drop-yes}
@@ -31,16 +30,15 @@ module _ (c : tie.After-enum-told) where
   abbrev at : tie.Start
   at = c .before .before .before .before .before .before
 
-  scanned : (x : Scan) × (slabScan (book at .space) (at .args .class) (at .args .used) (at .args .off) ≡ accepted x)
+  scanned : (x : Scan) × (slabScan (seen (book at .space)) (at .args .class) (at .args .used) (at .args .off) ≡ accepted x)
   scanned =
       let got = was-accepted (endFrom 0) _ (sym (c .before .before .slab-end .ensures) ∙ ap scanAnswer (c .enum-told .given .1)) in (
         got .0,
-        slab-free (at .args .body .now) (at .args .state .mark) (at .args .state .free) (at .args .class) (at .args .used)
-            (at .args .off) ∙ was-sound _ (got .1),
+        was-sound _ (got .1),
       )
 
-  sound : SoundSlab (book at .space) (at .args .class) (at .args .used) (at .args .off) (scanned .0)
-  sound = slab-sound (book at .space) (at .args .class) (at .args .used) (at .args .off) (scanned .0) (scanned .1)
+  sound : SoundSlab (seen (book at .space)) (at .args .class) (at .args .used) (at .args .off) (scanned .0)
+  sound = slab-sound (seen (book at .space)) (at .args .class) (at .args .used) (at .args .off) (scanned .0) (scanned .1)
 
 slab-end-requires : tie.Need-slab-end-requires
 slab-end-requires c κs = search needs
@@ -66,8 +64,8 @@ returns c =
     let bad = was-unsound _ stop in
     c .refuse-drop .ensures (a .body .now) (a .heads .now) _
     (drop-no (book t) (a .key) (Slab (a .class) (a .used) (a .off))
-    (content-no-slab (book t .space) (a .class) (a .used) (a .off)
-    (slab-free (a .body .now) (a .state .mark) (a .state .free) (a .class) (a .used) (a .off) ∙ bad .1)))
+    (content-no-slab (seen (book t .space)) (a .class) (a .used) (a .off)
+    (bad .1)))
 
 release-block-requires : tie.Need-release-block-requires
 release-block-requires c κs =
@@ -94,7 +92,7 @@ returns-2 c =
     does-same
     (drop-yes (book t) (a .key) (Slab (a .class) (a .used) (a .off)) (inSlab (a .class) (a .off) (scanned d .0)) (a .used)
     (spaceOf (r .release-block .last .0) (r .release-block .result))
-    (content-slab (book t .space) (a .class) (a .used) (a .off) (scanned d .0) (scanned d .1)) (sound d .counted)
+    (content-slab (seen (book t .space)) (a .class) (a .used) (a .off) (scanned d .0) (scanned d .1)) (sound d .counted)
     (r .release-block .ensures))
     (done .ensures (book t) (r .release-block .last .0) refl)
 

@@ -16,11 +16,12 @@ use Rattle.book.specs.Steps.{PagesLeft}
 use Rattle.book_lists.proofs.LawsDrop.{page-turn, Giving, giving-turn, giving-end, given, given-size}
 use Rattle.book_lists.proofs.dropping.release_chain.Statement.{statement}
 use Rattle.book_lists.proofs.dropping.release_chain.Tie as tie
+use Rattle.book.specs.Book.{seen}
 
 abbrev Inv-loop : tie.InvT-loop
 Inv-loop body₀ first pages off₀ left₀ after₀ body off left after =
     (length body ≡ length body₀)
-    × ((whole : List ℕ) → PagesLeft (spaceOf body₀ after₀) first pages whole
+    × ((whole : List ℕ) → PagesLeft (seen (spaceOf body₀ after₀)) first pages whole
     → Giving (spaceOf body after) off left (release (pageBlocks whole) (spaceOf body₀ after₀)))
 
 abbrev μ-loop : tie.MeasureT-loop

@@ -1,17 +1,16 @@
 -- `read` meets its contract: the tests of the shape and of the key, and then the key is read. Assumes nothing.
 use Prim.Native.Nat.{ℕ, _≤_}
 use mathlib.Core.Bool.{false}
-use mathlib.Core.Path.{_≡_, sym, ap, _∙_}
+use mathlib.Core.Path.{_≡_, refl, sym, ap, _∙_}
 use borrow.Author.Needs.{needs}
 use lib.ListN.{length}
 use Rattle.error.specs.Refusal.{Answer, answered}
 use Rattle.book_space.specs.Space.{shapeBroken}
 use Rattle.book_space.proofs.LawsShape.{shape-holds}
-use Rattle.book_keys.specs.Keys.{Content, content}
-use Rattle.book_keys.specs.Steps.{keySpace, inRoom}
+use Rattle.book_keys.specs.Keys.{Content, content, ground}
+use Rattle.book_keys.specs.Steps.{inRoom}
 use Rattle.book_keys.specs.Answers.{countsAnswer}
-use Rattle.book_keys.proofs.LawsFree.{content-free}
-use Rattle.book.specs.Book.{Book, wordOf}
+use Rattle.book.specs.Book.{Book, wordOf, seen}
 use Rattle.book.specs.Reads.{reads}
 use Rattle.book.specs.Answers.{bookOf}
 use Rattle.book.proofs.LawsPlace.{refused-as}
@@ -33,10 +32,10 @@ module _ (t : tie.Start) where
 
   -- what the key holds: the free heads don't matter
   abbrev held : Answer Content
-  held = content (keySpace (t .args .body .now) (t .args .state .mark)) word
+  held = content (ground (t .args .body .now) (t .args .state .mark)) word
 
-  bare : content (book .space) word ≡ held
-  bare = content-free (t .args .body .now) (t .args .state .mark) (t .args .state .free) word
+  bare : content (seen (book .space)) word ≡ held
+  bare = refl
 
 -- the shape passed its test
 module _ (c : tie.Else1) where

@@ -6,9 +6,8 @@ use Rattle.error.specs.Refusal.{accepted}
 use Rattle.error.proofs.LawsAnswer.{was-accepted, was-refused}
 use Rattle.scripthash_layout.specs.declared.head.ShHeadValue.the-variants.{Extent}
 use Rattle.scripthash_free.specs.FreeList.{Block}
-use Rattle.book_space.specs.Space.{Space}
-use Rattle.book_keys.specs.Keys.{soundly, Chain, chainAt, pageBlocks, contentAt}
-use Rattle.book_keys.specs.Steps.{keySpace, ChainEndOf, chainEndOf}
+use Rattle.book_keys.specs.Keys.{soundly, Chain, chainAt, pageBlocks, contentAt, Ground, ground}
+use Rattle.book_keys.specs.Steps.{ChainEndOf, chainEndOf}
 use Rattle.book_keys.specs.Answers.{chainAnswer}
 use Rattle.book_keys.proofs.LawsSound.{was-sound, was-unsound}
 use Rattle.book_keys.proofs.LawsContent.{content-pages, content-no-pages}
@@ -24,8 +23,8 @@ module _ (c : tie.After-end) where
   abbrev at : tie.Start
   at = c .before .before .before .before .before
 
-  abbrev s : Space
-  s = keySpace (at .args .body .now) (at .args .mark)
+  abbrev s : Ground
+  s = ground (at .args .body .now) (at .args .mark)
 
   abbrev end : ChainEndOf
   end = record { first = c .end .given .0 .0; length = c .end .given .0 .1 .0; pages = c .end .given .0 .1 .1 .0 }
@@ -54,7 +53,7 @@ enum-told c = search needs
 returns : tie.Need-returns
 returns c units lent claims m =
     let a = c .before .before .before .before .before .args in
-    let s = keySpace (a .body .now) (a .mark) in
+    let s = ground (a .body .now) (a .mark) in
     let stop = was-refused chainEndOf _ (sym (c .before .before .chain-end .ensures) ∙ ap chainAnswer (c .enum-told .given .1)) in
     claims-unfit units (a .mark) lent _ claims _ m (content-unfit claims (contentAt s (Extent (a .last))) (content-no-pages s (a .last)
     (was-unsound _ stop .1)))

@@ -3,8 +3,7 @@ use mathlib.Core.Path.{sym, ap, _∙_}
 use borrow.Author.Needs.{needs}
 use Rattle.error.specs.Refusal.{Answer}
 use Rattle.scripthash_layout.specs.AnswersHead.{unpackAnswer}
-use Rattle.book_keys.specs.Keys.{Content, content}
-use Rattle.book_keys.specs.Steps.{keySpace}
+use Rattle.book_keys.specs.Keys.{Content, content, ground}
 use Rattle.book_keys.proofs.LawsContent.{content-at, content-nowhere}
 use Rattle.book_start.specs.Start.{claimContent}
 use Rattle.book_start.proofs.LawsShown.{claims-unfit, word-unfit}
@@ -24,8 +23,8 @@ returns : tie.Need-returns
 returns c units lent claims m =
     let a = c .before .before .before .before .before .args in
     claims-unfit units (a .mark) lent _ claims _ m
-    (word-unfit claims (content (keySpace (a .body .now) (a .mark)) (a .word))
-    (content-nowhere (keySpace (a .body .now) (a .mark)) (a .word) (sym (c .before .before .unpack8 .ensures)
+    (word-unfit claims (content (ground (a .body .now) (a .mark)) (a .word))
+    (content-nowhere (ground (a .body .now) (a .mark)) (a .word) (sym (c .before .before .unpack8 .ensures)
     ∙ ap unpackAnswer (c .enum-told .given .1))))
 
 claim-place-requires : tie.Need-claim-place-requires
@@ -43,7 +42,7 @@ returns-2 c units lent claims m =
       claims = r .claims;
       shows = r .shows;
       told = ap (λ (x : Answer Content). claimContent claims x)
-          (content-at (keySpace (a .body .now) (a .mark)) (a .word) (g .head .given .0 .0) (sym (g .before .before .unpack8 .ensures)
+          (content-at (ground (a .body .now) (a .mark)) (a .word) (g .head .given .0 .0) (sym (g .before .before .unpack8 .ensures)
           ∙ ap unpackAnswer (g .head .given .1)))
           ∙ r .told;
       took = r .took;

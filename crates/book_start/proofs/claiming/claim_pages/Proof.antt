@@ -10,9 +10,7 @@ use lib.ListN.{length}
 use Rattle.scripthash_layout.specs.Sizes.{pageClass}
 use Rattle.scripthash_free.specs.FreeList.{Block}
 use Rattle.scripthash_free.proofs.LawsBlock.{block-stands}
-use Rattle.book_space.specs.Space.{Space}
-use Rattle.book_keys.specs.Keys.{pageBlocks}
-use Rattle.book_keys.specs.Steps.{keySpace}
+use Rattle.book_keys.specs.Keys.{pageBlocks, ground, Ground}
 use Rattle.book.specs.Steps.{PagesLeft}
 use Rattle.book_start.specs.Start.{block, claimAll}
 use Rattle.book_start.specs.Units.{Marked}
@@ -24,10 +22,10 @@ use Rattle.book_start.proofs.claiming.claim_pages.Tie as tie
 
 abbrev Inv-loop : tie.InvT-loop
 Inv-loop body mark work₀ first pages off₀ left₀ work off left =
-    (length work ≡ length work₀) × ((offs : List ℕ) × PagesLeft (keySpace body mark) off left offs)
-    × ((whole : List ℕ) → PagesLeft (keySpace body mark) first pages whole → (units : ℕ) (lent : List ℕ) (claims : List Block)
+    (length work ≡ length work₀) × ((offs : List ℕ) × PagesLeft (ground body mark) off left offs)
+    × ((whole : List ℕ) → PagesLeft (ground body mark) first pages whole → (units : ℕ) (lent : List ℕ) (claims : List Block)
     → Marked units mark lent claims work₀
-    → PagesGo units mark lent claims (claimAll claims (pageBlocks whole)) (keySpace body mark) pages off left work)
+    → PagesGo units mark lent claims (claimAll claims (pageBlocks whole)) (ground body mark) pages off left work)
 
 abbrev μ-loop : tie.MeasureT-loop
 μ-loop body mark work₀ first pages off₀ left₀ work off left = left
@@ -37,8 +35,8 @@ module _ (t : tie.In-loop Inv-loop μ-loop) where
   abbrev at : tie.Start Inv-loop μ-loop
   at = t .before .before .before .before
 
-  abbrev s : Space
-  s = keySpace (at .args .body .now) (at .args .mark)
+  abbrev s : Ground
+  s = ground (at .args .body .now) (at .args .mark)
 
   abbrev off : ℕ
   off = t .before .loop .off
@@ -118,7 +116,7 @@ mul-t12 c =
     let t = c .before .before .before .before in
     let a = t .args in
     let w = t .pre .0 in
-    let few = pages-few (w .units) (w .lent) (w .claims) _ (keySpace (a .body .now) (a .mark)) (a .pages) (l .off) (l .left) (l .work)
+    let few = pages-few (w .units) (w .lent) (w .claims) _ (ground (a .body .now) (a .mark)) (a .pages) (l .off) (l .left) (l .work)
     (l .inv .2 (t .pre .1 .0) (t .pre .1 .1) (w .units) (w .lent) (w .claims) (w .shows)) (omega arith) in
     omega arith
 
@@ -129,7 +127,7 @@ returns-2 : tie.Need-returns-2 Inv-loop μ-loop
 returns-2 c whole p units lent claims m =
     let l = c .before .loop in
     let a = c .before .before .before .before .args in
-    pages-end units lent claims _ (keySpace (a .body .now) (a .mark)) (a .pages) (l .off) (l .left) (l .work)
+    pages-end units lent claims _ (ground (a .body .now) (a .mark)) (a .pages) (l .off) (l .left) (l .work)
     (l .inv .2 whole p units lent claims m) (omega arith)
 
 pub claim-pages-spec : {M : Type 1} → statement M

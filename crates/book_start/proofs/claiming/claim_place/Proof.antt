@@ -5,9 +5,7 @@ use borrow.Author.Needs.{needs}
 use Rattle.scripthash_layout.specs.declared.head.ShHeadValue.{ShHeadValue}
 use Rattle.scripthash_layout.specs.declared.head.ShHeadValue.the-variants.{Empty, Inline}
 use Rattle.scripthash_free.specs.FreeList.{Block}
-use Rattle.book_space.specs.Space.{Space}
-use Rattle.book_keys.specs.Keys.{soundly, contentAt}
-use Rattle.book_keys.specs.Steps.{keySpace}
+use Rattle.book_keys.specs.Keys.{soundly, contentAt, Ground, ground}
 use Rattle.book_keys.proofs.LawsContent.{content-empty, content-inline}
 use Rattle.book_start.specs.Start.{claimContent}
 use Rattle.book_start.proofs.LawsShown.{content-fit, claims-nothing}
@@ -16,8 +14,8 @@ use Rattle.book_start.proofs.claiming.claim_place.Tie as tie
 
 -- what is wanted of a place
 module _ (t : tie.Start) where
-  abbrev s : Space
-  s = keySpace (t .args .body .now) (t .args .mark)
+  abbrev s : Ground
+  s = ground (t .args .body .now) (t .args .mark)
 
   at-place : (claims : List Block) (v : ShHeadValue) → t .args .place ≡ v
       → claimContent claims (soundly (contentAt s (t .args .place))) ≡ claimContent claims (soundly (contentAt s v))

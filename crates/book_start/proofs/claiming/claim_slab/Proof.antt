@@ -11,9 +11,7 @@ use Rattle.scripthash_layout.specs.declared.head.ShHeadValue.the-variants.{Slab
 use Rattle.scripthash_stream.specs.Stream.{Scan, endFrom}
 use Rattle.scripthash_stream.specs.Answers.{scanAnswer}
 use Rattle.scripthash_free.specs.FreeList.{Block}
-use Rattle.book_space.specs.Space.{Space}
-use Rattle.book_keys.specs.Keys.{soundly, slabScan, contentAt}
-use Rattle.book_keys.specs.Steps.{keySpace}
+use Rattle.book_keys.specs.Keys.{soundly, slabScan, contentAt, ground, Ground}
 use Rattle.book_keys.proofs.LawsSound.{was-sound, was-unsound}
 use Rattle.book_keys.proofs.LawsSlab.{SoundSlab, slab-sound}
 use Rattle.book_keys.proofs.LawsContent.{content-slab, content-no-slab}
@@ -27,8 +25,8 @@ module _ (c : tie.After-enum-told) where
   abbrev at : tie.Start
   at = c .before .before .before .before .before
 
-  abbrev s : Space
-  s = keySpace (at .args .body .now) (at .args .mark)
+  abbrev s : Ground
+  s = ground (at .args .body .now) (at .args .mark)
 
   abbrev slab : Block
   slab = block (at .args .class) (at .args .off)
@@ -60,7 +58,7 @@ returns : tie.Need-returns
 returns c units lent claims m =
     let t = c .before .before .before .before .before in
     let a = t .args in
-    let s = keySpace (a .body .now) (a .mark) in
+    let s = ground (a .body .now) (a .mark) in
     let stop = was-refused (endFrom 0) _ (sym (c .before .before .slab-end .ensures) ∙ ap scanAnswer (c .enum-told2 .given .1)) in
     claims-unfit units (a .mark) lent _ claims _ m
     (content-unfit claims (contentAt s (Slab (a .class) (a .used) (a .off))) (content-no-slab s (a .class) (a .used) (a .off)

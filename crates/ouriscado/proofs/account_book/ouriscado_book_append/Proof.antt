@@ -1,7 +1,7 @@
 -- `ouriscado_book_append` hands out what `append` answers, on the state that the words hold. Assumes nothing.
 use mathlib.Core.Path.{_∙_, ap}
 use Rattle.error.specs.Refusal.{refusalOf}
-use Rattle.error.proofs.LawsOut.{number-answered, told-same}
+use Rattle.error.proofs.LawsOut.{number-answered, value-same}
 use Rattle.book_rules.specs.Calls.{Told}
 use Rattle.book.specs.Book.{Book, Outcome}
 use Rattle.book.specs.Appends.{appends}
@@ -43,15 +43,15 @@ returns c =
       (
         d .left,
         (
-          h .1 .0 ∙ told-same (λ (t : Told). kindOut (newPlace t)) _ (d .told),
+          h .1 .0 ∙ value-same (λ (t : Told). kindOut (newPlace t)) _ (d .told),
           (
-            h .1 .1 .0 ∙ told-same (λ (t : Told). classOut (newPlace t)) _ (d .told),
+            h .1 .1 .0 ∙ value-same (λ (t : Told). classOut (newPlace t)) _ (d .told),
             (
-              h .1 .1 .1 .0 ∙ told-same (λ (t : Told). usedOut (newPlace t)) _ (d .told),
+              h .1 .1 .1 .0 ∙ value-same (λ (t : Told). usedOut (newPlace t)) _ (d .told),
               (
-                h .1 .1 .1 .1 .0 ∙ told-same (λ (t : Told). placeOut (newPlace t)) _ (d .told),
+                h .1 .1 .1 .1 .0 ∙ value-same (λ (t : Told). placeOut (newPlace t)) _ (d .told),
                 (
-                  h .1 .1 .1 .1 .1 ∙ told-same recordsRewritten _ (d .told),
+                  h .1 .1 .1 .1 .1 ∙ value-same recordsRewritten _ (d .told),
                   kept-words (r .before .state-of .ensures) (p .put-state .ensures) _ number (d .left),
                 ),
               ),

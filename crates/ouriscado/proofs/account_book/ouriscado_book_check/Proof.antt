@@ -4,7 +4,7 @@ use mathlib.Core.Path.{_∙_, ap}
 use borrow.Author.Needs.{needs}
 use lib.ListN.{length}
 use Rattle.error.specs.Refusal.{refusalOf}
-use Rattle.error.proofs.LawsOut.{told-same}
+use Rattle.error.proofs.LawsOut.{value-same}
 use Rattle.book.specs.Book.{Book}
 use Rattle.book_start.specs.Start.{judges}
 use Rattle.book_start.specs.Units.{workAfter}
@@ -49,11 +49,11 @@ returns c =
       (
         list,
         (
-          c .before .before .before .ground .ensures ∙ told-same groundOf _ e,
+          c .before .before .before .ground .ensures ∙ value-same groundOf _ e,
           (
-            c .before .before .which .ensures ∙ told-same whichOf _ e,
+            c .before .before .which .ensures ∙ value-same whichOf _ e,
             (
-              c .before .lost .ensures ∙ told-same lostOf _ e,
+              c .before .lost .ensures ∙ value-same lostOf _ e,
               kept-work (length (a .body .now) / 16) (a .work .now) _ number list,
             ),
           ),

@@ -1,7 +1,7 @@
 -- `ouriscado_book_load` hands out what `load` answers, on the state that the words hold. Assumes nothing.
 use mathlib.Core.Path.{_∙_, ap}
 use Rattle.error.specs.Refusal.{refusalOf}
-use Rattle.error.proofs.LawsOut.{number-answered, told-same}
+use Rattle.error.proofs.LawsOut.{number-answered, value-same}
 use Rattle.book.specs.Book.{Book, Outcome}
 use Rattle.book.specs.Loads.{loads}
 use Rattle.ouriscado.specs.OutBook.{pagesLoaded}
@@ -42,7 +42,7 @@ returns c =
       (
         d .left,
         (
-          h .1 ∙ told-same pagesLoaded _ (d .told),
+          h .1 ∙ value-same pagesLoaded _ (d .told),
           kept-words (r .before .state-of .ensures) (p .put-state .ensures) _ number (d .left),
         ),
       ),

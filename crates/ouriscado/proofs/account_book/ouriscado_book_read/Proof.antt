@@ -2,7 +2,7 @@
 use mathlib.Core.Path.{_∙_, ap}
 use lib.ListN.{length}
 use Rattle.error.specs.Refusal.{refusalOf, answered}
-use Rattle.error.proofs.LawsOut.{number-answered, told-answered, told-same}
+use Rattle.error.proofs.LawsOut.{number-answered, value-answered, value-same}
 use Rattle.book_rules.specs.Calls.{answerOf}
 use Rattle.book.specs.Book.{Book, Outcome}
 use Rattle.book.specs.Reads.{reads, listAfter}
@@ -39,9 +39,9 @@ returns c =
       (
         list,
         (
-          h .1 .0 ∙ told-same (λ (x : Counted). x .length) _ e ∙ told-answered (λ (x : Counted). x .length) countedOf _ _,
+          h .1 .0 ∙ value-same (λ (x : Counted). x .length) _ e ∙ value-answered (λ (x : Counted). x .length) countedOf _ _,
           (
-            h .1 .1 ∙ told-same (λ (x : Counted). x .pages) _ e ∙ told-answered (λ (x : Counted). x .pages) countedOf _ _,
+            h .1 .1 ∙ value-same (λ (x : Counted). x .pages) _ e ∙ value-answered (λ (x : Counted). x .pages) countedOf _ _,
             kept-list (a .out .now) _ number list,
           ),
         ),

@@ -1,7 +1,7 @@
 -- `ouriscado_split_last_chunk_for_extent` hands out what `split_last_chunk_for_extent` answers. Assumes nothing.
 use mathlib.Core.Path.{_∙_, ap}
 use Rattle.error.specs.Refusal.{refusalOf}
-use Rattle.error.proofs.LawsOut.{told-same}
+use Rattle.error.proofs.LawsOut.{value-same}
 use borrow.Author.Needs.{needs}
 use Rattle.ouriscado.proofs.cut.ouriscado_split_last_chunk_for_extent.Statement.{statement}
 use Rattle.ouriscado.proofs.cut.ouriscado_split_last_chunk_for_extent.Tie as tie
@@ -18,7 +18,7 @@ same-length c = search needs
 returns : tie.Need-returns
 returns c =
     let e = c .before .before .before .split-last-chunk-for-extent .ensures in
-    (c .put-parts .ensures .0 ∙ ap refusalOf (e .0), (e .1, c .put-parts .ensures .1 ∙ told-same (λ x. x) _ (e .0)))
+    (c .put-parts .ensures .0 ∙ ap refusalOf (e .0), (e .1, c .put-parts .ensures .1 ∙ value-same (λ x. x) _ (e .0)))
 
 pub ouriscado-split-last-chunk-for-extent-spec : {M : Type 1} → statement M
 ouriscado-split-last-chunk-for-extent-spec =

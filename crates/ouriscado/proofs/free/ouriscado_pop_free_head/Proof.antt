@@ -1,7 +1,7 @@
 -- `ouriscado_pop_free_head` hands out what `pop_lent` answers. Assumes nothing.
 use mathlib.Core.Path.{_∙_, ap}
 use Rattle.error.specs.Refusal.{refusalOf}
-use Rattle.error.proofs.LawsOut.{number-answered, told-answered, told-same}
+use Rattle.error.proofs.LawsOut.{number-answered, value-answered, value-same}
 use Rattle.scripthash_free.specs.FreeList.{Pop}
 use mathlib.Core.Option.{Option·getD}
 use borrow.Author.Needs.{needs}
@@ -22,8 +22,8 @@ returns c =
           ∙ number-answered (λ (p : Pop). p .block) _,
       (
         e .1,
-        h .1 ∙ told-same (λ o. Option·getD o 0) _ (e .0)
-            ∙ told-answered (λ o. Option·getD o 0) (λ (p : Pop). p .block) _ _,
+        h .1 ∙ value-same (λ o. Option·getD o 0) _ (e .0)
+            ∙ value-answered (λ o. Option·getD o 0) (λ (p : Pop). p .block) _ _,
       ),
     )
 

@@ -1,7 +1,7 @@
 -- `ouriscado_unpack8` hands out what `unpack8` answers. Assumes nothing.
 use mathlib.Core.Path.{_∙_, ap}
 use Rattle.error.specs.Refusal.{refusalOf}
-use Rattle.error.proofs.LawsOut.{told-same}
+use Rattle.error.proofs.LawsOut.{value-same}
 use Rattle.ouriscado.specs.OutHead.{kindOut, classOut, usedOut, placeOut}
 use borrow.Author.Needs.{needs}
 use Rattle.ouriscado.proofs.head.ouriscado_unpack8.Statement.{statement}
@@ -20,11 +20,11 @@ returns c =
       h .0 ∙ ap refusalOf e,
       (
         h .1 .0
-            ∙ told-same kindOut _ e,
+            ∙ value-same kindOut _ e,
         (
           h .1 .1 .0
-              ∙ told-same classOut _ e,
-          (h .1 .1 .1 .0 ∙ told-same usedOut _ e, h .1 .1 .1 .1 ∙ told-same placeOut _ e),
+              ∙ value-same classOut _ e,
+          (h .1 .1 .1 .0 ∙ value-same usedOut _ e, h .1 .1 .1 .1 ∙ value-same placeOut _ e),
         ),
       ),
     )

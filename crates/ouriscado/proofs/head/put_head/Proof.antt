@@ -1,7 +1,7 @@
 -- `put_head` hands out each number of a head value, or nothing but the refusal. Assumes nothing.
 use mathlib.Core.Path.{_∙_, ap}
 use Rattle.error.specs.Refusal.{accepted, refused}
-use Rattle.error.proofs.LawsOut.{number-accepted, number-refused, told-accepted, told-refused}
+use Rattle.error.proofs.LawsOut.{number-accepted, number-refused, value-accepted, value-refused}
 use Rattle.scripthash_layout.specs.AnswersHead.{unpackAnswer}
 use Rattle.ouriscado.specs.OutHead.{kindOut, classOut, usedOut, placeOut}
 use borrow.Author.Needs.{needs}
@@ -29,7 +29,7 @@ place-of-requires c κs = search needs
 returns : tie.Need-returns
 returns c =
     let no = ap unpackAnswer (c .before .got .given .1) in
-    (number-refused no, (told-refused kindOut _ no, (told-refused classOut _ no, (told-refused usedOut _ no, told-refused placeOut _ no))))
+    (number-refused no, (value-refused kindOut _ no, (value-refused classOut _ no, (value-refused usedOut _ no, value-refused placeOut _ no))))
 
 returns-2 : tie.Need-returns-2
 returns-2 c =
@@ -37,14 +37,14 @@ returns-2 c =
       number-accepted yes,
       (
         c .before .before .before .kind-of .ensures
-            ∙ told-accepted kindOut _ yes,
+            ∙ value-accepted kindOut _ yes,
         (
           c .before .before .class-of .ensures
-              ∙ told-accepted classOut _ yes,
+              ∙ value-accepted classOut _ yes,
           (
-            c .before .used-of .ensures ∙ told-accepted usedOut _ yes,
+            c .before .used-of .ensures ∙ value-accepted usedOut _ yes,
             c .place-of .ensures
-                ∙ told-accepted placeOut _ yes,
+                ∙ value-accepted placeOut _ yes,
           ),
         ),
       ),

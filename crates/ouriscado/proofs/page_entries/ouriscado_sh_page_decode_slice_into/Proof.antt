@@ -1,7 +1,7 @@
 -- `ouriscado_sh_page_decode_slice_into` hands out what `sh_page_decode_slice_into` answers. Assumes nothing.
 use mathlib.Core.Path.{sym, _∙_, ap}
 use Rattle.error.specs.Refusal.{refusalOf}
-use Rattle.error.proofs.LawsOut.{number-accepted, number-answered, told-accepted, told-answered, told-refused}
+use Rattle.error.proofs.LawsOut.{number-accepted, number-answered, value-accepted, value-answered, value-refused}
 use Rattle.scripthash_pages.specs.Entries.{pageReadOf}
 use Rattle.scripthash_pages.specs.EntryAnswers.{sliceAnswer}
 use borrow.Author.Needs.{needs}
@@ -33,9 +33,9 @@ returns c =
       (
         e .1,
         (
-          told-refused (λ r. r .count) _ no ∙ told-answered (λ r. r .count) (pageReadOf _) _ _,
-          told-refused (λ r. r .next) _ no
-              ∙ told-answered (λ r. r .next) (pageReadOf _) _ _,
+          value-refused (λ r. r .count) _ no ∙ value-answered (λ r. r .count) (pageReadOf _) _ _,
+          value-refused (λ r. r .next) _ no
+              ∙ value-answered (λ r. r .next) (pageReadOf _) _ _,
         ),
       ),
     )
@@ -53,9 +53,9 @@ returns-2 c =
       (
         e .1,
         (
-          told-accepted (λ r. r .count) _ yes ∙ told-answered (λ r. r .count) (pageReadOf _) _ _,
-          told-accepted (λ r. r .next) _ yes
-              ∙ told-answered (λ r. r .next) (pageReadOf _) _ _,
+          value-accepted (λ r. r .count) _ yes ∙ value-answered (λ r. r .count) (pageReadOf _) _ _,
+          value-accepted (λ r. r .next) _ yes
+              ∙ value-answered (λ r. r .next) (pageReadOf _) _ _,
         ),
       ),
     )

@@ -1,7 +1,7 @@
 -- `ouriscado_sh_page_entries_into` hands out what `sh_page_entries_into` answers. Assumes nothing.
 use mathlib.Core.Path.{sym, _∙_, ap}
 use Rattle.error.specs.Refusal.{refusalOf}
-use Rattle.error.proofs.LawsOut.{number-accepted, number-answered, told-accepted, told-answered, told-refused}
+use Rattle.error.proofs.LawsOut.{number-accepted, number-answered, value-accepted, value-answered, value-refused}
 use Rattle.scripthash_pages.specs.Entries.{readCount}
 use Rattle.scripthash_pages.specs.EntryAnswers.{entriesAnswer}
 use borrow.Author.Needs.{needs}
@@ -29,7 +29,7 @@ returns c =
     let no = sym (e .0) ∙ ap entriesAnswer (c .before .enum-told .given .1) in (
       c .refusal .ensures ∙ ap refusalOf (e .0)
           ∙ number-answered readCount _,
-      (e .1, told-refused (λ x. x) _ no ∙ told-answered (λ x. x) readCount _ _),
+      (e .1, value-refused (λ x. x) _ no ∙ value-answered (λ x. x) readCount _ _),
     )
 
 same-length-2 : tie.Need-same-length-2
@@ -39,7 +39,7 @@ returns-2 : tie.Need-returns-2
 returns-2 c =
     let e = c .before .before .before .before .before .sh-page-entries-into .ensures in
     let yes = sym (e .0) ∙ ap entriesAnswer (c .before .got .given .1) in
-    (number-accepted yes ∙ number-answered readCount _, (e .1, told-accepted (λ x. x) _ yes ∙ told-answered (λ x. x) readCount _ _))
+    (number-accepted yes ∙ number-answered readCount _, (e .1, value-accepted (λ x. x) _ yes ∙ value-answered (λ x. x) readCount _ _))
 
 pub ouriscado-sh-page-entries-into-spec : {M : Type 1} → statement M
 ouriscado-sh-page-entries-into-spec =

@@ -1,7 +1,7 @@
 -- `ouriscado_sh_page_stream_tail` hands out what `sh_page_stream_tail` answers. Assumes nothing.
 use mathlib.Core.Path.{sym, _∙_, ap}
 use Rattle.error.specs.Refusal.{refusalOf}
-use Rattle.error.proofs.LawsOut.{number-accepted, number-answered, told-accepted, told-answered, told-refused}
+use Rattle.error.proofs.LawsOut.{number-accepted, number-answered, value-accepted, value-answered, value-refused}
 use Rattle.scripthash_stream.specs.Stream.{endFrom}
 use Rattle.scripthash_stream.specs.Answers.{scanAnswer}
 use borrow.Author.Needs.{needs}
@@ -27,9 +27,9 @@ returns c =
       c .refusal .ensures ∙ ap refusalOf e
           ∙ number-answered (endFrom 0) _,
       (
-        told-refused (λ t. t .taken) _ no
-            ∙ told-answered (λ t. t .taken) (endFrom 0) _ _,
-        told-refused (λ t. t .last) _ no ∙ told-answered (λ t. t .last) (endFrom 0) _ _,
+        value-refused (λ t. t .taken) _ no
+            ∙ value-answered (λ t. t .taken) (endFrom 0) _ _,
+        value-refused (λ t. t .last) _ no ∙ value-answered (λ t. t .last) (endFrom 0) _ _,
       ),
     )
 
@@ -40,9 +40,9 @@ returns-2 c =
       number-accepted yes
           ∙ number-answered (endFrom 0) _,
       (
-        told-accepted (λ t. t .taken) _ yes
-            ∙ told-answered (λ t. t .taken) (endFrom 0) _ _,
-        told-accepted (λ t. t .last) _ yes ∙ told-answered (λ t. t .last) (endFrom 0) _ _,
+        value-accepted (λ t. t .taken) _ yes
+            ∙ value-answered (λ t. t .taken) (endFrom 0) _ _,
+        value-accepted (λ t. t .last) _ yes ∙ value-answered (λ t. t .last) (endFrom 0) _ _,
       ),
     )
 

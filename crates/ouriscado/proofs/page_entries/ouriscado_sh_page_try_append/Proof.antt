@@ -1,7 +1,7 @@
 -- `ouriscado_sh_page_try_append` hands out what `sh_page_try_append` answers. Assumes nothing.
 use mathlib.Core.Path.{_∙_, ap}
 use Rattle.error.specs.Refusal.{refusalOf}
-use Rattle.error.proofs.LawsOut.{number-answered, told-answered, told-same}
+use Rattle.error.proofs.LawsOut.{number-answered, value-answered, value-same}
 use Rattle.scripthash_pages.specs.Entries.{hasSpot}
 use borrow.Author.Needs.{needs}
 use Rattle.ouriscado.proofs.page_entries.ouriscado_sh_page_try_append.Statement.{statement}
@@ -22,7 +22,7 @@ returns c =
     let h = c .put-appended .ensures in (
       h .0 ∙ ap refusalOf (e .0)
           ∙ number-answered hasSpot _,
-      (e .1, h .1 ∙ told-same (λ x. x) _ (e .0) ∙ told-answered (λ x. x) hasSpot _ _),
+      (e .1, h .1 ∙ value-same (λ x. x) _ (e .0) ∙ value-answered (λ x. x) hasSpot _ _),
     )
 
 pub ouriscado-sh-page-try-append-spec : {M : Type 1} → statement M

@@ -1,7 +1,7 @@
 -- `ouriscado_sh_page_write_stream` hands out what `sh_page_write_stream` answers. Assumes nothing.
 use mathlib.Core.Path.{_∙_, ap}
 use Rattle.error.specs.Refusal.{refusalOf}
-use Rattle.error.proofs.LawsOut.{told-same}
+use Rattle.error.proofs.LawsOut.{value-same}
 use borrow.Author.Needs.{needs}
 use Rattle.ouriscado.proofs.page_entries.ouriscado_sh_page_write_stream.Statement.{statement}
 use Rattle.ouriscado.proofs.page_entries.ouriscado_sh_page_write_stream.Tie as tie
@@ -19,7 +19,7 @@ returns : tie.Need-returns
 returns c =
     let e = c .before .before .before .before .sh-page-write-stream .ensures in
     let h = c .put-bytes .ensures in
-    (h .0 ∙ ap refusalOf (e .0), (e .1, h .1 ∙ told-same (λ x. x) _ (e .0)))
+    (h .0 ∙ ap refusalOf (e .0), (e .1, h .1 ∙ value-same (λ x. x) _ (e .0)))
 
 pub ouriscado-sh-page-write-stream-spec : {M : Type 1} → statement M
 ouriscado-sh-page-write-stream-spec = tie.close (tie.spec sh-page-write-stream-requires put-bytes-requires same-length returns)

@@ -1,7 +1,7 @@
 -- `ouriscado_sh_page_extent` hands out what `sh_page_extent` answers. Assumes nothing.
 use mathlib.Core.Path.{_∙_, ap}
 use Rattle.error.specs.Refusal.{refusalOf}
-use Rattle.error.proofs.LawsOut.{told-same}
+use Rattle.error.proofs.LawsOut.{value-same}
 use Rattle.ouriscado.specs.OutPage.{baseOr0, countOr0}
 use borrow.Author.Needs.{needs}
 use Rattle.ouriscado.proofs.page_fields.ouriscado_sh_page_extent.Statement.{statement}
@@ -17,7 +17,7 @@ returns : tie.Need-returns
 returns c =
     let e = c .before .before .before .sh-page-extent .ensures in
     let h = c .put-extent .ensures in
-    (h .0 ∙ ap refusalOf e, (h .1 .0 ∙ told-same baseOr0 _ e, h .1 .1 ∙ told-same countOr0 _ e))
+    (h .0 ∙ ap refusalOf e, (h .1 .0 ∙ value-same baseOr0 _ e, h .1 .1 ∙ value-same countOr0 _ e))
 
 pub ouriscado-sh-page-extent-spec : {M : Type 1} → statement M
 ouriscado-sh-page-extent-spec = tie.close (tie.spec sh-page-extent-requires put-extent-requires returns)

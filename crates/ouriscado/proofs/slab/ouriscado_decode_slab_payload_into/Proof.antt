@@ -2,7 +2,7 @@
 use mathlib.Core.Path.{sym, _∙_, ap}
 use lib.ListN.{length}
 use Rattle.error.specs.Refusal.{refusalOf}
-use Rattle.error.proofs.LawsOut.{number-accepted, number-answered, told-accepted, told-answered, told-refused}
+use Rattle.error.proofs.LawsOut.{number-accepted, number-answered, value-accepted, value-answered, value-refused}
 use Rattle.scripthash_slabs.specs.Slab.{slabListOf}
 use Rattle.scripthash_slabs.specs.Answers.{slabAnswer}
 use borrow.Author.Needs.{needs}
@@ -33,9 +33,9 @@ returns c =
       (
         e .1,
         (
-          told-refused (λ l. l .used) _ no ∙ told-answered (λ l. l .used) slabListOf _ _,
-          told-refused (λ l. l .len) _ no
-              ∙ told-answered (λ l. l .len) slabListOf _ _,
+          value-refused (λ l. l .used) _ no ∙ value-answered (λ l. l .used) slabListOf _ _,
+          value-refused (λ l. l .len) _ no
+              ∙ value-answered (λ l. l .len) slabListOf _ _,
         ),
       ),
     )
@@ -52,9 +52,9 @@ returns-2 c =
       (
         e .1,
         (
-          told-accepted (λ l. l .used) _ yes ∙ told-answered (λ l. l .used) slabListOf _ _,
-          told-accepted (λ l. l .len) _ yes
-              ∙ told-answered (λ l. l .len) slabListOf _ _,
+          value-accepted (λ l. l .used) _ yes ∙ value-answered (λ l. l .used) slabListOf _ _,
+          value-accepted (λ l. l .len) _ yes
+              ∙ value-answered (λ l. l .len) slabListOf _ _,
         ),
       ),
     )

@@ -1,7 +1,7 @@
 -- `ouriscado_decode_fk_delta_stream_into` hands out what `decode_fk_delta_stream_into` answers. Assumes nothing.
 use mathlib.Core.Path.{_∙_, ap}
 use Rattle.error.specs.Refusal.{refusalOf}
-use Rattle.error.proofs.LawsOut.{number-answered, told-answered, told-same}
+use Rattle.error.proofs.LawsOut.{number-answered, value-answered, value-same}
 use borrow.Author.Needs.{needs}
 use Rattle.ouriscado.proofs.stream.ouriscado_decode_fk_delta_stream_into.Statement.{statement}
 use Rattle.ouriscado.proofs.stream.ouriscado_decode_fk_delta_stream_into.Tie as tie
@@ -21,7 +21,7 @@ returns c =
     let h = c .put-bytes .ensures in (
       h .0 ∙ ap refusalOf (e .0)
           ∙ number-answered (λ s. s .taken) _,
-      (e .1, h .1 ∙ told-same (λ x. x) _ (e .0) ∙ told-answered (λ x. x) (λ s. s .taken) _ _),
+      (e .1, h .1 ∙ value-same (λ x. x) _ (e .0) ∙ value-answered (λ x. x) (λ s. s .taken) _ _),
     )
 
 pub ouriscado-decode-fk-delta-stream-into-spec : {M : Type 1} → statement M

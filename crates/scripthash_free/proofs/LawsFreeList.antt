@@ -16,7 +16,7 @@ use Rattle.buffer.proofs.LawsBytes.{length-overwrite}
 use Rattle.buffer.proofs.LawsLittleEndian.{littleEndian-bytesOf}
 use Rattle.buffer.proofs.LawsOverwrite.{part-written, part-before, part-after}
 use Rattle.scripthash_layout.specs.Sizes.{slabBytes}
-use Rattle.scripthash_free.specs.FreeList.{Lists, firstFreed, nextOf, isBlock, pushed, popFree, Names, Clear}
+use Rattle.scripthash_free.specs.FreeList.{Lists, firstFreed, nextOf, isBlock, pushed, popFree, IsFreeList, Clear}
 use Rattle.scripthash_free.proofs.LawsBlock.{bytes-from-16, block-stands}
 use Rattle.scripthash_free.proofs.LawsFree.{pop-none, pop-yes}
 
@@ -31,23 +31,23 @@ module _ (body : List ℕ) (off : ℕ) (ys : List ℕ) (fits : off + length ys �
       clear)
 
   -- A list whose blocks keep clear of the write names the same offsets after it.
-  pub names-write : (head : ℕ) (os : List ℕ) → Clear size off (length ys) os → Names body head os → Names (overwrite body off ys) head os
-  unfolding Names Clear
-  names-write head [] c n = n
-  names-write head (o ∷ os) c n =
+  pub free-list-write : (head : ℕ) (os : List ℕ) → Clear size off (length ys) os → IsFreeList body head os → IsFreeList (overwrite body off ys) head os
+  unfolding IsFreeList Clear
+  free-list-write head [] c n = n
+  free-list-write head (o ∷ os) c n =
       let same : nextOf (overwrite body off ys) o ≡ nextOf body o = next-kept o (c .0) in
       let long : length (overwrite body off ys) ≡ length body = length-overwrite body off ys fits in (
         n .0,
         n .1,
         omega (arith, n .2),
-        subst (λ (next : ℕ). Names (overwrite body off ys) next os) (sym same) (names-write (nextOf body o) os (c .1) (n .3)),
+        subst (λ (next : ℕ). IsFreeList (overwrite body off ys) next os) (sym same) (free-list-write (nextOf body o) os (c .1) (n .3)),
       )
 
 -- A head of a list fits 8 bytes where the body's length does.
-pub names-head : (body : List ℕ) (head : ℕ) (os : List ℕ) → length body < 256 ^ 8 → Names body head os → head < 256 ^ 8
-unfolding Names
-names-head body head [] h n = omega arith
-names-head body head (o ∷ os) h n = omega (arith, n .0, n .2)
+pub free-list-head : (body : List ℕ) (head : ℕ) (os : List ℕ) → length body < 256 ^ 8 → IsFreeList body head os → head < 256 ^ 8
+unfolding IsFreeList
+free-list-head body head [] h n = omega arith
+free-list-head body head (o ∷ os) h n = omega (arith, n .0, n .2)
 
 -- Blocks that keep clear of a range keep clear of a part of it.
 pub clear-within : (size off n off' n' : ℕ) (os : List ℕ) → off ≤ off' → off' + n' ≤ off + n → Clear size off n os → Clear size off' n' os
@@ -86,51 +86,51 @@ module _ (class off : ℕ) (l : Lists) (above : 0 < off) (fits : off + 8 ≤ len
   head-kept d other = getD-set-other (l .heads) class d off 0 other
 
   -- A list whose blocks keep clear of its 8 bytes names what it named.
-  names-kept : (d : ℕ) (os : List ℕ) (head : ℕ) → Clear (slabBytes d) off 8 os → Names (l .body) head os
-      → Names (pushed class off l .body) head os
+  free-list-kept : (d : ℕ) (os : List ℕ) (head : ℕ) → Clear (slabBytes d) off 8 os → IsFreeList (l .body) head os
+      → IsFreeList (pushed class off l .body) head os
   unfolding pushed
-  names-kept d os head c n =
-      names-write (l .body) off (bytesOf 8 (firstFreed class l)) fits (slabBytes d) (omega (arith, bytes-from-16 d)) head os c n
+  free-list-kept d os head c n =
+      free-list-write (l .body) off (bytesOf 8 (firstFreed class l)) fits (slabBytes d) (omega (arith, bytes-from-16 d)) head os c n
 
   -- Its list names it, and then what the list named before.
-  pub names-push : (os : List ℕ) → length (l .body) < 256 ^ 8 → Clear (slabBytes class) off 8 os → Names (l .body) (firstFreed class l) os
-      → Names (pushed class off l .body) (firstFreed class (pushed class off l)) (off ∷ os)
-  unfolding Names
-  names-push os small c n =
-      let next = next-pushed (names-head (l .body) (firstFreed class l) os small n) in (
+  pub free-list-push : (os : List ℕ) → length (l .body) < 256 ^ 8 → Clear (slabBytes class) off 8 os → IsFreeList (l .body) (firstFreed class l) os
+      → IsFreeList (pushed class off l .body) (firstFreed class (pushed class off l)) (off ∷ os)
+  unfolding IsFreeList
+  free-list-push os small c n =
+      let next = next-pushed (free-list-head (l .body) (firstFreed class l) os small n) in (
         head-pushed,
         above,
         omega (arith, length-pushed class off l fits),
-        subst (λ (h : ℕ). Names (pushed class off l .body) h os) (sym next) (names-kept class os (firstFreed class l) c n),
+        subst (λ (h : ℕ). IsFreeList (pushed class off l .body) h os) (sym next) (free-list-kept class os (firstFreed class l) c n),
       )
 
   -- The list of another class names what it named.
-  pub names-other : (d : ℕ) (os : List ℕ) → (d ≡ class → ⊥) → Clear (slabBytes d) off 8 os → Names (l .body) (firstFreed d l) os
-      → Names (pushed class off l .body) (firstFreed d (pushed class off l)) os
-  names-other d os other c n =
-      subst (λ (h : ℕ). Names (pushed class off l .body) h os) (sym (head-kept d other)) (names-kept d os (firstFreed d l) c n)
+  pub free-list-other : (d : ℕ) (os : List ℕ) → (d ≡ class → ⊥) → Clear (slabBytes d) off 8 os → IsFreeList (l .body) (firstFreed d l) os
+      → IsFreeList (pushed class off l .body) (firstFreed d (pushed class off l)) os
+  free-list-other d os other c n =
+      subst (λ (h : ℕ). IsFreeList (pushed class off l .body) h os) (sym (head-kept d other)) (free-list-kept d os (firstFreed d l) c n)
 
 -- The list of a class that names no block has none to pop.
-pub names-none : (class mark : ℕ) (l : Lists) → class ≤ 8 → Names (l .body) (firstFreed class l) []
+pub free-list-none : (class mark : ℕ) (l : Lists) → class ≤ 8 → IsFreeList (l .body) (firstFreed class l) []
     → popFree class mark l ≡ accepted (record { block = none; heads = l .heads })
-unfolding Names
-names-none class mark l h n = pop-none class mark l h n
+unfolding IsFreeList
+free-list-none class mark l h n = pop-none class mark l h n
 
 -- The list of a class that names a block gives it, and then names the others.
-module _ (class mark o : ℕ) (os : List ℕ) (l : Lists) (n : Names (l .body) (firstFreed class l) (o ∷ os)) where
+module _ (class mark o : ℕ) (os : List ℕ) (l : Lists) (n : IsFreeList (l .body) (firstFreed class l) (o ∷ os)) where
   abbrev popped : Lists
   popped = record { body = l .body; heads = set (l .heads) class (nextOf (l .body) o) }
 
-  pub pop-named : isBlock class o (min mark (length (l .body))) ≡ true
+  pub pop-free-list : isBlock class o (min mark (length (l .body))) ≡ true
       → popFree class mark l ≡ accepted (record { block = some o; heads = popped .heads })
-  unfolding Names
-  pop-named good =
+  unfolding IsFreeList
+  pop-free-list good =
       let top : firstFreed class l ≡ o = n .0 in
       let not-zero : firstFreed class l ≡ 0 → ⊥ = λ z. let p = n .1 in omega arith in
       let s = block-stands class o (min mark (length (l .body))) good in
       pop-yes class mark l (s .class-to-8) not-zero (rw top good)
       ∙ ap (λ (h : ℕ). accepted (record { block = some h; heads = set (l .heads) class (nextOf (l .body) h) })) top
 
-  pub names-pop : class < length (l .heads) → Names (popped .body) (firstFreed class popped) os
-  unfolding Names
-  names-pop has = subst (λ (h : ℕ). Names (l .body) h os) (sym (getD-set-same (l .heads) class (nextOf (l .body) o) 0 has)) (n .3)
+  pub free-list-pop : class < length (l .heads) → IsFreeList (popped .body) (firstFreed class popped) os
+  unfolding IsFreeList
+  free-list-pop has = subst (λ (h : ℕ). IsFreeList (l .body) h os) (sym (getD-set-same (l .heads) class (nextOf (l .body) o) 0 has)) (n .3)
