@@ -7,7 +7,7 @@ use lib.Dec.{leb}
 use lib.ListN.{length}
 use Rattle.error.specs.Refusal.{Answer, accepted, refused, shapeBad, keyBeyond}
 use Rattle.error.proofs.LawsAnswer.{refuse-yes, refuse-no, answered-yes, answered-no}
-use Rattle.book_rules.specs.Calls.{Told, bookAfter}
+use Rattle.book_rules.specs.Outcomes.{Told, bookAfter}
 use Rattle.book_space.specs.Space.{shapeBroken}
 use Rattle.book.specs.Book.{Book, Outcome, onKey}
 use Rattle.book.specs.Steps.{Does}

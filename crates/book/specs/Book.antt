@@ -3,13 +3,12 @@ use Prim.Native.Nat.{ℕ, _+_}
 use mathlib.Core.List.{List}
 use lib.Dec.{leb}
 use lib.ListN.{length, getD, set, replicate}
-use Rattle.error.specs.Refusal.{Answer, accepted, refused, refuseIf, valueOr, shapeBad, keyBeyond}
+use Rattle.error.specs.Refusal.{Answer, refuseIf, valueOr, shapeBad, keyBeyond}
 use Rattle.buffer.specs.Bytes.{overwrite}
 use Rattle.scripthash_layout.specs.Sizes.{pageClass}
 use Rattle.scripthash_layout.specs.Head.{payloadStart, packHead}
 use Rattle.scripthash_layout.specs.declared.head.ShHeadValue.{ShHeadValue}
-use Rattle.book_rules.specs.Calls.{Told, OutcomeOf}
-use Rattle.book_limits.specs.Limits.{outOfShape}
+use Rattle.book_rules.specs.Outcomes.{Told, OutcomeOf}
 use Rattle.book_space.specs.Space.{Space, space, Taken, shapeBroken}
 use Rattle.book_keys.specs.Keys.{Ground, ground}
 
@@ -29,16 +28,6 @@ book body heads mark free = record { heads = heads; space = space body mark free
 -- A fresh book over a body: heads and free heads are 0, and the mark is where lists may begin.
 abbrev pub fresh : List ℕ → ℕ → Book
 fresh body heads = book body (replicate heads 0) payloadStart (replicate (pageClass + 1) 0)
-
--- Making a book fresh: refused where its lengths break the limits.
-unfoldable pub makesFresh : Book → Answer Book
-makesFresh b =
-    refuseIf (outOfShape (length (b .space .body)) (length (b .heads))) shapeBad (accepted (fresh (b .space .body) (length (b .heads))))
-
--- The book after it was made fresh: as it was where that is refused.
-unfoldable pub madeAfter : Book → Answer Book → Book
-madeAfter b (accepted made) = made
-madeAfter b (refused number) = b
 
 -- What an accepted call tells, and the book afterwards.
 abbrev pub Outcome : Type 0

@@ -10,17 +10,19 @@ use lib.Dec.{leb}
 use lib.ListN.{length, replicate, length-replicate}
 use Rattle.error.specs.Refusal.{Answer, accepted, refused, refuseIf, answered, shapeBad, listTooShort}
 use Rattle.buffer.specs.Bytes.{overwrite}
-use Rattle.book_rules.specs.Calls.{Call, Told, listed, answerOf, bookAfter, answersTo}
+use Rattle.book_statements.specs.Calls.{Call, answersTo}
+use Rattle.book_rules.specs.Outcomes.{Told, listed, answerOf, bookAfter}
 use Rattle.book_limits.specs.Limits.{outOfShape}
-use Rattle.book_rules.specs.Recorded.{recorded}
+use Rattle.book_statements.specs.Recorded.{recorded}
 use Rattle.plain_book.specs.Key.{pagesOf}
 use Rattle.plain_book.specs.Book.{fresh as plainFresh, answers as plainAnswers, after as plainAfter, keyOf}
 use Rattle.plain_book.proofs.LawsRecorded.{recorded-fresh}
 use Rattle.plain_book.proofs.LawsGood.{shapes-kept}
 use Rattle.book_space.specs.declared.State.{State}
-use Rattle.book.specs.Book.{Book, Outcome, fresh, makesFresh, madeAfter}
-use Rattle.book.specs.Reads.{reads}
-use Rattle.book.specs.Calls.{does, after, answers}
+use Rattle.book.specs.Book.{Book, Outcome, fresh}
+use Rattle.book_start.specs.Making.{makesFresh, madeAfter}
+use Rattle.book_read.specs.Reads.{reads}
+use Rattle.book_history.specs.Calls.{does, after, answers}
 use Rattle.book.specs.Answers.{bookOf}
 use Rattle.book_history.specs.Standing.{Standing}
 use Rattle.book_history.proofs.Demand3.{demand-3}

@@ -10,7 +10,7 @@ use Rattle.buffer.proofs.LawsBytes.{overwrite-step, overwrite-one, length-overw
 use Rattle.buffer.proofs.LawsOverwrite.{overwrite-adjoin}
 use Rattle.scripthash_layout.specs.declared.head.ShHeadValue.{ShHeadValue}
 use Rattle.scripthash_layout.specs.declared.head.ShHeadValue.the-variants.{Empty, Inline, Slab, Extent}
-use Rattle.book_rules.specs.Calls.{Told, loaded, appended, listed, dropped}
+use Rattle.book_rules.specs.Outcomes.{Told, loaded, appended, listed, dropped}
 use Rattle.book_words.specs.SpellAnswers.{spellPlace, spellTold, spellAnswer}
 use Rattle.book_calls.specs.Steps.{Answered}
 

@@ -13,14 +13,14 @@ use Rattle.error.specs.Refusal.{Answer, accepted, refused, refuseIf, andThen, a
 use Rattle.error.proofs.LawsAnswer.{accepted-inj}
 use Rattle.buffer.specs.Bytes.{overwrite}
 use Rattle.buffer.proofs.LawsBytes.{overwrite-part, length-overwrite}
-use Rattle.book_rules.specs.Calls.{Listed as List-told, listed, answerOf}
+use Rattle.book_rules.specs.Outcomes.{Listed as List-told, listed, answerOf}
 use Rattle.book_space.specs.Space.{shapeBroken}
 use Rattle.book_keys.specs.Keys.{Content, content}
 use Rattle.book.specs.Book.{Book, Outcome, wordOf, onKey, seen}
-use Rattle.book.specs.Reads.{reads, listAfter}
-use Rattle.book.specs.Answers.{Counted, readAnswer, countedOf}
-use Rattle.book.specs.declared.answers.BookRead.{BookRead}
-use Rattle.book.specs.declared.answers.BookRead.the-variants.{Listed, Refused as NotRead}
+use Rattle.book_read.specs.Reads.{reads, listAfter}
+use Rattle.book_read.specs.Answers.{Counted, readAnswer, countedOf}
+use Rattle.book_read.specs.declared.answers.BookRead.{BookRead}
+use Rattle.book_read.specs.declared.answers.BookRead.the-variants.{Listed, Refused as NotRead}
 use Rattle.book_words.specs.SpellAnswers.{spellTold, spellAnswer}
 use Rattle.book_calls.specs.Steps.{Answered, readWords, readLen}
 

@@ -11,7 +11,7 @@ use lib.Dec.{leb, eqb}
 use lib.ListN.{length, getD, take as firstOf, drop as behind, length-drop, drop-of-length-le}
 use lib.Seq.{drop-drop}
 use Rattle.buffer.proofs.LawsOrder.{lt-or-ge}
-use Rattle.book_rules.specs.Calls.{Call, load, append, read, drop}
+use Rattle.book_statements.specs.Calls.{Call, load, append, read, drop}
 use Rattle.book_words.specs.Words.{Begins, begins, before, atEnd, readAll}
 use Rattle.book_words.specs.SpellCalls.{loadOf, callOf, callAt, callsOf, answerRoom, answersRoom}
 use Rattle.book_words.proofs.LawsWords.{some-inj, none≢some}

@@ -8,14 +8,16 @@ use lib.Dec.{leb}
 use lib.ListN.{length, replicate}
 use Rattle.error.specs.Refusal.{accepted, listTooShort}
 use Rattle.buffer.specs.Bytes.{overwrite}
-use Rattle.book_rules.specs.Calls.{Call, listed, answerOf}
+use Rattle.book_statements.specs.Calls.{Call}
+use Rattle.book_rules.specs.Outcomes.{listed, answerOf}
 use Rattle.book_limits.specs.Limits.{outOfShape}
-use Rattle.book_rules.specs.Recorded.{recorded}
+use Rattle.book_statements.specs.Recorded.{recorded}
 use Rattle.plain_book.specs.Book.{fresh as plainFresh, answers as plainAnswers, after as plainAfter}
 use Rattle.book_space.specs.declared.State.{State}
-use Rattle.book.specs.Book.{Book, makesFresh, madeAfter}
-use Rattle.book.specs.Reads.{reads}
-use Rattle.book.specs.Calls.{after}
+use Rattle.book.specs.Book.{Book}
+use Rattle.book_start.specs.Making.{makesFresh, madeAfter}
+use Rattle.book_read.specs.Reads.{reads}
+use Rattle.book_history.specs.Calls.{after}
 use Rattle.book.specs.Answers.{bookOf}
 use Rattle.book_history.specs.Standing.{Standing}
 use Rattle.book_words.specs.SpellCalls.{callsOf, answersRoom}

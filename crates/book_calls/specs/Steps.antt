@@ -8,11 +8,12 @@ use lib.Dec.{eqb}
 use lib.ListN.{length, drop}
 use Rattle.error.specs.Refusal.{Answer}
 use Rattle.buffer.specs.Bytes.{overwrite}
-use Rattle.book_rules.specs.Calls.{Call, Told, bookAfter, answerOf}
+use Rattle.book_statements.specs.Calls.{Call}
+use Rattle.book_rules.specs.Outcomes.{Told, bookAfter, answerOf}
 use Rattle.book.specs.Book.{Book}
-use Rattle.book.specs.Calls.{does, after, answers}
-use Rattle.book.specs.declared.answers.BookRead.{BookRead}
-use Rattle.book.specs.declared.answers.BookRead.the-variants.{Listed, Refused as NotRead}
+use Rattle.book_history.specs.Calls.{does, after, answers}
+use Rattle.book_read.specs.declared.answers.BookRead.{BookRead}
+use Rattle.book_read.specs.declared.answers.BookRead.the-variants.{Listed, Refused as NotRead}
 use Rattle.book_words.specs.SpellCalls.{callAt, callsOf, answerRoom, answersRoom}
 use Rattle.book_words.specs.SpellAnswers.{spellAnswer, spellAnswers}
 use Rattle.book_words.specs.Words.{Begins}

@@ -4,9 +4,10 @@ ghost use mathlib.Core.Path.{_≡_};
 ghost use Prim.Native.Nat.{_+_, _≤_};
 ghost use mathlib.Core.Option.{some};
 ghost use lib.ListN.{length, drop};
-ghost use Rattle.book_rules.specs.Calls as Calls;
-ghost use Rattle.book_rules.specs.Calls.{Call, answerOf};
-ghost use Rattle.book.specs.Reads.{reads};
+ghost use Rattle.book_statements.specs.Calls as Calls;
+ghost use Rattle.book_statements.specs.Calls.{Call};
+ghost use Rattle.book_rules.specs.Outcomes.{answerOf};
+ghost use Rattle.book_read.specs.Reads.{reads};
 ghost use Rattle.book.specs.Answers.{bookOf};
 ghost use Rattle.book_words.specs.Words.{Begins};
 ghost use Rattle.book_words.specs.SpellCalls.{callAt, callsOf};
@@ -41,7 +42,7 @@ fn run_load(
     ensures { λ r. ⌜ Done (bookOf (now (body .entry)) (now (heads .entry)) state) (Calls.load key (now (numbers .entry))) (now (out .entry))
         (bookOf (now (body .exit)) (now (heads .exit)) (r .state)) (now (out .exit)) (r .len) ⌝ }
 {
-    let after = book_lists::load(body, heads, state, key, numbers);
+    let after = book_load::load(body, heads, state, key, numbers);
     let next = after.state;
     let answer = after.answer;
     let len = put_load(out, answer);
@@ -61,7 +62,7 @@ fn run_append(
     ensures { λ r. ⌜ Done (bookOf (now (body .entry)) (now (heads .entry)) state) (Calls.append key n) (now (out .entry))
         (bookOf (now (body .exit)) (now (heads .exit)) (r .state)) (now (out .exit)) (r .len) ⌝ }
 {
-    let after = book_appending::append(body, heads, state, key, n);
+    let after = book_append::append(body, heads, state, key, n);
     let next = after.state;
     let answer = after.answer;
     let len = put_append(out, answer);
@@ -80,7 +81,7 @@ fn run_drop(
     ensures { λ r. ⌜ Done (bookOf (now (body .entry)) (now (heads .entry)) state) (Calls.drop key) (now (out .entry))
         (bookOf (now (body .exit)) (now (heads .exit)) (r .state)) (now (out .exit)) (r .len) ⌝ }
 {
-    let after = book_lists::drop(body, heads, state, key);
+    let after = book_drop::drop(body, heads, state, key);
     let next = after.state;
     let answer = after.answer;
     let len = put_drop(out, answer);
@@ -101,7 +102,7 @@ fn run_read(
         (now (out .exit)) r ⌝ }
 {
     let end = 4 + room;
-    let answer = book_lists::read(body, heads, state, key, &mut out[4..end]);
+    let answer = book_read::read(body, heads, state, key, &mut out[4..end]);
     put_read(out, answer)
 }
 

@@ -44,7 +44,7 @@ pub fn run_calls(body: &mut [u8], heads: &mut [u64], calls: &[u64], answers: &mu
             state: none,
         };
     }
-    let made = book_lists::fresh(body, heads, none);
+    let made = book_start::fresh(body, heads, none);
     let state = made.state;
     let after = run_spelled(body, heads, state, calls, answers);
     let left = after.state;

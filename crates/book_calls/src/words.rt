@@ -6,7 +6,7 @@ ghost use mathlib.Core.Path.{_≡_};
 ghost use Prim.Native.Nat.{_≤_};
 ghost use lib.Dec.{leb};
 ghost use lib.ListN.{length, drop};
-ghost use Rattle.book_rules.specs.Calls.{Call};
+ghost use Rattle.book_statements.specs.Calls.{Call};
 ghost use Rattle.book_words.specs.SpellCalls.{callAt, callsOf, answersRoom};
 ghost use Rattle.book_calls.specs.Steps.{isSome, NextIs, needOf, RoomIs};
 

@@ -5,15 +5,15 @@
 use Prim.Native.Nat.{ℕ, _≤_}
 use mathlib.Core.List.{List}
 use lib.ListN.{length}
-use Rattle.book_rules.specs.Calls.{Call}
-use Rattle.book_rules.specs.Moves.{noMoves, tallyOf}
+use Rattle.book_statements.specs.Calls.{Call}
+use Rattle.book_statements.specs.Moves.{noMoves, tallyOf}
 use Rattle.plain_book.specs.Book.{Book as PlainBook, fresh as plainFresh}
 use Rattle.plain_book.specs.Good.{GoodPlain}
 use Rattle.plain_book.specs.Ceilings.{mostMoves, mostRewritten, EachFewest}
 use Rattle.plain_book.proofs.LawsGood.{fresh-good}
 use Rattle.plain_book.proofs.LawsCeilings.{ceilings-from, loads-least}
 use Rattle.book.specs.Book.{Book, fresh}
-use Rattle.book.specs.Calls.{answers}
+use Rattle.book_history.specs.Calls.{answers}
 use Rattle.book_start.specs.Start.{GoodStart}
 use Rattle.book_history.specs.Agrees.{Agrees}
 use Rattle.book_history.specs.PlainOf.{plainOf}

@@ -16,8 +16,9 @@ use Rattle.scripthash_layout.proofs.LawsHead.{pack-unpacked}
 use Rattle.scripthash_stream.specs.Stream.{Scan}
 use Rattle.scripthash_fields.specs.Page.{countOf}
 use Rattle.book_limits.specs.Limits.{outOfShape}
-use Rattle.book_rules.specs.Calls.{Call, read, Told, loaded, appended, listed, dropped, Listed, answerOf}
-use Rattle.book_rules.specs.Recorded.{recorded}
+use Rattle.book_statements.specs.Calls.{Call, read}
+use Rattle.book_rules.specs.Outcomes.{Told, loaded, appended, listed, dropped, Listed, answerOf}
+use Rattle.book_statements.specs.Recorded.{recorded}
 use Rattle.plain_book.specs.Key.{Key, emptyKey}
 use Rattle.plain_book.specs.Book.{Book as PlainBook, fresh as plainFresh, keyOf, after as plainAfter}
 use Rattle.plain_book.specs.Good.{GoodPlain}
@@ -31,8 +32,8 @@ use Rattle.book_keys.proofs.LawsSlab.{slab-sound}
 use Rattle.book_keys.proofs.LawsContent.{was-content, was-slab, was-pages}
 use Rattle.book_keys.proofs.LawsKeys.{by-steps, chain-known}
 use Rattle.book.specs.Book.{Book, Outcome, wordOf, fresh, seen}
-use Rattle.book.specs.Reads.{reads}
-use Rattle.book.specs.Calls.{does, after, answers}
+use Rattle.book_read.specs.Reads.{reads}
+use Rattle.book_history.specs.Calls.{does, after, answers}
 use Rattle.book_start.specs.Start.{GoodStart}
 use Rattle.book_history.specs.Agrees.{Agrees}
 use Rattle.book_history.specs.PlainOf.{plainOf, startList}

@@ -13,12 +13,13 @@ use Rattle.scripthash_layout.specs.Head.{slabWord, unpackHead}
 use Rattle.scripthash_layout.specs.declared.head.ShHeadValue.the-variants.{Slab, Extent}
 use Rattle.scripthash_stream.specs.Stream.{Scan}
 use Rattle.scripthash_pages.specs.Entries.{lastOf, Spot, spotBehind}
-use Rattle.book_rules.specs.Calls.{Call, append, read, bookAfter}
+use Rattle.book_statements.specs.Calls.{Call, append, read}
+use Rattle.book_rules.specs.Outcomes.{bookAfter}
 use Rattle.book_rules.specs.Places.{stays}
 use Rattle.book_keys.specs.Keys.{pageAt, slabScan, Tail, tailAt}
 use Rattle.book.specs.Book.{Book, Outcome, wordOf, seen}
-use Rattle.book.specs.Reads.{listAfter}
-use Rattle.book.specs.Calls.{does}
+use Rattle.book_read.specs.Reads.{listAfter}
+use Rattle.book_history.specs.Calls.{does}
 use Rattle.book_history.specs.Writes.{Changes}
 use Rattle.book_history.proofs.LawsWrites.{list-refused, refused-nothing, accepted-only}
 use Rattle.book_history.proofs.LawsWritesWords.{slab-word, page-words}

@@ -16,20 +16,7 @@ use Rattle.scripthash_pages.specs.Entries.{streamPlace, pageScan}
 use Rattle.scripthash_free.specs.FreeList.{isBlock}
 use Rattle.plain_book.specs.Key.{Kept, written, Place, inline, slab, pages, Key, emptyKey}
 use Rattle.plain_book.specs.Book.{Book as PlainBook}
-use Rattle.book_keys.specs.Keys.{
-  soundly,
-  sure,
-  goOn,
-  slabScan,
-  linkScan,
-  goodExtent,
-  lastAt,
-  pageThen,
-  walk,
-  totalGood,
-  chainAt,
-  pageBlocks,
-}
+use Rattle.book_keys.specs.Keys.{soundly, sure, goOn, slabScan, linkScan, goodExtent, lastAt, pageThen, walk, totalGood, chainAt, pageBlocks}
 use Rattle.book_keys.specs.Keys.{contentAt, content}
 use Rattle.book_blocks.specs.Blocks.{lastPageOf}
 use Rattle.book.specs.Book.{Book, book}

@@ -12,32 +12,21 @@ use Rattle.scripthash_cutting.specs.Cutting.{fitting, firstPart, greedyParts, r
 use Rattle.scripthash_fields.specs.Page.{field, setField, nextOff, deltaHeader, extentHeader, pageOf}
 use Rattle.scripthash_pages.specs.Entries.{streamPlace, pageScan, spotBehind, oneMore, withAppended}
 use Rattle.scripthash_free.specs.FreeList.{isBlock, pushed, popFree, largestUpTo, blockThen, carve, pushAll}
-use Rattle.book_rules.specs.Calls.{Call, load, append, drop, bookAfter, afterCalls}
+use Rattle.book_statements.specs.Calls.{Call, load, append, drop, afterCalls}
+use Rattle.book_rules.specs.Outcomes.{bookAfter}
 use Rattle.book_rules.specs.Offered.{offeredNumber, offeredList}
 use Rattle.book_limits.specs.Limits.{outOfShape}
 use Rattle.book_rules.specs.Places.{stays, larger, movesTo, loadsTo}
 use Rattle.book_space.specs.Space.{markBad, shapeBroken, takeMark, rounded, takeFresh, takePopped, takeBlock, release, runAtMark}
-use Rattle.book_keys.specs.Keys.{
-  soundly,
-  sure,
-  goOn,
-  slabScan,
-  linkScan,
-  goodExtent,
-  lastAt,
-  pageThen,
-  walk,
-  totalGood,
-  chainAt,
-  pageBlocks,
-}
+use Rattle.book_keys.specs.Keys.{soundly, sure, goOn, slabScan, linkScan, goodExtent, lastAt, pageThen, walk, totalGood, chainAt, pageBlocks}
 use Rattle.book_keys.specs.Keys.{contentAt, content, createsGood, tailAt}
 use Rattle.book.specs.Book.{Book, fresh, headWord, onKey}
 use Rattle.book_blocks.specs.Blocks.{slabWith, totalWith, pageWith, pageBefore, writeRun}
-use Rattle.book.specs.Appends.{movesInto, moves, appendSlab, growChain, appendPage, appendAt, appends}
-use Rattle.book.specs.Loads.{loadInto, loadAt, loads}
-use Rattle.book.specs.Reads.{reads, drops}
-use Rattle.book.specs.Calls.{after, does}
+use Rattle.book_append.specs.Appends.{movesInto, moves, appendSlab, growChain, appendPage, appendAt, appends}
+use Rattle.book_load.specs.Loads.{loadInto, loadAt, loads}
+use Rattle.book_read.specs.Reads.{reads}
+use Rattle.book_drop.specs.Drops.{drops}
+use Rattle.book_history.specs.Calls.{after, does}
 use mathlib.Core.Bool.{Bool, true, false}
 use Rattle.book_history.specs.Writes.{Region, region, CallWrites, both, freeingAll, takingPages, taking, filling, writing, moving}
 use Rattle.book_history.specs.Writes.{growingSlab, growingPage, appendWrites, loadWrites, writes}

@@ -15,7 +15,8 @@ use Rattle.buffer.proofs.LawsOverwrite.{part-left}
 use Rattle.scripthash_layout.specs.Sizes.{slabBytes, pageSize}
 use Rattle.scripthash_layout.specs.Head.{unpackHead}
 use Rattle.scripthash_free.proofs.LawsBlock.{block-stands}
-use Rattle.book_rules.specs.Calls.{Call, Told, answerOf, answersTo}
+use Rattle.book_statements.specs.Calls.{Call, answersTo}
+use Rattle.book_rules.specs.Outcomes.{Told, answerOf}
 use Rattle.book_limits.specs.Limits.{outOfShape, pageAfter}
 use Rattle.book_limits.proofs.LawsLimits.{in-shape}
 use Rattle.plain_book.specs.Key.{Place, Key, emptyKey, totalOf}
@@ -26,7 +27,7 @@ use Rattle.plain_book.specs.Grown.{grown as grownPlain, pagesEnough}
 use Rattle.plain_book.proofs.LawsRoom.{empty-behind, room-accepts}
 use Rattle.book_keys.specs.Keys.{Content}
 use Rattle.book.specs.Book.{Book}
-use Rattle.book.specs.Calls.{after, answers}
+use Rattle.book_history.specs.Calls.{after, answers}
 use Rattle.book_start.specs.Start.{GoodStart}
 use Rattle.book_history.specs.Agrees.{SlabIn, PageIn, Contents, AgreesSpace, AgreesInside, Agrees}
 use Rattle.book_history.specs.Standing.{Standing}

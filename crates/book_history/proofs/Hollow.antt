@@ -5,9 +5,10 @@ use mathlib.Core.Path.{_≡_, refl, sym, ap, _∙_}
 use native.Mathlib.Omega.{arith}
 use lib.ListN.{length}
 use Rattle.error.specs.Refusal.{Answer, accepted, refused, noRoom, keyUnsound}
-use Rattle.book_rules.specs.Calls.{Call, load, append, read, Told, loaded, appended, listed, dropped}
+use Rattle.book_statements.specs.Calls.{Call, load, append, read}
+use Rattle.book_rules.specs.Outcomes.{Told, loaded, appended, listed, dropped}
 use Rattle.book.specs.Book.{Book, Outcome, fresh}
-use Rattle.book.specs.Calls.{does}
+use Rattle.book_history.specs.Calls.{does}
 use Rattle.book_history.specs.Hollow.{Hollow, always, readsEmpty, appendsNothing, firstOnly, invents, pageMore, rewrittenMore}
 use Rattle.book_history.proofs.Demand3.{demand-3}
 use Rattle.book_history.proofs.Examples.{computed, bodyOf}

@@ -42,7 +42,7 @@ use Rattle.book_blocks.specs.Blocks.{lastPageOf, totalWith, pageWith, pageBefor
 use Rattle.book_blocks.proofs.LawsTotals.{total-fits}
 use Rattle.book_blocks.proofs.LawsReadsMore.{spot-fits, spot-none, page-more, page-before}
 use Rattle.book.specs.Book.{Book, seen}
-use Rattle.book.specs.Appends.{appending, growChain, appendPage, appendAt, appends}
+use Rattle.book_append.specs.Appends.{appending, growChain, appendPage, appendAt, appends}
 use Rattle.book_history.specs.Agrees.{scanOf, PageReads, LastReads, NextReads, ChainReads, firstPageOff, SlabIn, PageIn, BlockReads}
 use Rattle.book_history.specs.Agrees.{contentsOf, AgreesSpace, Agrees}
 use Rattle.book_history.proofs.LawsFrame.{block-ends}

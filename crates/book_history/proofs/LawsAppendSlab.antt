@@ -42,22 +42,14 @@ use Rattle.book_keys.specs.Keys.{blockAt}
 use Rattle.book_blocks.specs.Blocks.{lastPageOf, slabWith}
 use Rattle.book_blocks.proofs.LawsReadsSlab.{slab-with-long, slab-more}
 use Rattle.book.specs.Book.{Book, Outcome, filled, seen}
-use Rattle.book.specs.Appends.{movesInto, moves, appendSlab, appendAt, appends}
+use Rattle.book_append.specs.Appends.{movesInto, moves, appendSlab, appendAt, appends}
 use Rattle.book_history.specs.Agrees.{scanOf, SlabReads, PageReads, LastReads, SlabIn, BlockReads, contentsOf, AgreesSpace}
 use Rattle.book_history.specs.Agrees.{AgreesInside}
 use Rattle.book_history.specs.Agrees.{Agrees}
 use Rattle.book_history.proofs.LawsFrame.{block-ends}
 use Rattle.book_history.proofs.LawsStep.{Alike, refused-alike, alike-both, placedContents}
 use Rattle.book_history.proofs.LawsTake.{inHandOf, taken-then, take-agrees}
-use Rattle.book_history.proofs.LawsContent.{
-  blocksOf,
-  none-listed,
-  one-listed,
-  slab-agrees,
-  last-written,
-  appendLeaves,
-  plainAppending,
-}
+use Rattle.book_history.proofs.LawsContent.{blocksOf, none-listed, one-listed, slab-agrees, last-written, appendLeaves, plainAppending}
 use Rattle.book_history.proofs.LawsContent.{append-begins, append-ends}
 use Rattle.book_history.proofs.LawsHand.{agrees-written, withHand, Filled, filled-whole, fill-long, fill-agrees, payload-long}
 use Rattle.book_history.proofs.LawsHand.{filled-slab}

@@ -2,13 +2,14 @@
 use mathlib.Core.List.{List, [], _∷_}
 use mathlib.Core.Path.{_≡_, refl, sym, ap, ap₂}
 use Rattle.error.specs.Refusal.{Answer, accepted, answered}
-use Rattle.book_rules.specs.Calls.{Call, Told, bookAfter, answerOf, afterCalls, answersTo}
+use Rattle.book_statements.specs.Calls.{Call, afterCalls, answersTo}
+use Rattle.book_rules.specs.Outcomes.{Told, bookAfter, answerOf}
 use Rattle.plain_book.specs.Book.{Book as PlainBook, Outcome as PlainOutcome, does as plainDoes, after as plainAfter}
 use Rattle.plain_book.specs.Book.{answers as plainAnswers}
 use Rattle.plain_book.specs.Good.{GoodPlain}
 use Rattle.plain_book.proofs.LawsGood.{call-good}
 use Rattle.book.specs.Book.{Book, Outcome}
-use Rattle.book.specs.Calls.{does, after, answers}
+use Rattle.book_history.specs.Calls.{does, after, answers}
 use Rattle.book_history.specs.Agrees.{Agrees}
 use Rattle.book_history.proofs.LawsStep.{Alike, told-alike, refused-alike}
 

@@ -20,7 +20,8 @@ use Rattle.scripthash_stream.proofs.LawsStream.{last-below, rising-below}
 use Rattle.scripthash_cutting.specs.Cutting.{lastPageRoom}
 use Rattle.scripthash_free.specs.FreeList.{Block, isBlock}
 use Rattle.scripthash_free.proofs.LawsBlock.{block-stands}
-use Rattle.book_rules.specs.Calls.{read, appended}
+use Rattle.book_statements.specs.Calls.{read}
+use Rattle.book_rules.specs.Outcomes.{appended}
 use Rattle.book_limits.specs.Limits.{outOfShape}
 use Rattle.plain_book.specs.Space.{Space as PlainSpace}
 use Rattle.plain_book.specs.Key.{Kept, written, Page, Place, empty, inline, slab, pages, lastPage, noPage, totalOf, headOf, pagesOf, countedAfter, keyIn}
@@ -42,9 +43,9 @@ use Rattle.book_blocks.specs.Blocks.{lastPageOf, totalWith}
 use Rattle.book_blocks.proofs.LawsTotals.{total-unknown, total-known}
 use Rattle.book_blocks.proofs.LawsReadsPage.{last-page-reads}
 use Rattle.book.specs.Book.{Book, wordOf, seen}
-use Rattle.book.specs.Appends.{appending, appendAt, appends}
-use Rattle.book.specs.Reads.{reads}
-use Rattle.book.specs.Calls.{does}
+use Rattle.book_append.specs.Appends.{appending, appendAt, appends}
+use Rattle.book_read.specs.Reads.{reads}
+use Rattle.book_history.specs.Calls.{does}
 use Rattle.book_history.specs.Agrees.{scanOf, SlabIn, PageIn, SlabReads, PageReads, LastReads, ChainReads, firstPageOff, AgreesSpace}
 use Rattle.book_history.specs.Agrees.{AgreesInside, Agrees}
 use Rattle.book_history.proofs.LawsWords.{stored-told}

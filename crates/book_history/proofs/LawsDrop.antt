@@ -14,7 +14,7 @@ use Rattle.error.proofs.LawsAnswer.{then-yes}
 use Rattle.scripthash_layout.specs.Sizes.{pageClass}
 use Rattle.scripthash_free.specs.FreeList.{Block, pushAll}
 use Rattle.scripthash_free.proofs.LawsBlock.{block-stands}
-use Rattle.book_rules.specs.Calls.{drop}
+use Rattle.book_statements.specs.Calls.{drop}
 use Rattle.plain_book.specs.Space.{Space as PlainSpace, freed}
 use Rattle.plain_book.specs.Key.{Page, Place, empty, inline, slab, pages, headOf, freedPages, freedPlace}
 use Rattle.plain_book.specs.Book.{Book as PlainBook, drops as plainDrops, does as plainDoes}
@@ -24,8 +24,8 @@ use Rattle.plain_book.proofs.LawsOwners.{none-some, kindOf, depthOf, atKey, key
 use Rattle.book_space.specs.Space.{Space, release}
 use Rattle.book_keys.specs.Keys.{pageBlocks}
 use Rattle.book.specs.Book.{Book}
-use Rattle.book.specs.Reads.{drops}
-use Rattle.book.specs.Calls.{does}
+use Rattle.book_drop.specs.Drops.{drops}
+use Rattle.book_history.specs.Calls.{does}
 use Rattle.book_history.specs.Agrees.{Contents, BlockReads, AgreesSpace, Agrees, contentsOf}
 use Rattle.book_history.proofs.LawsFrame.{block-ends}
 use Rattle.book_history.proofs.LawsStep.{Alike, told-alike, alike-on-key, placedContents, agrees-placed}

@@ -1,7 +1,7 @@
 -- Each call is answered alike by any pair of books that agree. Assumes nothing.
-use Rattle.book_rules.specs.Calls.{Call, load, append, read, drop}
+use Rattle.book_statements.specs.Calls.{Call, load, append, read, drop}
 use Rattle.plain_book.specs.Book.{does as plainDoes}
-use Rattle.book.specs.Calls.{does}
+use Rattle.book_history.specs.Calls.{does}
 use Rattle.book_history.proofs.LawsCalls.{EachAlike}
 use Rattle.book_history.proofs.LawsContent.{read-step}
 use Rattle.book_history.proofs.LawsLoad.{load-step}

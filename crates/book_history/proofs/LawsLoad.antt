@@ -30,7 +30,8 @@ use Rattle.scripthash_cutting.specs.Cutting.{pageRoom, lastPageRoom, cutting, j
 use Rattle.scripthash_cutting.proofs.LawsPages.{pages-allowed}
 use Rattle.scripthash_cutting.proofs.LawsRising.{rising-words, rising-left, rising-right}
 use Rattle.scripthash_free.specs.FreeList.{Block}
-use Rattle.book_rules.specs.Calls.{load, loaded}
+use Rattle.book_statements.specs.Calls.{load}
+use Rattle.book_rules.specs.Outcomes.{loaded}
 use Rattle.book_rules.specs.Offered.{offeredNumber, offeredList}
 use Rattle.book_limits.specs.Limits.{outOfShape}
 use Rattle.book_rules.specs.Places.{loadsTo}
@@ -55,8 +56,8 @@ use Rattle.book_blocks.specs.Blocks.{lastPageOf, pageTo, writeRun}
 use Rattle.book_blocks.proofs.LawsReadsSlab.{slab-written}
 use Rattle.book_blocks.proofs.LawsReadsPage.{last-page-reads, page-to-reads}
 use Rattle.book.specs.Book.{Book, Outcome, wordOf, filled}
-use Rattle.book.specs.Loads.{loading, lastOfRun, loadInto, loadAt, loads}
-use Rattle.book.specs.Calls.{does}
+use Rattle.book_load.specs.Loads.{loading, lastOfRun, loadInto, loadAt, loads}
+use Rattle.book_history.specs.Calls.{does}
 use Rattle.book_history.specs.Agrees.{SlabReads, PageReads, LastReads, NextReads, ChainReads, firstPageOff, SlabIn, PageIn, Contents}
 use Rattle.book_history.specs.Agrees.{BlockReads, contentsOf, AgreesSpace, AgreesInside, Agrees}
 use Rattle.book_history.proofs.LawsFrame.{blockOf, block-ends, block-written}

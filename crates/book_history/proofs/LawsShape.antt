@@ -8,7 +8,8 @@ use Rattle.error.specs.Refusal.{Answer, accepted, refused, shapeBad}
 use Rattle.error.proofs.LawsAnswer.{refuse-yes}
 use Rattle.scripthash_layout.specs.Head.{unpackHead}
 use Rattle.scripthash_free.specs.FreeList.{IsFreeList}
-use Rattle.book_rules.specs.Calls.{Call, load, append, read, drop, bookAfter, afterCalls}
+use Rattle.book_statements.specs.Calls.{Call, load, append, read, drop, afterCalls}
+use Rattle.book_rules.specs.Outcomes.{bookAfter}
 use Rattle.book_limits.specs.Limits.{outOfShape}
 use Rattle.plain_book.specs.Space.{stackOf}
 use Rattle.plain_book.specs.Key.{Key, emptyKey, empty, headOf}
@@ -17,10 +18,11 @@ use Rattle.plain_book.proofs.LawsGood.{unshaped}
 use Rattle.plain_book.proofs.LawsHistory.{all-same, fresh-key}
 use Rattle.book_space.specs.Space.{markBad, shapeBroken}
 use Rattle.book.specs.Book.{Book, fresh, wordOf, onKey}
-use Rattle.book.specs.Appends.{appends}
-use Rattle.book.specs.Loads.{loads}
-use Rattle.book.specs.Reads.{reads, drops}
-use Rattle.book.specs.Calls.{does, after}
+use Rattle.book_append.specs.Appends.{appends}
+use Rattle.book_load.specs.Loads.{loads}
+use Rattle.book_read.specs.Reads.{reads}
+use Rattle.book_drop.specs.Drops.{drops}
+use Rattle.book_history.specs.Calls.{does, after}
 use Rattle.book_history.specs.Standing.{Standing}
 
 -- A book over bytes whose lengths break the limits.

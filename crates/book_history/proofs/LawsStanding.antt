@@ -21,14 +21,14 @@ use Rattle.plain_book.proofs.LawsOwners.{none-some, deep-none, top-is, under-to
 use Rattle.book_space.specs.Space.{Space}
 use Rattle.error.specs.Refusal.{accepted}
 use Rattle.error.proofs.LawsAnswer.{refuse-no, then-yes}
-use Rattle.book_rules.specs.Calls.{listed}
+use Rattle.book_rules.specs.Outcomes.{listed}
 use Rattle.book_limits.specs.Limits.{outOfShape}
 use Rattle.plain_book.specs.Key.{pagesOf}
 use Rattle.plain_book.specs.Book.{Book as PlainBook, keyOf}
 use Rattle.plain_book.specs.Good.{GoodPlain}
 use Rattle.plain_book.specs.Owners.{places}
 use Rattle.book.specs.Book.{Book}
-use Rattle.book.specs.Reads.{reads}
+use Rattle.book_read.specs.Reads.{reads}
 use Rattle.book_history.specs.Agrees.{top, under, Contents, BlockReads, contentsOf, AgreesSpace, Agrees}
 use Rattle.book_history.specs.Standing.{Standing}
 use Rattle.book_history.proofs.LawsStep.{on-key-passes}

@@ -13,7 +13,7 @@ use lib.ListN.{length, getD}
 use borrow.Author.Tests.{eqb-true, eqb-false}
 use Rattle.scripthash_free.specs.FreeList.{Disjoint, Block, Each, nextOf, IsFreeList}
 use Rattle.scripthash_free.proofs.LawsBlock.{bytes-from-16, block-stands}
-use Rattle.book_rules.specs.Calls.{Call}
+use Rattle.book_statements.specs.Calls.{Call}
 use Rattle.book_limits.specs.Limits.{outOfShape}
 use Rattle.plain_book.specs.Space.{stackOf}
 use Rattle.plain_book.specs.Key.{Page, Place, empty, inline, slab, pages}
@@ -26,7 +26,7 @@ use Rattle.plain_book.proofs.LawsGood.{calls-good, shapes-kept}
 use Rattle.book_space.specs.Space.{shapeBroken}
 use Rattle.book_keys.specs.Keys.{pageBlocks}
 use Rattle.book.specs.Book.{Book}
-use Rattle.book.specs.Calls.{after}
+use Rattle.book_history.specs.Calls.{after}
 use Rattle.book_start.specs.Start.{AllApart, Stands, blocksAt, blocksIn, followed, followedFrom, freedOf, freedBy, GoodStart, heldOf, listOf}
 use Rattle.book_start.proofs.LawsClaims.{Cross}
 use Rattle.book_start.proofs.LawsFreed.{followed-end, followed-more}

@@ -18,15 +18,18 @@ use Rattle.scripthash_layout.specs.declared.head.ShHeadValue.the-variants.{Empt
 use Rattle.scripthash_free.specs.FreeList.{isBlock, Each, Within}
 use Rattle.scripthash_free.proofs.LawsBlock.{block-stands}
 use Rattle.scripthash_free.proofs.LawsGap.{each-map}
-use Rattle.book_rules.specs.Calls.{Call, load, append, read, drop, keyOfCall, Listed, listed, bookAfter}
+use Rattle.book_statements.specs.Calls.{Call, load, append, read, drop, keyOfCall}
+use Rattle.book_rules.specs.Outcomes.{Listed, listed, bookAfter}
 use Rattle.book_space.specs.Space.{Space}
 use Rattle.book_keys.specs.Keys.{Content, content, contentAt, pageBlocks}
 use Rattle.book_keys.proofs.LawsSlab.{slab-sound}
 use Rattle.book_keys.proofs.LawsContent.{was-content, was-slab, was-pages}
 use Rattle.book_keys.proofs.LawsKeys.{Every, chain-known}
-use Rattle.book.specs.Book.{Book, Outcome, wordOf, makesFresh, madeAfter, seen}
-use Rattle.book.specs.Reads.{reads, drops, listAfter}
-use Rattle.book.specs.Calls.{does}
+use Rattle.book.specs.Book.{Book, Outcome, wordOf, seen}
+use Rattle.book_start.specs.Making.{makesFresh, madeAfter}
+use Rattle.book_read.specs.Reads.{reads, listAfter}
+use Rattle.book_drop.specs.Drops.{drops}
+use Rattle.book_history.specs.Calls.{does}
 use Rattle.book_history.specs.Writes.{region, Outside, Only, nothing, wordAnd, freeingAll, writes, Differs, Changes}
 use Rattle.book_history.proofs.LawsOnly.{only-bytes}
 use Rattle.book_history.proofs.LawsWritesSpace.{wrote-released}

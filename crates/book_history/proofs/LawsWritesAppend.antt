@@ -25,7 +25,7 @@ use Rattle.scripthash_pages.specs.Entries.{lastOf, Spot, spotBehind}
 use Rattle.scripthash_cutting.specs.Cutting.{lastPageRoom}
 use Rattle.scripthash_free.specs.FreeList.{Block, Each, Within}
 use Rattle.scripthash_free.proofs.LawsBlock.{block-stands}
-use Rattle.book_rules.specs.Calls.{append}
+use Rattle.book_statements.specs.Calls.{append}
 use Rattle.book_rules.specs.Places.{payloadLen, stays, movesTo}
 use Rattle.book_rules.proofs.LawsOffered.{offered-on}
 use Rattle.book_rules.proofs.LawsRules.{stays-holds, moves-to, bytes-mono}
@@ -39,7 +39,7 @@ use Rattle.book_keys.proofs.LawsPages.{SoundTail, tail-sound}
 use Rattle.book_blocks.specs.Blocks.{slabWith, lastPageOf, totalWith, pageWith, pageBefore}
 use Rattle.book_blocks.proofs.LawsWrites.{length-payload, length-lastPage}
 use Rattle.book.specs.Book.{Book, Outcome, filled, seen}
-use Rattle.book.specs.Appends.{movesInto, moves, appendSlab, growChain, appendPage, appendAt, appends}
+use Rattle.book_append.specs.Appends.{movesInto, moves, appendSlab, growChain, appendPage, appendAt, appends}
 use Rattle.book_history.specs.Writes.{region, nothing, bytesAt, wordAnd, both, freeingAll, filling, writing, moving, growingSlab}
 use Rattle.book_history.specs.Writes.{growingPage, appendWrites, writes, Wrote, Differs, Changes}
 use Rattle.book_history.proofs.LawsOnly.{shifted}

@@ -17,7 +17,7 @@ use Rattle.scripthash_slabs.specs.Slab.{slabPayload}
 use Rattle.scripthash_cutting.specs.Cutting.{cutting}
 use Rattle.scripthash_cutting.proofs.LawsPages.{pages-allowed}
 use Rattle.scripthash_cutting.proofs.LawsRising.{rising-words}
-use Rattle.book_rules.specs.Calls.{load}
+use Rattle.book_statements.specs.Calls.{load}
 use Rattle.book_rules.specs.Places.{payloadLen, loadsTo}
 use Rattle.book_limits.specs.Limits.{pageAfter}
 use Rattle.book_rules.proofs.LawsOffered.{offered-all}
@@ -28,7 +28,7 @@ use Rattle.book_space.proofs.LawsTake.{run-ran}
 use Rattle.book_blocks.specs.Blocks.{writeRun}
 use Rattle.book_blocks.proofs.LawsWrites.{length-payload}
 use Rattle.book.specs.Book.{Book, Outcome, headWord, onKey, filled}
-use Rattle.book.specs.Loads.{loadInto, loadAt, loads}
+use Rattle.book_load.specs.Loads.{loadInto, loadAt, loads}
 use Rattle.book_history.specs.Writes.{SpaceWrites, CallWrites, nothing, bytesAt, wordAnd, both, takingPages, filling, loadWrites, writes}
 use Rattle.book_history.specs.Writes.{Wrote, Differs, Changes}
 use Rattle.book_history.proofs.LawsOnly.{only-same, only-set}

@@ -17,7 +17,7 @@ use Rattle.scripthash_layout.proofs.LawsWords.{pack-slab}
 use Rattle.scripthash_stream.specs.Stream.{Scan}
 use Rattle.scripthash_pages.specs.Entries.{lastOf, Spot, spotBehind}
 use Rattle.scripthash_free.proofs.LawsBlock.{block-stands}
-use Rattle.book_rules.specs.Calls.{append}
+use Rattle.book_statements.specs.Calls.{append}
 use Rattle.book_rules.specs.Places.{stays}
 use Rattle.book_rules.proofs.LawsOffered.{offered-on}
 use Rattle.book_space.specs.Space.{InShape}
@@ -25,8 +25,8 @@ use Rattle.book_keys.specs.Keys.{pageAt, slabScan, Tail, tailAt}
 use Rattle.book_keys.proofs.LawsSound.{was-sound}
 use Rattle.book_keys.proofs.LawsSlab.{slab-sound}
 use Rattle.book.specs.Book.{Book, Outcome, wordOf, headWord, seen}
-use Rattle.book.specs.Appends.{appendSlab, appendPage, appendAt, appends}
-use Rattle.book.specs.Calls.{does}
+use Rattle.book_append.specs.Appends.{appendSlab, appendPage, appendAt, appends}
+use Rattle.book_history.specs.Calls.{does}
 use Rattle.book_history.proofs.LawsWritesLoad.{on-key}
 
 -- A place that packs has its word.

@@ -9,7 +9,7 @@ use native.Mathlib.Omega.{arith}
 use lib.ListN.{length, getD, set, length-replicate}
 use Rattle.scripthash_layout.specs.Sizes.{pageSize}
 use Rattle.scripthash_free.specs.FreeList.{Block}
-use Rattle.book_rules.specs.Calls.{Call}
+use Rattle.book_statements.specs.Calls.{Call}
 use Rattle.book_limits.specs.Limits.{outOfShape}
 use Rattle.plain_book.specs.Space.{stackOf}
 use Rattle.plain_book.specs.Key.{Key, emptyKey, Page, Place, empty, inline, slab, pages}
@@ -21,7 +21,7 @@ use Rattle.plain_book.proofs.LawsGood.{calls-good, shapes-kept}
 use Rattle.book_space.specs.Space.{Space}
 use Rattle.book_keys.specs.Keys.{pageBlocks, content}
 use Rattle.book.specs.Book.{Book, fresh, seen}
-use Rattle.book.specs.Calls.{after}
+use Rattle.book_history.specs.Calls.{after}
 use Rattle.book_start.specs.Start.{blocksAt, bytesOf, blocksIn, heldBy, freedBy, blocksOf as allBlocks, GoodStart, heldOf, listOf}
 use Rattle.book_start.specs.Covered.{lostIn, Covered, forgot}
 use Rattle.book_start.proofs.LawsPairs.{gather, gather-same, held-gathered}

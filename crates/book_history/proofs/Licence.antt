@@ -5,8 +5,8 @@ use Prim.Native.Nat.{ℕ}
 use mathlib.Core.List.{List, []}
 use mathlib.Core.Path.{refl, subst, subst₂, fun-ext}
 use lib.ListN.{length, length-replicate}
-use Rattle.book_rules.specs.Calls.{Call}
-use Rattle.book_rules.specs.Licence.{Licensed}
+use Rattle.book_statements.specs.Calls.{Call}
+use Rattle.book_statements.specs.Licence.{Licensed}
 use Rattle.plain_book.specs.Key.{emptyKey}
 use Rattle.plain_book.specs.Book.{Book as PlainBook, fresh as plainFresh, keyOf}
 use Rattle.plain_book.specs.Good.{GoodPlain}
@@ -14,7 +14,7 @@ use Rattle.plain_book.proofs.LawsHistory.{fresh-key}
 use Rattle.plain_book.proofs.LawsGood.{fresh-good}
 use Rattle.plain_book.proofs.LawsRecorded.{licensed-from}
 use Rattle.book.specs.Book.{Book, fresh}
-use Rattle.book.specs.Calls.{answers}
+use Rattle.book_history.specs.Calls.{answers}
 use Rattle.book_start.specs.Start.{GoodStart}
 use Rattle.book_history.specs.Agrees.{Agrees}
 use Rattle.book_history.specs.PlainOf.{plainOf, startList}

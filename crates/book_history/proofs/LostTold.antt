@@ -17,14 +17,14 @@ use Rattle.scripthash_layout.specs.Head.{unpackHead}
 use Rattle.scripthash_layout.specs.declared.head.ShHeadValue.the-variants.{Inline}
 use Rattle.scripthash_free.specs.FreeList.{Block, Disjoint, Each, IsFreeList}
 use Rattle.scripthash_free.proofs.LawsGap.{each-map}
-use Rattle.book_rules.specs.Calls.{Call}
+use Rattle.book_statements.specs.Calls.{Call}
 use Rattle.book_limits.specs.Limits.{outOfShape}
 use Rattle.plain_book.proofs.LawsGood.{shapes-kept}
 use Rattle.book_space.specs.Space.{space, shapeBroken}
 use Rattle.book_keys.specs.Keys.{soundly, Content, content}
 use Rattle.book_keys.proofs.LawsContent.{content-at, content-inline}
 use Rattle.book.specs.Book.{Book, fresh, wordOf, seen}
-use Rattle.book.specs.Calls.{after}
+use Rattle.book_history.specs.Calls.{after}
 use Rattle.book_start.specs.Start.{AllApart, Stands, blocksAt, bytesOf, blocksIn, heldBy, followed, followedFrom, freedOf, freedBy, GoodStart, heldOf, listOf}
 use Rattle.book_start.specs.Start.{good, judges}
 use Rattle.book_start.specs.Covered.{lostIn, forgot, forgotList}

@@ -2,12 +2,12 @@
 -- start, leads to 31 or 35. Assumes nothing.
 use Prim.Native.Nat.{ℕ}
 use mathlib.Core.List.{List}
-use Rattle.book_rules.specs.Calls.{Call}
+use Rattle.book_statements.specs.Calls.{Call}
 use Rattle.plain_book.specs.Book.{fresh as plainFresh}
 use Rattle.plain_book.specs.Refusals.{plainRefusals, EachRefusedBy}
 use Rattle.plain_book.proofs.LawsRefusals.{answers-refused}
 use Rattle.book.specs.Book.{Book, fresh}
-use Rattle.book.specs.Calls.{answers}
+use Rattle.book_history.specs.Calls.{answers}
 use Rattle.book_start.specs.Start.{GoodStart}
 use Rattle.book_history.specs.PlainOf.{plainOf}
 use Rattle.book_history.proofs.Demand3.{demand-3, demand-3-from}

@@ -7,9 +7,10 @@ use mathlib.Core.Path.{_≡_, refl, sym, ap, ap₂, subst, _∙_}
 use lib.ListN.{length}
 use Rattle.error.specs.Refusal.{Answer}
 use Rattle.error.proofs.LawsAnswer.{accepted-inj}
-use Rattle.book_rules.specs.Calls.{Call, Told}
+use Rattle.book_statements.specs.Calls.{Call}
+use Rattle.book_rules.specs.Outcomes.{Told}
 use Rattle.book_limits.specs.Limits.{outOfShape}
-use Rattle.book_rules.specs.Recorded.{recorded}
+use Rattle.book_statements.specs.Recorded.{recorded}
 use Rattle.plain_book.specs.Key.{Key}
 use Rattle.plain_book.specs.Book.{Book as PlainBook, fresh as plainFresh, after as plainAfter, keyOf}
 use Rattle.plain_book.specs.Good.{GoodPlain}
@@ -18,7 +19,7 @@ use Rattle.plain_book.proofs.LawsHistory.{fresh-key}
 use Rattle.plain_book.proofs.LawsRecorded.{recorded-from}
 use Rattle.book_keys.specs.Keys.{Content}
 use Rattle.book.specs.Book.{Book, fresh}
-use Rattle.book.specs.Calls.{after, answers}
+use Rattle.book_history.specs.Calls.{after, answers}
 use Rattle.book_start.specs.Start.{GoodStart}
 use Rattle.book_history.specs.Agrees.{Agrees}
 use Rattle.book_history.specs.PlainOf.{plainOf, startList}

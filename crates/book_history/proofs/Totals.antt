@@ -11,7 +11,7 @@ use Rattle.error.proofs.LawsAnswer.{accepted-inj}
 use Rattle.scripthash_layout.specs.Head.{unpackHead}
 use Rattle.scripthash_layout.specs.declared.head.ShHeadValue.the-variants.{Extent}
 use Rattle.scripthash_fields.specs.Page.{createsFieldOf}
-use Rattle.book_rules.specs.Calls.{Call}
+use Rattle.book_statements.specs.Calls.{Call}
 use Rattle.book_limits.specs.Limits.{outOfShape}
 use Rattle.plain_book.specs.Key.{Key, Place, empty, inline, slab, pages, lastPage, noPage, totalOf, headOf}
 use Rattle.plain_book.specs.Book.{Book as PlainBook, fresh as plainFresh, after as plainAfter, keyOf, NeverDropped}
@@ -22,7 +22,7 @@ use Rattle.plain_book.proofs.LawsChain.{chain}
 use Rattle.plain_book.proofs.LawsTotals.{counted-from, total-exact, uncounted-from}
 use Rattle.book_keys.specs.Keys.{pageAt}
 use Rattle.book.specs.Book.{Book, fresh, wordOf, seen}
-use Rattle.book.specs.Calls.{after}
+use Rattle.book_history.specs.Calls.{after}
 use Rattle.book_start.specs.Start.{GoodStart}
 use Rattle.book_history.specs.Agrees.{firstPageOff, AgreesInside, Agrees}
 use Rattle.book_history.specs.PlainOf.{plainOf}

@@ -7,10 +7,11 @@ use mathlib.Core.Logic.{_≢_}
 use lib.Dec.{eqb}
 use lib.ListN.{length}
 use Rattle.error.specs.Refusal.{Answer, accepted, refused, answered}
-use Rattle.book_rules.specs.Calls.{Call, load, append, read, drop, Told, loaded, appended, listed, dropped, answersTo}
+use Rattle.book_statements.specs.Calls.{Call, load, append, read, drop, answersTo}
+use Rattle.book_rules.specs.Outcomes.{Told, loaded, appended, listed, dropped}
 use Rattle.plain_book.specs.Book.{fresh as plainFresh, answers as plainAnswers}
 use Rattle.book.specs.Book.{Book, Outcome, fresh, wordOf}
-use Rattle.book.specs.Calls.{does}
+use Rattle.book_history.specs.Calls.{does}
 
 -- A book that breaks demand 3: on some fresh book and list of calls its answers aren't the plain book's.
 unfoldable pub Hollow : (Book → Call → Answer Outcome) → Type 0

@@ -1,3 +1,4 @@
+pub mod Calls
 pub mod Agrees
 pub mod Standing
 pub mod Writes

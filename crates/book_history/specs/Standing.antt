@@ -8,13 +8,13 @@ use Rattle.error.specs.Refusal.{accepted}
 use Rattle.scripthash_layout.specs.Sizes.{pageClass}
 use Rattle.scripthash_layout.specs.Head.{unpackHead}
 use Rattle.scripthash_free.specs.FreeList.{IsFreeList}
-use Rattle.book_rules.specs.Calls.{listed}
+use Rattle.book_rules.specs.Outcomes.{listed}
 use Rattle.book_limits.specs.Limits.{outOfShape}
 use Rattle.plain_book.specs.Space.{stackOf}
 use Rattle.plain_book.specs.Key.{headOf, pagesOf}
 use Rattle.plain_book.specs.Book.{Book as PlainBook, keyOf}
 use Rattle.book.specs.Book.{Book, wordOf}
-use Rattle.book.specs.Reads.{reads}
+use Rattle.book_read.specs.Reads.{reads}
 
 -- A book over bytes stands as a plain book does.
 pub record Standing (plain : PlainBook) (b : Book) : Type 0 where

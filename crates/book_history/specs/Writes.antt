@@ -18,7 +18,7 @@ use Rattle.scripthash_stream.specs.Stream.{Scan, streamLen}
 use Rattle.scripthash_cutting.specs.Cutting.{cutting}
 use Rattle.scripthash_pages.specs.Entries.{lastOf, Spot, spotBehind}
 use Rattle.scripthash_free.specs.FreeList.{Block, gapBlocks}
-use Rattle.book_rules.specs.Calls.{Call, load, append, read, drop}
+use Rattle.book_statements.specs.Calls.{Call, load, append, read, drop}
 use Rattle.book_rules.specs.Places.{payloadLen, stays, movesTo, loadsTo}
 use Rattle.book_limits.specs.Limits.{pageAfter}
 use Rattle.book_space.specs.Space.{Space, takeBlock}

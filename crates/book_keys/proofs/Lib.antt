@@ -9,3 +9,4 @@ pub mod LawsContent
 pub mod LawsKeys
 pub mod LawsDistinct
 pub mod LawsListed
+pub mod LawsNext

@@ -16,6 +16,13 @@ use Rattle.scripthash_pages.specs.EntryAnswers.{PageRead}
 use Rattle.scripthash_pages.specs.Entries.{pageScan, pageEntries, pageReadOf}
 use Rattle.scripthash_free.specs.FreeList.{isBlock}
 use Rattle.book_keys.specs.Keys.{sure, goOn, goodExtent, pageAt, createsGood, Last, Chain, Content, Tail, Ground}
+use Prim.Native.Nat.{ℕ, _+_, _^_, _≤_, _<_}
+use mathlib.Core.Bool.{false}
+use lib.ListN.{length}
+use Rattle.error.specs.Refusal.{Answer, accepted, refused, andThen}
+use Rattle.scripthash_layout.specs.Sizes.{pageClass}
+use Rattle.scripthash_stream.specs.Stream.{Scan}
+use Rattle.book_keys.specs.Keys.{Ground, pageAt, Chain, walk, Content, Tail}
 
 -- A last number that a sound block may have: it isn't 0, which would say that there is none, and it is below 2^62.
 unfoldable pub soundLast : ℕ → Bool
@@ -135,3 +142,18 @@ afterRead out (refused number) = out
 abbrev pub KeyRead : Answer Counts → List ℕ → List ℕ → Answer Content → Type 0
 KeyRead told before after a = (told ≡ answered countsOf (inRoom (length before) a))
     × (after ≡ afterRead before (inRoom (length before) a))
+
+-- A sound chain is walked from an offset on, over pages at these offsets.
+pub record Walks (s : Ground) (off : ℕ) (offs : List ℕ) : Type 0 where
+  pub most : ℕ
+  pub last : ℕ
+  pub prev : ℕ
+  pub chain : Chain
+  pub walks : walk most s last prev off ≡ accepted chain
+  pub met : chain .offs ≡ offs
+
+-- So many pages of a sound chain are left, from an offset on, and these are their offsets.
+pub record PagesLeft (s : Ground) (off left : ℕ) (offs : List ℕ) : Type 0 where
+  pub within : s .mark ≤ length (s .body)
+  pub count : length offs ≡ left
+  pub rest : 0 < left → Walks s off offs

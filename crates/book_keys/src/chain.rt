@@ -1,10 +1,12 @@
 // A key's pages: whether the last one, or the whole chain, is sound, and the chain's numbers.
 ghost use mathlib.Core.Path.{_≡_};
-ghost use Prim.Native.Nat.{_/_, _≤_};
+ghost use Prim.Native.Nat.{_+_, _/_, _≤_};
 ghost use lib.ListN.{length, getD};
 ghost use Rattle.error.specs.Refusal.{accepted, answered, refusalOf};
+ghost use Rattle.buffer.specs.Bytes.{part};
 ghost use Rattle.scripthash_layout.specs.Sizes.{pageSize};
 ghost use Rattle.scripthash_layout.specs.declared.head.ShHeadValue.the-variants.{Extent};
+ghost use Rattle.scripthash_fields.specs.Page.{linkOf, linkOffset};
 ghost use Rattle.scripthash_pages.specs.EntryAnswers.{sliceAnswer};
 ghost use Rattle.scripthash_pages.specs.Entries.{pageEntries};
 ghost use Rattle.book_keys.specs.Keys.{soundly, pageAt, linkScan, lastAt, walk, Chain as ChainIs, totalGood, chainAt};
@@ -24,6 +26,7 @@ use scripthash_fields::SH_PAGE_OFF_EXTENT_BASE;
 use scripthash_fields::SH_PAGE_OFF_EXTENT_CREATES;
 use scripthash_fields::SH_PAGE_OFF_EXTENT_N;
 use scripthash_fields::SH_PAGE_OFF_N_FKS;
+use scripthash_fields::SH_PAGE_OFF_PACKED;
 use scripthash_fields::SH_PAGE_OFF_VER;
 use scripthash_free::is_page;
 use scripthash_layout::SH_PAGE_BYTES;
@@ -369,4 +372,13 @@ pub fn read_chain(body: &[u8], mark: u64, last: u64, out: &mut [u64]) -> KeyCoun
     }
     chain_into(body, mark, first, last, out);
     KeyCounts::Counts { length, pages }
+}
+
+// The offset of the page that a page's link names.
+pub fn next_page(body: &[u8], off: u64) -> u64
+    requires { ⌜ off + pageSize ≤ length (now body) ⌝ }
+    ensures { λ r. ⌜ r ≡ linkOffset (linkOf (part (now (body .entry)) off pageSize)) ⌝ }
+{
+    let link = buffer::get_u40(body, off as usize + SH_PAGE_OFF_PACKED);
+    link / 2 * SH_PAGE_BYTES
 }

@@ -6,6 +6,7 @@ mod slab;
 pub use chain::ChainEnd;
 pub use chain::TailEnd;
 pub use chain::chain_end;
+pub use chain::next_page;
 pub use chain::tail_end;
 pub use key::KeyCounts;
 pub use key::read_key;

@@ -1,1 +1,2 @@
 pub mod LawsLimits
+pub mod Examples

@@ -4,15 +4,10 @@ use mathlib.Core.Bool.{true, false}
 use mathlib.Core.List.{List, [], _∷_}
 use mathlib.Core.Option.{none, some}
 use mathlib.Core.Path.{_≡_, refl}
-use Rattle.error.specs.Refusal.{accepted, refused, refuseIf, refusalOf}
-use Rattle.scripthash_layout.specs.declared.head.ShHeadValue.the-variants.{Inline, Slab}
+use Rattle.error.specs.Refusal.{accepted, refuseIf, refusalOf}
 use Rattle.scripthash_slabs.specs.Class.{firstClass, classFor, classWithSlack}
-use Rattle.book_rules.specs.Calls.{load, append, read, drop, loaded, appended, listed, dropped}
-use Rattle.book_rules.specs.Recorded.{recordedBy, recordedAfter, recorded}
 use Rattle.book_rules.specs.Offered.{offeredNumber, offeredList}
-use Rattle.book_limits.specs.Limits.{outOfShape}
 use Rattle.book_rules.specs.Places.{stays, larger, movesTo, loadsTo}
-use Rattle.book_limits.specs.Limits.{pageAfter}
 
 -- A list moves to the larger of its slack class and its class by bytes: five numbers of a byte, four of 9 bytes, 256 and 257 numbers, 2,046
 -- and 2,047 bytes.
@@ -32,12 +27,6 @@ pub stays-at : (stays 0 4 14 ≡ true) × (stays 0 5 5 ≡ false) × (stays 0 4 
 unfolding stays
 stays-at = (refl, refl, refl, refl, refl)
 
--- Bodies and heads at their limits.
-pub shapes-at : (outOfShape 8192 1 ≡ false) × (outOfShape 4096 1 ≡ true) × (outOfShape 8200 1 ≡ true) × (outOfShape (2 ^ 30) 65536 ≡ false)
-    × (outOfShape (2 ^ 30) 65537 ≡ true) × (outOfShape 8192 0 ≡ true)
-unfolding outOfShape
-shapes-at = (refl, refl, refl, refl, refl, refl)
-
 -- The refusal of a list that is offered, 0 where it isn't refused.
 abbrev pub offering : List ℕ → ℕ
 offering ns = refusalOf (offeredList {A = Unit {0}} true 0 ns (accepted tt))
@@ -48,18 +37,3 @@ pub offered-at : (offering (0 ∷ []) ≡ 12) × (offering (2 ^ 63 ∷ []) ≡ 1
     × (offering (5 ∷ 0 ∷ []) ≡ 32) × (offering (5 ∷ (2 ^ 62 - 1) ∷ []) ≡ 0)
 unfolding offeredList offeredNumber refuseIf
 offered-at = (refl, refl, refl, refl, refl, refl)
-
--- A mark is rounded up to a page, or stays.
-pub rounded-at : (pageAfter 4096 ≡ 4096) × (pageAfter 4112 ≡ 8192) × (pageAfter 8192 ≡ 8192)
-rounded-at = (refl, refl, refl)
-
--- What is recorded for key 0: a drop ends it, a load and an append record, and a call that is turned back or on another key doesn't.
-pub recorded-at : recorded 0 (append 0 4 ∷ drop 0 ∷ load 0 (5 ∷ 9 ∷ []) ∷ append 0 3 ∷ append 1 7 ∷ append 0 12 ∷ read 0 3 ∷ [])
-    (accepted (appended (record { place = Inline 4 1; rewritten = 0 })) ∷ accepted (dropped (record { length = 1 })) ∷ accepted
-    (loaded (record { pages = 0 })) ∷ refused 32
-    ∷ accepted (appended (record { place = Inline 7 1; rewritten = 0 })) ∷ accepted
-    (appended (record { place = Slab 0 3 4096; rewritten = 0 }))
-    ∷ accepted (listed (record { numbers = 5 ∷ 9 ∷ 12 ∷ []; pages = 0 })) ∷ []) []
-    ≡ 5 ∷ 9 ∷ 12 ∷ []
-unfolding recorded recordedAfter recordedBy
-recorded-at = refl

@@ -1,4 +1,3 @@
 pub mod LawsRules
 pub mod LawsOffered
-pub mod LawsCalls
 pub mod Examples

@@ -1,6 +1,3 @@
-pub mod Calls
+pub mod Outcomes
 pub mod Offered
 pub mod Places
-pub mod Moves
-pub mod Recorded
-pub mod Licence

@@ -1,5 +1,5 @@
-// What every account book has in common (document 01). The code judges what is offered, and has the rules for where a list goes; calls with
-// what they tell, what is recorded, the licence's sentence and the count of moves are definitions (specs/) alone.
+// What every account book has in common (document 01). The code judges what is offered, and has the rules for where a list goes; what calls
+// tell is a definition (specs/) alone.
 mod offered;
 mod places;
 

@@ -14,20 +14,7 @@ use Rattle.error.proofs.LawsAnswer.{accepted-inj, passed, went-on}
 use Rattle.buffer.specs.Bytes.{part}
 use Rattle.scripthash_layout.specs.Sizes.{slabBytes, pageClass, pageSize}
 use Rattle.scripthash_layout.specs.Head.{payloadStart}
-use Rattle.scripthash_free.specs.FreeList.{
-  Lists,
-  Block,
-  Pop,
-  isBlock,
-  isGap,
-  gapBlocks,
-  carveGap,
-  pushAll,
-  popFree,
-  listsAfter,
-  Each,
-  Within,
-}
+use Rattle.scripthash_free.specs.FreeList.{Lists, Block, Pop, isBlock, isGap, gapBlocks, carveGap, pushAll, popFree, listsAfter, Each, Within}
 use Rattle.scripthash_free.proofs.LawsBlock.{block-stands, stands-block, slab-stands, lies-gap}
 use Rattle.scripthash_free.proofs.LawsFree.{after-accepted, carve-yes}
 use Rattle.scripthash_free.proofs.LawsGap.{gap-filled, adjoin-within, each-map}

@@ -19,7 +19,7 @@ use Rattle.book_space.specs.Space.{Space}
 use Rattle.book_keys.specs.Keys.{soundly, pageAt, linkScan, Chain, pageThen, walk, Content, pageBlocks, Ground}
 use Rattle.book_keys.proofs.LawsPages.{link-sound}
 use Rattle.book_keys.proofs.LawsWalk.{Ends, GoesOn, walk-step}
-use Rattle.book.specs.Steps.{PagesLeft}
+use Rattle.book_keys.specs.Steps.{PagesLeft}
 use Rattle.book_start.specs.Start.{AllApart, Stands, block, bytesOf, sharesOne, Claim, claimed, unfit, claimAll, claimContent}
 use Rattle.book_start.specs.Start.{claimFreed}
 use Rattle.book_start.specs.Units.{unitsFree, marked, claimUnits, markAll, cleared, Marked, Shows, ClaimsAs}

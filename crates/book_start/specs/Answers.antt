@@ -4,6 +4,9 @@ use Rattle.error.specs.Refusal.{Answer, accepted, refused}
 use Rattle.book_start.specs.Start.{Verdict, good, keyUnsound, keyShares, freeStrays, freeShares}
 use Rattle.book_start.specs.declared.judging.JudgeStart.{JudgeStart}
 use Rattle.book_start.specs.declared.judging.JudgeStart.the-variants.{Good, KeyUnsound, KeyShares, FreeStrays, FreeShares, Refused}
+use Rattle.error.specs.Refusal.{Answer, accepted, refused}
+use Rattle.book_start.specs.declared.answers.BookFresh.{BookFresh}
+use Rattle.book_start.specs.declared.answers.BookFresh.the-variants.{Made, Refused as NotMade}
 
 -- The answer of `judge_start`.
 abbrev pub startAnswer : JudgeStart → Answer Verdict
@@ -37,3 +40,8 @@ lostOf (keyUnsound key) = 0
 lostOf (keyShares key) = 0
 lostOf (freeStrays class) = 0
 lostOf (freeShares class) = 0
+
+-- The answer of `fresh`.
+abbrev pub freshAnswer : BookFresh → Answer (Unit {0})
+freshAnswer Made = accepted tt
+freshAnswer (NotMade number) = refused number

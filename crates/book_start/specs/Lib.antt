@@ -2,3 +2,4 @@ pub mod Start
 pub mod Units
 pub mod Answers
 pub mod Covered
+pub mod Making

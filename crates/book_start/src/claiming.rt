@@ -7,7 +7,7 @@ ghost use Rattle.scripthash_layout.specs.declared.head.ShHeadValue.the-variants
 ghost use Rattle.scripthash_free.specs.FreeList.{Block};
 ghost use Rattle.book_space.specs.Space.{space};
 ghost use Rattle.book_keys.specs.Keys.{content, contentAt, ground, pageBlocks, soundly};
-ghost use Rattle.book.specs.Steps.{PagesLeft};
+ghost use Rattle.book_keys.specs.Steps.{PagesLeft};
 ghost use Rattle.book_start.specs.Start.{claimAll, claimContent, claimFreed};
 ghost use Rattle.book_start.specs.Units.{Marked, Shows, ClaimsAs};
 use crate::units::PAGE_UNITS;
@@ -40,7 +40,7 @@ fn claim_pages(body: &[u8], mark: u64, work: &mut [u8], first: u64, pages: u64) 
         if !claim_block(work, SH_PAGE_SLAB_CLASS, off) {
             return Claiming::Shared;
         }
-        off = book_lists::next_page(body, off);
+        off = book_keys::next_page(body, off);
         left -= 1;
     }
     Claiming::Done(pages * PAGE_UNITS)

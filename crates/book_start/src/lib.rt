@@ -1,9 +1,14 @@
-// Judging whether a body, its head words and its state are a good start of a book: every key is sound, every free list ends and holds only
-// blocks that could be taken, and no two blocks share a byte. Nothing is allocated: a lent work list has a byte for each 16 bytes of the
-// body.
+// How a book starts: made fresh, or from a body, head words and a state that were written elsewhere, which are judged: every key is sound,
+// every free list ends and holds only blocks that could be taken, and no two blocks share a byte. Nothing is allocated: a lent work list
+// has a byte for each 16 bytes of the body.
+mod answers;
 mod claiming;
 mod judging;
+mod making;
 mod units;
 
+pub use answers::AfterFresh;
+pub use answers::BookFresh;
 pub use judging::JudgeStart;
 pub use judging::judge_start;
+pub use making::fresh;

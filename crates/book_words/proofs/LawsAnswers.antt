@@ -12,7 +12,7 @@ use lib.Seq.{take-append-seam, drop-append-seam}
 use Rattle.error.specs.Refusal.{Answer, accepted, refused}
 use Rattle.scripthash_layout.specs.declared.head.ShHeadValue.{ShHeadValue}
 use Rattle.scripthash_layout.specs.declared.head.ShHeadValue.the-variants.{Empty, Inline, Slab, Extent}
-use Rattle.book_rules.specs.Calls.{Told, Appended, loaded, appended, listed, dropped}
+use Rattle.book_rules.specs.Outcomes.{Told, Appended, loaded, appended, listed, dropped}
 use Rattle.book_words.specs.Words.{Begins, begins, word, spellAll, readAll}
 use Rattle.book_words.specs.SpellAnswers.{spellPlace, spellTold, spellAnswer, spellAnswers, placeOf, loadedAt, appendedAt, listedAt}
 use Rattle.book_words.specs.SpellAnswers.{droppedAt, toldAt, answerAt, answersOf}

@@ -12,7 +12,7 @@ use borrow.Author.Tests.{le-leb, eqb-true, leb-true}
 use lib.Dec.{leb, eqb}
 use lib.ListN.{length, getD, take as firstOf, drop as behind, length-append, length-drop, take-append-drop}
 use lib.Seq.{take-append-seam, drop-append-seam, length-take-le, drop-cons}
-use Rattle.book_rules.specs.Calls.{Call, load, append, read, drop}
+use Rattle.book_statements.specs.Calls.{Call, load, append, read, drop}
 use Rattle.book_words.specs.Words.{Begins, begins, word, before, spellAll, readAll}
 use Rattle.book_words.specs.SpellCalls.{spellCall, spellCalls, loadOf, callOf, callAt, callsOf}
 use Rattle.book_words.proofs.LawsWords.{some-inj, none≢some, AllGood, reads-all, spelled-all, reads-none, reads-some}

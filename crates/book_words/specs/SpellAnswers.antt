@@ -8,7 +8,7 @@ use lib.ListN.{length, take as firstOf, drop as behind}
 use Rattle.error.specs.Refusal.{Answer, accepted, refused}
 use Rattle.scripthash_layout.specs.declared.head.ShHeadValue.{ShHeadValue}
 use Rattle.scripthash_layout.specs.declared.head.ShHeadValue.the-variants.{Empty, Inline, Slab, Extent}
-use Rattle.book_rules.specs.Calls.{Told, loaded, appended, listed, dropped}
+use Rattle.book_rules.specs.Outcomes.{Told, loaded, appended, listed, dropped}
 use Rattle.book_words.specs.Words.{Begins, begins, word, spellAll, readAll}
 
 -- The words of a place: its mode, and of each mode what it has of class, used and number or offset.

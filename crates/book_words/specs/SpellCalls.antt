@@ -5,7 +5,7 @@ use mathlib.Core.List.{List, [], _∷_}
 use mathlib.Core.Option.{Option, none}
 use lib.Dec.{leb, eqb}
 use lib.ListN.{length, take as firstOf, drop as behind}
-use Rattle.book_rules.specs.Calls.{Call, load, append, read, drop}
+use Rattle.book_statements.specs.Calls.{Call, load, append, read, drop}
 use Rattle.book_words.specs.Words.{Begins, begins, word, spellAll, readAll}
 
 -- The words of a call: the third is a load's count, an append's number, a read's room, and 0 of a drop.

@@ -5,10 +5,11 @@ use mathlib.Core.Logic.{_≢_}
 use mathlib.Core.Path.{_≡_, sym, ap, ap₂, _∙_}
 use lib.ListN.{getD, drop}
 use Rattle.error.specs.Refusal.{Answer, accepted, refused, refusalOf}
-use Rattle.book_rules.specs.Calls.{Told, answerOf, bookAfter}
+use Rattle.book_rules.specs.Outcomes.{Told, answerOf, bookAfter}
 use Rattle.book_space.specs.declared.State.{State}
-use Rattle.book.specs.Book.{Book, Outcome, madeAfter}
-use Rattle.book.specs.Reads.{listAfter}
+use Rattle.book.specs.Book.{Book, Outcome}
+use Rattle.book_start.specs.Making.{madeAfter}
+use Rattle.book_read.specs.Reads.{listAfter}
 use Rattle.book.specs.Answers.{bookOf}
 use Rattle.book.specs.Steps.{Does}
 use Rattle.book_start.specs.Start.{Verdict}

@@ -4,7 +4,7 @@ use mathlib.Core.List.{List, _∷_}
 use lib.ListN.{getD, drop}
 use Rattle.scripthash_layout.specs.declared.head.ShHeadValue.{ShHeadValue}
 use Rattle.scripthash_layout.specs.declared.head.ShHeadValue.the-variants.{Empty}
-use Rattle.book_rules.specs.Calls.{Told, loaded, appended, listed, dropped}
+use Rattle.book_rules.specs.Outcomes.{Told, loaded, appended, listed, dropped}
 use Rattle.book_space.specs.declared.State.{State}
 use Rattle.book.specs.Book.{Book, book}
 

@@ -16,8 +16,9 @@ use Rattle.plain_book.specs.Space.{freedAll, takeMark, rounded, takeFres
 use Rattle.book_rules.specs.Places.{stays, larger, movesTo, loadsTo}
 use Rattle.plain_book.specs.Key.{Key, slab, written, longer, lastPage, headOf, freedPages, freedPlace, moved, joins, beginPage}
 use Rattle.plain_book.specs.Key.{appendPages, appendPlace, runPages, loadInto, loadPlace}
-use Rattle.book_rules.specs.Moves.{Tally, noMoves, counted, talliedBy, tallied, tallyOf}
-use Rattle.book_rules.specs.Calls.{Call, load, append, read, drop, Told, loaded, appended, listed, dropped, bookAfter, answersTo}
+use Rattle.book_statements.specs.Moves.{Tally, noMoves, counted, talliedBy, tallied, tallyOf}
+use Rattle.book_statements.specs.Calls.{Call, load, append, read, drop, answersTo}
+use Rattle.book_rules.specs.Outcomes.{Told, loaded, appended, listed, dropped, bookAfter}
 use Rattle.book_rules.specs.Offered.{offeredNumber, offeredList}
 use Rattle.book_limits.specs.Limits.{outOfShape}
 use Rattle.plain_book.specs.Book.{fresh, onKey, loads, appends, reads, drops, does, answers}

@@ -15,13 +15,14 @@ use Rattle.scripthash_free.specs.FreeList.{Block}
 use Rattle.plain_book.specs.Space.{Space, Taken, rounded, runAtMark}
 use Rattle.plain_book.specs.Key.{Key, Page, Place, empty, inline, slab, pages, onePage, freedPlace, Placed, written, longer, keyIn, emptyKey}
 use Rattle.plain_book.specs.Key.{longerPage, joinedTo, runPages}
-use Rattle.book_rules.specs.Calls.{Call, load, append, read, drop, bookAfter}
+use Rattle.book_statements.specs.Calls.{Call, load, append, read, drop}
+use Rattle.book_rules.specs.Outcomes.{bookAfter}
 use Rattle.plain_book.specs.Book.{Book, fresh, Outcome, keyOf, withKey, extended, does, after}
 use Rattle.plain_book.specs.Owners.{Owner, hand, stack, slabOf, pageOf, atDepth, pageNo, slabAt, pageIn, has, Apart, places}
 use Rattle.plain_book.specs.Good.{Good}
 use Rattle.plain_book.specs.Did.{LoadDid, loaded-none, loaded-one, loaded-slab, loaded-run, AppendDid, began, stayed, moved-slab, moved-page, joined-page, begun-page}
 use Rattle.book_rules.proofs.LawsRules.{moves-to, loads-to}
-use Rattle.book_rules.proofs.LawsCalls.{calls-keep}
+use Rattle.book_statements.proofs.LawsCalls.{calls-keep}
 use Rattle.plain_book.proofs.LawsHistory.{all-same, load-did, append-did, read-did, drop-did, fresh-key, key-with}
 use Rattle.plain_book.proofs.LawsOwners.{none-some, atKey, good-slab, good-page, good-fewer, good-twice, good-kept, good-freed-place}
 use Rattle.plain_book.proofs.LawsTaking.{InHand, good-rounded, took-mark, rounded-mark, good-taken, good-run}

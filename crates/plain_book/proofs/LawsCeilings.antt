@@ -15,9 +15,10 @@ use Rattle.scripthash_cutting.specs.Cutting.{cutting, AllowedCutting}
 use Rattle.scripthash_cutting.proofs.LawsPages.{pages-optimal}
 use Rattle.plain_book.specs.Space.{Space}
 use Rattle.plain_book.specs.Key.{Place, empty, inline, slab, pages, Kept, longer, pagesOf, Placed, runPages}
-use Rattle.book_rules.specs.Calls.{Call, load, append, read, drop, loaded, bookAfter, answerOf, answersTo}
+use Rattle.book_statements.specs.Calls.{Call, load, append, read, drop, answersTo}
+use Rattle.book_rules.specs.Outcomes.{loaded, bookAfter, answerOf}
 use Rattle.plain_book.specs.Book.{Book, fresh, Outcome, keyOf, inUse, extended, loads, does, after, answers}
-use Rattle.book_rules.specs.Moves.{Tally, noMoves, tallyOf}
+use Rattle.book_statements.specs.Moves.{Tally, noMoves, tallyOf}
 use Rattle.plain_book.specs.Sound.{Fits, SoundKey}
 use Rattle.plain_book.specs.Ceilings.{mostMoves, mostRewritten, FewestPages, EachFewest}
 use Rattle.plain_book.specs.Did.{LoadDid, loaded-none, loaded-one, loaded-slab, loaded-run}

@@ -15,9 +15,10 @@ use Rattle.scripthash_cutting.specs.Cutting.{cutting, replaceLast}
 use Rattle.scripthash_free.specs.FreeList.{Block, Adjoin, Each, IsSlab, gapBlocks}
 use Rattle.scripthash_free.proofs.LawsGap.{gap-filled, gap-slabs}
 use Rattle.book_limits.specs.Limits.{pageAfter}
-use Rattle.book_rules.specs.Calls.{Call, load, append, read, drop, bookAfter}
+use Rattle.book_statements.specs.Calls.{Call, load, append, read, drop}
+use Rattle.book_rules.specs.Outcomes.{bookAfter}
 use Rattle.book_rules.proofs.LawsRules.{moves-to, loads-to}
-use Rattle.book_rules.proofs.LawsCalls.{calls-keep}
+use Rattle.book_statements.proofs.LawsCalls.{calls-keep}
 use Rattle.plain_book.specs.Space.{Space, stackOf, freed, freedAll, Taken, takeMark, rounded, takeRun, takeFresh, takeFrom, takeBlock, runAtMark}
 use Rattle.plain_book.specs.Key.{Key, emptyKey, Page, Place, empty, inline, slab, pages, freedPages, freedPlace, Placed, written, keyIn}
 use Rattle.plain_book.specs.Key.{longerPage, runPages}

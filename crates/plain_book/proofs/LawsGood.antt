@@ -7,11 +7,12 @@ use native.Mathlib.Omega.{arith}
 use lib.ListN.{length, length-set}
 use Rattle.error.specs.Refusal.{Answer, accepted, refused, shapeBad}
 use Rattle.error.proofs.LawsAnswer.{refuse-yes}
-use Rattle.book_rules.specs.Calls.{Call, load, append, read, drop, bookAfter}
+use Rattle.book_statements.specs.Calls.{Call, load, append, read, drop}
+use Rattle.book_rules.specs.Outcomes.{bookAfter}
 use Rattle.book_limits.specs.Limits.{outOfShape}
-use Rattle.book_rules.specs.Moves.{noMoves}
+use Rattle.book_statements.specs.Moves.{noMoves}
 use Rattle.book_limits.proofs.LawsLimits.{in-shape}
-use Rattle.book_rules.proofs.LawsCalls.{calls-keep}
+use Rattle.book_statements.proofs.LawsCalls.{calls-keep}
 use Rattle.plain_book.specs.Space.{Space}
 use Rattle.plain_book.specs.Key.{Key}
 use Rattle.plain_book.specs.Book.{Book, fresh, Outcome, onKey, withKey, loads, appends, reads, drops, does, after}

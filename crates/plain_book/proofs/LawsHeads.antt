@@ -18,7 +18,7 @@ use Rattle.scripthash_stream.proofs.LawsStream.{last-below}
 use Rattle.scripthash_free.specs.FreeList.{Block}
 use Rattle.scripthash_free.proofs.LawsBlock.{bytes-from-16, block-stands}
 use Rattle.plain_book.specs.Key.{Page, Place, empty, inline, slab, pages, lastPage, noPage, headOf}
-use Rattle.book_rules.specs.Calls.{Call}
+use Rattle.book_statements.specs.Calls.{Call}
 use Rattle.plain_book.specs.Book.{Book, fresh, keyOf, after}
 use Rattle.plain_book.specs.Sound.{FitPages, Fits}
 use Rattle.plain_book.specs.Owners.{Owner, slabOf, pageOf, pageNo, slabAt, pageIn, has, places}

@@ -15,14 +15,15 @@ use Rattle.scripthash_stream.specs.Stream.{Rising, lastFrom}
 use Rattle.plain_book.specs.Space.{Space}
 use Rattle.plain_book.specs.Key.{Key, emptyKey, headOf, pagesOf, freedPlace, countedAfter, Placed, keyIn}
 use Rattle.plain_book.specs.Key.{appendPlace, loadPlace}
-use Rattle.book_rules.specs.Calls.{Call, load, append, read, drop, loaded, appended, listed, dropped, bookAfter, answerOf, keyOfCall}
-use Rattle.book_rules.specs.Calls.{afterCalls, answersTo}
+use Rattle.book_statements.specs.Calls.{Call, load, append, read, drop, keyOfCall}
+use Rattle.book_rules.specs.Outcomes.{loaded, appended, listed, dropped, bookAfter, answerOf}
+use Rattle.book_statements.specs.Calls.{afterCalls, answersTo}
 use Rattle.book_limits.specs.Limits.{outOfShape}
 use Rattle.book_rules.proofs.LawsOffered.{offered-on, offered-all}
 use Rattle.plain_book.specs.Book.{Book, fresh, Outcome, onKey, keyOf, withKey, inUse, extended, loads, appends, reads, drops, does}
 use Rattle.plain_book.specs.Book.{after, answers}
 use Rattle.plain_book.specs.Did.{LoadDid, AppendDid}
-use Rattle.book_rules.specs.Moves.{Tally, noMoves, counted, talliedBy, tallied, tallyOf}
+use Rattle.book_statements.specs.Moves.{Tally, noMoves, counted, talliedBy, tallied, tallyOf}
 use Rattle.plain_book.proofs.LawsDid.{load-cases, append-cases}
 
 -- A call that is accepted is on a key of the book.

@@ -13,10 +13,11 @@ use Rattle.scripthash_layout.specs.Sizes.{slabBytes, pageClass, pageSize}
 use Rattle.scripthash_cutting.specs.Cutting.{cutting}
 use Rattle.plain_book.specs.Space.{Space, stackOf, Taken, takeMark, rounded, takeFresh, takeFrom, takeBlock, runAtMark}
 use Rattle.plain_book.specs.Key.{Page, Place, empty, inline, slab, pages, freedPages, freedPlace, Placed}
-use Rattle.book_rules.specs.Calls.{Call, load, append, read, drop, bookAfter}
+use Rattle.book_statements.specs.Calls.{Call, load, append, read, drop}
+use Rattle.book_rules.specs.Outcomes.{bookAfter}
 use Rattle.plain_book.specs.Book.{Book, fresh, Outcome, does, after, keyOf}
 use Rattle.plain_book.specs.Did.{LoadDid, loaded-none, loaded-one, loaded-slab, loaded-run, AppendDid, began, stayed, moved-slab, moved-page, joined-page, begun-page}
-use Rattle.book_rules.proofs.LawsCalls.{calls-keep}
+use Rattle.book_statements.proofs.LawsCalls.{calls-keep}
 use Rattle.plain_book.proofs.LawsHistory.{load-did, append-did, read-did, drop-did}
 
 -- Freeing leaves the mark.

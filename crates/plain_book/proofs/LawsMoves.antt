@@ -14,7 +14,7 @@ use Rattle.scripthash_stream.specs.Stream.{streamLen}
 use Rattle.plain_book.specs.Space.{Space}
 use Rattle.book_rules.specs.Places.{stays, movesTo}
 use Rattle.plain_book.specs.Key.{Place, empty, inline, slab, pages, Kept, written, longer, Placed}
-use Rattle.book_rules.specs.Moves.{Tally, counted}
+use Rattle.book_statements.specs.Moves.{Tally, counted}
 use Rattle.plain_book.specs.Sound.{Shortest}
 use Rattle.plain_book.specs.Ceilings.{mostMoves, mostRewritten}
 use Rattle.plain_book.specs.Did.{LoadDid, loaded-none, loaded-one, loaded-slab, loaded-run, Outgrown, AppendDid, began, stayed, moved-slab, moved-page, joined-page, begun-page}

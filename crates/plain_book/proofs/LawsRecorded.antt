@@ -12,11 +12,12 @@ use lib.Seq.{getD-set-same, getD-set-other}
 use borrow.Author.Tests.{eqb-true, eqb-false, leb-true, ltb-true}
 use Rattle.error.specs.Refusal.{Answer, accepted, refused, refuseIf, answered, shapeBad, keyBeyond, listTooShort}
 use Rattle.error.proofs.LawsAnswer.{refused≢accepted}
-use Rattle.book_rules.specs.Calls.{Call, load, append, read, drop, keyOfCall, Told, listed, bookAfter, answerOf, afterCalls, answersTo}
+use Rattle.book_statements.specs.Calls.{Call, load, append, read, drop, keyOfCall, afterCalls, answersTo}
+use Rattle.book_rules.specs.Outcomes.{Told, listed, bookAfter, answerOf}
 use Rattle.book_limits.specs.Limits.{outOfShape}
-use Rattle.book_rules.specs.Moves.{noMoves}
-use Rattle.book_rules.specs.Recorded.{recordedBy, recordedAfter, recorded}
-use Rattle.book_rules.specs.Licence.{AnsweredBy, Licensed}
+use Rattle.book_statements.specs.Moves.{noMoves}
+use Rattle.book_statements.specs.Recorded.{recordedBy, recordedAfter, recorded}
+use Rattle.book_statements.specs.Licence.{AnsweredBy, Licensed}
 use Rattle.plain_book.specs.Space.{Space}
 use Rattle.plain_book.specs.Key.{Key, emptyKey, Place, empty, inline, slab, pages, pagesOf, keyIn}
 use Rattle.plain_book.specs.Book.{Book, fresh, Outcome, onKey, keyOf, withKey, inUse, reads, does, after, answers}

@@ -10,7 +10,8 @@ use Rattle.error.specs.Refusal.{Answer, accepted, refused, refuseIf, andThen, a
 use Rattle.error.specs.Refusal.{offeredFirstZero, offeredBit63, offeredTooLarge, offeredNotRising, listTooShort, noRoom}
 use Rattle.scripthash_layout.specs.Sizes.{slabBytes, pageClass}
 use Rattle.book_rules.specs.Places.{stays}
-use Rattle.book_rules.specs.Calls.{Call, load, append, read, drop, answerOf, bookAfter, answersTo}
+use Rattle.book_statements.specs.Calls.{Call, load, append, read, drop, answersTo}
+use Rattle.book_rules.specs.Outcomes.{answerOf, bookAfter}
 use Rattle.book_rules.specs.Offered.{offeredNumber, offeredList}
 use Rattle.plain_book.specs.Space.{Space, takeMark, rounded, takeRun, takeFresh, takeFrom, runAtMark}
 use Rattle.plain_book.specs.Key.{Place, empty, inline, slab, pages, moved, joins, beginPage, appendPages, appendPlace, loadInto}

@@ -16,7 +16,7 @@ use Rattle.scripthash_stream.specs.Stream.{streamLen}
 use Rattle.scripthash_cutting.specs.Cutting.{cutting}
 use Rattle.book_limits.specs.Limits.{outOfShape, pageAfter}
 use Rattle.book_rules.specs.Places.{stays, movesTo, loadsTo}
-use Rattle.book_rules.specs.Calls.{Call, load, append, read, drop}
+use Rattle.book_statements.specs.Calls.{Call, load, append, read, drop}
 use Rattle.book_rules.specs.Offered.{offeredNumber, offeredList}
 use Rattle.book_rules.proofs.LawsRules.{moves-to, loads-to}
 use Rattle.plain_book.specs.Space.{Space, takeMark, rounded, takeRun, takeFresh, takeFrom, runAtMark}

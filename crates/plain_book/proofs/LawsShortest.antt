@@ -5,8 +5,8 @@ use mathlib.Core.List.{List, [], _∷_, _++_}
 use lib.ListN.{length}
 use Rattle.scripthash_layout.specs.Sizes.{pageSize}
 use Rattle.scripthash_cutting.specs.Cutting.{cutting, replaceLast}
-use Rattle.book_rules.specs.Calls.{Call}
-use Rattle.book_rules.specs.Moves.{noMoves}
+use Rattle.book_statements.specs.Calls.{Call}
+use Rattle.book_statements.specs.Moves.{noMoves}
 use Rattle.plain_book.specs.Space.{Space}
 use Rattle.plain_book.specs.Key.{Page, Place, onePage, longerPage}
 use Rattle.plain_book.specs.Key.{Placed, runPages}

@@ -21,8 +21,8 @@ use Rattle.plain_book.specs.Key.{countedAfter, onePage, longerPage, join
 use Rattle.plain_book.specs.Key.{runPages}
 use Rattle.book_rules.proofs.LawsRules.{stays-holds, moves-to, loads-to}
 use Rattle.plain_book.proofs.LawsKept.{len-snoc, longer-numbers, written-each, longer-each}
-use Rattle.book_rules.specs.Calls.{Call}
-use Rattle.book_rules.specs.Moves.{noMoves}
+use Rattle.book_statements.specs.Calls.{Call}
+use Rattle.book_statements.specs.Moves.{noMoves}
 use Rattle.plain_book.specs.Book.{Book, fresh, keyOf, extended, after}
 use Rattle.plain_book.proofs.LawsHistory.{fresh-key, KeptByCalls, kept-calls}
 use Rattle.plain_book.specs.Sound.{held, FitPages, Fits, Known, SoundKey}

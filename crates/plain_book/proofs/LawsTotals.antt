@@ -10,8 +10,9 @@ use lib.Dec.{eqb}
 use lib.ListN.{length}
 use borrow.Author.Tests.{eqb-true}
 use Rattle.error.specs.Refusal.{Answer, accepted, refused}
-use Rattle.book_rules.specs.Calls.{Call, load, append, read, drop, bookAfter, afterCalls}
-use Rattle.book_rules.specs.Moves.{noMoves}
+use Rattle.book_statements.specs.Calls.{Call, load, append, read, drop, afterCalls}
+use Rattle.book_rules.specs.Outcomes.{bookAfter}
+use Rattle.book_statements.specs.Moves.{noMoves}
 use Rattle.plain_book.specs.Space.{Space}
 use Rattle.plain_book.specs.Key.{Place, empty, inline, slab, pages, Key, totalOf, countedAfter, keyIn, emptyKey}
 use Rattle.plain_book.specs.Book.{Book, fresh, Outcome, keyOf, withKey, inUse, does, after, NeverDropped}

@@ -10,8 +10,9 @@ use Rattle.error.specs.Refusal.{shapeBad, keyBeyond, keyInUse, tooManyOffered}
 use Rattle.scripthash_layout.specs.Sizes.{pageClass}
 use Rattle.scripthash_layout.specs.Head.{payloadStart}
 use Rattle.scripthash_stream.specs.Stream.{maxOffered, lastFrom}
-use Rattle.book_rules.specs.Calls.{Call, load, append, read, drop, Told, loaded, appended, listed, dropped, OutcomeOf, afterCalls}
-use Rattle.book_rules.specs.Calls.{answersTo}
+use Rattle.book_statements.specs.Calls.{Call, load, append, read, drop, afterCalls}
+use Rattle.book_rules.specs.Outcomes.{Told, loaded, appended, listed, dropped, OutcomeOf}
+use Rattle.book_statements.specs.Calls.{answersTo}
 use Rattle.book_rules.specs.Offered.{offeredNumber, offeredList}
 use Rattle.book_limits.specs.Limits.{outOfShape}
 use Rattle.plain_book.specs.Space.{Space}

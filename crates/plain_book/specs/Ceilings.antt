@@ -5,7 +5,8 @@ use mathlib.Core.Path.{_≡_}
 use lib.ListN.{length}
 use Rattle.error.specs.Refusal.{Answer, accepted, refused}
 use Rattle.scripthash_cutting.specs.Cutting.{AllowedCutting}
-use Rattle.book_rules.specs.Calls.{Call, load, append, read, drop, Told, loaded}
+use Rattle.book_statements.specs.Calls.{Call, load, append, read, drop}
+use Rattle.book_rules.specs.Outcomes.{Told, loaded}
 
 -- The most moves of a key, from the start or the last drop.
 abbrev pub mostMoves : ℕ

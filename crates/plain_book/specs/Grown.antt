@@ -3,7 +3,7 @@ use Prim.Native.Nat.{ℕ, _+_}
 use mathlib.Core.List.{List, _++_}
 use lib.ListN.{length, replicate}
 use Rattle.scripthash_cutting.specs.Cutting.{cutting}
-use Rattle.book_rules.specs.Calls.{Call, load, append, read, drop}
+use Rattle.book_statements.specs.Calls.{Call, load, append, read, drop}
 use Rattle.plain_book.specs.Key.{emptyKey}
 use Rattle.plain_book.specs.Book.{Book}
 

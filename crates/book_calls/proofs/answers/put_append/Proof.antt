@@ -1,7 +1,7 @@
 -- `put_append` meets its contract. Assumes nothing.
 use mathlib.Core.Path.{ap}
 use Rattle.book_calls.proofs.LawsPut.{re-said}
-use Rattle.book.specs.Answers.{appendAnswer}
+use Rattle.book_append.specs.Answers.{appendAnswer}
 use borrow.Author.Needs.{needs}
 use Rattle.book_calls.proofs.answers.put_append.Statement.{statement}
 use Rattle.book_calls.proofs.answers.put_append.Tie as tie

@@ -1,6 +1,6 @@
 -- `put_drop` meets its contract. Assumes nothing.
 use mathlib.Core.Path.{ap}
-use Rattle.book.specs.Answers.{dropAnswer}
+use Rattle.book_drop.specs.Answers.{dropAnswer}
 use Rattle.book_calls.proofs.LawsPut.{re-said, drop-put}
 use borrow.Author.Needs.{needs}
 use Rattle.book_calls.proofs.answers.put_drop.Statement.{statement}

@@ -1,6 +1,6 @@
 -- `put_load` meets its contract. Assumes nothing.
 use mathlib.Core.Path.{ap}
-use Rattle.book.specs.Answers.{loadAnswer}
+use Rattle.book_load.specs.Answers.{loadAnswer}
 use Rattle.book_calls.proofs.LawsPut.{re-said, load-put}
 use borrow.Author.Needs.{needs}
 use Rattle.book_calls.proofs.answers.put_load.Statement.{statement}

@@ -4,7 +4,7 @@ use mathlib.Core.List.{List}
 use mathlib.Core.Path.{_≡_, refl, sym, ap, _∙_}
 use native.Mathlib.Omega.{arith}
 use Rattle.buffer.specs.Bytes.{overwrite}
-use Rattle.book.specs.declared.answers.BookRead.{BookRead}
+use Rattle.book_read.specs.declared.answers.BookRead.{BookRead}
 use Rattle.book_words.specs.SpellAnswers.{spellAnswer}
 use Rattle.book_calls.specs.Steps.{readWords, readLen}
 use borrow.Author.Needs.{needs}

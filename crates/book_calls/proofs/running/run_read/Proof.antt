@@ -3,7 +3,7 @@ use Prim.Native.Nat.{ℕ}
 use mathlib.Core.List.{List}
 use native.Mathlib.Omega.{arith}
 use Rattle.book.specs.Book.{Book}
-use Rattle.book.specs.Reads.{reads}
+use Rattle.book_read.specs.Reads.{reads}
 use Rattle.book.specs.Answers.{bookOf}
 use Rattle.book_calls.proofs.LawsPut.{re-written}
 use Rattle.book_calls.proofs.LawsRead.{Put, put-reads}

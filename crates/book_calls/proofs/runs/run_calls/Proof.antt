@@ -6,7 +6,7 @@ use mathlib.Core.Path.{_≡_, refl, sym, _∙_}
 use borrow.Author.Tests.{not-true, not-false, leb-true}
 use lib.Dec.{leb}
 use lib.ListN.{length}
-use Rattle.book_rules.specs.Calls.{Call}
+use Rattle.book_statements.specs.Calls.{Call}
 use Rattle.book_words.specs.SpellCalls.{callsOf, answersRoom}
 use Rattle.book_calls.specs.Steps.{isSome}
 use Rattle.book_calls.proofs.LawsFresh.{was-some, was-none, unspelled, too-short, all-ran}

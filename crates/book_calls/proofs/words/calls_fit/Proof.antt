@@ -6,7 +6,7 @@ use mathlib.Core.Path.{_≡_, subst}
 use native.Mathlib.Omega.{arith}
 use borrow.Author.Needs.{needs}
 use lib.ListN.{length, drop}
-use Rattle.book_rules.specs.Calls.{Call}
+use Rattle.book_statements.specs.Calls.{Call}
 use Rattle.book_words.specs.SpellCalls.{callAt, callsOf}
 use Rattle.book_calls.specs.Steps.{NextIs, RoomIs}
 use Rattle.book_calls.specs.declared.words.NextCall.the-variants.{At}

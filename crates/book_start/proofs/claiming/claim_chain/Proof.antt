@@ -11,8 +11,8 @@ use Rattle.book_keys.specs.Steps.{ChainEndOf, chainEndOf}
 use Rattle.book_keys.specs.Answers.{chainAnswer}
 use Rattle.book_keys.proofs.LawsSound.{was-sound, was-unsound}
 use Rattle.book_keys.proofs.LawsContent.{content-pages, content-no-pages}
-use Rattle.book.specs.Steps.{PagesLeft}
-use Rattle.book_lists.proofs.LawsDrop.{chain-left}
+use Rattle.book_keys.specs.Steps.{PagesLeft}
+use Rattle.book_keys.proofs.LawsNext.{chain-left}
 use Rattle.book_start.specs.Start.{claimAll, claimContent}
 use Rattle.book_start.proofs.LawsShown.{content-unfit, content-fit, claims-unfit}
 use Rattle.book_start.proofs.claiming.claim_chain.Statement.{statement}

@@ -11,7 +11,7 @@ use Rattle.scripthash_layout.specs.Sizes.{pageClass}
 use Rattle.scripthash_free.specs.FreeList.{Block}
 use Rattle.scripthash_free.proofs.LawsBlock.{block-stands}
 use Rattle.book_keys.specs.Keys.{pageBlocks, ground, Ground}
-use Rattle.book.specs.Steps.{PagesLeft}
+use Rattle.book_keys.specs.Steps.{PagesLeft}
 use Rattle.book_start.specs.Start.{block, claimAll}
 use Rattle.book_start.specs.Units.{Marked}
 use Rattle.book_start.proofs.LawsUnits.{length-claim}

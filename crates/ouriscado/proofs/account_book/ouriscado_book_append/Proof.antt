@@ -2,9 +2,9 @@
 use mathlib.Core.Path.{_∙_, ap}
 use Rattle.error.specs.Refusal.{refusalOf}
 use Rattle.error.proofs.LawsOut.{number-answered, value-same}
-use Rattle.book_rules.specs.Calls.{Told}
+use Rattle.book_rules.specs.Outcomes.{Told}
 use Rattle.book.specs.Book.{Book, Outcome}
-use Rattle.book.specs.Appends.{appends}
+use Rattle.book_append.specs.Appends.{appends}
 use Rattle.ouriscado.specs.OutHead.{kindOut, classOut, usedOut, placeOut}
 use Rattle.ouriscado.specs.OutBook.{newPlace, recordsRewritten}
 use Rattle.ouriscado.proofs.LawsBook.{does-words, kept-words}

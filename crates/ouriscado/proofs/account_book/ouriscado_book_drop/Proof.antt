@@ -3,7 +3,7 @@ use mathlib.Core.Path.{_∙_, ap}
 use Rattle.error.specs.Refusal.{refusalOf}
 use Rattle.error.proofs.LawsOut.{number-answered, value-same}
 use Rattle.book.specs.Book.{Book, Outcome}
-use Rattle.book.specs.Reads.{drops}
+use Rattle.book_drop.specs.Drops.{drops}
 use Rattle.ouriscado.specs.OutBook.{lengthDropped}
 use Rattle.ouriscado.proofs.LawsBook.{does-words, kept-words}
 use borrow.Author.Needs.{needs}

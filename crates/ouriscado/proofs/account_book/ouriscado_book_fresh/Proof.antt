@@ -4,7 +4,8 @@ use mathlib.Core.List.{List}
 use mathlib.Core.Path.{_∙_, ap}
 use Rattle.error.specs.Refusal.{refusalOf}
 use Rattle.error.proofs.LawsOut.{number-answered}
-use Rattle.book.specs.Book.{Book, makesFresh, madeAfter}
+use Rattle.book.specs.Book.{Book}
+use Rattle.book_start.specs.Making.{makesFresh, madeAfter}
 use Rattle.ouriscado.specs.OutBook.{bookIn}
 use Rattle.ouriscado.proofs.LawsBook.{book-words, kept-fresh}
 use borrow.Author.Needs.{needs}

@@ -3,7 +3,7 @@ use mathlib.Core.Path.{_∙_, ap}
 use Rattle.error.specs.Refusal.{refusalOf}
 use Rattle.error.proofs.LawsOut.{number-answered, value-same}
 use Rattle.book.specs.Book.{Book, Outcome}
-use Rattle.book.specs.Loads.{loads}
+use Rattle.book_load.specs.Loads.{loads}
 use Rattle.ouriscado.specs.OutBook.{pagesLoaded}
 use Rattle.ouriscado.proofs.LawsBook.{does-words, kept-words}
 use borrow.Author.Needs.{needs}

@@ -3,10 +3,10 @@ use mathlib.Core.Path.{_∙_, ap}
 use lib.ListN.{length}
 use Rattle.error.specs.Refusal.{refusalOf, answered}
 use Rattle.error.proofs.LawsOut.{number-answered, value-answered, value-same}
-use Rattle.book_rules.specs.Calls.{answerOf}
+use Rattle.book_rules.specs.Outcomes.{answerOf}
 use Rattle.book.specs.Book.{Book, Outcome}
-use Rattle.book.specs.Reads.{reads, listAfter}
-use Rattle.book.specs.Answers.{Counted, countedOf}
+use Rattle.book_read.specs.Reads.{reads, listAfter}
+use Rattle.book_read.specs.Answers.{Counted, countedOf}
 use Rattle.ouriscado.proofs.LawsBook.{book-words, kept-list}
 use borrow.Author.Needs.{needs}
 use Rattle.ouriscado.proofs.account_book.ouriscado_book_read.Statement.{statement}

@@ -1,8 +1,8 @@
 -- `put_appended` hands out the new place and the records rewritten, or zeros and the refusal. Assumes nothing.
 use mathlib.Core.Path.{_∙_, ap}
 use Rattle.error.proofs.LawsOut.{number-accepted, number-refused, value-accepted, value-refused}
-use Rattle.book_rules.specs.Calls.{Told}
-use Rattle.book.specs.Answers.{appendAnswer}
+use Rattle.book_rules.specs.Outcomes.{Told}
+use Rattle.book_append.specs.Answers.{appendAnswer}
 use Rattle.ouriscado.specs.OutHead.{kindOut, classOut, usedOut, placeOut}
 use Rattle.ouriscado.specs.OutBook.{newPlace, recordsRewritten}
 use borrow.Author.Needs.{needs}

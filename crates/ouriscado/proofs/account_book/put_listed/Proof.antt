@@ -1,7 +1,7 @@
 -- `put_listed` hands out both counts of a read, or zeros and the refusal. Assumes nothing.
 use mathlib.Core.Path.{ap}
 use Rattle.error.proofs.LawsOut.{number-accepted, number-refused, value-accepted, value-refused}
-use Rattle.book.specs.Answers.{Counted, readAnswer}
+use Rattle.book_read.specs.Answers.{Counted, readAnswer}
 use borrow.Author.Needs.{needs}
 use Rattle.ouriscado.proofs.account_book.put_listed.Statement.{statement}
 use Rattle.ouriscado.proofs.account_book.put_listed.Tie as tie

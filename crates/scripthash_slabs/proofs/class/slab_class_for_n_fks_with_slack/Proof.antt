@@ -1,9 +1,7 @@
 -- `slab_class_for_n_fks_with_slack` answers the class with slack: that by count of the count looked up. Assumes nothing.
 use mathlib.Core.Path.{_∙_}
 use borrow.Author.Needs.{needs}
-use Rattle.scripthash_slabs.proofs.class.slab_class_for_n_fks_with_slack.Statement.{
-  statement,
-}
+use Rattle.scripthash_slabs.proofs.class.slab_class_for_n_fks_with_slack.Statement.{statement}
 use Rattle.scripthash_slabs.proofs.class.slab_class_for_n_fks_with_slack.Tie as tie
 
 with-spare-requires : tie.Need-with-spare-requires

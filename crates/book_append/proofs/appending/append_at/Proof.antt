@@ -1,0 +1,119 @@
+-- `append_at` meets its contract: the place decides which append it is. Assumes nothing.
+use mathlib.Core.Path.{_≡_, refl, ap, _∙_}
+use borrow.Author.Needs.{needs}
+use lib.ListN.{getD}
+use Rattle.scripthash_layout.specs.declared.head.ShHeadValue.{ShHeadValue}
+use Rattle.error.specs.Refusal.{accepted}
+use Rattle.book.specs.Book.{Book}
+use Rattle.book.specs.Answers.{bookOf}
+use Rattle.book_append.specs.Appends.{appendAt}
+use Rattle.book_append.proofs.LawsAppend.{does-as, at-empty, inline-above}
+use Rattle.book_append.proofs.appending.append_at.Statement.{statement}
+use Rattle.book_append.proofs.appending.append_at.Tie as tie
+
+-- the book before, and an append where its key stands
+module _ (s : tie.Start) where
+  abbrev b : Book
+  b = bookOf (s .args .body .now) (s .args .heads .now) (s .args .state)
+
+  -- a key at one place is appended to as at another that is the same
+  placed : {place : ShHeadValue} → s .args .place ≡ place
+      → appendAt b (s .args .key) (s .args .n) (s .args .place) ≡ appendAt b (s .args .key) (s .args .n) place
+  placed e = ap (appendAt b (s .args .key) (s .args .n)) e
+
+enum-told : tie.Need-enum-told
+enum-told c = search needs
+
+accept-append-requires : tie.Need-accept-append-requires
+accept-append-requires c κs = search needs
+
+enum-known-place : tie.Need-enum-known-place
+enum-known-place c = search needs
+
+append-inline-requires : tie.Need-append-inline-requires
+append-inline-requires c κs =
+    let p = c .before .before .before in
+    let s = p .before .before .before .before in
+    (s .pre .0, inline-above (getD (s .args .heads .now) (s .args .key) 0) _ _ (s .pre .1 ∙ ap accepted (p .place .given .1)))
+
+enum-known-place-2 : tie.Need-enum-known-place-2
+enum-known-place-2 c = search needs
+
+append-slab-requires : tie.Need-append-slab-requires
+append-slab-requires c κs = search needs
+
+enum-known-place-3 : tie.Need-enum-known-place-3
+enum-known-place-3 c = search needs
+
+append-page-requires : tie.Need-append-page-requires
+append-page-requires c κs = search needs
+
+same-length : tie.Need-same-length
+same-length c = search needs
+
+returns : tie.Need-returns
+returns c =
+    let t = c .before .before .before .before in
+    let s = t .before .before .before .before in
+    does-as (placed s (t .enum-told .given .1) ∙ at-empty (b s) (s .args .key) (s .args .n))
+    (c .before .before .accept-append .ensures (b s) (s .args .body .now) refl)
+
+same-length-2 : tie.Need-same-length-2
+same-length-2 c = search needs
+
+same-length-3 : tie.Need-same-length-3
+same-length-3 c = search needs
+
+returns-2 : tie.Need-returns-2
+returns-2 c =
+    let f = c .before .before .before .before in
+    let p = f .before .before .before .before in
+    does-as (placed (p .before .before .before .before) (p .place .given .1)) (f .append-inline .ensures _)
+
+same-length-4 : tie.Need-same-length-4
+same-length-4 c = search needs
+
+same-length-5 : tie.Need-same-length-5
+same-length-5 c = search needs
+
+returns-3 : tie.Need-returns-3
+returns-3 c =
+    let f = c .before .before .before .before in
+    let p = f .before .before .before .before in
+    does-as (placed (p .before .before .before .before) (p .place2 .given .1)) (f .append-slab .ensures)
+
+same-length-6 : tie.Need-same-length-6
+same-length-6 c = search needs
+
+same-length-7 : tie.Need-same-length-7
+same-length-7 c = search needs
+
+returns-4 : tie.Need-returns-4
+returns-4 c =
+    let f = c .before .before .before .before in
+    let p = f .before .before .before .before in
+    does-as (placed (p .before .before .before .before) (p .place3 .given .1)) (f .append-page .ensures)
+
+pub append-at-spec : {M : Type 1} → statement M
+append-at-spec =
+    tie.close
+    (tie.spec
+    enum-told
+    accept-append-requires
+    enum-known-place
+    append-inline-requires
+    enum-known-place-2
+    append-slab-requires
+    enum-known-place-3
+    append-page-requires
+    same-length
+    returns
+    same-length-2
+    same-length-3
+    returns-2
+    same-length-4
+    same-length-5
+    returns-3
+    same-length-6
+    same-length-7
+    returns-4)

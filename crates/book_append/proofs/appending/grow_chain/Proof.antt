@@ -1,0 +1,155 @@
+-- `grow_chain` meets its contract: what the take tells decides; the pages' writes are those of the definition. Assumes nothing.
+use Prim.Native.Nat.{ℕ, _+_, _≤_}
+use mathlib.Core.List.{[], _∷_}
+use mathlib.Core.Path.{_≡_, refl, sym, ap, _∙_}
+use native.Mathlib.Omega.{arith}
+use borrow.Author.Needs.{needs}
+use lib.ListN.{length}
+use Rattle.error.specs.Refusal.{accepted}
+use Rattle.buffer.specs.Bytes.{overwrite}
+use Rattle.scripthash_layout.specs.Sizes.{pageClass, pageSize}
+use Rattle.scripthash_layout.specs.declared.head.ShHeadValue.the-variants.{Extent}
+use Rattle.book_space.specs.Space.{Space, takeBlock}
+use Rattle.book_space.specs.Answers.{spaceOf, takeAnswer}
+use Rattle.book_keys.proofs.LawsPages.{page-inside}
+use Rattle.book_blocks.specs.Blocks.{lastPageOf}
+use Rattle.book.specs.Book.{Book, seen}
+use Rattle.book.specs.Answers.{bookOf}
+use Rattle.book_append.specs.Appends.{appendAt}
+use Rattle.book.proofs.LawsPlace.{refused-as, took-at, took-none, block-lies, page-named}
+use Rattle.book_append.proofs.LawsAppend.{SoundTail, tail-sound, does-as, does-from, one-fits, chain-no, chain-yes}
+use Rattle.book_append.proofs.appending.grow_chain.Statement.{statement}
+use Rattle.book_append.proofs.appending.grow_chain.Tie as tie
+
+-- the arguments, the book before, and the space after the take
+module _ (t : tie.After-take-block) where
+  abbrev start : tie.Start
+  start = t .before .before .before .before
+
+  abbrev b : Book
+  b = bookOf (start .args .body .now) (start .args .heads .now) (start .args .state)
+
+  abbrev after : Space
+  after = spaceOf (t .take-block .last .0) (t .take-block .result .state)
+
+  -- the old last page is sound
+  sound : SoundTail (b .space) (start .args .last) (start .pre .1 .tail)
+  sound = tail-sound (b .space) (start .args .last) (start .pre .1 .tail) (start .pre .1 .sound)
+
+  -- the old last page lies within the body
+  last-inside : start .args .last + pageSize ≤ length (start .args .body .now)
+  last-inside = page-inside (seen (b .space)) (start .args .last) (sound .stands) (start .args .body .now) (start .pre .0 .shape .within)
+
+-- a page was taken
+module _ (k : tie.After-known-told) where
+  abbrev taking : tie.After-take-block
+  taking = k .before .before .before .before .before .before
+
+  abbrev off : ℕ
+  off = k .before .answer .given .0 .0
+
+  -- the take is of that page
+  took : takeBlock pageClass (b taking .space) ≡ accepted (record { off = off; space = after taking })
+  took =
+      let told = taking .take-block .ensures in
+      took-at (b taking .space) (after taking) _ (told .1) (sym (told .0) ∙ ap takeAnswer (k .before .answer .given .1))
+
+take-block-requires : tie.Need-take-block-requires
+take-block-requires c κs = search needs
+
+enum-known-answer : tie.Need-enum-known-answer
+enum-known-answer c = search needs
+
+enum-told : tie.Need-enum-told
+enum-told c = search needs
+
+refusal-requires : tie.Need-refusal-requires
+refusal-requires c κs = search needs
+
+refuse-append-requires : tie.Need-refuse-append-requires
+refuse-append-requires c κs = search needs
+
+same-length : tie.Need-same-length
+same-length c = search needs
+
+returns : tie.Need-returns
+returns c =
+    let t = c .before .before .before .before .before .before .before in
+    let told = t .take-block .ensures in
+    let a = start t .args in
+    let is = refused-as _ _ (ap takeAnswer (c .before .before .enum-told .given .1)) (c .before .refusal .ensures) in
+    let none = took-none (b t .space) (after t) _ (told .1) (sym (told .0) ∙ is) in
+    does-from (none .1)
+    (c .refuse-append .ensures (t .take-block .last .0) (a .heads .now) (appendAt (b t) (a .key) (a .n) (Extent (a .last)))
+    (chain-no (b t) (a .key) (a .n) (a .last) (a .first) (a .creates) (start t .pre .1) (none .0)))
+
+link-page-requires : tie.Need-link-page-requires
+link-page-requires c κs = let h = last-inside (taking (c .before)) in omega arith
+
+total-with-requires : tie.Need-total-with-requires
+total-with-requires c κs =
+    let t = taking (c .before .before .before .before) in
+    omega (arith, sound t .creates-low, start t .pre .1 .creates-is)
+
+slice-aggregate-put-last-page : tie.Need-slice-aggregate-put-last-page
+slice-aggregate-put-last-page c = search needs
+
+put-last-page-requires : tie.Need-put-last-page-requires
+put-last-page-requires c κs =
+    let k = c .before .before .before .before .before .before .before in
+    let t = taking k in
+    let pre = start t .pre .0 in
+    let lies = block-lies pageClass (off k) (b t .space) (after t) (pre .shape) (omega arith) (took k) in (
+      omega (arith, lies .ends),
+      record {
+        numbers = one-fits (start t .args .n) (pre .above) (pre .low);
+        base-named = page-named (off k) (b t .space) (after t) (pre .shape) (took k);
+        some-extents = omega arith;
+      },
+    )
+
+accept-append-requires : tie.Need-accept-append-requires
+accept-append-requires c κs = search needs
+
+same-length-2 : tie.Need-same-length-2
+same-length-2 c = search needs
+
+same-length-3 : tie.Need-same-length-3
+same-length-3 c = search needs
+
+returns-2 : tie.Need-returns-2
+returns-2 c =
+    let written = c .before .before .before .before .before .before in
+    let total = written .before .before .before in
+    let linked = total .before .before .before in
+    let k = linked .before .before in
+    let t = taking k in
+    let a = start t .args in
+    does-as
+    (chain-yes (b t) (a .key) (a .n) (a .last) (a .first) (a .creates) (start t .pre .1) (linked .link-page .last .0)
+    (written .put-last-page .last .0) (took k)
+    (linked .link-page .ensures)
+    (written .put-last-page .ensures
+    ∙ ap (λ (n : ℕ). overwrite (linked .link-page .last .0) (off k) (lastPageOf (a .first) (off k) 1 n (a .n ∷ [])))
+    (total .total-with .ensures)))
+    (c .before .before .accept-append .ensures (b t) (written .put-last-page .last .0) refl)
+
+pub grow-chain-spec : {M : Type 1} → statement M
+grow-chain-spec =
+    tie.close
+    (tie.spec
+    take-block-requires
+    enum-known-answer
+    enum-told
+    refusal-requires
+    refuse-append-requires
+    same-length
+    returns
+    link-page-requires
+    total-with-requires
+    slice-aggregate-put-last-page
+    put-last-page-requires
+    accept-append-requires
+    same-length-2
+    same-length-3
+    returns-2)

@@ -1,0 +1,37 @@
+-- What the steps of an append promise each other: no answer of a public function is defined here.
+use Prim.Native.Nat.{ℕ, _+_, _-_, _^_, _<_}
+use mathlib.Core.Bool.{false}
+use mathlib.Core.Option.{none}
+use mathlib.Core.Path.{_≡_}
+use lib.ListN.{length}
+use Rattle.error.specs.Refusal.{accepted}
+use Rattle.compact.specs.Uleb128.{ulebLen}
+use Rattle.scripthash_stream.specs.Stream.{Scan}
+use Rattle.scripthash_pages.specs.Entries.{lastOf, spotBehind}
+use Rattle.book_rules.specs.Places.{stays}
+use Rattle.book_space.specs.Space.{Space, InShape}
+use Rattle.book_keys.specs.Keys.{pageAt, slabScan, Tail, tailAt}
+use Rattle.book.specs.Book.{Book, seen}
+
+-- What is known of an append whose shape, key and number passed their tests.
+pub record ToAppend (b : Book) (key n : ℕ) : Type 0 where
+  pub shape : InShape (b .space)
+  pub keyed : key < length (b .heads)
+  pub above : 0 < n
+  pub low : n < 2 ^ 62
+
+-- What is known of a key's slab that a number behind its list moves: it is sound, the number is above its last, and doesn't stay.
+pub record SlabMoves (s : Space) (n class used off : ℕ) : Type 0 where
+  pub scan : Scan
+  pub sound : slabScan (seen s) class used off ≡ accepted scan
+  pub above : lastOf scan < n
+  pub leaves : stays class (used + 1) (scan .taken + ulebLen (n - lastOf scan)) ≡ false
+
+-- What is known of a key's last page that a number passes on to a page more: it is sound, the number is above its last, and it has no spot.
+pub record ChainGrows (s : Space) (n last first creates : ℕ) : Type 0 where
+  pub tail : Tail
+  pub sound : tailAt (seen s) last ≡ accepted tail
+  pub above : lastOf (tail .scan) < n
+  pub full : spotBehind (pageAt (seen s) last) n (tail .scan) ≡ none
+  pub first-is : tail .last .first ≡ first
+  pub creates-is : tail .last .creates ≡ creates

@@ -1,0 +1,8 @@
+// Appending a number to a key (document 01, "Append"). Nothing is allocated, and a refused append leaves everything as it was.
+mod answers;
+mod appending;
+
+pub use answers::AfterAppend;
+pub use answers::AppendedTo;
+pub use answers::BookAppend;
+pub use appending::append;

@@ -1,0 +1,114 @@
+-- `drop_chain` meets its contract: the chain decides, and its pages are given back. Assumes nothing.
+use mathlib.Core.Path.{_≡_, refl, sym, ap, _∙_}
+use borrow.Author.Needs.{needs}
+use lib.ListN.{length}
+use Rattle.error.specs.Refusal.{accepted}
+use Rattle.error.proofs.LawsAnswer.{was-accepted, was-refused}
+use Rattle.scripthash_layout.specs.declared.head.ShHeadValue.the-variants.{Extent}
+use Rattle.book_space.specs.Answers.{spaceOf}
+use Rattle.book_keys.specs.Keys.{Chain, chainAt}
+use Rattle.book_keys.specs.Steps.{ChainEndOf, chainEndOf}
+use Rattle.book_keys.specs.Answers.{chainAnswer}
+use Rattle.book_keys.proofs.LawsSound.{was-sound, was-unsound}
+use Rattle.book_keys.proofs.LawsContent.{inPages, content-pages, content-no-pages}
+use Rattle.book.specs.Book.{Book, seen}
+use Rattle.book.specs.Answers.{bookOf}
+use Rattle.book_keys.specs.Steps.{PagesLeft}
+use Rattle.book.proofs.LawsKey.{does-same}
+use Rattle.book_drop.proofs.LawsDrop.{drop-no, drop-yes}
+use Rattle.book_keys.proofs.LawsNext.{chain-left}
+use Rattle.book_drop.proofs.dropping.drop_chain.Statement.{statement}
+use Rattle.book_drop.proofs.dropping.drop_chain.Tie as tie
+
+-- the book of the call
+module _ (t : tie.Start) where
+  abbrev book : Book
+  book = bookOf (t .args .body .now) (t .args .heads .now) (t .args .state)
+
+-- the chain was walked
+module _ (c : tie.After-end) where
+  abbrev at : tie.Start
+  at = c .before .before .before .before .before .before
+
+  abbrev end : ChainEndOf
+  end = record { first = c .end .given .0 .0; length = c .end .given .0 .1 .0; pages = c .end .given .0 .1 .1 .0 }
+
+  walked : (x : Chain) × (chainAt (seen (book at .space)) (at .args .last) ≡ accepted x) × (chainEndOf x ≡ end)
+  walked =
+      let got = was-accepted chainEndOf _ (sym (c .before .before .chain-end .ensures) ∙ ap chainAnswer (c .end .given .1)) in (
+        got .0,
+        was-sound _ (got .1),
+        got .2,
+      )
+
+  left : PagesLeft (seen (book at .space)) (end .first) (end .pages) (walked .0 .offs)
+  left = chain-left (seen (book at .space)) (at .args .last) (walked .0) end (at .pre .0) (walked .1) (walked .2)
+
+chain-end-requires : tie.Need-chain-end-requires
+chain-end-requires c κs = search needs
+
+enum-known-end : tie.Need-enum-known-end
+enum-known-end c = search needs
+
+enum-told : tie.Need-enum-told
+enum-told c = search needs
+
+refuse-drop-requires : tie.Need-refuse-drop-requires
+refuse-drop-requires c κs = search needs
+
+same-length : tie.Need-same-length
+same-length c = search needs
+
+returns : tie.Need-returns
+returns c =
+    let t = c .before .before .before .before .before .before .before in
+    let a = t .args in
+    let stop = was-refused chainEndOf _ (sym (c .before .before .before .chain-end .ensures)
+    ∙ ap chainAnswer (c .before .enum-told .given .1)) in
+    let bad = was-unsound _ stop in
+    c .refuse-drop .ensures (a .body .now) (a .heads .now) _
+    (drop-no (book t) (a .key) (Extent (a .last))
+    (content-no-pages (seen (book t .space)) (a .last) (bad .1)))
+
+release-chain-requires : tie.Need-release-chain-requires
+release-chain-requires c κs = let d = c .before .before in (walked d .0 .offs, left d)
+
+accept-drop-requires : tie.Need-accept-drop-requires
+accept-drop-requires c κs = search needs
+
+same-length-2 : tie.Need-same-length-2
+same-length-2 c = search needs
+
+same-length-3 : tie.Need-same-length-3
+same-length-3 c = search needs
+
+returns-2 : tie.Need-returns-2
+returns-2 c =
+    let done = c .before .before .accept-drop in
+    let r = c .before .before .before .before .before .before in
+    let d = r .before .before .before in
+    let t = at d in
+    let a = t .args in
+    let k = walked d in
+    does-same
+    (drop-yes (book t) (a .key) (Extent (a .last)) (inPages (k .0)) (end d .length)
+    (spaceOf (r .release-chain .last .0) (r .release-chain .result))
+    (content-pages (seen (book t .space)) (a .last) (k .0) (k .1)) (ap (λ (x : ChainEndOf). x .length) (k .2))
+    (r .release-chain .ensures (k .0 .offs) (left d)))
+    (done .ensures (book t) (r .release-chain .last .0) refl)
+
+pub drop-chain-spec : {M : Type 1} → statement M
+drop-chain-spec =
+    tie.close
+    (tie.spec
+    chain-end-requires
+    enum-known-end
+    enum-told
+    refuse-drop-requires
+    same-length
+    returns
+    release-chain-requires
+    accept-drop-requires
+    same-length-2
+    same-length-3
+    returns-2)

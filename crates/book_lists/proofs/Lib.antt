@@ -1,3 +1,0 @@
-pub mod LawsLoad
-pub mod LawsDrop
-pub mod LawsRead

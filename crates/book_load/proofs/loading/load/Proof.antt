@@ -1,0 +1,230 @@
+-- `load` meets its contract, test by test. Assumes nothing.
+use Prim.Native.Nat.{ℕ, _^_, _≤_, _<_}
+use mathlib.Core.Bool.{true, false}
+use mathlib.Core.List.{List}
+use mathlib.Core.Path.{_≡_, sym, ap, _∙_}
+use native.Mathlib.Omega.{arith}
+use borrow.Author.Needs.{needs}
+use lib.ListN.{length}
+use Rattle.error.specs.Refusal.{Answer, accepted}
+use Rattle.error.proofs.LawsAnswer.{accepted-inj}
+use Rattle.scripthash_stream.specs.Stream.{Rising, streamLen, maxOffered}
+use Rattle.scripthash_stream.specs.Answers.{bytesAnswer}
+use Rattle.book_rules.proofs.LawsOffered.{offered-all}
+use Rattle.book_space.specs.Space.{shapeBroken}
+use Rattle.book_space.specs.Answers.{spaceOf}
+use Rattle.book_space.proofs.LawsShape.{shape-holds}
+use Rattle.book.specs.Book.{Book, Outcome, wordOf}
+use Rattle.book_load.specs.Loads.{loads}
+use Rattle.book.specs.Answers.{bookOf}
+use Rattle.book.proofs.LawsPlace.{refused-as}
+use Rattle.book_load.proofs.LawsLoad.{ends-refused, loads-shape, loads-beyond, loads-in-use, loads-too-many, loads-offered}
+use Rattle.book_load.proofs.LawsLoad.{loads-on}
+use Rattle.book_load.proofs.loading.load.Statement.{statement}
+use Rattle.book_load.proofs.loading.load.Tie as tie
+
+-- the book before, the key, the list, and what the load comes to
+module _ (c : tie.Start) where
+  abbrev book : Book
+  book = bookOf (c .args .body .now) (c .args .heads .now) (c .args .state)
+
+  abbrev key : ℕ
+  key = c .args .key
+
+  abbrev list : List ℕ
+  list = c .args .fks .now
+
+  abbrev load : Answer Outcome
+  load = loads book key list
+
+-- the book is in shape
+module _ (t : tie.Else1) where
+  abbrev start : tie.Start
+  start = t .before .before .before .before .before .before
+
+  good : shapeBroken (book start .space) (length (book start .heads)) ≡ false
+  good = sym (t .before .shape-broken .ensures) ∙ t .if1 .left
+
+-- the key is one of the heads
+module _ (t : tie.Else2) where
+  known : key (start (t .before)) < length (book (start (t .before)) .heads)
+  known = omega (arith, t .if2 .left)
+
+-- the key is empty
+module _ (t : tie.Else3) where
+  abbrev shaped : tie.Else1
+  shaped = t .before .before .before
+
+  empty : wordOf (key (start shaped)) (book (start shaped)) ≡ 0
+  empty = t .if3 .left
+
+-- the numbers aren't too many
+module _ (t : tie.Else4) where
+  abbrev begin : tie.Start
+  begin = start (shaped (t .before))
+
+  few : length (list begin) ≤ maxOffered
+  few = omega (arith, t .if4 .left)
+
+-- the list was judged
+module _ (k : tie.After-judged) where
+  abbrev listed : tie.Else4
+  listed = k .before .before .before
+
+  judged : Rising (2 ^ 62) 0 (list (begin listed)) × (accepted (streamLen (list (begin listed))) ≡ accepted (k .judged .given .0 .0))
+  judged =
+      let ns = list (begin listed) in
+      offered-all true 0 ns (accepted (streamLen ns)) (sym (k .before .before .judge-list .ensures) ∙ ap bytesAnswer (k .judged .given .1))
+
+shape-broken-requires : tie.Need-shape-broken-requires
+shape-broken-requires c κs = search needs
+
+refuse-load-requires : tie.Need-refuse-load-requires
+refuse-load-requires c κs = search needs
+
+same-length : tie.Need-same-length
+same-length c = search needs
+
+returns : tie.Need-returns
+returns c =
+    let t = c .before .before in
+    let s = t .before .before .before .before .before in
+    let e = ends-refused (book s) (load s) _ _ (loads-shape (book s) (key s) (list s) (sym (t .shape-broken .ensures)
+    ∙ c .before .if1 .taken))
+    (c .refuse-load .ensures .0) (ap (spaceOf (s .args .body .now)) (c .refuse-load .ensures .1)) in
+    (e .told, e .left)
+
+refuse-load-requires-2 : tie.Need-refuse-load-requires-2
+refuse-load-requires-2 c κs = search needs
+
+same-length-2 : tie.Need-same-length-2
+same-length-2 c = search needs
+
+returns-2 : tie.Need-returns-2
+returns-2 c =
+    let t = c .before .before in
+    let s = start t in
+    let e = ends-refused (book s) (load s) _ _ (loads-beyond (book s) (key s) (list s) (good t) (c .before .if2 .taken))
+    (c .refuse-load2 .ensures .0) (ap (spaceOf (s .args .body .now)) (c .refuse-load2 .ensures .1)) in
+    (e .told, e .left)
+
+mul-if3 : tie.Need-mul-if3
+mul-if3 c = search needs
+
+slice-read-if3 : tie.Need-slice-read-if3
+slice-read-if3 c = search needs
+
+refuse-load-requires-3 : tie.Need-refuse-load-requires-3
+refuse-load-requires-3 c κs = search needs
+
+same-length-3 : tie.Need-same-length-3
+same-length-3 c = search needs
+
+returns-3 : tie.Need-returns-3
+returns-3 c =
+    let t = c .before .before .before in
+    let s = start (t .before) in
+    let e = ends-refused (book s) (load s) _ _ (loads-in-use (book s) (key s) (list s) (good (t .before)) (known t) (c .before .if3 .taken))
+    (c .refuse-load3 .ensures .0) (ap (spaceOf (s .args .body .now)) (c .refuse-load3 .ensures .1)) in
+    (e .told, e .left)
+
+refuse-load-requires-4 : tie.Need-refuse-load-requires-4
+refuse-load-requires-4 c κs = search needs
+
+same-length-4 : tie.Need-same-length-4
+same-length-4 c = search needs
+
+returns-4 : tie.Need-returns-4
+returns-4 c =
+    let t = c .before .before in
+    let s = start (shaped t) in
+    let e = ends-refused (book s) (load s) _ _
+    (loads-too-many (book s) (key s) (list s) (good (shaped t)) (known (t .before .before)) (empty t) (c .before .if4 .taken))
+    (c .refuse-load4 .ensures .0) (ap (spaceOf (s .args .body .now)) (c .refuse-load4 .ensures .1)) in
+    (e .told, e .left)
+
+judge-list-requires : tie.Need-judge-list-requires
+judge-list-requires c κs = search needs
+
+enum-known-judged : tie.Need-enum-known-judged
+enum-known-judged c = search needs
+
+enum-told : tie.Need-enum-told
+enum-told c = search needs
+
+refusal-requires : tie.Need-refusal-requires
+refusal-requires c κs = search needs
+
+refuse-load-requires-5 : tie.Need-refuse-load-requires-5
+refuse-load-requires-5 c κs = search needs
+
+same-length-5 : tie.Need-same-length-5
+same-length-5 c = search needs
+
+returns-5 : tie.Need-returns-5
+returns-5 c =
+    let told = c .before .before in
+    let j = told .before .before in
+    let t = j .before in
+    let s = begin t in
+    let number = refused-as _ _ (ap bytesAnswer (told .enum-told .given .1)) (c .before .refusal .ensures) in
+    let e = ends-refused (book s) (load s) _ _
+    (loads-offered (book s) (key s) (list s) (good (shaped (t .before))) (known (t .before .before .before)) (empty (t .before)) (few t)
+    (sym (j .judge-list .ensures) ∙ number))
+    (c .refuse-load5 .ensures .0) (ap (spaceOf (s .args .body .now)) (c .refuse-load5 .ensures .1)) in
+    (e .told, e .left)
+
+load-judged-requires : tie.Need-load-judged-requires
+load-judged-requires c κs =
+    let k = c .before .before .before in
+    let t = listed k in
+    let s = begin t in
+    let shape = shape-holds (book s .space) (length (book s .heads)) (good (shaped (t .before))) in
+    (shape .0, known (t .before .before .before), record { rises = judged k .0; few = few t }, sym (accepted-inj (judged k .1)))
+
+same-length-6 : tie.Need-same-length-6
+same-length-6 c = search needs
+
+same-length-7 : tie.Need-same-length-7
+same-length-7 c = search needs
+
+returns-6 : tie.Need-returns-6
+returns-6 c =
+    let p = c .before .before .before .before in
+    let k = p .before .before .before .before in
+    let t = listed k in
+    let s = begin t in
+    let e = p .load-judged .ensures in
+    rw (loads-on (book s) (key s) (list s) (good (shaped (t .before))) (known (t .before .before .before)) (empty (t .before)) (few t)
+    (judged k .0)) (e .told, e .left)
+
+pub load-spec : {M : Type 1} → statement M
+load-spec =
+    tie.close
+    (tie.spec
+    shape-broken-requires
+    refuse-load-requires
+    same-length
+    returns
+    refuse-load-requires-2
+    same-length-2
+    returns-2
+    mul-if3
+    slice-read-if3
+    refuse-load-requires-3
+    same-length-3
+    returns-3
+    refuse-load-requires-4
+    same-length-4
+    returns-4
+    judge-list-requires
+    enum-known-judged
+    enum-told
+    refusal-requires
+    refuse-load-requires-5
+    same-length-5
+    returns-5
+    load-judged-requires
+    same-length-6
+    same-length-7
+    returns-6)

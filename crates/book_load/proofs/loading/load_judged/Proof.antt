@@ -1,0 +1,78 @@
+-- `load_judged` meets its contract: the list's length decides. Assumes nothing.
+use Prim.Native.Nat.{ℕ}
+use mathlib.Core.List.{List}
+use mathlib.Core.Path.{ap}
+use native.Mathlib.Omega.{arith}
+use borrow.Author.Needs.{needs}
+use lib.ListN.{getD}
+use Rattle.scripthash_layout.specs.declared.head.ShHeadValue.the-variants.{Inline}
+use Rattle.book_space.specs.Answers.{spaceOf}
+use Rattle.book.specs.Book.{Book}
+use Rattle.book.specs.Answers.{bookOf}
+use Rattle.book_load.proofs.LawsLoad.{ends-same, ends-loaded, load-none, load-one, load-more}
+use Rattle.book_load.proofs.loading.load_judged.Statement.{statement}
+use Rattle.book_load.proofs.loading.load_judged.Tie as tie
+
+-- the book before, and the list
+module _ (c : tie.Start) where
+  abbrev book : Book
+  book = bookOf (c .args .body .now) (c .args .heads .now) (c .args .state)
+
+  abbrev list : List ℕ
+  list = c .args .fks .now
+
+returns : tie.Need-returns
+returns c = let s = c .before .before .before .before in ends-same (book s) _ (load-none (book s) (s .args .key) (list s) (c .if1 .taken))
+
+shared-slice-read-entry : tie.Need-shared-slice-read-entry
+shared-slice-read-entry c = search needs
+
+accept-load-requires : tie.Need-accept-load-requires
+accept-load-requires c κs = search needs
+
+same-length : tie.Need-same-length
+same-length c = search needs
+
+returns-2 : tie.Need-returns-2
+returns-2 c =
+    let a = c .before .before in
+    let one = a .before .before .before in
+    let s = one .before .before .before .before .before in
+    let key = s .args .key in
+    let accept = a .accept-load .ensures in
+    ends-loaded (book s) _ _ _ key (Inline (getD (list s) 0 0) 1) 0 (a .accept-load .last .0)
+    (load-one (book s) key (list s) (one .if2 .taken)) (accept .0) (accept .1 .1)
+    (ap (spaceOf (s .args .body .now)) (accept .1 .0))
+
+load-list-requires : tie.Need-load-list-requires
+load-list-requires c κs =
+    let more = c .before .before in
+    let pre = more .before .before .before .before .before .pre in
+    (pre .0, pre .1, omega (arith, more .if2 .left, more .before .if1 .left), pre .2, pre .3)
+
+same-length-2 : tie.Need-same-length-2
+same-length-2 c = search needs
+
+same-length-3 : tie.Need-same-length-3
+same-length-3 c = search needs
+
+returns-3 : tie.Need-returns-3
+returns-3 c =
+    let p = c .before .before .before .before in
+    let more = p .before .before .before in
+    let s = more .before .before .before .before .before in
+    rw (load-more (book s) (s .args .key) (list s) (omega (arith, more .if2 .left, more .before .if1 .left))) (p .load-list .ensures)
+
+pub load-judged-spec : {M : Type 1} → statement M
+load-judged-spec =
+    tie.close
+    (tie.spec
+    returns
+    shared-slice-read-entry
+    accept-load-requires
+    same-length
+    returns-2
+    load-list-requires
+    same-length-2
+    same-length-3
+    returns-3)

@@ -1,0 +1,145 @@
+-- `load_parts` meets its contract: what taking the run tells decides. Assumes nothing.
+use Prim.Native.Nat.{ℕ, _≤_}
+use mathlib.Core.List.{List}
+use mathlib.Core.Path.{_≡_, sym, ap, _∙_}
+use native.Mathlib.Omega.{arith}
+use borrow.Author.Needs.{needs}
+use lib.ListN.{length}
+use Rattle.error.specs.Refusal.{accepted}
+use Rattle.scripthash_layout.specs.declared.head.ShHeadValue.the-variants.{Extent}
+use Rattle.book_blocks.specs.Steps.{Run}
+use Rattle.book_blocks.proofs.LawsWrites.{run-start}
+use Rattle.book_space.specs.Space.{Space, space, takeRun}
+use Rattle.book_space.specs.Answers.{spaceOf, takeAnswer}
+use Rattle.book.specs.Book.{Book}
+use Rattle.book_load.specs.Loads.{lastOfRun}
+use Rattle.book.specs.Answers.{bookOf}
+use Rattle.book.proofs.LawsPlace.{refused-as, took-at, took-none}
+use Rattle.book_load.proofs.LawsLoad.{ends-refused, ends-loaded, parts-few, run-loaded, run-not-loaded, run-lies}
+use Rattle.book_load.proofs.loading.load_parts.Statement.{statement}
+use Rattle.book_load.proofs.loading.load_parts.Tie as tie
+
+-- the book before, its list with the ranges of its parts, and the space after taking
+module _ (t : tie.After-take-run) where
+  abbrev start : tie.Start
+  start = t .before .before .before .before .before
+
+  abbrev book : Book
+  book = bookOf (start .args .body .now) (start .args .heads .now) (start .args .state)
+
+  abbrev list : List ℕ
+  list = start .args .fks .now
+
+  abbrev ranges : List (List ℕ)
+  ranges = start .args .ranges .now
+
+  abbrev count : ℕ
+  count = start .args .count
+
+  abbrev after : Space
+  after = spaceOf (t .take-run .last .0) (t .take-run .result .state)
+
+-- a run was taken, and can be written
+module _ (k : tie.After-known-told) where
+  abbrev taking : tie.After-take-run
+  taking = k .before .before .before .before .before .before
+
+  abbrev off : ℕ
+  off = k .before .answer .given .0 .0
+
+  took : takeRun (count taking) (book taking .space) ≡ accepted (record { off = off; space = after taking })
+  took =
+      let told = taking .take-run .ensures in
+      took-at (book taking .space) (after taking) _ (told .1) (sym (told .0) ∙ ap takeAnswer (k .before .answer .given .1))
+
+  lies : Run (length (after taking .body)) off (list taking) (ranges taking) (count taking)
+  lies =
+      let pre = start taking .pre in
+      run-lies (book taking .space) (after taking) (list taking) (ranges taking) (count taking) off (pre .0) (pre .2) took
+
+  some-pages : 1 ≤ count taking
+  some-pages = run-start (length (after taking .body)) off (list taking) (ranges taking) (count taking) lies .0
+
+take-run-requires : tie.Need-take-run-requires
+take-run-requires c κs =
+    let start = c .before .before .before .before in
+    (start .pre .0, omega (arith, start .pre .2 .parts, parts-few (start .args .fks .now) (start .pre .2 .judged)))
+
+enum-known-answer : tie.Need-enum-known-answer
+enum-known-answer c = search needs
+
+enum-told : tie.Need-enum-told
+enum-told c = search needs
+
+refusal-requires : tie.Need-refusal-requires
+refusal-requires c κs = search needs
+
+refuse-load-requires : tie.Need-refuse-load-requires
+refuse-load-requires c κs = search needs
+
+same-length : tie.Need-same-length
+same-length c = search needs
+
+returns : tie.Need-returns
+returns c =
+    let e = c .before .before in
+    let t = e .before .before .before .before .before in
+    let told = t .take-run .ensures in
+    let number = refused-as _ _ (ap takeAnswer (e .enum-told .given .1)) (c .before .refusal .ensures) in
+    let (is, same) = took-none (book t .space) (after t) _ (told .1) (sym (told .0) ∙ number) in
+    ends-refused (book t) _ _ _ (run-not-loaded (book t) (start t .args .key) (list t) (count t) (start t .pre .2 .parts) is)
+    (c .refuse-load .ensures .0)
+    (ap (spaceOf (t .take-run .last .0)) (c .refuse-load .ensures .1) ∙ same)
+
+put-run-requires : tie.Need-put-run-requires
+put-run-requires c κs = lies (c .before)
+
+sub-last-page : tie.Need-sub-last-page
+sub-last-page c = some-pages (c .before .before .before .before)
+
+mul-last-page : tie.Need-mul-last-page
+mul-last-page c = let run = lies (c .before .before .before .before) in omega (arith, run .inside, run .small)
+
+add-last-page : tie.Need-add-last-page
+add-last-page c = let run = lies (c .before .before .before .before) in omega (arith, run .inside, run .small)
+
+accept-load-requires : tie.Need-accept-load-requires
+accept-load-requires c κs = search needs
+
+same-length-2 : tie.Need-same-length-2
+same-length-2 c = search needs
+
+same-length-3 : tie.Need-same-length-3
+same-length-3 c = search needs
+
+returns-2 : tie.Need-returns-2
+returns-2 c =
+    let a = c .before .before in
+    let p = a .before .before .before .before in
+    let k = p .before .before in
+    let t = taking k in
+    let key = start t .args .key in
+    let accept = a .accept-load .ensures in
+    ends-loaded (book t) _ _ _ key (Extent (lastOfRun (off k) (count t))) (count t) (a .accept-load .last .0)
+    (run-loaded (book t) key (list t) (count t) (start t .pre .2 .parts) (after t) (took k)) (accept .0) (accept .1 .1)
+    (ap (spaceOf (p .put-run .last .0)) (accept .1 .0) ∙ ap (λ (b : List ℕ). space b (after t .mark) (after t .free)) (p .put-run .ensures))
+
+pub load-parts-spec : {M : Type 1} → statement M
+load-parts-spec =
+    tie.close
+    (tie.spec
+    take-run-requires
+    enum-known-answer
+    enum-told
+    refusal-requires
+    refuse-load-requires
+    same-length
+    returns
+    put-run-requires
+    sub-last-page
+    mul-last-page
+    add-last-page
+    accept-load-requires
+    same-length-2
+    same-length-3
+    returns-2)

@@ -1,0 +1,95 @@
+-- `load_slab` meets its contract: what placing the list tells decides. Assumes nothing.
+use Prim.Native.Nat.{ℕ}
+use mathlib.Core.List.{List}
+use mathlib.Core.Option.{some}
+use mathlib.Core.Path.{sym, ap, _∙_}
+use borrow.Author.Needs.{needs}
+use Rattle.book_space.specs.Space.{Space}
+use Rattle.book_space.specs.Answers.{spaceOf}
+use Rattle.book.specs.Book.{Book}
+use Rattle.book.specs.Answers.{bookOf}
+use Rattle.book.specs.Steps.{placesInto, placeAnswer}
+use Rattle.book.proofs.LawsPlace.{placed-at, placed-none}
+use Rattle.book_load.proofs.LawsLoad.{ends-refused, ends-loaded, slab-loaded, slab-not-loaded}
+use Rattle.book_load.proofs.loading.load_slab.Statement.{statement}
+use Rattle.book_load.proofs.loading.load_slab.Tie as tie
+
+-- the book before, and the space after placing
+module _ (t : tie.After-place-in-slab) where
+  abbrev start : tie.Start
+  start = t .before .before .before .before .before
+
+  abbrev book : Book
+  book = bookOf (start .args .body .now) (start .args .heads .now) (start .args .state)
+
+  abbrev list : List ℕ
+  list = start .args .fks .now
+
+  abbrev class : ℕ
+  class = start .args .class
+
+  abbrev after : Space
+  after = spaceOf (t .place-in-slab .last .0) (t .place-in-slab .result .state)
+
+place-in-slab-requires : tie.Need-place-in-slab-requires
+place-in-slab-requires c κs = search needs
+
+enum-known-answer : tie.Need-enum-known-answer
+enum-known-answer c = search needs
+
+accept-load-requires : tie.Need-accept-load-requires
+accept-load-requires c κs = search needs
+
+enum-known-answer-2 : tie.Need-enum-known-answer-2
+enum-known-answer-2 c = search needs
+
+refuse-load-requires : tie.Need-refuse-load-requires
+refuse-load-requires c κs = search needs
+
+same-length : tie.Need-same-length
+same-length c = search needs
+
+same-length-2 : tie.Need-same-length-2
+same-length-2 c = search needs
+
+returns : tie.Need-returns
+returns c =
+    let a = c .before .before in
+    let k = a .before .before .before in
+    let t = k .before .before .before .before .before in
+    let told = t .place-in-slab .ensures in
+    let placed = placed-at (book t .space) (after t) (placesInto (book t .space) (list t) (some (class t))) (told .1) (sym (told .0)
+    ∙ ap placeAnswer (k .answer .given .1)) in
+    let accept = a .accept-load .ensures in
+    let key = start t .args .key in
+    ends-loaded (book t) _ _ _ key (k .answer .given .0 .0) 0 (a .accept-load .last .0) (slab-loaded (book t) key (list t) (class t) placed)
+    (accept .0) (accept .1 .1)
+    (ap (spaceOf (t .place-in-slab .last .0)) (accept .1 .0))
+
+same-length-3 : tie.Need-same-length-3
+same-length-3 c = search needs
+
+returns-2 : tie.Need-returns-2
+returns-2 c =
+    let k = c .before .before in
+    let t = k .before .before .before .before .before in
+    let told = t .place-in-slab .ensures in
+    let (is, same) = placed-none (book t .space) (after t) (placesInto (book t .space) (list t) (some (class t))) (told .1) (sym (told .0)
+    ∙ ap placeAnswer (k .answer2 .given .1)) in
+    ends-refused (book t) _ _ _ (slab-not-loaded (book t) (start t .args .key) (list t) (class t) is) (c .refuse-load .ensures .0)
+    (ap (spaceOf (t .place-in-slab .last .0)) (c .refuse-load .ensures .1) ∙ same)
+
+pub load-slab-spec : {M : Type 1} → statement M
+load-slab-spec =
+    tie.close
+    (tie.spec
+    place-in-slab-requires
+    enum-known-answer
+    accept-load-requires
+    enum-known-answer-2
+    refuse-load-requires
+    same-length
+    same-length-2
+    returns
+    same-length-3
+    returns-2)

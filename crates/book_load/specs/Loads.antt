@@ -1,0 +1,51 @@
+-- A load over bytes (document 01, "Load"): a list onto an empty key.
+use Prim.Native.Nat.{ℕ, _+_, _-_, _*_}
+use mathlib.Core.Bool.{true, not}
+use mathlib.Core.List.{List, [], _∷_}
+use mathlib.Core.Option.{Option, none, some}
+use lib.Dec.{ltb, eqb}
+use lib.ListN.{length}
+use Rattle.error.specs.Refusal.{Answer, accepted, refuseIf, andThen, keyInUse, tooManyOffered}
+use Rattle.scripthash_layout.specs.Sizes.{pageSize}
+use Rattle.scripthash_layout.specs.declared.head.ShHeadValue.{ShHeadValue}
+use Rattle.scripthash_layout.specs.declared.head.ShHeadValue.the-variants.{Inline, Slab, Extent}
+use Rattle.scripthash_stream.specs.Stream.{maxOffered, streamLen}
+use Rattle.scripthash_slabs.specs.Slab.{slabPayload}
+use Rattle.scripthash_cutting.specs.Cutting.{cutting}
+use Rattle.book_rules.specs.Outcomes.{loaded}
+use Rattle.book_rules.specs.Offered.{offeredList}
+use Rattle.book_rules.specs.Places.{loadsTo}
+use Rattle.book_space.specs.Space.{Space, space, takeBlock, takeRun}
+use Rattle.book_blocks.specs.Blocks.{writeRun}
+use Rattle.book.specs.Book.{Book, Outcome, wordOf, onKey, placing, filled}
+
+-- What a load leaves: the key's place, and the pages of its run.
+abbrev pub loading : ℕ → ShHeadValue → ℕ → Space → Book → Outcome
+loading key place pages s b = placing (loaded (record { pages = pages })) key place s b
+
+-- The offset of the last of so many pages from an offset on.
+abbrev pub lastOfRun : ℕ → ℕ → ℕ
+lastOfRun off pages = off + (pages - 1) * pageSize
+
+-- A list of two or more goes into a taken slab of a class, or else into a run of pages, a part of its cutting in each.
+unfoldable pub loadInto : Book → ℕ → List ℕ → Option ℕ → Answer Outcome
+loadInto b key ns (some class) =
+    andThen (takeBlock class (b .space)) (λ t. accepted (loading key (Slab class (length ns) (t .off)) 0 (filled t (slabPayload ns)) b))
+loadInto b key ns none =
+    let count = length (cutting ns) in
+    andThen (takeRun count (b .space))
+    (λ t. accepted (loading key (Extent (lastOfRun (t .off) count)) count
+    (space (writeRun (t .off) count (length ns) (t .space .body) (t .off) (cutting ns)) (t .space .mark) (t .space .free)) b))
+
+-- A load of a list onto an empty key: none changes nothing, and one goes into the head word.
+unfoldable pub loadAt : Book → ℕ → List ℕ → Answer Outcome
+loadAt b key [] = accepted (record { told = loaded (record { pages = 0 }); book = b })
+loadAt b key (n ∷ []) = accepted (loading key (Inline n 1) 0 (b .space) b)
+loadAt b key (n ∷ m ∷ ns) = loadInto b key (n ∷ m ∷ ns) (loadsTo (length (n ∷ m ∷ ns)) (streamLen (n ∷ m ∷ ns)))
+
+-- A load of a list onto a key.
+unfoldable pub loads : Book → ℕ → List ℕ → Answer Outcome
+loads b key ns =
+    onKey b key
+    (refuseIf (not (eqb (wordOf key b) 0)) keyInUse
+    (refuseIf (ltb maxOffered (length ns)) tooManyOffered (offeredList true 0 ns (loadAt b key ns))))

@@ -1,0 +1,7 @@
+// Loading a list onto an empty key (document 01, "Load"). Nothing is allocated, and a refused load leaves everything as it was.
+mod answers;
+mod loading;
+
+pub use answers::AfterLoad;
+pub use answers::BookLoad;
+pub use loading::load;

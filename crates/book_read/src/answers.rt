@@ -1,0 +1,26 @@
+// What a read answers.
+ghost use mathlib.Core.Path.{_≡_};
+ghost use Rattle.error.specs.Refusal.{refusalOf};
+ghost use Rattle.book_read.specs.Answers.{readAnswer};
+use error::Refusal;
+
+// What a read answers: how many numbers the lent list has at its start now, and the pages walked.
+pub enum BookRead {
+    Listed { length: u64, pages: u64 },
+    Refused(Refusal),
+}
+
+impl BookRead {
+    // The refusal's number, and 0 of another answer.
+    pub fn refusal(self) -> Refusal
+        ensures { λ r. ⌜ r ≡ refusalOf (readAnswer self) ⌝ }
+    {
+        match self {
+            BookRead::Listed {
+                length: _,
+                pages: _,
+            } => 0,
+            BookRead::Refused(number) => number,
+        }
+    }
+}

@@ -1,0 +1,2 @@
+pub mod LawsCalls
+pub mod Examples

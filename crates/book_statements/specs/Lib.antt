@@ -1,0 +1,4 @@
+pub mod Calls
+pub mod Recorded
+pub mod Licence
+pub mod Moves
