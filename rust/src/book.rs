@@ -5,6 +5,9 @@ use crate::limits::{
 use crate::{answer, codec, sys, Refusal};
 use std::fmt;
 
+/// For how many numbers a read takes room by fields that nothing has judged: half a MiB.
+const MOST_GUESSED: usize = 65_536;
+
 /// A book's state: the mark, up to which the body was ever used, and for each of the classes 0 to 8 the offset of its first freed block.
 ///
 /// It belongs to the body and the head words of the same moment: keep, store and restore the three together.
@@ -305,7 +308,20 @@ impl<B: AsRef<[u8]>, H: AsRef<[u64]>> Book<B, H> {
     ///
     /// [`Refusal::ShapeBad`], [`Refusal::KeyBeyond`] and [`Refusal::KeyUnsound`]. None of them says that the account is empty.
     pub fn read(&self, key: u64) -> Result<Vec<u64>, Refusal> {
-        self.read_with(key, self.likely_length(key))
+        let likely = self.likely_length(key);
+        if likely > MOST_GUESSED {
+            self.judge_key(key)?;
+        }
+        self.read_with(key, likely)
+    }
+
+    /// Judges an account by a read that lends no room: of a sound account with a list it is refused for that alone, since of several refusals
+    /// the smallest is given. The total in a sound account's last page is its length, or 0.
+    fn judge_key(&self, key: u64) -> Result<(), Refusal> {
+        match self.read_into(key, &mut []) {
+            Ok(_) | Err(Refusal::ListTooShort) => Ok(()),
+            Err(refusal) => Err(refusal),
+        }
     }
 
     /// The list of an account, with room for so many numbers at first. Each number takes at least a byte of the body.
