@@ -3,7 +3,7 @@
 //!
 //! `cargo run --example shop FILE`: FILE is written and read back. examples/c/shop.c tells the same story and prints the same lines.
 use ouriscado::limits::STATE_WORDS;
-use ouriscado::{Appended, Book, Listed, Place, Refusal, StartError, State};
+use ouriscado::{Appended, Book, Listed, OpenError, Place, Refusal, StartError, State};
 use std::error::Error;
 use std::fs;
 
@@ -98,8 +98,8 @@ fn read_back(path: &str) -> Result<Parts, Box<dyn Error>> {
 /// Goes on with a book from elsewhere, and tells whether it did: it is enquired only where it is a good start.
 fn go_on((body, heads, state): Parts) -> Result<bool, Refusal> {
     let book = match Book::open(body, heads, state) {
-        Err(StartError::Refused(refusal)) => return Err(refusal),
-        Err(why) => {
+        Err(OpenError { why: StartError::Refused(refusal), .. }) => return Err(refusal),
+        Err(OpenError { why, .. }) => {
             println!("the book isn't opened: {why}");
             return Ok(false);
         }

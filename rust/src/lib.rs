@@ -26,19 +26,28 @@
 //! [`sys`] the functions as the library defines them.
 //!
 //! The library, `libouriscado.a`, is for x86-64; the build says which command writes it where it is missing.
+#![no_std]
 #![warn(missing_docs)]
+extern crate alloc;
+
 #[cfg(not(all(target_arch = "x86_64", target_os = "linux")))]
 compile_error!("libouriscado.a is for x86-64 Linux");
 
 mod book;
 pub mod codec;
 pub mod limits;
+mod place;
 mod refusal;
+mod start;
 #[rustfmt::skip] // made
 pub mod sys;
+mod walk;
 
-pub use book::{Appended, Book, Listed, Place, Places, StartError, State};
+pub use book::{Appended, Book, Listed, State};
+pub use place::Place;
 pub use refusal::Refusal;
+pub use start::{OpenError, StartError};
+pub use walk::{Lists, Places};
 
 impl Refusal {
     /// The refusal of a number that the library answered: none of 0, which is no refusal, and [`Refusal::Unknown`] of one without a name.
@@ -63,13 +72,13 @@ impl Refusal {
 /// ```
 /// assert_eq!(ouriscado::Refusal::ListTooShort.to_string(), "the lent list is too short (34)");
 /// ```
-impl std::fmt::Display for Refusal {
-    fn fmt(&self, f: &mut std::fmt::Formatter<'_>) -> std::fmt::Result {
+impl core::fmt::Display for Refusal {
+    fn fmt(&self, f: &mut core::fmt::Formatter<'_>) -> core::fmt::Result {
         write!(f, "{} ({})", self.text(), self.number())
     }
 }
 
-impl std::error::Error for Refusal {}
+impl core::error::Error for Refusal {}
 
 /// The example of the package's readme.
 #[cfg(doctest)]
