@@ -2,7 +2,7 @@
 use crate::{Refusal, State};
 use core::fmt;
 
-/// Why a body, head words and a state are no good start of a book: the first fault that [`Book::check`] meets. Accounts are judged first,
+/// Why a body, head words and a state are no good start of a book: the first fault that [`Book::check`](crate::Book::check) meets. Accounts are judged first,
 /// keys rising, then the lists of freed blocks, classes rising.
 #[derive(Clone, Copy, Debug, PartialEq, Eq, Hash)]
 #[non_exhaustive]
