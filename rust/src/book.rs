@@ -69,8 +69,8 @@ pub struct Listed {
 /// ```
 #[derive(Clone, PartialEq, Eq)]
 pub struct Book<B, H> {
-    body: B,
-    heads: H,
+    pub(crate) body: B,
+    pub(crate) heads: H,
     state: State,
 }
 
@@ -359,7 +359,7 @@ impl<B: AsRef<[u8]> + AsMut<[u8]>, H: AsRef<[u64]> + AsMut<[u64]>> Book<B, H> {
     /// [`MOST_LOADED`](crate::limits::MOST_LOADED) numbers; [`Refusal::OfferedFirstZero`], [`Refusal::OfferedBit63`],
     /// [`Refusal::OfferedTooLarge`] and [`Refusal::OfferedNotRising`] where the numbers are no rising list from 1 to
     /// [`MOST_NUMBER`](crate::limits::MOST_NUMBER); [`Refusal::FreeHeadBad`] where a free head or freed
-    /// block is damaged; [`Refusal::NoRoom`].
+    /// block is damaged; [`Refusal::NoRoom`], until the book [grows](Book::grow).
     pub fn load(&mut self, key: u64, numbers: &[u64]) -> Result<u64, Refusal> {
         let mut pages = 0;
         let number = sys::book_load(self.body.as_mut(), self.heads.as_mut(), &mut self.state.0, key, numbers, &mut pages);
@@ -384,7 +384,7 @@ impl<B: AsRef<[u8]> + AsMut<[u8]>, H: AsRef<[u64]> + AsMut<[u64]>> Book<B, H> {
     /// [`Refusal::ShapeBad`]; [`Refusal::KeyBeyond`]; [`Refusal::OfferedFirstZero`], [`Refusal::OfferedBit63`] and
     /// [`Refusal::OfferedTooLarge`] where the number is none from 1 to [`MOST_NUMBER`](crate::limits::MOST_NUMBER);
     /// [`Refusal::KeyUnsound`]; [`Refusal::OfferedNotRising`] where it isn't above the account's last; [`Refusal::FreeHeadBad`] where a
-    /// free head or freed block is damaged; [`Refusal::NoRoom`].
+    /// free head or freed block is damaged; [`Refusal::NoRoom`], until the book [grows](Book::grow).
     pub fn append(&mut self, key: u64, number: u64) -> Result<Appended, Refusal> {
         let (mut kind, mut class, mut used, mut place, mut rewritten) = (0, 0, 0, 0, 0);
         let (body, heads, state) = (self.body.as_mut(), self.heads.as_mut(), &mut self.state.0);

@@ -35,6 +35,7 @@ compile_error!("libouriscado.a is for x86-64 Linux");
 
 mod book;
 pub mod codec;
+mod growing;
 pub mod limits;
 mod place;
 mod refusal;
