@@ -22,10 +22,11 @@
 //! A refused call has changed nothing, and its [`Refusal`] says why. The library allocates nothing; [`Book::read`] allocates its list, and
 //! [`Book::open`] and [`Book::check`] a work list while they judge. The proof is of the library's functions; this crate, which lends them
 //! its slices, is tested.
-//! Modules: [`codec`] has the ported functions on single head words, slabs, pages and free lists, [`limits`] the sizes and limits, and
-//! [`sys`] the functions as the library defines them.
+//! Modules: [`cookbook`] has snippets for what programs do with a book, [`codec`] the ported functions on single head words, slabs, pages and
+//! free lists, [`limits`] the sizes and limits, and [`sys`] the functions as the library defines them.
 //!
-//! The library, `libouriscado.a`, is for x86-64; the build says which command writes it where it is missing.
+//! The library, `libouriscado.a`, is for x86-64; the build says which command writes it where it is missing. The crate needs `core` and
+//! `alloc` alone.
 #![no_std]
 #![warn(missing_docs)]
 extern crate alloc;
@@ -35,6 +36,8 @@ compile_error!("libouriscado.a is for x86-64 Linux");
 
 mod book;
 pub mod codec;
+#[doc = include_str!("../COOKBOOK.md")]
+pub mod cookbook {}
 mod growing;
 pub mod limits;
 mod place;
