@@ -36,7 +36,8 @@ class Library:
         found = subprocess.run([root / "tools" / "library"], stdout=subprocess.PIPE, text=True)
         if found.returncode:
             raise Wrong("there is no library to read by")
-        archive = Path(found.stdout.strip()) / "libouriscado.a"
+        self.folder = Path(found.stdout.strip())
+        archive = self.folder / "libouriscado.a"
         shared = root / "target" / "bodymap" / "libouriscado.so"
         if not shared.exists() or shared.stat().st_mtime <= archive.stat().st_mtime:
             shared.parent.mkdir(parents=True, exist_ok=True)
