@@ -24,6 +24,11 @@
    others: go on from a copy of an earlier moment then. A head word that was lost, so that it became 0, reads
    as an account for which nothing is recorded.
 
+   A book can grow: one that began fresh, or that ouriscado_book_check found good, is a good book with the same
+   lists when it is lent a longer body, with whole pages behind it that may hold anything, or more heads, with
+   words of 0 behind them, within the limits (this is proved). So a call that was refused for lack of room
+   (OURISCADO_NO_ROOM) is made again with the longer body and the same state.
+
    There are six calls:
 
        ouriscado_book_fresh     makes a book in which nothing is recorded
@@ -74,9 +79,11 @@
    numbers of a list. Offsets count bytes from the start of the body. Integers that stand in a body have their
    lowest byte first. A parameter class_ is a class; class is a word of C++. All memory is yours. Nothing is
    allocated, no pointer is kept after the call, and there are no files, locks or clocks. A pointer may be
-   null only where it is that of a slice of length 0. What two parameters of one call point to must not
-   overlap (heads must not lie in the body, say), and a pointer to a number must be aligned for it, as in any
-   C program.
+   null only where it is that of a slice of length 0. A pointer that a number goes out through may not, also
+   where you don't want the number: to the proved functions it is a reference, of which there is no null, and
+   what they promise says what every such number is afterwards. Lend a variable that you don't look at. What
+   two parameters of one call point to must not overlap (heads must not lie in the body, say), and a pointer
+   to a number must be aligned for it, as in any C program.
 
    THREADS
 
@@ -103,11 +110,16 @@
 extern "C" {
 #endif
 
-/* The version of this header, as numbers and as text. */
+/* The version of this header, as numbers and as text. The archive is of the version of the header that it was
+   installed with. */
 #define OURISCADO_VERSION_MAJOR 0
 #define OURISCADO_VERSION_MINOR 1
 #define OURISCADO_VERSION_PATCH 0
 #define OURISCADO_VERSION "0.1.0"
+static inline const char *ouriscado_version(void)
+{
+    return OURISCADO_VERSION;
+}
 
 /* Sizes and limits. */
 #define OURISCADO_STATE_WORDS               10 /* words of a state: the mark, then nine free heads */
@@ -158,48 +170,95 @@ extern "C" {
 enum ouriscado_refusal {
     /* No refusal: the call was accepted. */
     OURISCADO_ACCEPTED = 0,
-    /* The body's length, the count of head words or the mark is outside the limits.
+    /* The book's shape breaks its limits: the body's length, the count of head words or the mark is outside
+       of them.
        Operator: checks that body, head words and state belong together and are whole; restores all three. */
     OURISCADO_SHAPE_BAD = 1,
-    /* The key isn't below the count of head words.
+    /* The key is beyond the heads: it isn't below the count of head words.
        Operator: checks the account's index; if that is right, the head words that were lent are not all. */
     OURISCADO_KEY_BEYOND = 2,
-    /* A list is loaded onto a key whose head word isn't 0.
+    /* A load meets a key in use: its head word isn't 0.
        Operator: appends instead, or drops the key first. */
     OURISCADO_KEY_IN_USE = 3,
-    /* One call is offered over 65,535 numbers.
+    /* More than 65,535 numbers are offered in one call.
        Operator: loads the first 65,535 and appends the others. */
     OURISCADO_TOO_MANY_OFFERED = 10,
-    /* The number offered, or the first of a list, is 0.
+    /* The first or only number offered is 0.
        Operator: has the caller corrected: 0 stands for no record. */
     OURISCADO_OFFERED_FIRST_ZERO = 12,
-    /* A number offered is 2^63 or more.
+    /* A number offered has bit 63 set: it is 2^63 or more.
        Operator: has the caller corrected. */
     OURISCADO_OFFERED_BIT_63 = 13,
-    /* A number offered is 2^62 or more, and below 2^63.
+    /* A book is offered 2^62 or more, and below 2^63.
        Operator: has the caller corrected; a book can't hold it. */
     OURISCADO_OFFERED_TOO_LARGE = 14,
-    /* The key isn't sound.
-       Operator: takes the account for unknown and never for empty; restores body, head words and state of one
-       moment; finds out who else wrote them, which call was interrupted, or what was put together from two
-       moments. */
+    /* The key isn't sound: it is unknown, never taken for empty.
+       Operator: restores body, head words and state of one moment; finds out who else wrote them, which call
+       was interrupted, or what was put together from two moments. */
     OURISCADO_KEY_UNSOUND = 31,
-    /* A number is offered that doesn't rise above its predecessor, in the list, the key or the page.
+    /* A number offered isn't above the one before, in the list, the key or the page.
        Operator: reads the key: the number may be recorded already. */
     OURISCADO_OFFERED_NOT_RISING = 32,
-    /* The numbers or ranges to be answered are more than the lent list has room for, or the work list of a
-       check has fewer bytes than a sixteenth of the body's.
+    /* The lent list is too short: the numbers or ranges to be answered are more than it has room for, or the
+       work list of a check has fewer bytes than a sixteenth of the body's.
        Operator: asks again with a longer list. */
     OURISCADO_LIST_TOO_SHORT = 34,
-    /* A free head leads to no block: it is unaligned, or lies outside of 4,096 up to the mark; or such a
-       block is pushed, or such a gap carved.
+    /* A free head isn't a block of its class before the mark: it is unaligned, or lies outside of 4,096 up to
+       the mark; or such a block is pushed, or such a gap carved.
        Operator: the state or a freed block is damaged: restores as for 31; reads go on meanwhile. */
     OURISCADO_FREE_HEAD_BAD = 35,
-    /* A block, of which none is freed, or a run of pages would pass the body's end.
-       Operator: drops keys that are no longer needed, which frees blocks of their classes, or moves to a book
-       with a larger body. */
+    /* No room: the block or run would pass the body's end; a block goes there only where none of its class is
+       freed.
+       Operator: lends the same book a longer body, with whole pages behind it, and makes the call again;
+       where the body can't grow, drops keys that are no longer needed, which frees blocks of their
+       classes. */
     OURISCADO_NO_ROOM = 36,
 };
+
+/* What a refusal says, as a text that lasts as long as the program; also of the refusals of ouriscado_codec.h.
+   A number that this version has no refusal for gets a text that says so. */
+static inline const char *ouriscado_refusal_text(uint32_t refusal)
+{
+    switch (refusal) {
+    case 0: return "accepted";
+    case 1: return "the book's shape breaks its limits";
+    case 2: return "the key is beyond the heads";
+    case 3: return "a load meets a key in use";
+    case 4: return "a page buffer isn't 4,096 bytes";
+    case 5: return "a link offset isn't a multiple of 4,096";
+    case 6: return "a link index is 2^39 or more";
+    case 7: return "the first offset is asked of a page without LAST";
+    case 8: return "an extent count is 0";
+    case 9: return "an extent base is 0 or unaligned";
+    case 10: return "more than 65,535 numbers are offered";
+    case 11: return "a slab buffer is under 2 bytes";
+    case 12: return "the first or only number offered is 0";
+    case 13: return "a number offered has bit 63 set";
+    case 14: return "a book is offered 2^62 or more";
+    case 15: return "a page's count exceeds its capacity";
+    case 16: return "a page's version is above 2, or 0 with a count";
+    case 17: return "the bytes end before a ULEB128 form does";
+    case 18: return "a ULEB128 form overflows 64 bits";
+    case 20: return "a stored first number is 0";
+    case 21: return "a stored difference is 0";
+    case 22: return "a stored sum passes 2^64 - 1";
+    case 23: return "a stored number has bit 63 set";
+    case 24: return "an inline head has used other than 1";
+    case 25: return "an inline head exceeds 2^62 - 1";
+    case 26: return "a slab head has offset above 2^40 - 1 or class above 63";
+    case 27: return "an extent head is 0 or above 2^62 - 1";
+    case 28: return "a stored slab head has used 0 or 1";
+    case 29: return "a head word has mode 2";
+    case 30: return "a head word of mode 3 has offset 0";
+    case 31: return "the key isn't sound: it is unknown, never taken for empty";
+    case 32: return "a number offered isn't above the one before";
+    case 33: return "what is to be written doesn't fit its destination";
+    case 34: return "the lent list is too short";
+    case 35: return "a free head isn't a block of its class before the mark";
+    case 36: return "no room: the block or run would pass the body's end";
+    default: return "a refusal that this version doesn't know";
+    }
+}
 
 /* Makes a fresh book, in which every key is empty: all heads become 0, and state that of a book from which
    nothing was taken; the body isn't written. A book is these three: a body, whose length is a multiple of
@@ -237,6 +296,22 @@ uint32_t ouriscado_book_load(
    place is the number itself, or the offset in the body, in bytes, of the slab or of the last page. Hands out
    rewritten: how many numbers a move of the list wrote anew, 0 where it stayed. Refuses 1, 2, 12 to 14, 31,
    32, 35, 36.
+
+   WARNING: key and fk are two numbers of one type side by side, and no compiler tells where they were
+   exchanged: the call then records the key as a record of another account, and is accepted where both are
+   small. Give the two types of their own, once:
+
+       struct account { uint64_t key; };
+       struct record { uint64_t number; };
+
+       static uint32_t deposit(struct book *b, struct account to, struct record of)
+       {
+           uint8_t kind, class_;
+           uint16_t used;
+           uint64_t place, rewritten;
+           return ouriscado_book_append(b->body, b->body_len, b->heads, b->heads_len, b->state, to.key,
+                                        of.number, &kind, &class_, &used, &place, &rewritten);
+       }
 
    A number that isn't above the last is refused, so that no deposit stands in a list twice. When an append is
    refused with 36, the number is not recorded; keep it until there is room. In a book that began fresh or as

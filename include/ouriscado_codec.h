@@ -25,66 +25,66 @@ extern "C" {
    OURISCADO_OFFERED_FIRST_ZERO, OURISCADO_OFFERED_BIT_63, OURISCADO_OFFERED_NOT_RISING,
    OURISCADO_LIST_TOO_SHORT and OURISCADO_FREE_HEAD_BAD of ouriscado.h are met too. */
 enum ouriscado_codec_refusal {
-    /* A page buffer doesn't have 4,096 bytes.
+    /* A page buffer isn't 4,096 bytes.
        Operator: has the caller corrected. */
     OURISCADO_PAGE_LENGTH = 4,
-    /* An offset for a link is no multiple of 4,096.
+    /* A link offset isn't a multiple of 4,096.
        Operator: has the caller corrected. */
     OURISCADO_LINK_UNALIGNED = 5,
-    /* An offset for a link is 2^51 or more, so that its index needs more than 39 bits.
+    /* A link index is 2^39 or more: the offset is 2^51 or more.
        Operator: has the caller corrected. */
     OURISCADO_LINK_TOO_LARGE = 6,
-    /* A page that hasn't LAST is asked for its first page.
+    /* The first offset is asked of a page without LAST.
        Operator: asks the last page; if it was that, the page is damaged. */
     OURISCADO_NOT_LAST = 7,
-    /* An extent has no page: its count is 0.
+    /* An extent count is 0: the extent has no page.
        Operator: has the caller corrected; if it was stored, the page is damaged. */
     OURISCADO_EXTENT_COUNT_ZERO = 8,
-    /* An extent begins at 0, or at no multiple of 4,096.
+    /* An extent base is 0 or unaligned to 4,096.
        Operator: has the caller corrected; if it was stored, the page is damaged. */
     OURISCADO_EXTENT_BASE_BAD = 9,
-    /* A slab buffer has less than 2 bytes.
+    /* A slab buffer is under 2 bytes.
        Operator: has the caller corrected. */
     OURISCADO_SLAB_TOO_SHORT = 11,
-    /* A page's count is more than the bytes for its stream.
+    /* A page's count exceeds its capacity, the bytes for its stream.
        Operator: the page is damaged: restores it. */
     OURISCADO_COUNT_ABOVE_CAPACITY = 15,
     /* A page's version is above 2, or 0 with a count.
        Operator: the page is damaged: restores it. */
     OURISCADO_VERSION_BAD = 16,
-    /* The bytes end within a ULEB128 form.
+    /* The bytes end before a ULEB128 form does.
        Operator: the bytes are damaged, or fewer were given than there are. */
     OURISCADO_ULEB_CUT_SHORT = 17,
-    /* A ULEB128 form has more than 64 bits, or more than ten bytes.
+    /* A ULEB128 form overflows 64 bits, or has more than ten bytes.
        Operator: the bytes are damaged. */
     OURISCADO_ULEB_OVERFLOW = 18,
     /* 19: retired: a page's stream never passes its capacity, since 17 or 18 comes first; no refusal takes
        this number. */
-    /* A stream begins with 0.
+    /* A stored first number is 0.
        Operator: the bytes are damaged. */
     OURISCADO_STORED_FIRST_ZERO = 20,
-    /* A stored number equals the one before it.
+    /* A stored difference is 0: a number equals the one before it.
        Operator: the bytes are damaged. */
     OURISCADO_STORED_DIFFERENCE_ZERO = 21,
-    /* A stored number is 2^64 or more.
+    /* A stored sum passes 2^64 - 1.
        Operator: the bytes are damaged. */
     OURISCADO_STORED_SUM_OVERFLOW = 22,
-    /* A stored number is 2^63 or more.
+    /* A stored number has bit 63 set: it is 2^63 or more.
        Operator: the bytes are damaged. */
     OURISCADO_STORED_BIT_63 = 23,
-    /* The used of an inline head isn't 1.
+    /* An inline head has used other than 1.
        Operator: has the caller corrected. */
     OURISCADO_INLINE_USED_NOT_ONE = 24,
-    /* An inline number is 2^62 or more.
+    /* An inline head exceeds 2^62 - 1.
        Operator: has the caller corrected. */
     OURISCADO_INLINE_TOO_LARGE = 25,
-    /* A slab's offset is 2^40 or more, or its class 64 or more.
+    /* A slab head has offset above 2^40 - 1 or class above 63.
        Operator: has the caller corrected. */
     OURISCADO_SLAB_FIELD_TOO_LARGE = 26,
-    /* A last page's offset is 0, or 2^62 or more.
+    /* An extent head is 0 or above 2^62 - 1; it is a last page's offset.
        Operator: has the caller corrected. */
     OURISCADO_EXTENT_OUT_OF_RANGE = 27,
-    /* A head word of mode 1 has used 0 or 1.
+    /* A stored slab head has used 0 or 1.
        Operator: the word is damaged. */
     OURISCADO_SLAB_USED_TOO_SMALL = 28,
     /* A head word has mode 2.
@@ -93,7 +93,7 @@ enum ouriscado_codec_refusal {
     /* A head word of mode 3 has offset 0.
        Operator: the word is damaged. */
     OURISCADO_EXTENT_PAYLOAD_ZERO = 30,
-    /* What is to be written is longer than its destination.
+    /* What is to be written doesn't fit its destination.
        Operator: has a larger buffer lent, or fewer numbers offered. */
     OURISCADO_DOES_NOT_FIT = 33,
 };

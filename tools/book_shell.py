@@ -5,6 +5,11 @@
 """
 import re
 import sys
+from pathlib import Path
+
+sys.dont_write_bytecode = True
+sys.path.insert(0, str(Path(__file__).resolve().parent.parent / "host"))
+from boundary.refusals import TEXTS
 from plain_book import Book, Refused
 
 LINE_BYTES, NUMBERS, KEYS, BODY_BYTES = 16384, 4096, 4096, 262144
@@ -19,18 +24,6 @@ FORMS = {
     "space": "space alone",
     "check": "check alone",
 }
-REFUSALS = {
-    1: "the book's shape breaks its limits",
-    2: "the key is beyond the heads",
-    3: "a load meets a key in use",
-    12: "the first or only number offered is 0",
-    13: "a number offered has bit 63 set",
-    14: "a book is offered 2^62 or more",
-    32: "a number offered isn't above the one before",
-    34: "the lent list is too short",
-    36: "no room: the block or run would pass the body's end",
-}
-
 
 class Unread(Exception):
     """A line that can't be read, with what to say."""
@@ -160,7 +153,7 @@ def main():
             for told in answer(shell, words):
                 print(told)
         except Refused as refused:
-            print(f"refused {refused}: {REFUSALS[int(str(refused))]}")
+            print(f"refused {refused}: {TEXTS[int(str(refused))]}")
         except Unread as why:
             print(f"line {number}: {why}")
 

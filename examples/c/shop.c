@@ -3,12 +3,15 @@
 
    cc shop.c $(pkg-config --cflags --libs ouriscado) -o shop && ./shop FILE
 
-   FILE is written and read back. rust/examples/shop.rs tells the same story and prints the same lines. */
+   FILE is replaced and read back. rust/examples/shop.rs tells the same story and prints the same lines. */
+#define _POSIX_C_SOURCE 200809L /* for fsync */
+#include <fcntl.h>
 #include <inttypes.h>
 #include <ouriscado.h>
 #include <stdio.h>
 #include <stdlib.h>
 #include <string.h>
+#include <unistd.h>
 
 enum { BODY_BYTES = 65536, ACCOUNTS = 4, BAKERY = 0, FLORIST = 1, KIOSK = 2 };
 static const char *const NAMES[ACCOUNTS] = { "bakery", "florist", "kiosk", "tailor" };
@@ -42,7 +45,7 @@ static void deposit(struct book *b, uint64_t account, uint64_t record)
                                              &kind, &class_, &used, &place, &rewritten);
     printf("deposit %" PRIu64 " for the %s: ", record, NAMES[account]);
     if (refusal != OURISCADO_ACCEPTED)
-        printf("refused with %" PRIu32 ", and not recorded\n", refusal);
+        printf("refused with %" PRIu32 " and not recorded: %s\n", refusal, ouriscado_refusal_text(refusal));
     else if (kind == OURISCADO_KIND_INLINE)
         printf("inline, %" PRIu64 " rewritten\n", rewritten);
     else if (kind == OURISCADO_KIND_SLAB)
@@ -74,10 +77,8 @@ static void ask(const struct book *b, uint64_t account, size_t room)
     uint64_t list[512], length, pages;
     uint32_t refusal = ouriscado_book_read(b->body, BODY_BYTES, b->heads, ACCOUNTS, b->state, account, list, room, &length, &pages);
     printf("enquiry for the %s, with room for %zu: ", NAMES[account], room);
-    if (refusal == OURISCADO_LIST_TOO_SHORT)
-        printf("refused with %" PRIu32 ", the list is too short; this is no empty account\n", refusal);
-    else if (refusal != OURISCADO_ACCEPTED)
-        printf("refused with %" PRIu32 "; this is no empty account\n", refusal);
+    if (refusal != OURISCADO_ACCEPTED)
+        printf("refused with %" PRIu32 ", this is no empty account: %s\n", refusal, ouriscado_refusal_text(refusal));
     else if (length == 0)
         printf("nothing was received\n");
     else
@@ -99,12 +100,41 @@ static void closing(const struct book *b)
     printf("closing total: %" PRIu64 ".%02" PRIu64 "\n", total / 100, total % 100);
 }
 
-/* Writes state, head words and body to a file: the three of one moment. */
-static void write_book(const struct book *b, const char *path)
+/* Writes state, head words and body to an open file, the three of one moment, and has them on the disk when it returns: what was written
+   may stand in memory alone until then. Tells whether all went well. */
+static int put_book(const struct book *b, FILE *file)
 {
-    FILE *file = fopen(path, "wb");
-    if (!file || fwrite(b->state, sizeof b->state, 1, file) != 1 || fwrite(b->heads, sizeof b->heads, 1, file) != 1 ||
-        fwrite(b->body, sizeof b->body, 1, file) != 1 || fclose(file) != 0)
+    return fwrite(b->state, sizeof b->state, 1, file) == 1 && fwrite(b->heads, sizeof b->heads, 1, file) == 1 &&
+           fwrite(b->body, sizeof b->body, 1, file) == 1 && fflush(file) == 0 && fsync(fileno(file)) == 0;
+}
+
+/* Has the names in the folder of a path on the disk: a file that was renamed may have its old name there until then. */
+static int sync_folder(const char *path)
+{
+    char folder[4096] = ".";
+    const char *slash = strrchr(path, '/');
+    if (slash)
+        snprintf(folder, sizeof folder, "%.*s", slash == path ? 1 : (int)(slash - path), path);
+    int handle = open(folder, O_RDONLY);
+    if (handle < 0)
+        return 0;
+    int synced = fsync(handle) == 0;
+    return close(handle) == 0 && synced;
+}
+
+/* Saves a book. Were it written over the file that is there, and the machine stopped in between, that file would be a mix of two moments and
+   the only copy gone. So a second file is written, brought to the disk, and given the name: at each moment the name has the whole old book
+   or the whole new one. */
+static void save_book(const struct book *b, const char *path)
+{
+    char beside[4096];
+    if (snprintf(beside, sizeof beside, "%s.new", path) >= (int)sizeof beside)
+        stop("the file's name is too long");
+    FILE *file = fopen(beside, "wb");
+    if (!file)
+        stop("the file can't be written");
+    int put = put_book(b, file);
+    if (fclose(file) != 0 || !put || rename(beside, path) != 0 || !sync_folder(path))
         stop("the file can't be written");
     printf("the book is written: %zu bytes\n", sizeof b->state + sizeof b->heads + sizeof b->body);
 }
@@ -161,7 +191,7 @@ int main(int argc, char **argv)
     if (argc != 2)
         stop("usage: shop FILE");
 
-    printf("Ouriscado %s\n", OURISCADO_VERSION);
+    printf("Ouriscado %s\n", ouriscado_version());
     if (ouriscado_book_fresh(today.body, BODY_BYTES, today.heads, ACCOUNTS, today.state) != OURISCADO_ACCEPTED)
         stop("no book can be made");
     for (size_t i = 0; i < 300; i++)
@@ -181,7 +211,7 @@ int main(int argc, char **argv)
     ask(&today, KIOSK, 0);
     closing(&today);
 
-    write_book(&today, argv[1]);
+    save_book(&today, argv[1]);
     read_book(&later, argv[1]);
     if (!go_on(&later))
         stop("the book that was written is no good start");

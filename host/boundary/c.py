@@ -1,9 +1,10 @@
 """The C headers: their text stands in the templates *.h.in beside this file. A template's line that begins with @ asks for something made:
 
-@call NAME            a function's comment and declaration; indented lines after it join the comment
+@call NAME            a function's comment and declaration; indented lines after it join the comment, those of eight spaces or more as they stand
 @refusals book        an enum's refusals, those that the book's calls name; @refusals others, the rest
 @constants GROUP      constants
 @version              the version's macros
+@texts                the cases of a switch that gives each refusal's text
 """
 import re
 import textwrap
@@ -52,21 +53,33 @@ def declaration(function):
 
 def call(function, more, names):
     """A function's comment, with what the template adds, and its declaration. Of the book's calls the refusals are named too."""
-    paragraphs = [function.text] + [" ".join(p.split()) for p in re.split(r"\n\s*\n", "\n".join(more)) if p.strip()]
+    paragraphs = [function.text] + [p.rstrip() for p in re.split(r"\n\s*\n", "\n".join(more)) if p.strip()]
     if function.of_book:
         paragraphs.append("Refusals: " + ", ".join(f"{names[n]} ({n})" for n in function.refuses) + ".")
     paragraphs[-1] += " */"
     out = filled("/* ", paragraphs[0])
     for paragraph in paragraphs[1:]:
-        out += ([""] if function.of_book else []) + filled("   ", paragraph)
+        out += ([""] if function.of_book else []) + in_comment(paragraph)
     return out + declaration(function)
+
+
+def in_comment(paragraph):
+    """A paragraph's lines in a comment: filled, or as they stand where they are code."""
+    if paragraph.lstrip("\n").startswith("        "):
+        return [line.removeprefix(" ") for line in paragraph.split("\n") if line]
+    return filled("   ", " ".join(paragraph.split()))
 
 
 def refusal(r):
     if not r.name:
         return filled("    /* ", f"{r.number}: {r.cause}. */")
     said = f"{r.cause[0].upper()}{r.cause[1:]}."
-    return filled("    /* ", said) + filled("       ", f"{r.operator}. */") + [f"    OURISCADO_{r.name} = {r.number},"]
+    return filled("    /* ", said) + filled("       ", f"Operator: {r.operator}. */") + [f"    OURISCADO_{r.name} = {r.number},"]
+
+
+def text_case(r):
+    """A case of a switch: the refusal's text."""
+    return f'    case {r.number}: return "{r.text}";'
 
 
 def constant(name, value, kind, text):
@@ -105,6 +118,8 @@ def header(template, made, functions, refusals):
             out += refusals_of(what, functions, refusals)
         elif word == "@constants":
             out += [l for c in CONSTANTS[what] for l in constant(*c)]
+        elif word == "@texts":
+            out += [text_case(r) for r in refusals if r.name]
         elif word == "@version":
             out += version_macros()
         else:

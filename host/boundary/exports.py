@@ -1,4 +1,4 @@
-"""What crosses the C boundary, read from the sources: the exported functions, the refusals, the constants and the version."""
+"""What crosses the C boundary, read from the sources: the exported functions, the refusals' names, the constants and the version."""
 import re
 import sys
 from pathlib import Path
@@ -6,8 +6,8 @@ from pathlib import Path
 ROOT = Path(__file__).resolve().parent.parent.parent
 NUMBERS = {"u8", "u16", "u32", "u64", "usize", "bool"}
 FUNCTION = re.compile(r'((?://[^\n]*\n)+)#\[no_mangle\]\npub extern "C" fn (\w+)\(([^)]*)\)(?: -> (\w+))?', re.S)
-REFUSAL = re.compile(r"((?://[^\n]*\n)+)pub const (\w+): Refusal = (\d+);")
-ROW = re.compile(r"^\| (\d+) \| (.+?) \| (.+?) \| (.+?) \|$", re.M)
+REFUSAL = re.compile(r"^pub const (\w+): Refusal = (\d+);", re.M)
+SHELL_WORDS = re.compile(r'^ *(\d+) => text::words\(b"([^"]+)"\)', re.M)
 LISTED = re.compile(r"\d+(?:(?:, | and | to )\d+)*(?=, where|\.?$)")
 BOOK = "ouriscado_book_"
 
@@ -100,30 +100,14 @@ def functions():
     return out
 
 
-class Refusal:
-    """A refusal: number, name and short text, its cause, and what an operator does or else who meets it. One that is listed but has no
-    name is out of use."""
-
-    def __init__(self, number, name, text, cause, operator):
-        self.number, self.name, self.text, self.cause, self.operator = number, name, text, cause, operator
+def refusal_names():
+    """The name of each refusal by its number, as crate error has it."""
+    return {int(number): name for name, number in REFUSAL.findall((ROOT / "crates/error/src/lib.rt").read_text())}
 
 
-def refusals():
-    """Every refusal, by its number: names and short texts of crate error, the rest of the table in docs/FORMAT.md."""
-    named = {int(m[3]): (m[2], comment(m[1])) for m in REFUSAL.finditer((ROOT / "crates/error/src/lib.rt").read_text())}
-    _, _, section = (ROOT / "docs/FORMAT.md").read_text().partition("## Refusals")
-    rows, before = {}, None
-    for number, cause, who, operator in ROW.findall(section):
-        before = before if operator == "the same" else plain(f"Operator: {operator}" if operator != "–" else f"Met by {who}")
-        rows[int(number)] = (plain(cause), before)
-    if missing := sorted(named.keys() - rows.keys()):
-        fail(f"docs/FORMAT.md has no row for the refusals {missing}")
-    return [Refusal(n, *named.get(n, (None, None)), *rows[n]) for n in sorted(rows)]
-
-
-def plain(text):
-    """A table cell's text without marks of Markdown, in ASCII."""
-    return text.replace("`", "").replace("…", "...")
+def shell_words():
+    """What the shell says of each refusal that it knows, by its number."""
+    return {int(number): words for number, words in SHELL_WORDS.findall((ROOT / "crates/book_script/src/refusals.rt").read_text())}
 
 
 def version():

@@ -64,18 +64,13 @@ def camel(name):
     return "".join(w.capitalize() for w in name.split("_"))
 
 
-def lower(text):
-    """A sentence as the text of an error: it begins in lower case, and has no full stop."""
-    return text[0].lower() + text[1:].removesuffix(".")
-
-
 def enum(made, refusals):
     named = [r for r in refusals if r.name]
     out = [f"//! Why a call is turned back. {made}", "", "/// A refusal, by the number that the library answers.",
            "#[derive(Clone, Copy, Debug, PartialEq, Eq, Hash)]", "#[non_exhaustive]", "pub enum Refusal {"]
     for r in refusals:
         if r.name:
-            out += documented("    ", f"{r.number}: {r.cause}.") + ["    ///"] + documented("    ", f"{r.operator}.")
+            out += documented("    ", f"{r.number}: {r.cause}.") + ["    ///"] + documented("    ", f"Operator: {r.operator}.")
             out += [f"    {camel(r.name)},"]
         else:
             out += [f"    // {r.number}: {r.cause}."]
@@ -88,7 +83,7 @@ def enum(made, refusals):
     out += [f"            Refusal::{camel(r.name)} => {r.number}," for r in named] + ["            Refusal::Unknown(number) => number,"]
     out += ["        }", "    }", "", "    /// What the refusal says.", "    #[must_use]", "    pub const fn text(self) -> &'static str {",
             "        match self {"]
-    out += [f'            Refusal::{camel(r.name)} => "{lower(r.text)}",' for r in named]
+    out += [f'            Refusal::{camel(r.name)} => "{r.text}",' for r in named]
     out += ['            Refusal::Unknown(_) => "a refusal that this version doesn\'t know",']
     return "\n".join(out + ["        }", "    }", "}", ""])
 

@@ -1,11 +1,13 @@
 //! A day of a shop, kept in an account book: deposits, enquiries and one that is refused, the closing total, and the book in a file, which
 //! is checked before it is gone on with.
 //!
-//! `cargo run --example shop FILE`: FILE is written and read back. examples/c/shop.c tells the same story and prints the same lines.
+//! `cargo run --example shop FILE`: FILE is replaced and read back. examples/c/shop.c tells the same story and prints the same lines.
 use ouriscado::limits::STATE_WORDS;
-use ouriscado::{Appended, Book, Listed, Place, Refusal, StartError, State};
+use ouriscado::{Appended, Book, Listed, OpenError, Place, Refusal, StartError, State};
 use std::error::Error;
-use std::fs;
+use std::fs::{self, File};
+use std::io::{self, Write};
+use std::path::Path;
 
 const BODY_BYTES: usize = 65_536;
 const NAMES: [&str; 4] = ["bakery", "florist", "kiosk", "tailor"];
@@ -26,7 +28,7 @@ fn cents(record: u64) -> u64 {
 fn deposit(book: &mut ShopBook, account: usize, record: u64) {
     print!("deposit {record} for the {}: ", NAMES[account]);
     match book.append(account as u64, record) {
-        Err(refusal) => println!("refused with {}, and not recorded", refusal.number()),
+        Err(refusal) => println!("refused with {} and not recorded: {}", refusal.number(), refusal.text()),
         Ok(Appended { place, rewritten }) => match place {
             Place::Empty => println!("empty, {rewritten} rewritten"),
             Place::Inline(_) => println!("inline, {rewritten} rewritten"),
@@ -43,10 +45,7 @@ fn ask(book: &ShopBook, account: usize, room: usize) {
     let mut list = vec![0; room];
     print!("enquiry for the {}, with room for {room}: ", NAMES[account]);
     match book.read_into(account as u64, &mut list) {
-        Err(refusal @ Refusal::ListTooShort) => {
-            println!("refused with {}, the list is too short; this is no empty account", refusal.number());
-        }
-        Err(refusal) => println!("refused with {}; this is no empty account", refusal.number()),
+        Err(refusal) => println!("refused with {}, this is no empty account: {}", refusal.number(), refusal.text()),
         Ok(Listed { length: 0, .. }) => println!("nothing was received"),
         Ok(Listed { length, pages }) => println!("{length} from {} to {}, pages {pages}", list[0], list[length - 1]),
     }
@@ -76,11 +75,24 @@ fn words(bytes: &[u8]) -> Vec<u64> {
     bytes.chunks_exact(8).map(|word| u64::from_le_bytes(word.try_into().expect("8 bytes"))).collect()
 }
 
-/// Writes state, head words and body to a file, the three of one moment, and tells how many bytes they are.
-fn write(book: &ShopBook, path: &str) -> std::io::Result<usize> {
-    let whole = [&bytes(&book.state().0)[..], &bytes(book.heads()), book.body()].concat();
-    fs::write(path, &whole)?;
+/// Saves a book, and tells how many bytes it has. Were it written over the file that is there, and the machine stopped in between, that file
+/// would be a mix of two moments and the only copy gone. So a second file is written, brought to the disk, and given the name: at each moment
+/// the name has the whole old book or the whole new one.
+fn save(book: &ShopBook, path: &str) -> io::Result<usize> {
+    let whole = [&bytes(&book.state().0)[..], &bytes(book.heads()), book.body()].concat(); // the three of one moment
+    let beside = format!("{path}.new");
+    let mut file = File::create(&beside)?;
+    file.write_all(&whole)?;
+    file.sync_all()?; // what was written may stand in memory alone until then
+    fs::rename(&beside, path)?;
+    sync_folder(path)?;
     Ok(whole.len())
+}
+
+/// Has the names in the folder of a path on the disk: a file that was renamed may have its old name there until then.
+fn sync_folder(path: &str) -> io::Result<()> {
+    let folder = Path::new(path).parent().filter(|folder| !folder.as_os_str().is_empty());
+    File::open(folder.unwrap_or(Path::new(".")))?.sync_all()
 }
 
 /// Body, head words and state from such a file.
@@ -98,8 +110,8 @@ fn read_back(path: &str) -> Result<Parts, Box<dyn Error>> {
 /// Goes on with a book from elsewhere, and tells whether it did: it is enquired only where it is a good start.
 fn go_on((body, heads, state): Parts) -> Result<bool, Refusal> {
     let book = match Book::open(body, heads, state) {
-        Err(StartError::Refused(refusal)) => return Err(refusal),
-        Err(why) => {
+        Err(OpenError { why: StartError::Refused(refusal), .. }) => return Err(refusal),
+        Err(OpenError { why, .. }) => {
             println!("the book isn't opened: {why}");
             return Ok(false);
         }
@@ -127,7 +139,7 @@ fn main() -> Result<(), Box<dyn Error>> {
     ask(&today, KIOSK, 0);
     closing(&today)?;
 
-    println!("the book is written: {} bytes", write(&today, &path)?);
+    println!("the book is written: {} bytes", save(&today, &path)?);
     if !go_on(read_back(&path)?)? {
         return Err("the book that was written is no good start".into());
     }

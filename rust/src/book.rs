@@ -2,8 +2,14 @@
 use crate::limits::{
     PAGE_BYTES, START_FREE_SHARES, START_FREE_STRAYS, START_GOOD, START_KEY_SHARES, START_KEY_UNSOUND, STATE_WORDS, WORK_UNIT,
 };
-use crate::{answer, codec, sys, Refusal};
-use std::fmt;
+use crate::walk::{Lists, Places};
+use crate::{answer, codec, sys, OpenError, Place, Refusal, StartError};
+use alloc::vec;
+use alloc::vec::Vec;
+use core::fmt;
+
+/// For how many numbers a read takes room by fields that nothing has judged: half a MiB.
+const MOST_GUESSED: usize = 65_536;
 
 /// A book's state: the mark, up to which the body was ever used, and for each of the classes 0 to 8 the offset of its first freed block.
 ///
@@ -22,40 +28,6 @@ impl State {
     #[must_use]
     pub fn free_heads(&self) -> &[u64] {
         &self.0[1..]
-    }
-}
-
-/// Where an account's list stands.
-#[derive(Clone, Copy, Debug, PartialEq, Eq, Hash)]
-pub enum Place {
-    /// Nothing is recorded.
-    Empty,
-    /// One number, which stands in the head word itself.
-    Inline(u64),
-    /// A slab of the body, of 16 × 2^class bytes.
-    Slab {
-        /// The slab's class, 0 to 7.
-        class: u8,
-        /// How many numbers it has.
-        used: u16,
-        /// Where it begins in the body.
-        offset: u64,
-    },
-    /// A chain of pages.
-    Pages {
-        /// Where the last page begins in the body.
-        last: u64,
-    },
-}
-
-impl From<codec::Head> for Place {
-    fn from(head: codec::Head) -> Place {
-        match head {
-            codec::Head::Empty => Place::Empty,
-            codec::Head::Inline { entry, .. } => Place::Inline(entry),
-            codec::Head::Slab { class, used, off } => Place::Slab { class, used, offset: off },
-            codec::Head::Extent { last_page } => Place::Pages { last: last_page },
-        }
     }
 }
 
@@ -78,64 +50,6 @@ pub struct Listed {
     pub pages: u64,
 }
 
-/// Why a body, head words and a state are no good start of a book: the first fault that [`Book::check`] meets. Accounts are judged first,
-/// keys rising, then the lists of freed blocks, classes rising.
-#[derive(Clone, Copy, Debug, PartialEq, Eq, Hash)]
-#[non_exhaustive]
-pub enum StartError {
-    /// They weren't judged: [`Refusal::ShapeBad`], where the body's length, the count of head words or the mark is outside the
-    /// [limits](crate::limits).
-    Refused(Refusal),
-    /// The account isn't sound: a read and a drop of it are refused with [`Refusal::KeyUnsound`], a load with [`Refusal::KeyInUse`]. An
-    /// append too is refused with [`Refusal::KeyUnsound`], but of pages it looks at the last one alone, and may be accepted.
-    KeyUnsound {
-        /// The account's key.
-        key: u64,
-    },
-    /// A block of the account shares bytes with another of its own, or with one of an account before it.
-    KeyShares {
-        /// The account's key.
-        key: u64,
-    },
-    /// A list of freed blocks names an offset where no block of its class can stand: taking it is refused with [`Refusal::FreeHeadBad`].
-    FreeStrays {
-        /// The class, 0 to 8.
-        class: u8,
-    },
-    /// A block of a list of freed ones shares bytes with one in use, or with one that was freed and named before. A list that doesn't end
-    /// comes to such a block.
-    FreeShares {
-        /// The class, 0 to 8.
-        class: u8,
-    },
-}
-
-/// What is wrong, and where.
-///
-/// ```
-/// assert_eq!(ouriscado::StartError::KeyUnsound { key: 3 }.to_string(), "account 3 isn't sound");
-/// ```
-impl fmt::Display for StartError {
-    fn fmt(&self, f: &mut fmt::Formatter<'_>) -> fmt::Result {
-        match self {
-            StartError::Refused(refusal) => refusal.fmt(f),
-            StartError::KeyUnsound { key } => write!(f, "account {key} isn't sound"),
-            StartError::KeyShares { key } => write!(f, "a block of account {key} shares bytes with another in use"),
-            StartError::FreeStrays { class } => write!(f, "the freed blocks of class {class} name an offset where none can stand"),
-            StartError::FreeShares { class } => write!(f, "a freed block of class {class} shares bytes with another, in use or freed"),
-        }
-    }
-}
-
-impl std::error::Error for StartError {
-    fn source(&self) -> Option<&(dyn std::error::Error + 'static)> {
-        match self {
-            StartError::Refused(refusal) => Some(refusal),
-            _ => None,
-        }
-    }
-}
-
 /// An account book over a body of bytes and one head word for each account, which it owns or borrows.
 ///
 /// An account is named by its key, the index of its head word. `B` and `H` may be vectors, boxes, arrays, mapped files or mutable borrows;
@@ -155,8 +69,8 @@ impl std::error::Error for StartError {
 /// ```
 #[derive(Clone, PartialEq, Eq)]
 pub struct Book<B, H> {
-    body: B,
-    heads: H,
+    pub(crate) body: B,
+    pub(crate) heads: H,
     state: State,
 }
 
@@ -221,17 +135,22 @@ impl<B: AsRef<[u8]>, H: AsRef<[u64]>> Book<B, H> {
     /// assert_eq!(again.read(0)?, [7, 9, 11]);
     ///
     /// let both = vec![heads[0], heads[0]]; // two accounts in one slab
-    /// assert_eq!(Book::open(body, both, state).unwrap_err(), StartError::KeyShares { key: 1 });
+    /// let error = Book::open(body, both, state).unwrap_err();
+    /// assert_eq!(error.why, StartError::KeyShares { key: 1 });
+    /// let mended = Book::open(error.body, heads, error.state)?; // what was handed over comes back
+    /// assert_eq!(mended.read(0)?, [7, 9]);
     /// # Ok::<(), Box<dyn std::error::Error>>(())
     /// ```
     ///
     /// # Errors
     ///
-    /// [`StartError`], with the reason. What was handed over by value is dropped then: hand over borrows, or judge first, by
-    /// [`Book::from_parts`] and [`Book::check`], to keep it.
-    pub fn open(body: B, heads: H, state: State) -> Result<Self, StartError> {
+    /// [`OpenError`], with the reason, a [`StartError`], and with body, head words and state as they were handed over.
+    pub fn open(body: B, heads: H, state: State) -> Result<Self, OpenError<B, H>> {
         let book = Book { body, heads, state };
-        book.check().map(|_| book)
+        match book.check() {
+            Ok(_) => Ok(book),
+            Err(why) => Err(OpenError { why, body: book.body, heads: book.heads, state: book.state }),
+        }
     }
 
     /// Judges whether the book is a good start: every account is sound, every list of freed blocks ends and names only offsets where its
@@ -305,7 +224,20 @@ impl<B: AsRef<[u8]>, H: AsRef<[u64]>> Book<B, H> {
     ///
     /// [`Refusal::ShapeBad`], [`Refusal::KeyBeyond`] and [`Refusal::KeyUnsound`]. None of them says that the account is empty.
     pub fn read(&self, key: u64) -> Result<Vec<u64>, Refusal> {
-        self.read_with(key, self.likely_length(key))
+        let likely = self.likely_length(key);
+        if likely > MOST_GUESSED {
+            self.judge_key(key)?;
+        }
+        self.read_with(key, likely)
+    }
+
+    /// Judges an account by a read that lends no room: of a sound account with a list it is refused for that alone, since of several refusals
+    /// the smallest is given. The total in a sound account's last page is its length, or 0.
+    fn judge_key(&self, key: u64) -> Result<(), Refusal> {
+        match self.read_into(key, &mut []) {
+            Ok(_) | Err(Refusal::ListTooShort) => Ok(()),
+            Err(refusal) => Err(refusal),
+        }
     }
 
     /// The list of an account, with room for so many numbers at first. Each number takes at least a byte of the body.
@@ -392,6 +324,29 @@ impl<B: AsRef<[u8]>, H: AsRef<[u64]>> Book<B, H> {
     pub fn places(&self) -> Places<'_> {
         Places(self.heads().iter())
     }
+
+    /// Each account with its list, in the order of the keys, as [`Book::read`] gives it. An account whose list is refused is unknown, never
+    /// empty; the accounts behind it are read all the same.
+    ///
+    /// ```
+    /// use ouriscado::{Book, Refusal};
+    ///
+    /// let mut book = Book::fresh(vec![0; 8192], vec![0; 3])?;
+    /// book.load(1, &[5, 7])?;
+    /// book.append(2, 9)?;
+    /// let mut total = 0;
+    /// for (key, list) in book.lists() {
+    ///     let list = list?; // a refusal ends the count: it must not pass for an empty account
+    ///     println!("account {key}: {} records", list.len());
+    ///     total += list.len();
+    /// }
+    /// assert_eq!(total, 3);
+    /// # Ok::<(), Refusal>(())
+    /// ```
+    #[must_use]
+    pub fn lists(&self) -> Lists<'_, B, H> {
+        Lists { book: self, keys: 0..self.heads().len() }
+    }
 }
 
 impl<B: AsRef<[u8]> + AsMut<[u8]>, H: AsRef<[u64]> + AsMut<[u64]>> Book<B, H> {
@@ -404,7 +359,7 @@ impl<B: AsRef<[u8]> + AsMut<[u8]>, H: AsRef<[u64]> + AsMut<[u64]>> Book<B, H> {
     /// [`MOST_LOADED`](crate::limits::MOST_LOADED) numbers; [`Refusal::OfferedFirstZero`], [`Refusal::OfferedBit63`],
     /// [`Refusal::OfferedTooLarge`] and [`Refusal::OfferedNotRising`] where the numbers are no rising list from 1 to
     /// [`MOST_NUMBER`](crate::limits::MOST_NUMBER); [`Refusal::FreeHeadBad`] where a free head or freed
-    /// block is damaged; [`Refusal::NoRoom`].
+    /// block is damaged; [`Refusal::NoRoom`], until the book [grows](Book::grow).
     pub fn load(&mut self, key: u64, numbers: &[u64]) -> Result<u64, Refusal> {
         let mut pages = 0;
         let number = sys::book_load(self.body.as_mut(), self.heads.as_mut(), &mut self.state.0, key, numbers, &mut pages);
@@ -429,7 +384,7 @@ impl<B: AsRef<[u8]> + AsMut<[u8]>, H: AsRef<[u64]> + AsMut<[u64]>> Book<B, H> {
     /// [`Refusal::ShapeBad`]; [`Refusal::KeyBeyond`]; [`Refusal::OfferedFirstZero`], [`Refusal::OfferedBit63`] and
     /// [`Refusal::OfferedTooLarge`] where the number is none from 1 to [`MOST_NUMBER`](crate::limits::MOST_NUMBER);
     /// [`Refusal::KeyUnsound`]; [`Refusal::OfferedNotRising`] where it isn't above the account's last; [`Refusal::FreeHeadBad`] where a
-    /// free head or freed block is damaged; [`Refusal::NoRoom`].
+    /// free head or freed block is damaged; [`Refusal::NoRoom`], until the book [grows](Book::grow).
     pub fn append(&mut self, key: u64, number: u64) -> Result<Appended, Refusal> {
         let (mut kind, mut class, mut used, mut place, mut rewritten) = (0, 0, 0, 0, 0);
         let (body, heads, state) = (self.body.as_mut(), self.heads.as_mut(), &mut self.state.0);
@@ -448,24 +403,6 @@ impl<B: AsRef<[u8]> + AsMut<[u8]>, H: AsRef<[u64]> + AsMut<[u64]>> Book<B, H> {
         answer(number, length as usize)
     }
 }
-
-/// The places of a book's accounts, in the order of the keys: see [`Book::places`].
-#[derive(Clone, Debug)]
-pub struct Places<'a>(std::slice::Iter<'a, u64>);
-
-impl Iterator for Places<'_> {
-    type Item = Result<Place, Refusal>;
-
-    fn next(&mut self) -> Option<Self::Item> {
-        self.0.next().map(|word| codec::unpack8(*word).map(Place::from))
-    }
-
-    fn size_hint(&self) -> (usize, Option<usize>) {
-        self.0.size_hint()
-    }
-}
-
-impl ExactSizeIterator for Places<'_> {}
 
 #[cfg(test)]
 mod tests {

@@ -22,23 +22,36 @@
 //! A refused call has changed nothing, and its [`Refusal`] says why. The library allocates nothing; [`Book::read`] allocates its list, and
 //! [`Book::open`] and [`Book::check`] a work list while they judge. The proof is of the library's functions; this crate, which lends them
 //! its slices, is tested.
-//! Modules: [`codec`] has the ported functions on single head words, slabs, pages and free lists, [`limits`] the sizes and limits, and
-//! [`sys`] the functions as the library defines them.
+//! Modules: [`cookbook`] has snippets for what programs do with a book, [`codec`] the ported functions on single head words, slabs, pages and
+//! free lists, [`limits`] the sizes and limits, and [`sys`] the functions as the library defines them.
 //!
-//! The library, `libouriscado.a`, is for x86-64; the build says which command writes it where it is missing.
+//! The library, `libouriscado.a`, is for x86-64; the build says which command writes it where it is missing. The crate needs `core` and
+//! `alloc` alone.
+#![no_std]
 #![warn(missing_docs)]
+extern crate alloc;
+
 #[cfg(not(all(target_arch = "x86_64", target_os = "linux")))]
 compile_error!("libouriscado.a is for x86-64 Linux");
 
 mod book;
 pub mod codec;
+#[doc = include_str!("../COOKBOOK.md")]
+pub mod cookbook {}
+mod growing;
 pub mod limits;
+mod place;
 mod refusal;
+mod start;
 #[rustfmt::skip] // made
 pub mod sys;
+mod walk;
 
-pub use book::{Appended, Book, Listed, Place, Places, StartError, State};
+pub use book::{Appended, Book, Listed, State};
+pub use place::Place;
 pub use refusal::Refusal;
+pub use start::{OpenError, StartError};
+pub use walk::{Lists, Places};
 
 impl Refusal {
     /// The refusal of a number that the library answered: none of 0, which is no refusal, and [`Refusal::Unknown`] of one without a name.
@@ -63,13 +76,13 @@ impl Refusal {
 /// ```
 /// assert_eq!(ouriscado::Refusal::ListTooShort.to_string(), "the lent list is too short (34)");
 /// ```
-impl std::fmt::Display for Refusal {
-    fn fmt(&self, f: &mut std::fmt::Formatter<'_>) -> std::fmt::Result {
+impl core::fmt::Display for Refusal {
+    fn fmt(&self, f: &mut core::fmt::Formatter<'_>) -> core::fmt::Result {
         write!(f, "{} ({})", self.text(), self.number())
     }
 }
 
-impl std::error::Error for Refusal {}
+impl core::error::Error for Refusal {}
 
 /// The example of the package's readme.
 #[cfg(doctest)]

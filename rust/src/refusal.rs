@@ -4,63 +4,63 @@
 #[derive(Clone, Copy, Debug, PartialEq, Eq, Hash)]
 #[non_exhaustive]
 pub enum Refusal {
-    /// 1: the body's length, the count of head words or the mark is outside the limits.
+    /// 1: the book's shape breaks its limits: the body's length, the count of head words or the mark is outside of them.
     ///
     /// Operator: checks that body, head words and state belong together and are whole; restores all three.
     ShapeBad,
-    /// 2: the key isn't below the count of head words.
+    /// 2: the key is beyond the heads: it isn't below the count of head words.
     ///
     /// Operator: checks the account's index; if that is right, the head words that were lent are not all.
     KeyBeyond,
-    /// 3: a list is loaded onto a key whose head word isn't 0.
+    /// 3: a load meets a key in use: its head word isn't 0.
     ///
     /// Operator: appends instead, or drops the key first.
     KeyInUse,
-    /// 4: a page buffer doesn't have 4,096 bytes.
+    /// 4: a page buffer isn't 4,096 bytes.
     ///
     /// Operator: has the caller corrected.
     PageLength,
-    /// 5: an offset for a link is no multiple of 4,096.
+    /// 5: a link offset isn't a multiple of 4,096.
     ///
     /// Operator: has the caller corrected.
     LinkUnaligned,
-    /// 6: an offset for a link is 2^51 or more, so that its index needs more than 39 bits.
+    /// 6: a link index is 2^39 or more: the offset is 2^51 or more.
     ///
     /// Operator: has the caller corrected.
     LinkTooLarge,
-    /// 7: a page that hasn't LAST is asked for its first page.
+    /// 7: the first offset is asked of a page without LAST.
     ///
     /// Operator: asks the last page; if it was that, the page is damaged.
     NotLast,
-    /// 8: an extent has no page: its count is 0.
+    /// 8: an extent count is 0: the extent has no page.
     ///
     /// Operator: has the caller corrected; if it was stored, the page is damaged.
     ExtentCountZero,
-    /// 9: an extent begins at 0, or at no multiple of 4,096.
+    /// 9: an extent base is 0 or unaligned to 4,096.
     ///
     /// Operator: has the caller corrected; if it was stored, the page is damaged.
     ExtentBaseBad,
-    /// 10: one call is offered over 65,535 numbers.
+    /// 10: more than 65,535 numbers are offered in one call.
     ///
     /// Operator: loads the first 65,535 and appends the others.
     TooManyOffered,
-    /// 11: a slab buffer has less than 2 bytes.
+    /// 11: a slab buffer is under 2 bytes.
     ///
     /// Operator: has the caller corrected.
     SlabTooShort,
-    /// 12: the number offered, or the first of a list, is 0.
+    /// 12: the first or only number offered is 0.
     ///
     /// Operator: has the caller corrected: 0 stands for no record.
     OfferedFirstZero,
-    /// 13: a number offered is 2^63 or more.
+    /// 13: a number offered has bit 63 set: it is 2^63 or more.
     ///
     /// Operator: has the caller corrected.
     OfferedBit63,
-    /// 14: a number offered is 2^62 or more, and below 2^63.
+    /// 14: a book is offered 2^62 or more, and below 2^63.
     ///
     /// Operator: has the caller corrected; a book can't hold it.
     OfferedTooLarge,
-    /// 15: a page's count is more than the bytes for its stream.
+    /// 15: a page's count exceeds its capacity, the bytes for its stream.
     ///
     /// Operator: the page is damaged: restores it.
     CountAboveCapacity,
@@ -68,48 +68,48 @@ pub enum Refusal {
     ///
     /// Operator: the page is damaged: restores it.
     VersionBad,
-    /// 17: the bytes end within a ULEB128 form.
+    /// 17: the bytes end before a ULEB128 form does.
     ///
     /// Operator: the bytes are damaged, or fewer were given than there are.
     UlebCutShort,
-    /// 18: a ULEB128 form has more than 64 bits, or more than ten bytes.
+    /// 18: a ULEB128 form overflows 64 bits, or has more than ten bytes.
     ///
     /// Operator: the bytes are damaged.
     UlebOverflow,
     // 19: retired: a page's stream never passes its capacity, since 17 or 18 comes first; no refusal takes this number.
-    /// 20: a stream begins with 0.
+    /// 20: a stored first number is 0.
     ///
     /// Operator: the bytes are damaged.
     StoredFirstZero,
-    /// 21: a stored number equals the one before it.
+    /// 21: a stored difference is 0: a number equals the one before it.
     ///
     /// Operator: the bytes are damaged.
     StoredDifferenceZero,
-    /// 22: a stored number is 2^64 or more.
+    /// 22: a stored sum passes 2^64 - 1.
     ///
     /// Operator: the bytes are damaged.
     StoredSumOverflow,
-    /// 23: a stored number is 2^63 or more.
+    /// 23: a stored number has bit 63 set: it is 2^63 or more.
     ///
     /// Operator: the bytes are damaged.
     StoredBit63,
-    /// 24: the used of an inline head isn't 1.
+    /// 24: an inline head has used other than 1.
     ///
     /// Operator: has the caller corrected.
     InlineUsedNotOne,
-    /// 25: an inline number is 2^62 or more.
+    /// 25: an inline head exceeds 2^62 - 1.
     ///
     /// Operator: has the caller corrected.
     InlineTooLarge,
-    /// 26: a slab's offset is 2^40 or more, or its class 64 or more.
+    /// 26: a slab head has offset above 2^40 - 1 or class above 63.
     ///
     /// Operator: has the caller corrected.
     SlabFieldTooLarge,
-    /// 27: a last page's offset is 0, or 2^62 or more.
+    /// 27: an extent head is 0 or above 2^62 - 1; it is a last page's offset.
     ///
     /// Operator: has the caller corrected.
     ExtentOutOfRange,
-    /// 28: a head word of mode 1 has used 0 or 1.
+    /// 28: a stored slab head has used 0 or 1.
     ///
     /// Operator: the word is damaged.
     SlabUsedTooSmall,
@@ -121,32 +121,33 @@ pub enum Refusal {
     ///
     /// Operator: the word is damaged.
     ExtentPayloadZero,
-    /// 31: the key isn't sound.
+    /// 31: the key isn't sound: it is unknown, never taken for empty.
     ///
-    /// Operator: takes the account for unknown and never for empty; restores body, head words and state of one moment; finds out who else
-    /// wrote them, which call was interrupted, or what was put together from two moments.
+    /// Operator: restores body, head words and state of one moment; finds out who else wrote them, which call was interrupted, or what was
+    /// put together from two moments.
     KeyUnsound,
-    /// 32: a number is offered that doesn't rise above its predecessor, in the list, the key or the page.
+    /// 32: a number offered isn't above the one before, in the list, the key or the page.
     ///
     /// Operator: reads the key: the number may be recorded already.
     OfferedNotRising,
-    /// 33: what is to be written is longer than its destination.
+    /// 33: what is to be written doesn't fit its destination.
     ///
     /// Operator: has a larger buffer lent, or fewer numbers offered.
     DoesNotFit,
-    /// 34: the numbers or ranges to be answered are more than the lent list has room for, or the work list of a check has fewer bytes than
-    /// a sixteenth of the body's.
+    /// 34: the lent list is too short: the numbers or ranges to be answered are more than it has room for, or the work list of a check has
+    /// fewer bytes than a sixteenth of the body's.
     ///
     /// Operator: asks again with a longer list.
     ListTooShort,
-    /// 35: a free head leads to no block: it is unaligned, or lies outside of 4,096 up to the mark; or such a block is pushed, or such a
-    /// gap carved.
+    /// 35: a free head isn't a block of its class before the mark: it is unaligned, or lies outside of 4,096 up to the mark; or such a
+    /// block is pushed, or such a gap carved.
     ///
     /// Operator: the state or a freed block is damaged: restores as for 31; reads go on meanwhile.
     FreeHeadBad,
-    /// 36: a block, of which none is freed, or a run of pages would pass the body's end.
+    /// 36: no room: the block or run would pass the body's end; a block goes there only where none of its class is freed.
     ///
-    /// Operator: drops keys that are no longer needed, which frees blocks of their classes, or moves to a book with a larger body.
+    /// Operator: lends the same book a longer body, with whole pages behind it, and makes the call again; where the body can't grow, drops
+    /// keys that are no longer needed, which frees blocks of their classes.
     NoRoom,
     /// A number that this crate doesn't know: the library is of another version.
     Unknown(u32),
@@ -248,13 +249,13 @@ impl Refusal {
             Refusal::NotLast => "the first offset is asked of a page without LAST",
             Refusal::ExtentCountZero => "an extent count is 0",
             Refusal::ExtentBaseBad => "an extent base is 0 or unaligned",
-            Refusal::TooManyOffered => "more than 65,535 numbers are offered to a page, slab or load",
+            Refusal::TooManyOffered => "more than 65,535 numbers are offered",
             Refusal::SlabTooShort => "a slab buffer is under 2 bytes",
             Refusal::OfferedFirstZero => "the first or only number offered is 0",
             Refusal::OfferedBit63 => "a number offered has bit 63 set",
             Refusal::OfferedTooLarge => "a book is offered 2^62 or more",
             Refusal::CountAboveCapacity => "a page's count exceeds its capacity",
-            Refusal::VersionBad => "the version is another, or 0 with a count",
+            Refusal::VersionBad => "a page's version is above 2, or 0 with a count",
             Refusal::UlebCutShort => "the bytes end before a ULEB128 form does",
             Refusal::UlebOverflow => "a ULEB128 form overflows 64 bits",
             Refusal::StoredFirstZero => "a stored first number is 0",
@@ -266,13 +267,13 @@ impl Refusal {
             Refusal::SlabFieldTooLarge => "a slab head has offset above 2^40 - 1 or class above 63",
             Refusal::ExtentOutOfRange => "an extent head is 0 or above 2^62 - 1",
             Refusal::SlabUsedTooSmall => "a stored slab head has used 0 or 1",
-            Refusal::ModeTwo => "the mode is 2",
-            Refusal::ExtentPayloadZero => "mode 3 has payload 0",
-            Refusal::KeyUnsound => "a book key isn't sound",
+            Refusal::ModeTwo => "a head word has mode 2",
+            Refusal::ExtentPayloadZero => "a head word of mode 3 has offset 0",
+            Refusal::KeyUnsound => "the key isn't sound: it is unknown, never taken for empty",
             Refusal::OfferedNotRising => "a number offered isn't above the one before",
             Refusal::DoesNotFit => "what is to be written doesn't fit its destination",
             Refusal::ListTooShort => "the lent list is too short",
-            Refusal::FreeHeadBad => "a free head to be popped isn't a multiple of 16 (page: 4,096), or its block leaves 4,096 to the mark",
+            Refusal::FreeHeadBad => "a free head isn't a block of its class before the mark",
             Refusal::NoRoom => "no room: the block or run would pass the body's end",
             Refusal::Unknown(_) => "a refusal that this version doesn't know",
         }

@@ -155,6 +155,31 @@ fn totals_that_were_never_counted() {
 }
 
 #[test]
+fn lists_of_all_accounts() {
+    let mut sound = book(8, 4);
+    sound.load(0, &[5, 300, 301]).unwrap();
+    sound.load(2, &numbers(5_000)).unwrap();
+    sound.append(3, 9).unwrap();
+    let slab = damaged(&sound, |body, _, _| body[4096] = 0); // the slab's count
+    assert_eq!(slab.lists().len(), 4);
+    let told: Vec<_> = slab.lists().collect();
+    let wanted = [(0, Err(Refusal::KeyUnsound)), (1, Ok(vec![])), (2, Ok(numbers(5_000))), (3, Ok(vec![9]))];
+    assert_eq!(told, wanted, "an account that isn't sound is told as such, and those behind it are read");
+    let shapeless = damaged(&sound, |_, _, state| state.0[0] = 100);
+    assert!(shapeless.lists().all(|(_, list)| list == Err(Refusal::ShapeBad)));
+}
+
+#[test]
+fn places_in_words() {
+    let mut book = book(8, 4);
+    book.append(1, 5).unwrap();
+    book.load(2, &[9, 10]).unwrap();
+    book.load(3, &numbers(300)).unwrap();
+    let words: Vec<String> = book.places().map(|place| place.unwrap().to_string()).collect();
+    assert_eq!(words, ["empty", "inline 5", "slab class 0, used 2, offset 4096", "pages, the last at offset 8192"]);
+}
+
+#[test]
 fn owned_or_borrowed() {
     let mut array = Book::fresh([0; 8192], [0; 1]).unwrap();
     array.append(0, 1).unwrap();

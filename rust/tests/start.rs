@@ -82,7 +82,9 @@ fn fault(what: impl Fn(&mut [u8], &mut [u64], &mut State)) -> StartError {
     let (mut body, mut heads, mut state) = used().into_parts();
     what(&mut body, &mut heads, &mut state);
     let kept = Book::from_parts(body.clone(), heads.clone(), state);
-    let told = Book::open(body, heads, state).unwrap_err();
+    let error = Book::open(body, heads, state).unwrap_err();
+    let told = error.why;
+    assert!(Book::from_parts(error.body, error.heads, error.state) == kept, "what was handed over has changed");
     assert_eq!(kept.check(), Err(told));
     if !matches!(told, StartError::Refused(_)) {
         assert_eq!(judge(&kept), Err(told), "the second judge");

@@ -1,15 +1,22 @@
 """A book as an SVG picture."""
+import textwrap
+
 from library import PAGE_BYTES
+from summary import MOST_ROWS as MOST_KEY_ROWS
+from summary import freed_by_class, key_rows
 from survey import plural
 
 COLOURS = ["#4477aa", "#ee8866", "#228833", "#ccbb44", "#66ccee", "#aa3377", "#999933", "#882255", "#44aa99", "#ddcc77", "#332288", "#cc6677"]
 FREED, PAST, BEFORE, BAD, INK = "#ffffff", "#eeeeee", "#d5d5d5", "#cc0000", "#222222"
 MOST_ROWS = 48
+LEGEND_WIDTH = 54  # letters in a line
 STYLE = "text{font-family:Helvetica,Arial,sans-serif;font-size:12px;fill:#222222}.small{font-size:10px}.title{font-size:15px;font-weight:bold}.bad{fill:#cc0000;font-weight:bold}"
 HATCH = ('<pattern id="freed" width="5" height="5" patternUnits="userSpaceOnUse" patternTransform="rotate(45)"><rect width="5" height="5" fill="#ffffff"/>'
          '<line x1="0" y1="0" x2="0" y2="5" stroke="#888888" stroke-width="1"/></pattern>'
          '<pattern id="unowned" width="4" height="4" patternUnits="userSpaceOnUse"><rect width="4" height="4" fill="#ffffff"/>'
          '<circle cx="2" cy="2" r="1" fill="#cc0000"/></pattern>'
+         '<pattern id="many" width="3" height="3" patternUnits="userSpaceOnUse"><rect width="3" height="3" fill="#bbccee"/>'
+         '<line x1="1" y1="0" x2="1" y2="3" stroke="#4477aa" stroke-width="1"/></pattern>'
          '<marker id="arrow" viewBox="0 0 6 6" refX="5" refY="3" markerWidth="5" markerHeight="5" orient="auto"><path d="M0 0L6 3L0 6z" fill="context-stroke"/></marker>')
 
 
@@ -85,25 +92,61 @@ def links(frame, key):
     return parts
 
 
+def edge_of(survey, block):
+    """The edge of a block: red where it belongs to what the check names."""
+    fault = survey.fault
+    named = fault and (block.key == fault.key if block.key is not None else block.class_ == fault.class_)
+    return BAD if named else INK
+
+
+def runs(frame, blocks):
+    """Blocks in runs: those that are narrower than a point, and follow each other, in one run; each other one alone."""
+    point, found = frame.row_bytes / frame.width, []
+    for block in sorted(blocks, key=lambda block: block.off):
+        last = found[-1][-1] if found else None
+        if last and max(last.length, block.length) < point and 0 <= block.off - last.off - last.length < point:
+            found[-1].append(block)
+        else:
+            found.append([block])
+    return found
+
+
+def run_of_keys(frame, survey, run, labels):
+    """Blocks of keys: one in its key's colour, several narrow ones together."""
+    first, last = run[0], run[-1]
+    if len(run) > 1:
+        edge = BAD if any(edge_of(survey, block) == BAD for block in run) else INK
+        keys = {block.key for block in run}
+        told = f"{len(run):,} slabs of {plural(len(keys), 'key')}, {min(keys):,} to {max(keys):,}"
+        return frame.filled(first.off, last.off + last.length - first.off, "url(#many)", told, edge)
+    what = "page" if first.length == PAGE_BYTES else f"slab of class {first.class_}"
+    told = f"key {first.key}: {what} at {first.off:,}, {plural(first.count, 'number')}"
+    parts = frame.filled(first.off, first.length, colour(first.key), told, edge_of(survey, first))
+    return parts + (frame.label(first.off, first.length, f"key {first.key}", ink(colour(first.key))) if labels else [])
+
+
+def run_freed(frame, survey, run, labels):
+    """Freed blocks: one, or several narrow ones together."""
+    first, last = run[0], run[-1]
+    told = f"freed block of class {first.class_} at {first.off:,}" if len(run) == 1 else f"{len(run):,} freed blocks from {first.off:,} on"
+    edge = BAD if any(edge_of(survey, block) == BAD for block in run) else INK
+    parts = frame.filled(first.off, last.off + last.length - first.off, "url(#freed)", told, edge)
+    return parts + (frame.label(first.off, first.length, f"free {first.class_}") if labels and len(run) == 1 else [])
+
+
 def bytes_of(frame, survey, labels=True):
     """The body's bytes: before the first block, blocks by owner, and past the mark."""
     parts = frame.filled(0, PAGE_BYTES, BEFORE, "no block begins here")
     parts += frame.filled(survey.mark, survey.size - survey.mark, PAST, "past the mark: never taken")
     for off, length in survey.unowned():
         parts += frame.filled(off, length, "url(#unowned)", f"{length:,} bytes at {off:,} that no sound key and no free list has", BAD)
-    for block in survey.freed:
-        parts += frame.filled(block.off, block.length, "url(#freed)", f"freed block of class {block.class_} at {block.off:,}")
-    for key in survey.keys:
-        for block in key.blocks:
-            what = "page" if block.length == PAGE_BYTES else f"slab of class {block.class_}"
-            parts += frame.filled(block.off, block.length, colour(key.index), f"key {key.index}: {what} at {block.off:,}, {plural(block.count, 'number')}")
-            if labels:
-                parts += frame.label(block.off, block.length, f"key {key.index}", ink(colour(key.index)))
-        parts += links(frame, key)
-    if labels:
-        parts += [line for block in survey.freed for line in frame.label(block.off, block.length, f"free {block.class_}")]
-        parts += frame.label(0, PAGE_BYTES, "nothing begins here") if frame.start == 0 else []
-    return parts
+    for run in runs(frame, survey.freed):
+        parts += run_freed(frame, survey, run, labels)
+    for run in runs(frame, [block for key in survey.keys for block in key.blocks]):
+        parts += run_of_keys(frame, survey, run, labels)
+    if len(survey.keys) <= MOST_KEY_ROWS:  # with more, arrows would hide each other
+        parts += [line for key in survey.keys for line in links(frame, key)]
+    return parts + (frame.label(0, PAGE_BYTES, "nothing begins here") if labels and frame.start == 0 else [])
 
 
 def legend(survey, x, y):
@@ -114,23 +157,23 @@ def legend(survey, x, y):
         nonlocal y
         if swatch:
             parts.append(f'<rect x="{x}" y="{y - 10}" width="14" height="12" fill="{swatch}" stroke="{INK}" stroke-width="0.5"/>')
-        parts.append(text(x + 20, y, words, kind))
-        y += 18
+        for part in textwrap.wrap(words, LEGEND_WIDTH):
+            parts.append(text(x + 20, y, part, kind))
+            y += 18
 
-    for key in survey.keys:
-        if key.refusal:
-            line("url(#unowned)", f"key {key.index}: a read is refused with {key.refusal}", "bad")
-            line("", f"its head word: {key.text}")
-        else:
-            line(colour(key.index) if key.blocks else "", f"key {key.index}: {key.text}")
+    line("", survey.verdict(), "bad" if survey.fault else "")
+    for row in key_rows(survey):
+        swatch = "url(#unowned)" if row.bad and row.key is None else colour(row.key) if row.key is not None else ""
+        line(swatch, row.text, "bad" if row.bad else "")
+    if len(survey.keys) > MOST_KEY_ROWS:
+        line("url(#many)", "slabs of several keys, too narrow to be told apart")
     y += 8
     line("url(#freed)", "freed, or carved from a gap before a page:")
-    counts = [(sum(b.class_ == c for b in survey.freed), c) for c in range(9)]
-    listed = [plural(n, "page") if c == 8 else f"{n} of class {c}" for n, c in counts if n] or ["none"]
+    listed = freed_by_class(survey)
     for at in range(0, len(listed), 4):
         line("", ", ".join(listed[at:at + 4]))
-    for class_, number in survey.broken.items():
-        line("", f"the free list of class {class_} ends in refusal {number}", "bad")
+    for class_, why in survey.broken.items():
+        line("", f"the free list of class {class_} {why}", "bad")
     if survey.unowned():
         line("url(#unowned)", f"no sound key's and not free: {sum(n for _, n in survey.unowned()):,} bytes", "bad")
     line(PAST, f"past the mark, {survey.mark:,}")

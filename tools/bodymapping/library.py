@@ -6,6 +6,7 @@ from pathlib import Path
 
 PAGE_BYTES = 4096
 PAGE_CLASS = 8
+WORK_UNIT = 16
 KINDS = ["empty", "inline", "slab", "pages"]
 LIST_TOO_SHORT = 34
 
@@ -29,6 +30,19 @@ class Place:
         self.kind, self.class_, self.used, self.place = KINDS[kind], class_, used, place
 
 
+class Fault:
+    """The first fault that a check met: a key's or a class's, which of them, and what is wrong in words."""
+
+    OF_KEYS = {1: "key {} isn't sound", 2: "a block of key {} shares bytes with another in use"}
+    OF_CLASSES = {3: "the free list of class {} names an offset where no such block can stand",
+                  4: "a freed block of class {} shares bytes with another, in use or freed, or its list doesn't end"}
+
+    def __init__(self, ground, which):
+        self.key = which if ground in self.OF_KEYS else None
+        self.class_ = which if ground in self.OF_CLASSES else None
+        self.text = (self.OF_KEYS | self.OF_CLASSES)[ground].format(which)
+
+
 class Library:
     """libouriscado.a as a shared library."""
 
@@ -36,7 +50,8 @@ class Library:
         found = subprocess.run([root / "tools" / "library"], stdout=subprocess.PIPE, text=True)
         if found.returncode:
             raise Wrong("there is no library to read by")
-        archive = Path(found.stdout.strip()) / "libouriscado.a"
+        self.folder = Path(found.stdout.strip())
+        archive = self.folder / "libouriscado.a"
         shared = root / "target" / "bodymap" / "libouriscado.so"
         if not shared.exists() or shared.stat().st_mtime <= archive.stat().st_mtime:
             shared.parent.mkdir(parents=True, exist_ok=True)
@@ -141,15 +156,24 @@ class Book:
         self.library.call("sh_page_n_fks", *self.page(at), byref(count))
         return count.value
 
+    def check(self):
+        """The first fault that a check meets, or none of a good start, and how many units of 16 bytes belong to nobody. A book out of shape is refused."""
+        work, ground, which, lost = (c_uint8 * (len(self.body) // WORK_UNIT))(), c_uint32(), c_uint64(), c_uint64()
+        self.library.call("book_check", *self.lent_body(), *self.lent_heads(), self.state, work, c_size_t(len(work)), byref(ground), byref(which), byref(lost))
+        return (Fault(ground.value, which.value) if ground.value else None), lost.value
+
     def freed(self, class_):
-        """The offsets of a class's freed blocks, the first first, and the refusal that ends the list, or 0. Blocks are popped from a copy of the heads."""
+        """The offsets of a class's freed blocks, the first first, and in words why the list doesn't end as it should, or nothing. Blocks are popped
+        from a copy of the heads."""
         heads = lent(c_uint64, self.state[1:])
-        offsets, off = [], c_uint64()
+        offsets, off = {}, c_uint64()
         while True:
             try:
                 self.library.call("pop_free_head", *self.lent_body(), heads, c_uint8(class_), c_uint64(self.mark()), byref(off))
             except Refused as refused:
-                return offsets, refused.number
-            if off.value == 0 or off.value in offsets:
-                return offsets, 0
-            offsets.append(off.value)
+                return [*offsets], f"ends in refusal {refused.number}"
+            if off.value == 0:
+                return [*offsets], ""
+            if off.value in offsets:
+                return [*offsets], f"loops: it comes back to {off.value:,}"
+            offsets[off.value] = True

@@ -10,18 +10,26 @@ class Block:
 
 
 class Key:
-    """A key: its place in words, its blocks in order, and the refusal of a read, or 0."""
+    """A key: its kind of place, how many numbers it has, its place in words, its blocks in order, and the refusal of a read, or 0."""
 
-    def __init__(self, index, text, blocks, refusal=0):
-        self.index, self.text, self.blocks, self.refusal = index, text, blocks, refusal
+    def __init__(self, index, kind, count, text, blocks, refusal=0):
+        self.index, self.kind, self.count, self.text, self.blocks, self.refusal = index, kind, count, text, blocks, refusal
 
 
 class Survey:
     """A book as it is drawn."""
 
-    def __init__(self, size, mark, keys, freed, broken):
+    def __init__(self, size, mark, keys, freed, broken, fault, lost):
         self.size, self.mark, self.keys, self.freed = size, mark, keys, freed
-        self.broken = broken  # classes whose free list ends in a refusal
+        self.broken = broken  # classes whose free list doesn't end as it should, with why
+        self.fault = fault  # the first that a check meets, or none
+        self.lost = lost  # of a good start, how many units of 16 bytes belong to nobody, as the check tells
+
+    def verdict(self):
+        """What the check says, in words."""
+        if self.fault:
+            return f"check: {self.fault.text}"
+        return "check: a good start" + (f", {plural(self.lost, 'unit')} of 16 bytes {'belongs' if self.lost == 1 else 'belong'} to nobody" if self.lost else "")
 
     def blocks(self):
         """All blocks, by their offsets."""
@@ -63,9 +71,9 @@ def told(place):
 def unsound(book, index, number):
     """A key whose read is refused: what its head word says, if that can be read."""
     try:
-        return Key(index, told(book.place(index)), [], number)
+        return Key(index, "refused", 0, told(book.place(index)), [], number)
     except Refused as refused:
-        return Key(index, f"{book.heads[index]:016x}, refused with {refused.number}", [], number)
+        return Key(index, "refused", 0, f"{book.heads[index]:016x}, refused with {refused.number}", [], number)
 
 
 def key_of(book, index):
@@ -74,22 +82,24 @@ def key_of(book, index):
         numbers = book.read(index)
     except Refused as refused:
         return unsound(book, index, refused.number)
-    place = book.place(index)
+    place, blocks = book.place(index), []
+    text = told(place)
     if place.kind == "slab":
-        return Key(index, told(place), [Block(place.place, book.library.slab_bytes(place.class_), place.class_, index, place.used)])
-    if place.kind != "pages":
-        return Key(index, told(place), [])
-    blocks = chain(book, index, place.place)
-    return Key(index, f"{plural(len(blocks), 'page')}, the last at {place.place:,}, {plural(len(numbers), 'number')}", blocks)
+        blocks = [Block(place.place, book.library.slab_bytes(place.class_), place.class_, index, place.used)]
+    if place.kind == "pages":
+        blocks = chain(book, index, place.place)
+        text = f"{plural(len(blocks), 'page')}, the last at {place.place:,}, {plural(len(numbers), 'number')}"
+    return Key(index, place.kind, len(numbers), text, blocks)
 
 
 def survey(book):
     """A whole book."""
+    fault, lost = book.check()
     freed, broken = [], {}
     for class_ in range(PAGE_CLASS + 1):
-        offsets, refusal = book.freed(class_)
+        offsets, why = book.freed(class_)
         freed += [Block(off, book.library.slab_bytes(class_), class_) for off in offsets]
-        if refusal:
-            broken[class_] = refusal
+        if why:
+            broken[class_] = why
     keys = [key_of(book, index) for index in range(len(book.heads))]
-    return Survey(len(book.body), book.mark(), keys, freed, broken)
+    return Survey(len(book.body), book.mark(), keys, freed, broken, fault, lost)

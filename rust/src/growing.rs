@@ -1,0 +1,52 @@
+//! Books that are given more room.
+use crate::limits::{MOST_BODY_BYTES, MOST_HEADS, PAGE_BYTES};
+use crate::{Book, Refusal};
+use alloc::vec::Vec;
+
+/// Of books that own their body and head words. A book over other memory grows in the same way by hand: [`Book::into_parts`], a copy of its
+/// body with whole pages behind it, or of its head words with zeros behind them, and [`Book::from_parts`] with the same state.
+impl Book<Vec<u8>, Vec<u64>> {
+    /// Gives the book a body of so many bytes and so many head words; all else stays. What is added is zero bytes behind the body, and behind
+    /// the head words accounts for which nothing is recorded.
+    ///
+    /// A good start that has grown is a good start with the same lists, and a call that [`Refusal::NoRoom`] turned back is accepted once the
+    /// body is long enough; both are proved (`grown-start`, `grown-lists` and `grown-room` in the crate `book_history`):
+    ///
+    /// ```
+    /// use ouriscado::{Book, Refusal};
+    ///
+    /// let mut book = Book::fresh(vec![0; 8192], vec![0; 1])?;
+    /// let month: Vec<u64> = (1..=5_000).collect();
+    /// assert_eq!(book.load(0, &month), Err(Refusal::NoRoom)); // two pages are needed, and the body has one for lists
+    /// book.grow(16_384, 2)?; // and a second account
+    /// book.load(0, &month)?;
+    /// assert_eq!(book.read(0)?, month);
+    /// assert!(book.read(1)?.is_empty());
+    /// # Ok::<(), Refusal>(())
+    /// ```
+    ///
+    /// # Errors
+    ///
+    /// [`Refusal::ShapeBad`] where the body's length is no multiple of [`PAGE_BYTES`], a length or count is above the
+    /// [limits](crate::limits) or below what the book has, or the book is out of shape as it is. Nothing has changed then.
+    pub fn grow(&mut self, body_bytes: usize, heads: usize) -> Result<(), Refusal> {
+        self.judge_shape()?;
+        let whole_pages = body_bytes % PAGE_BYTES == 0;
+        let no_shorter = self.body().len() <= body_bytes && self.heads().len() <= heads;
+        if !whole_pages || !no_shorter || MOST_BODY_BYTES < body_bytes || MOST_HEADS < heads {
+            return Err(Refusal::ShapeBad);
+        }
+        self.body.resize(body_bytes, 0);
+        self.heads.resize(heads, 0);
+        Ok(())
+    }
+
+    /// Judges the lengths and the mark, by a read of a key that no book has.
+    fn judge_shape(&self) -> Result<(), Refusal> {
+        match self.read_into(u64::MAX, &mut []) {
+            Err(Refusal::KeyBeyond) => Ok(()),
+            Err(refusal) => Err(refusal),
+            Ok(_) => unreachable!("no book has so many head words"),
+        }
+    }
+}
