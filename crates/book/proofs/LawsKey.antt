@@ -7,7 +7,7 @@ use lib.Dec.{leb}
 use lib.ListN.{length}
 use Rattle.error.specs.Refusal.{Answer, accepted, refused, shapeBad, keyBeyond}
 use Rattle.error.proofs.LawsAnswer.{refuse-yes, refuse-no, answered-yes, answered-no}
-use Rattle.book_rules.specs.Outcomes.{Told, bookAfter}
+use Rattle.book_rules.specs.Outcomes.{bookAfter}
 use Rattle.book_space.specs.Space.{shapeBroken}
 use Rattle.book.specs.Book.{Book, Outcome, onKey}
 use Rattle.book.specs.Steps.{Does}
@@ -37,18 +37,18 @@ module _ {A : Type 0} (b : Book) (key : ℕ) (after : Answer A) where
 
 -- ---- what a call does
 
-module _ (before after : Book) (tells : Answer Told) (a : Answer Outcome) where
+module _ {T : Type 0} (before after : Book) (tells : Answer T) (a : Answer (Outcome T)) where
   -- A call that tells an accepted outcome and leaves its book does what the answer says.
-  pub does-yes : {o : Outcome} → a ≡ accepted o → tells ≡ accepted (o .told) → after ≡ o .book → Does a before after tells
+  pub does-yes : {o : Outcome T} → a ≡ accepted o → tells ≡ accepted (o .told) → after ≡ o .book → Does a before after tells
   unfolding bookAfter
-  does-yes {o} e t l = record { told = t ∙ sym (answered-yes (λ (x : Outcome). x .told) a e); left = rw e l }
+  does-yes {o} e t l = record { told = t ∙ sym (answered-yes (λ (x : Outcome T). x .told) a e); left = rw e l }
 
   -- A call that tells a refusal and leaves the book as it was does what the answer says.
   pub does-no : {number : ℕ} → a ≡ refused number → tells ≡ refused number → after ≡ before → Does a before after tells
   unfolding bookAfter
-  does-no e t l = record { told = t ∙ sym (answered-no (λ (x : Outcome). x .told) a e); left = rw e l }
+  does-no e t l = record { told = t ∙ sym (answered-no (λ (x : Outcome T). x .told) a e); left = rw e l }
 
 -- A call that does what an answer says does what the same answer says in other words.
-pub does-same : {a c : Answer Outcome} {before after : Book} {tells : Answer Told} → a ≡ c → Does a before after tells
+pub does-same : {T : Type 0} {a c : Answer (Outcome T)} {before after : Book} {tells : Answer T} → a ≡ c → Does a before after tells
     → Does c before after tells
 does-same e d = rw e at d

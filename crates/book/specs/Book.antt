@@ -8,7 +8,7 @@ use Rattle.buffer.specs.Bytes.{overwrite}
 use Rattle.scripthash_layout.specs.Sizes.{pageClass}
 use Rattle.scripthash_layout.specs.Head.{payloadStart, packHead}
 use Rattle.scripthash_layout.specs.declared.head.ShHeadValue.{ShHeadValue}
-use Rattle.book_rules.specs.Outcomes.{Told, OutcomeOf}
+use Rattle.book_rules.specs.Outcomes.{OutcomeOf}
 use Rattle.book_space.specs.Space.{Space, space, Taken, shapeBroken}
 use Rattle.book_keys.specs.Keys.{Ground, ground}
 
@@ -29,9 +29,9 @@ book body heads mark free = record { heads = heads; space = space body mark free
 abbrev pub fresh : List ℕ → ℕ → Book
 fresh body heads = book body (replicate heads 0) payloadStart (replicate (pageClass + 1) 0)
 
--- What an accepted call tells, and the book afterwards.
-abbrev pub Outcome : Type 0
-Outcome = OutcomeOf Book
+-- What an accepted change tells, and the book afterwards.
+abbrev pub Outcome : Type 0 → Type 0
+Outcome T = OutcomeOf Book T
 
 -- The head word of a key.
 abbrev pub wordOf : ℕ → Book → ℕ
@@ -46,8 +46,8 @@ headWord place = valueOr (λ w. w) (packHead place) 0
 unfoldable pub onKey : {A : Type 0} → Book → ℕ → Answer A → Answer A
 onKey b key after = refuseIf (shapeBroken (b .space) (length (b .heads))) shapeBad (refuseIf (leb (length (b .heads)) key) keyBeyond after)
 
--- What a call leaves that gives a key another place, in another space.
-abbrev pub placing : Told → ℕ → ShHeadValue → Space → Book → Outcome
+-- What a change leaves that gives a key another place, in another space.
+abbrev pub placing : {T : Type 0} → T → ℕ → ShHeadValue → Space → Book → Outcome T
 placing told key place s b = record { told = told; book = record { heads = set (b .heads) key (headWord place); space = s } }
 
 -- A taken block filled with bytes from its beginning on.

@@ -9,7 +9,7 @@ use Rattle.scripthash_layout.specs.Sizes.{pageClass}
 use Rattle.scripthash_layout.specs.declared.head.ShHeadValue.{ShHeadValue}
 use Rattle.scripthash_layout.specs.declared.head.ShHeadValue.the-variants.{Slab, Extent}
 use Rattle.scripthash_slabs.specs.Slab.{slabPayload}
-use Rattle.book_rules.specs.Outcomes.{Told, bookAfter, answerOf}
+use Rattle.book_rules.specs.Outcomes.{bookAfter, answerOf}
 use Rattle.book_space.specs.Space.{Space, takeBlock}
 use Rattle.book_blocks.specs.Blocks.{lastPageOf}
 use Rattle.book.specs.Book.{Book, Outcome, filled}
@@ -39,7 +39,7 @@ abbrev pub placeAnswer : PlaceList → Answer ShHeadValue
 placeAnswer (At place) = accepted place
 placeAnswer (Refused number) = refused number
 
--- A call does what an answer of its definition says: it tells the same, and leaves the book after it.
-pub record Does (a : Answer Outcome) (before after : Book) (tells : Answer Told) : Type 0 where
+-- A change does what an answer of its definition says: it tells the same, and leaves the book after it.
+pub record Does {T : Type 0} (a : Answer (Outcome T)) (before after : Book) (tells : Answer T) : Type 0 where
   pub told : tells ≡ answerOf a
   pub left : after ≡ bookAfter before a

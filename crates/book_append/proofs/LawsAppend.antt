@@ -29,9 +29,9 @@ use Rattle.scripthash_free.proofs.LawsBlock.{both}
 use Rattle.book_rules.specs.Offered.{offeredNumber}
 use Rattle.book_rules.specs.Places.{stays, movesTo}
 use Rattle.book_rules.proofs.LawsOffered.{rising-on, refused-on}
+use Rattle.book_rules.specs.Outcomes.{Appended}
 use Rattle.book_space.specs.Space.{Space, space, takeBlock, release, shapeBroken}
 use Rattle.book_space.proofs.LawsTake.{release-none}
-use Rattle.book_rules.specs.Outcomes.{Told}
 use Rattle.book_keys.specs.Keys.{soundly, pageAt, slabScan, linkScan, lastAt, createsGood, Last, Tail, tailAt, ground}
 use Rattle.book_keys.specs.Steps.{TailEndOf, tailEndOf}
 use Rattle.book_keys.proofs.LawsSound.{soundly-yes, soundly-no, was-sound, was-unsound, was-sure}
@@ -49,12 +49,12 @@ use Rattle.book.proofs.LawsPlace.{stream-at-most}
 -- ---- what an append does
 
 -- What an append does by one answer, it does by another that is the same.
-pub does-as : {a same : Answer Outcome} {before after : Book} {tells : Answer Told} → a ≡ same → Does same before after tells
+pub does-as : {a same : Answer (Outcome Appended)} {before after : Book} {tells : Answer Appended} → a ≡ same → Does same before after tells
     → Does a before after tells
 does-as e d = rw e d
 
 -- What it does from one space, it does from another that is the same.
-pub does-from : {a : Answer Outcome} {heads : List ℕ} {s same : Space} {after : Book} {tells : Answer Told} → s ≡ same
+pub does-from : {a : Answer (Outcome Appended)} {heads : List ℕ} {s same : Space} {after : Book} {tells : Answer Appended} → s ≡ same
     → Does a (record { heads = heads; space = s }) after tells → Does a (record { heads = heads; space = same }) after tells
 does-from {a} {heads} {s} {same} {after} {tells} e d = subst (λ (x : Space). Does a (record { heads = heads; space = x }) after tells) e d
 

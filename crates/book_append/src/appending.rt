@@ -6,7 +6,7 @@ ghost use lib.ListN.{length, getD};
 ghost use Rattle.error.specs.Refusal.{Answer, accepted, refused};
 ghost use Rattle.scripthash_layout.specs.Head.{unpackHead};
 ghost use Rattle.scripthash_layout.specs.declared.head.ShHeadValue.the-variants.{Inline, Slab, Extent};
-ghost use Rattle.book_rules.specs.Outcomes.{bookAfter, answerOf};
+ghost use Rattle.book_rules.specs.Outcomes.{bookAfter, answerOf, Appended};
 ghost use Rattle.book_space.specs.Answers.{spaceOf};
 ghost use Rattle.book.specs.Book.{Book, Outcome};
 ghost use Rattle.book_append.specs.Appends.{appending, appendAt, appends};
@@ -38,7 +38,7 @@ const MOST_MOVED: usize = 257;
 
 // A refused append leaves the state.
 fn refuse_append(state: State, number: Refusal) -> AfterAppend
-    ensures { λ r. ⌜ ((body heads : List ℕ) (a : Answer Outcome) → a ≡ refused number
+    ensures { λ r. ⌜ ((body heads : List ℕ) (a : Answer (Outcome Appended)) → a ≡ refused number
         → Does a (bookOf body heads state) (bookOf body heads (r .state)) (appendAnswer (r .answer))) ⌝ }
 {
     AfterAppend {

@@ -6,11 +6,11 @@ use native.Mathlib.Omega.{arith}
 use lib.ListN.{length, set, take, drop, length-set}
 use Rattle.error.specs.Refusal.{Answer, accepted, refused}
 use Rattle.buffer.specs.Bytes.{overwrite}
-use Rattle.buffer.proofs.LawsBytes.{overwrite-step, overwrite-one, length-overwrite, part-to-end, overwrite-part}
+use Rattle.buffer.proofs.LawsBytes.{overwrite-step, overwrite-one, length-overwrite, overwrite-part}
 use Rattle.buffer.proofs.LawsOverwrite.{overwrite-adjoin}
 use Rattle.scripthash_layout.specs.declared.head.ShHeadValue.{ShHeadValue}
 use Rattle.scripthash_layout.specs.declared.head.ShHeadValue.the-variants.{Empty, Inline, Slab, Extent}
-use Rattle.book_rules.specs.Outcomes.{Told, loaded, appended, listed, dropped}
+use Rattle.book_words.specs.Spelled.{SpelledTold, loaded, appended, dropped}
 use Rattle.book_words.specs.SpellAnswers.{spellPlace, spellTold, spellAnswer}
 use Rattle.book_calls.specs.Steps.{Answered}
 
@@ -31,10 +31,10 @@ four-words b x y z w h =
     ∙ overwrite-step (set (set b 0 x) 1 y) 2 z (w ∷ []) (omega arith) ∙ overwrite-one (set (set (set b 0 x) 1 y) 2 z) 3 w (omega arith))
 
 -- the same answer, and the same words
-pub re-said : {a other : Answer Told} {b out : List ℕ} {len : ℕ} → other ≡ a → Answered a b out len → Answered other b out len
-re-said {b = b} {out = out} {len = len} e h = subst (λ (x : Answer Told). Answered x b out len) (sym e) h
+pub re-said : {a other : Answer SpelledTold} {b out : List ℕ} {len : ℕ} → other ≡ a → Answered a b out len → Answered other b out len
+re-said {b = b} {out = out} {len = len} e h = subst (λ (x : Answer SpelledTold). Answered x b out len) (sym e) h
 
-pub re-written : {a : Answer Told} {b out other : List ℕ} {len : ℕ} → other ≡ out → Answered a b out len → Answered a b other len
+pub re-written : {a : Answer SpelledTold} {b out other : List ℕ} {len : ℕ} → other ≡ out → Answered a b out len → Answered a b other len
 re-written {a = a} {b = b} {len = len} e h = subst (λ (x : List ℕ). Answered a b x len) (sym e) h
 
 -- the word of a refusal

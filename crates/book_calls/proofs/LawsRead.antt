@@ -13,10 +13,11 @@ use Rattle.error.specs.Refusal.{Answer, accepted, refused, refuseIf, andThen, a
 use Rattle.error.proofs.LawsAnswer.{accepted-inj}
 use Rattle.buffer.specs.Bytes.{overwrite}
 use Rattle.buffer.proofs.LawsBytes.{overwrite-part, length-overwrite}
-use Rattle.book_rules.specs.Outcomes.{Listed as List-told, listed, answerOf}
+use Rattle.book_rules.specs.Outcomes.{Listed as List-told, listing}
+use Rattle.book_words.specs.Spelled.{listed}
 use Rattle.book_space.specs.Space.{shapeBroken}
 use Rattle.book_keys.specs.Keys.{Content, content}
-use Rattle.book.specs.Book.{Book, Outcome, wordOf, onKey, seen}
+use Rattle.book.specs.Book.{Book, wordOf, onKey, seen}
 use Rattle.book_read.specs.Reads.{reads, listAfter}
 use Rattle.book_read.specs.Answers.{Counted, readAnswer, countedOf}
 use Rattle.book_read.specs.declared.answers.BookRead.{BookRead}
@@ -25,38 +26,34 @@ use Rattle.book_words.specs.SpellAnswers.{spellTold, spellAnswer}
 use Rattle.book_calls.specs.Steps.{Answered, readWords, readLen}
 
 -- What a read answers: a refusal, or a list that the room holds.
-pub data ReadsAs (b : Book) (room : ℕ) : Answer Outcome → Type 0 where
-  turned : {number : ℕ} → ReadsAs b room (refused number)
-  told : (l : List-told) → length (l .numbers) ≤ room → ReadsAs b room (accepted (record { told = listed l; book = b }))
+pub data ReadsAs (room : ℕ) : Answer List-told → Type 0 where
+  turned : {number : ℕ} → ReadsAs room (refused number)
+  told : (l : List-told) → length (l .numbers) ≤ room → ReadsAs room (accepted l)
 
--- what a read tells of a key's content, and the book, which it leaves
-abbrev listing : Book → Content → Outcome
-listing b c = record { told = listed (record { numbers = c .numbers; pages = c .pages }); book = b }
+-- what a read tells of a key's content, or the refusal of a list that is too short
+abbrev listedIn : ℕ → Content → Answer List-told
+listedIn room c = refuseIf (ltb room (length (c .numbers))) listTooShort (accepted (listing (c .numbers) (c .pages)))
 
--- that, or the refusal of a list that is too short
-abbrev listedIn : Book → ℕ → Content → Answer Outcome
-listedIn b room c = refuseIf (ltb room (length (c .numbers))) listTooShort (accepted (listing b c))
-
-pub reads-as : (b : Book) (key room : ℕ) → ReadsAs b room (reads b key room)
+pub reads-as : (b : Book) (key room : ℕ) → ReadsAs room (reads b key room)
 unfolding reads onKey refuseIf andThen
 reads-as b key room = shape (shapeBroken (b .space) (length (b .heads)))
   where
     fits : (c : Content) (t : Bool) → ltb room (length (c .numbers)) ≡ t
-        → ReadsAs b room (refuseIf t listTooShort (accepted (listing b c)))
+        → ReadsAs room (refuseIf t listTooShort (accepted (listing (c .numbers) (c .pages))))
     fits c true e = turned
-    fits c false e = told (record { numbers = c .numbers; pages = c .pages }) (ltb-false room (length (c .numbers)) e)
+    fits c false e = told (listing (c .numbers) (c .pages)) (ltb-false room (length (c .numbers)) e)
 
-    held : (a : Answer Content) → ReadsAs b room (andThen a (λ c. listedIn b room c))
+    held : (a : Answer Content) → ReadsAs room (andThen a (λ c. listedIn room c))
     held (accepted c) = fits c (ltb room (length (c .numbers))) refl
     held (refused number) = turned
 
-    within : (t : Bool) → ReadsAs b room (refuseIf t keyBeyond (andThen (content (seen (b .space)) (wordOf key b)) (λ c. listedIn b room c)))
+    within : (t : Bool) → ReadsAs room (refuseIf t keyBeyond (andThen (content (seen (b .space)) (wordOf key b)) (λ c. listedIn room c)))
     within true = turned
     within false = held (content (seen (b .space)) (wordOf key b))
 
     shape : (t : Bool)
-        → ReadsAs b room (refuseIf t shapeBad (refuseIf (leb (length (b .heads)) key) keyBeyond
-        (andThen (content (seen (b .space)) (wordOf key b)) (λ c. listedIn b room c))))
+        → ReadsAs room (refuseIf t shapeBad (refuseIf (leb (length (b .heads)) key) keyBeyond
+        (andThen (content (seen (b .space)) (wordOf key b)) (λ c. listedIn room c))))
     shape true = turned
     shape false = within (leb (length (b .heads)) key)
 
@@ -78,11 +75,11 @@ module _ (b : Book) (key room : ℕ) (out : List ℕ) (h : 4 + room ≤ length o
   mid-room = simp (length-take, length-drop) (omega arith)
 
   -- what is known of the list and of the answer, by what the read answers
-  pub record Put (a : Answer Outcome) (answer : BookRead) (part : List ℕ) : Type 0 where
+  pub record Put (a : Answer List-told) (answer : BookRead) (part : List ℕ) : Type 0 where
     pub same : length (putMid 4 (4 + room - 4) out part) ≡ length out
     pub long : readLen answer ≤ 4 + room
     pub said : (len : ℕ) → len ≡ readLen answer
-        → Answered (answerOf a) out (overwrite (putMid 4 (4 + room - 4) out part) 0 (readWords answer)) len
+        → Answered (answered listed a) out (overwrite (putMid 4 (4 + room - 4) out part) 0 (readWords answer)) len
 
   put-turned : (number : ℕ) (answer : BookRead) (part : List ℕ) → readAnswer answer ≡ refused number → part ≡ mid
       → Put (refused number) answer part
@@ -95,7 +92,7 @@ module _ (b : Book) (key room : ℕ) (out : List ℕ) (h : 4 + room ≤ length o
 
   put-told : (l : List-told) (answer : BookRead) (part : List ℕ) → length (l .numbers) ≤ room
       → readAnswer answer ≡ accepted (record { length = length (l .numbers); pages = l .pages })
-      → part ≡ overwrite mid 0 (l .numbers) → Put (accepted (record { told = listed l; book = b })) answer part
+      → part ≡ overwrite mid 0 (l .numbers) → Put (accepted l) answer part
   unfolding answered spellAnswer spellTold
   put-told l (Listed count pages) part fits e p =
       let counts : count ≡ length (l .numbers) = ap (λ (x : Counted). x .length) (accepted-inj e) in
@@ -111,17 +108,17 @@ module _ (b : Book) (key room : ℕ) (out : List ℕ) (h : 4 + room ≤ length o
       }
   put-told l (NotRead m) part fits e p = let z : _≡_ {A = ℕ} 0 1 = cc in absurd (omega arith)
 
-  put-as : (a : Answer Outcome) → ReadsAs b room a → (answer : BookRead) (part : List ℕ)
-      → readAnswer answer ≡ answered countedOf (answerOf a) → part ≡ listAfter mid a → Put a answer part
+  put-as : (a : Answer List-told) → ReadsAs room a → (answer : BookRead) (part : List ℕ)
+      → readAnswer answer ≡ answered countedOf a → part ≡ listAfter mid a → Put a answer part
   unfolding answered listAfter
   put-as (refused number) turned answer part e p = put-turned number answer part e p
-  put-as (accepted o) (told l fits) answer part e p = put-told l answer part fits e p
+  put-as (accepted l) (told _ fits) answer part e p = put-told l answer part fits e p
 
   -- The answer and the list of a read make up the answer's words.
-  pub put-reads : (answer : BookRead) (part : List ℕ) → readAnswer answer ≡ answered countedOf (answerOf (reads b key (length mid)))
+  pub put-reads : (answer : BookRead) (part : List ℕ) → readAnswer answer ≡ answered countedOf (reads b key (length mid))
       → part ≡ listAfter mid (reads b key (length mid))
       → Put (reads b key room) answer part
   put-reads answer part e p =
       put-as (reads b key room) (reads-as b key room) answer part
-      (e ∙ ap (λ (n : ℕ). answered countedOf (answerOf (reads b key n))) mid-room)
+      (e ∙ ap (λ (n : ℕ). answered countedOf (reads b key n)) mid-room)
       (p ∙ ap (λ (n : ℕ). listAfter mid (reads b key n)) mid-room)

@@ -2,20 +2,20 @@
 use Prim.Native.Nat.{ℕ, _+_, _-_, _≤_, _<_}
 use mathlib.Core.Bool.{Bool, true, false, cond}
 use mathlib.Core.List.{List, [], _∷_}
-use mathlib.Core.Logic.{_⊎_, inl, inr, ⊎-elim}
+use mathlib.Core.Logic.{_⊎_, ⊎-elim}
 use mathlib.Core.Option.{Option, none, some}
-use mathlib.Core.Path.{_≡_, refl, sym, ap, subst, _∙_}
+use mathlib.Core.Path.{_≡_, refl, sym, ap, _∙_}
 use native.Mathlib.Omega.{arith}
-use borrow.Author.Tests.{le-leb, lt-leb, eq-eqb, ne-eqb, eqb-true}
+use borrow.Author.Tests.{le-leb, lt-leb, eq-eqb, ne-eqb}
 use lib.Dec.{leb, eqb}
 use lib.ListN.{length, getD, take as firstOf, drop as behind, length-drop, drop-of-length-le}
 use lib.Seq.{drop-drop}
 use Rattle.buffer.proofs.LawsOrder.{lt-or-ge}
-use Rattle.book_statements.specs.Calls.{Call, load, append, read, drop}
+use Rattle.book_words.specs.Spelled.{SpelledCall, load, append, read, drop}
 use Rattle.book_words.specs.Words.{Begins, begins, before, atEnd, readAll}
 use Rattle.book_words.specs.SpellCalls.{loadOf, callOf, callAt, callsOf, answerRoom, answersRoom}
 use Rattle.book_words.proofs.LawsWords.{some-inj, none≢some}
-use Rattle.book_words.proofs.LawsCalls.{calls-none, calls-some, call-at, call-short}
+use Rattle.book_words.proofs.LawsCalls.{calls-none, calls-some, call-at}
 use Rattle.book_calls.specs.Steps.{isSome, NextIs, needOf, RoomIs}
 use Rattle.book_calls.specs.declared.words.NextCall.the-variants.{At, Nowhere}
 use Rattle.book_calls.specs.declared.words.RoomLeft.the-variants.{Words, TooLittle}
@@ -28,20 +28,20 @@ unfolding NextIs
 nowhere calls at e = rw e tt
 
 -- a call begins there, and these are the words behind it
-pub somewhere : (calls : List ℕ) (at next : ℕ) (b : Begins Call) → callAt (behind at calls) ≡ some b → b .rest ≡ behind next calls
+pub somewhere : (calls : List ℕ) (at next : ℕ) (b : Begins SpelledCall) → callAt (behind at calls) ≡ some b → b .rest ≡ behind next calls
     → at + 3 ≤ next → next ≤ length calls
     → NextIs calls at (callAt (behind at calls)) (At next)
 unfolding NextIs
 somewhere calls at next b e r l m = rw e (r, l, m)
 
 -- what the two answers tell
-pub was-nowhere : (calls : List ℕ) (at : ℕ) (o : Option (Begins Call)) → NextIs calls at o Nowhere → o ≡ none
+pub was-nowhere : (calls : List ℕ) (at : ℕ) (o : Option (Begins SpelledCall)) → NextIs calls at o Nowhere → o ≡ none
 unfolding NextIs
 was-nowhere calls at none n = refl
 was-nowhere calls at (some b) n = absurd n
 
-pub was-somewhere : (calls : List ℕ) (at next : ℕ) (o : Option (Begins Call)) → NextIs calls at o (At next)
-    → (b : Begins Call) × (o ≡ some b) × (b .rest ≡ behind next calls) × (at + 3 ≤ next) × (next ≤ length calls)
+pub was-somewhere : (calls : List ℕ) (at next : ℕ) (o : Option (Begins SpelledCall)) → NextIs calls at o (At next)
+    → (b : Begins SpelledCall) × (o ≡ some b) × (b .rest ≡ behind next calls) × (at + 3 ≤ next) × (next ≤ length calls)
 unfolding NextIs
 was-somewhere calls at next none n = absurd n
 was-somewhere calls at next (some b) n = (b, refl, n .0, n .1, n .2)
@@ -137,12 +137,12 @@ module _ (calls : List ℕ) (at : ℕ) (three : at + 3 ≤ length calls) where
 -- ---- the room for an answer
 
 -- what was chosen where there is no other choice
-pub only : (t : Bool) (x b : Begins Call) → cond t (some x) none ≡ some b → x ≡ b
+pub only : (t : Bool) (x b : Begins SpelledCall) → cond t (some x) none ≡ some b → x ≡ b
 only true x b e = some-inj e
 only false x b e = absurd (none≢some e)
 
 -- the words that the answer to the call at an index may have
-pub room-of : (k key third : ℕ) (rest : List ℕ) (b : Begins Call) → callOf k key third rest ≡ some b
+pub room-of : (k key third : ℕ) (rest : List ℕ) (b : Begins SpelledCall) → callOf k key third rest ≡ some b
     → answerRoom (b .first) ≡ needOf k third
 unfolding needOf answerRoom
 room-of k key third rest b e =
@@ -158,17 +158,17 @@ room-of k key third rest b e =
 
     loads : k ≡ 0 → answerRoom (b .first) ≡ needOf k third
     loads z =
-        ap (λ (x : Begins Call). answerRoom (x .first)) (sym (only (leb third (length rest)) _ b (sym (of-load k key third rest z) ∙ e)))
+        ap (λ (x : Begins SpelledCall). answerRoom (x .first)) (sym (only (leb third (length rest)) _ b (sym (of-load k key third rest z) ∙ e)))
         ∙ rw z
 
     appends : k ≡ 1 → answerRoom (b .first) ≡ needOf k third
-    appends z = ap (λ (x : Begins Call). answerRoom (x .first)) (sym (some-inj (sym (of-append k key third rest z) ∙ e))) ∙ rw z
+    appends z = ap (λ (x : Begins SpelledCall). answerRoom (x .first)) (sym (some-inj (sym (of-append k key third rest z) ∙ e))) ∙ rw z
 
     reads : k ≡ 2 → answerRoom (b .first) ≡ needOf k third
-    reads z = ap (λ (x : Begins Call). answerRoom (x .first)) (sym (some-inj (sym (of-read k key third rest z) ∙ e))) ∙ rw z
+    reads z = ap (λ (x : Begins SpelledCall). answerRoom (x .first)) (sym (some-inj (sym (of-read k key third rest z) ∙ e))) ∙ rw z
 
     drops : k ≡ 3 → answerRoom (b .first) ≡ needOf k third
-    drops z = ap (λ (x : Begins Call). answerRoom (x .first)) (sym (only (eqb third 0) _ b (sym (of-drop k key third rest z) ∙ e))) ∙ rw z
+    drops z = ap (λ (x : Begins SpelledCall). answerRoom (x .first)) (sym (only (eqb third 0) _ b (sym (of-drop k key third rest z) ∙ e))) ∙ rw z
 
 -- the room that is left, by the kind of the call
 module _ (k third left : ℕ) where
@@ -203,7 +203,7 @@ pub spelled-end : (calls : List ℕ) (at : ℕ) → length calls ≤ at → call
 unfolding readAll atEnd
 spelled-end calls at h = ap callsOf (drop-of-length-le calls h)
 
-before-some : (c : Call) (o : Option (List Call)) → isSome (before c o) ≡ isSome o
+before-some : (c : SpelledCall) (o : Option (List SpelledCall)) → isSome (before c o) ≡ isSome o
 unfolding before
 before-some c none = refl
 before-some c (some cs) = refl
@@ -216,7 +216,7 @@ module _ (calls : List ℕ) (at : ℕ) (inside : at < length calls) where
   spelled-nowhere n = calls-none (behind at calls) left-words (was-nowhere calls at _ n)
 
   pub spelled-on : (next : ℕ) → NextIs calls at (callAt (behind at calls)) (At next)
-      → (b : Begins Call) × (callAt (behind at calls) ≡ some b)
+      → (b : Begins SpelledCall) × (callAt (behind at calls) ≡ some b)
       × (callsOf (behind at calls) ≡ before (b .first) (callsOf (behind next calls)))
   spelled-on next n =
       let (b, e, r, l, m) = was-somewhere calls at next _ n in
@@ -227,23 +227,23 @@ module _ (calls : List ℕ) (at : ℕ) (inside : at < length calls) where
   spelled-next next n = let (b, e, s) = spelled-on next n in ap isSome s ∙ before-some (b .first) (callsOf (behind next calls))
 
 -- calls before others
-pub was-before : (c : Call) (o : Option (List Call)) (cs : List Call) → before c o ≡ some cs
-    → (ds : List Call) × (o ≡ some ds) × (c ∷ ds ≡ cs)
+pub was-before : (c : SpelledCall) (o : Option (List SpelledCall)) (cs : List SpelledCall) → before c o ≡ some cs
+    → (ds : List SpelledCall) × (o ≡ some ds) × (c ∷ ds ≡ cs)
 unfolding before
 was-before c none cs e = absurd (none≢some e)
 was-before c (some ds) cs e = (ds, refl, some-inj e)
 
 -- What is known in the middle of measuring calls: those of the words from an index on may need so much room, and so much is left.
-pub record Fitting (calls : List ℕ) (room at left : ℕ) (cs : List Call) : Type 0 where
-  pub rest : List Call
+pub record Fitting (calls : List ℕ) (room at left : ℕ) (cs : List SpelledCall) : Type 0 where
+  pub rest : List SpelledCall
   pub spelled : callsOf (behind at calls) ≡ some rest
   pub used : answersRoom rest + room ≡ answersRoom cs + left
 
 -- nothing is measured yet
-pub fit-starts : (calls : List ℕ) (room : ℕ) (cs : List Call) → callsOf calls ≡ some cs → Fitting calls room 0 room cs
+pub fit-starts : (calls : List ℕ) (room : ℕ) (cs : List SpelledCall) → callsOf calls ≡ some cs → Fitting calls room 0 room cs
 fit-starts calls room cs e = record { rest = cs; spelled = e; used = refl }
 
-module _ {calls : List ℕ} {room at left : ℕ} {cs : List Call} (f : Fitting calls room at left cs) where
+module _ {calls : List ℕ} {room at left : ℕ} {cs : List SpelledCall} (f : Fitting calls room at left cs) where
   -- the words end
   pub fit-ends : length calls ≤ at → true ≡ leb (answersRoom cs) room
   unfolding answersRoom
@@ -261,7 +261,7 @@ module _ {calls : List ℕ} {room at left : ℕ} {cs : List Call} (f : Fitting c
     need = needOf (getD calls at 0) (getD calls (at + 2) 0)
 
     -- the calls behind
-    pub fit-behind : (ds : List Call) × (callsOf (behind next calls) ≡ some ds) × (answersRoom (f .rest) ≡ need + answersRoom ds)
+    pub fit-behind : (ds : List SpelledCall) × (callsOf (behind next calls) ≡ some ds) × (answersRoom (f .rest) ≡ need + answersRoom ds)
     unfolding answersRoom
     fit-behind =
         let (b, e, s) = spelled-on calls at h next n in

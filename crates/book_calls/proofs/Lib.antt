@@ -1,3 +1,4 @@
+pub mod LawsFlat
 pub mod LawsSteps
 pub mod LawsPut
 pub mod LawsRead

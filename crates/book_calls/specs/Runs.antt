@@ -8,8 +8,8 @@ use lib.Dec.{leb}
 use lib.ListN.{length, replicate}
 use Rattle.error.specs.Refusal.{accepted, listTooShort}
 use Rattle.buffer.specs.Bytes.{overwrite}
-use Rattle.book_statements.specs.Calls.{Call}
-use Rattle.book_rules.specs.Outcomes.{listed, answerOf}
+use Rattle.book_words.specs.Spelled.{SpelledCall, callsIn, flat}
+use Rattle.book_rules.specs.Outcomes.{listing}
 use Rattle.book_limits.specs.Limits.{outOfShape}
 use Rattle.book_statements.specs.Recorded.{recorded}
 use Rattle.plain_book.specs.Book.{fresh as plainFresh, answers as plainAnswers, after as plainAfter}
@@ -27,16 +27,16 @@ use Rattle.book_calls.specs.declared.runs.RunCalls.the-variants.{Ran, Un
 use Rattle.book_calls.specs.declared.runs.AfterRun.{AfterRun}
 
 -- The words of the plain book's answers to some calls, on a fresh book of a size with so many keys.
-abbrev pub plainWords : ℕ → ℕ → List Call → List ℕ
-plainWords size heads cs = spellAnswers (plainAnswers (plainFresh size heads) cs)
+abbrev pub plainWords : ℕ → ℕ → List SpelledCall → List ℕ
+plainWords size heads cs = spellAnswers (flat cs (plainAnswers (plainFresh size heads) (callsIn cs)))
 
 -- What `run_calls` answers, by the calls that its words spell: how many words the answers have, or why nothing was run.
-unfoldable pub runs : ℕ → ℕ → ℕ → Option (List Call) → RunCalls
+unfoldable pub runs : ℕ → ℕ → ℕ → Option (List SpelledCall) → RunCalls
 runs size heads room none = Unspelled
 runs size heads room (some cs) = cond (leb (answersRoom cs) room) (Ran (length (plainWords size heads cs))) (Refused listTooShort)
 
 -- What the list of answers holds afterwards: their words at its start, or what it held where nothing was run.
-unfoldable pub wordsAfter : List ℕ → ℕ → ℕ → Option (List Call) → List ℕ
+unfoldable pub wordsAfter : List ℕ → ℕ → ℕ → Option (List SpelledCall) → List ℕ
 wordsAfter out size heads none = out
 wordsAfter out size heads (some cs) = cond (leb (answersRoom cs) (length out)) (overwrite out 0 (plainWords size heads cs)) out
 
@@ -49,9 +49,13 @@ abbrev pub madeOf : List ℕ → List ℕ → Book
 madeOf body heads = madeAfter (bookOf body heads noState) (makesFresh (bookOf body heads noState))
 
 -- The book afterwards: after the calls, or as it was where nothing was run.
-unfoldable pub leftBy : List ℕ → List ℕ → ℕ → Option (List Call) → Book
+unfoldable pub leftBy : List ℕ → List ℕ → ℕ → Option (List SpelledCall) → Book
 leftBy body heads room none = bookOf body heads noState
-leftBy body heads room (some cs) = cond (leb (answersRoom cs) room) (after (madeOf body heads) cs) (bookOf body heads noState)
+leftBy body heads room (some cs) = cond (leb (answersRoom cs) room) (after (madeOf body heads) (callsIn cs)) (bookOf body heads noState)
+
+-- What is recorded for a key by some calls, on a fresh book of a size with so many keys.
+abbrev pub recordedFor : ℕ → ℕ → ℕ → List SpelledCall → List ℕ
+recordedFor key size heads cs = recorded key (plainAnswers (plainFresh size heads) (callsIn cs)) []
 
 -- The contract of `run_calls`, on a body, head words, the words of calls and a list for answers, with what these hold afterwards.
 pub record Runs (body heads calls out : List ℕ) (r : AfterRun) (body' heads' out' : List ℕ) : Type 0 where
@@ -61,15 +65,11 @@ pub record Runs (body heads calls out : List ℕ) (r : AfterRun) (body' heads' o
   -- Body, heads and state afterwards, whichever way it ends.
   pub left : bookOf body' heads' (r .state) ≡ leftBy body heads (length out) (callsOf calls)
   -- It stands as the plain book does: places, mark, freed blocks, and what each key reads as.
-  pub stands : (cs : List Call) → callsOf calls ≡ some cs → answersRoom cs ≤ length out → outOfShape (length body) (length heads) ≡ false
-      → Standing (plainAfter (plainFresh (length body) (length heads)) cs) (bookOf body' heads' (r .state))
+  pub stands : (cs : List SpelledCall) → callsOf calls ≡ some cs → answersRoom cs ≤ length out → outOfShape (length body) (length heads) ≡ false
+      → Standing (plainAfter (plainFresh (length body) (length heads)) (callsIn cs)) (bookOf body' heads' (r .state))
   -- Afterwards each key reads as what is recorded for it, by calls and answers alone, where the book is in shape; a long enough list is
   -- lent.
-  pub records : (cs : List Call) → callsOf calls ≡ some cs → answersRoom cs ≤ length out → outOfShape (length body) (length heads) ≡ false
-      → (key room : ℕ) → key < length heads → length (recorded key cs (plainAnswers (plainFresh (length body) (length heads)) cs) []) ≤ room
+  pub records : (cs : List SpelledCall) → callsOf calls ≡ some cs → answersRoom cs ≤ length out → outOfShape (length body) (length heads) ≡ false
+      → (key room : ℕ) → key < length heads → length (recordedFor key (length body) (length heads) cs) ≤ room
       → (pages : ℕ)
-      × (answerOf (reads (bookOf body' heads' (r .state)) key room)
-      ≡ accepted (listed (record {
-        numbers = recorded key cs (plainAnswers (plainFresh (length body) (length heads)) cs) [];
-        pages = pages;
-      })))
+      × (reads (bookOf body' heads' (r .state)) key room ≡ accepted (listing (recordedFor key (length body) (length heads) cs) pages))

@@ -8,10 +8,10 @@ use lib.Dec.{eqb}
 use lib.ListN.{length, drop}
 use Rattle.error.specs.Refusal.{Answer}
 use Rattle.buffer.specs.Bytes.{overwrite}
-use Rattle.book_statements.specs.Calls.{Call}
-use Rattle.book_rules.specs.Outcomes.{Told, bookAfter, answerOf}
+use Rattle.book_words.specs.Spelled.{SpelledCall, SpelledTold}
+use Rattle.book_rules.specs.Outcomes.{bookAfter, answerOf}
 use Rattle.book.specs.Book.{Book}
-use Rattle.book_history.specs.Calls.{does, after, answers}
+use Rattle.book_calls.specs.Flat.{doesSpelled, afterSpelled, answersSpelled}
 use Rattle.book_read.specs.declared.answers.BookRead.{BookRead}
 use Rattle.book_read.specs.declared.answers.BookRead.the-variants.{Listed, Refused as NotRead}
 use Rattle.book_words.specs.SpellCalls.{callAt, callsOf, answerRoom, answersRoom}
@@ -28,7 +28,7 @@ isSome none = false
 isSome (some x) = true
 
 -- What is known of the index behind a call, by the call that begins at an index: the words behind the call are those from there on.
-unfoldable pub NextIs : List ℕ → ℕ → Option (Begins Call) → NextCall → Type 0
+unfoldable pub NextIs : List ℕ → ℕ → Option (Begins SpelledCall) → NextCall → Type 0
 NextIs calls at none (At behind) = ⊥
 NextIs calls at none Nowhere = Unit {0}
 NextIs calls at (some b) (At behind) = (b .rest ≡ drop behind calls) × (at + 3 ≤ behind) × (behind ≤ length calls)
@@ -44,7 +44,7 @@ RoomIs need left (Words rest) = rest + need ≡ left
 RoomIs need left TooLittle = left < need
 
 -- An answer's words were written to the start of a list, and so many they are.
-pub record Answered (a : Answer Told) (before after : List ℕ) (len : ℕ) : Type 0 where
+pub record Answered (a : Answer SpelledTold) (before after : List ℕ) (len : ℕ) : Type 0 where
   pub words : after ≡ overwrite before 0 (spellAnswer a)
   pub count : len ≡ length (spellAnswer a)
 
@@ -59,26 +59,26 @@ readLen (Listed count pages) = 4 + count
 readLen (NotRead number) = 1
 
 -- A call was done on a book: it is the book after it, and the answer's words were written.
-pub record Done (b : Book) (c : Call) (out : List ℕ) (after : Book) (written : List ℕ) (len : ℕ) : Type 0 where
-  pub left : after ≡ bookAfter b (does b c)
-  pub said : Answered (answerOf (does b c)) out written len
-  pub short : length (spellAnswer (answerOf (does b c))) ≤ answerRoom c
+pub record Done (b : Book) (c : SpelledCall) (out : List ℕ) (after : Book) (written : List ℕ) (len : ℕ) : Type 0 where
+  pub left : after ≡ bookAfter b (doesSpelled b c)
+  pub said : Answered (answerOf (doesSpelled b c)) out written len
+  pub short : length (spellAnswer (answerOf (doesSpelled b c))) ≤ answerRoom c
 
 -- A call begins at an index of some words, and its answer has room.
 pub record CallHere (calls : List ℕ) (at room : ℕ) : Type 0 where
-  pub here : Begins Call
+  pub here : Begins SpelledCall
   pub is : callAt (drop at calls) ≡ some here
   pub three : at + 3 ≤ length calls
   pub fits : answerRoom (here .first) ≤ room
 
 -- Words spell calls, and their answers have room.
 pub record Spelled (calls : List ℕ) (room : ℕ) : Type 0 where
-  pub list : List Call
+  pub list : List SpelledCall
   pub is : callsOf calls ≡ some list
   pub fits : answersRoom list ≤ room
 
 -- A list of calls was done on a book, and the words of the answers were written.
-pub record AllDone (b : Book) (cs : List Call) (out : List ℕ) (left : Book) (written : List ℕ) (len : ℕ) : Type 0 where
-  pub left-is : left ≡ after b cs
-  pub words : written ≡ overwrite out 0 (spellAnswers (answers b cs))
-  pub count : len ≡ length (spellAnswers (answers b cs))
+pub record AllDone (b : Book) (cs : List SpelledCall) (out : List ℕ) (left : Book) (written : List ℕ) (len : ℕ) : Type 0 where
+  pub left-is : left ≡ afterSpelled b cs
+  pub words : written ≡ overwrite out 0 (spellAnswers (answersSpelled b cs))
+  pub count : len ≡ length (spellAnswers (answersSpelled b cs))

@@ -4,9 +4,9 @@ ghost use mathlib.Core.Path.{_≡_};
 ghost use Prim.Native.Nat.{_+_, _≤_};
 ghost use mathlib.Core.Option.{some};
 ghost use lib.ListN.{length, drop};
-ghost use Rattle.book_statements.specs.Calls as Calls;
-ghost use Rattle.book_statements.specs.Calls.{Call};
-ghost use Rattle.book_rules.specs.Outcomes.{answerOf};
+ghost use Rattle.error.specs.Refusal.{answered};
+ghost use Rattle.book_words.specs.Spelled as Calls;
+ghost use Rattle.book_words.specs.Spelled.{SpelledCall, listed};
 ghost use Rattle.book_read.specs.Reads.{reads};
 ghost use Rattle.book.specs.Answers.{bookOf};
 ghost use Rattle.book_words.specs.Words.{Begins};
@@ -98,7 +98,7 @@ fn run_read(
     out: &mut [u64],
 ) -> usize
     requires { ⌜ 4 + room ≤ length (now out) ⌝ }
-    ensures { λ r. ⌜ Answered (answerOf (reads (bookOf (now (body .entry)) (now (heads .entry)) state) key room)) (now (out .entry))
+    ensures { λ r. ⌜ Answered (answered listed (reads (bookOf (now (body .entry)) (now (heads .entry)) state) key room)) (now (out .entry))
         (now (out .exit)) r ⌝ }
 {
     let end = 4 + room;
@@ -116,7 +116,7 @@ fn run_call(
     out: &mut [u64],
 ) -> AfterCall
     requires { ⌜ CallHere (now calls) at (length (now out)) ⌝ }
-    ensures { λ r. ⌜ ((b : Begins Call) → callAt (drop at (now (calls .entry))) ≡ some b
+    ensures { λ r. ⌜ ((b : Begins SpelledCall) → callAt (drop at (now (calls .entry))) ≡ some b
         → Done (bookOf (now (body .entry)) (now (heads .entry)) state) (b .first) (now (out .entry))
         (bookOf (now (body .exit)) (now (heads .exit)) (r .state)) (now (out .exit)) (r .len)) ⌝ }
 {
@@ -147,7 +147,7 @@ pub fn run_spelled(
     out: &mut [u64],
 ) -> AfterCall
     requires { ⌜ Spelled (now calls) (length (now out)) ⌝ }
-    ensures { λ r. ⌜ ((cs : List Call) → callsOf (now (calls .entry)) ≡ some cs
+    ensures { λ r. ⌜ ((cs : List SpelledCall) → callsOf (now (calls .entry)) ≡ some cs
         → AllDone (bookOf (now (body .entry)) (now (heads .entry)) state) cs (now (out .entry))
         (bookOf (now (body .exit)) (now (heads .exit)) (r .state)) (now (out .exit)) (r .len)) ⌝ }
 {

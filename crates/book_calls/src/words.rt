@@ -6,7 +6,7 @@ ghost use mathlib.Core.Path.{_≡_};
 ghost use Prim.Native.Nat.{_≤_};
 ghost use lib.Dec.{leb};
 ghost use lib.ListN.{length, drop};
-ghost use Rattle.book_statements.specs.Calls.{Call};
+ghost use Rattle.book_words.specs.Spelled.{SpelledCall};
 ghost use Rattle.book_words.specs.SpellCalls.{callAt, callsOf, answersRoom};
 ghost use Rattle.book_calls.specs.Steps.{isSome, NextIs, needOf, RoomIs};
 
@@ -104,7 +104,7 @@ fn room_behind(kind: u64, third: u64, left: u64) -> RoomLeft
 // Whether the answers to the calls that some words spell have room, however long they are.
 pub fn calls_fit(calls: &[u64], room: usize) -> bool
     requires { ⌜ isSome (callsOf (now calls)) ≡ true ⌝ }
-    ensures { λ r. ⌜ ((cs : List Call) → callsOf (now (calls .entry)) ≡ some cs → r ≡ leb (answersRoom cs) room) ⌝ }
+    ensures { λ r. ⌜ ((cs : List SpelledCall) → callsOf (now (calls .entry)) ≡ some cs → r ≡ leb (answersRoom cs) room) ⌝ }
 {
     let mut left = room as u64;
     let mut at: usize = 0;

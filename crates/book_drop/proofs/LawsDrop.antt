@@ -19,7 +19,7 @@ use Rattle.scripthash_stream.specs.Stream.{Scan, lastFrom}
 use Rattle.scripthash_fields.specs.Page.{linkOf, linkOffset}
 use Rattle.scripthash_free.specs.FreeList.{isBlock, Within}
 use Rattle.scripthash_free.proofs.LawsBlock.{block-stands}
-use Rattle.book_rules.specs.Outcomes.{dropped}
+use Rattle.book_rules.specs.Outcomes.{droppedOf}
 use Rattle.book_space.specs.Space.{Space, shapeBroken, release}
 use Rattle.book_space.proofs.LawsLists.{stands-further, each-one}
 use Rattle.book_space.proofs.LawsTake.{InBody, release-none, release-first, release-mark, release-size, release-outside}
@@ -52,11 +52,11 @@ module _ (b : Book) (key : ℕ) (place : ShHeadValue) where
   -- A sound one is emptied, in the space with its blocks given back.
   pub drop-yes : (c : Content) (count : ℕ) (s : Space) → contentAt (seen (b .space)) place ≡ accepted c → length (c .numbers) ≡ count
       → s ≡ release (c .blocks) (b .space)
-      → accepted (placing (dropped (record { length = count })) key Empty s b) ≡ dropsAt b key place
+      → accepted (placing (droppedOf count) key Empty s b) ≡ dropsAt b key place
   unfolding dropsAt
   drop-yes c count s e n r =
-      ap (λ (m : ℕ). accepted (placing (dropped (record { length = m })) key Empty s b)) (sym n)
-      ∙ ap (λ (t : Space). accepted (placing (dropped (record { length = length (c .numbers) })) key Empty t b)) r
+      ap (λ (m : ℕ). accepted (placing (droppedOf m) key Empty s b)) (sym n)
+      ∙ ap (λ (t : Space). accepted (placing (droppedOf (length (c .numbers))) key Empty t b)) r
       ∙ sym (then-yes (soundly (contentAt (seen (b .space)) place)) _ (soundly-yes (contentAt (seen (b .space)) place) e))
 
 -- A drop of a key of a book.

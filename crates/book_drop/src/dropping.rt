@@ -5,7 +5,7 @@ ghost use Prim.Native.Nat.{ℕ, _≤_, _<_};
 ghost use lib.ListN.{length};
 ghost use Rattle.error.specs.Refusal.{Answer, accepted, refused};
 ghost use Rattle.scripthash_layout.specs.declared.head.ShHeadValue.the-variants.{Empty, Slab, Extent};
-ghost use Rattle.book_rules.specs.Outcomes.{dropped, bookAfter, answerOf};
+ghost use Rattle.book_rules.specs.Outcomes.{bookAfter, answerOf, droppedOf, Dropped};
 ghost use Rattle.book_space.specs.Space.{release};
 ghost use Rattle.book_space.specs.Answers.{spaceOf};
 ghost use Rattle.book_keys.specs.Keys.{pageBlocks};
@@ -28,7 +28,7 @@ use scripthash_stream::ScanStream;
 
 // A refused drop leaves the state.
 fn refuse_drop(state: State, number: Refusal) -> AfterDrop
-    ensures { λ r. ⌜ ((body heads : List ℕ) (a : Answer Outcome) → a ≡ refused number
+    ensures { λ r. ⌜ ((body heads : List ℕ) (a : Answer (Outcome Dropped)) → a ≡ refused number
         → Does a (bookOf body heads state) (bookOf body heads (r .state)) (dropAnswer (r .answer))) ⌝ }
 {
     AfterDrop {
@@ -41,7 +41,7 @@ fn refuse_drop(state: State, number: Refusal) -> AfterDrop
 fn accept_drop(heads: &mut [u64], state: State, key: usize, count: u64) -> AfterDrop
     requires { ⌜ key < length (now heads) ⌝ }
     ensures { λ r. ⌜ ((b : Book) (body : List ℕ) → b .heads ≡ now (heads .entry)
-        → Does (accepted (placing (dropped (record { length = count })) key Empty (spaceOf body state) b)) b
+        → Does (accepted (placing (droppedOf count) key Empty (spaceOf body state) b)) b
         (bookOf body (now (heads .exit)) (r .state)) (dropAnswer (r .answer))) ⌝ }
 {
     heads[key] = 0;

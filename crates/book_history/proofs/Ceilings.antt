@@ -18,7 +18,7 @@ use Rattle.book_start.specs.Start.{GoodStart}
 use Rattle.book_history.specs.Agrees.{Agrees}
 use Rattle.book_history.specs.PlainOf.{plainOf}
 use Rattle.book_history.proofs.LawsCalls.{answers-alike}
-use Rattle.book_history.proofs.LawsEach.{each-alike}
+use Rattle.book_history.proofs.LawsEach.{each-alike, each-same}
 use Rattle.book_history.proofs.LawsStart.{start-good, start-agrees}
 use Rattle.book_history.proofs.LawsStartFresh.{fresh-agrees}
 
@@ -27,34 +27,34 @@ use Rattle.book_history.proofs.LawsStartFresh.{fresh-agrees}
 module _ (plain : PlainBook) (b : Book) (g : GoodPlain plain) (a : Agrees plain b) where
   -- Moves, and the records that they rewrite.
   pub ceilings-good : (key : ℕ) (cs : List Call)
-      → (tallyOf key cs (answers b cs) noMoves .moves ≤ mostMoves) × (tallyOf key cs (answers b cs) noMoves .rewritten ≤ mostRewritten)
-  ceilings-good key cs = rw (answers-alike each-alike plain b cs g a) (ceilings-from plain key cs (g .keys key))
+      → (tallyOf key (answers b cs) noMoves .moves ≤ mostMoves) × (tallyOf key (answers b cs) noMoves .rewritten ≤ mostRewritten)
+  ceilings-good key cs = rw (answers-alike each-alike each-same plain b cs g a) (ceilings-from plain key cs (g .keys key))
 
   -- The pages of loads.
-  pub fewest-good : (cs : List Call) → EachFewest cs (answers b cs)
-  fewest-good cs = rw (answers-alike each-alike plain b cs g a) (loads-least plain cs)
+  pub fewest-good : (cs : List Call) → EachFewest (answers b cs)
+  fewest-good cs = rw (answers-alike each-alike each-same plain b cs g a) (loads-least plain cs)
 
 -- ---- from any good start
 
 -- Moves, and the records that they rewrite: from the start or the last drop.
 pub book-ceilings-from : (b : Book) (key : ℕ) (cs : List Call) → GoodStart b
-    → (tallyOf key cs (answers b cs) noMoves .moves ≤ mostMoves) × (tallyOf key cs (answers b cs) noMoves .rewritten ≤ mostRewritten)
+    → (tallyOf key (answers b cs) noMoves .moves ≤ mostMoves) × (tallyOf key (answers b cs) noMoves .rewritten ≤ mostRewritten)
 book-ceilings-from b key cs g = ceilings-good (plainOf b) b (start-good b g) (start-agrees b g) key cs
 
 -- The pages of loads.
-pub book-fewest-from : (b : Book) (cs : List Call) → GoodStart b → EachFewest cs (answers b cs)
+pub book-fewest-from : (b : Book) (cs : List Call) → GoodStart b → EachFewest (answers b cs)
 book-fewest-from b cs g = fewest-good (plainOf b) b (start-good b g) (start-agrees b g) cs
 
 -- ---- from any fresh book
 
 -- Moves, and the records that they rewrite.
 pub book-ceilings : (body : List ℕ) (heads key : ℕ) (cs : List Call)
-    → (tallyOf key cs (answers (fresh body heads) cs) noMoves .moves ≤ mostMoves)
-    × (tallyOf key cs (answers (fresh body heads) cs) noMoves .rewritten ≤ mostRewritten)
+    → (tallyOf key (answers (fresh body heads) cs) noMoves .moves ≤ mostMoves)
+    × (tallyOf key (answers (fresh body heads) cs) noMoves .rewritten ≤ mostRewritten)
 book-ceilings body heads key cs =
     ceilings-good (plainFresh (length body) heads) (fresh body heads) (fresh-good (length body) heads) (fresh-agrees body heads) key cs
 
 -- The pages of loads.
-pub book-fewest : (body : List ℕ) (heads : ℕ) (cs : List Call) → EachFewest cs (answers (fresh body heads) cs)
+pub book-fewest : (body : List ℕ) (heads : ℕ) (cs : List Call) → EachFewest (answers (fresh body heads) cs)
 book-fewest body heads cs =
     fewest-good (plainFresh (length body) heads) (fresh body heads) (fresh-good (length body) heads) (fresh-agrees body heads) cs

@@ -7,17 +7,17 @@ use mathlib.Core.List.{List, [], _∷_, append-nil}
 use mathlib.Core.Path.{_≡_, refl, sym, ap, subst, _∙_}
 use native.Mathlib.Omega.{arith}
 use lib.ListN.{length, length-append, length-replicate}
-use Rattle.error.specs.Refusal.{Answer, accepted}
-use Rattle.error.proofs.LawsAnswer.{accepted-inj, was-accepted, passed, went-on}
+use Rattle.error.specs.Refusal.{accepted}
+use Rattle.error.proofs.LawsAnswer.{accepted-inj, passed, went-on}
 use Rattle.scripthash_layout.specs.Head.{packHead}
 use Rattle.scripthash_layout.specs.declared.head.ShHeadValue.{ShHeadValue}
 use Rattle.scripthash_layout.specs.declared.head.ShHeadValue.the-variants.{Empty, Inline, Slab, Extent}
 use Rattle.scripthash_layout.proofs.LawsHead.{pack-unpacked}
 use Rattle.scripthash_stream.specs.Stream.{Scan}
 use Rattle.scripthash_fields.specs.Page.{countOf}
+use Rattle.book_rules.specs.Outcomes.{Listed}
+use Rattle.book_statements.specs.Calls.{Call, Answers}
 use Rattle.book_limits.specs.Limits.{outOfShape}
-use Rattle.book_statements.specs.Calls.{Call, read}
-use Rattle.book_rules.specs.Outcomes.{Told, loaded, appended, listed, dropped, Listed, answerOf}
 use Rattle.book_statements.specs.Recorded.{recorded}
 use Rattle.plain_book.specs.Key.{Key, emptyKey}
 use Rattle.plain_book.specs.Book.{Book as PlainBook, fresh as plainFresh, keyOf, after as plainAfter}
@@ -31,9 +31,9 @@ use Rattle.book_keys.proofs.LawsChain.{chain-sound}
 use Rattle.book_keys.proofs.LawsSlab.{slab-sound}
 use Rattle.book_keys.proofs.LawsContent.{was-content, was-slab, was-pages}
 use Rattle.book_keys.proofs.LawsKeys.{by-steps, chain-known}
-use Rattle.book.specs.Book.{Book, Outcome, wordOf, fresh, seen}
+use Rattle.book.specs.Book.{Book, wordOf, fresh, seen}
 use Rattle.book_read.specs.Reads.{reads}
-use Rattle.book_history.specs.Calls.{does, after, answers}
+use Rattle.book_history.specs.Calls.{after, answers}
 use Rattle.book_start.specs.Start.{GoodStart}
 use Rattle.book_history.specs.Agrees.{Agrees}
 use Rattle.book_history.specs.PlainOf.{plainOf, startList}
@@ -41,7 +41,7 @@ use Rattle.book_history.specs.Counts.{Counts, PagesCount, PlaceCounts, K
 use Rattle.book_history.proofs.LawsWritesLoad.{on-key}
 use Rattle.book_history.proofs.LawsContent.{content-agrees}
 use Rattle.book_history.proofs.LawsCalls.{answers-alike, books-agree}
-use Rattle.book_history.proofs.LawsEach.{each-alike}
+use Rattle.book_history.proofs.LawsEach.{each-alike, each-same}
 use Rattle.book_history.proofs.LawsStart.{start-list, start-shape, start-good, start-agrees}
 use Rattle.book_history.proofs.LawsStartFresh.{fresh-agrees}
 
@@ -100,22 +100,13 @@ none-there s (Extent last) (c, is, counts) = absurd (page-some s (c .offs) (chai
 
 -- ---- any book
 
-module _ (b : Book) (key room : ℕ) (l : Listed) (e : answerOf (does b (read key room)) ≡ accepted (listed l)) where
+module _ (b : Book) (key room : ℕ) (l : Listed) (e : reads b key room ≡ accepted l) where
   -- An accepted read found the key sound, and told its numbers.
   read-found : (k : Content) × (content (seen (b .space)) (wordOf key b) ≡ accepted k) × (k .numbers ≡ l .numbers)
-  unfolding does reads
+  unfolding reads
   read-found =
-      let (o, did, tells) = was-accepted (λ (x : Outcome). x .told) (does b (read key room)) e in
-      let (k, is, out) = went-on (content (seen (b .space)) (wordOf key b)) _ (on-key b key _ did .2) in
-      let same : listed (record { numbers = k .numbers; pages = k .pages }) ≡ listed l =
-      ap (λ (x : Outcome). x .told) (accepted-inj (passed _ _ _ out .1)) ∙ tells in
-      (k, is, ap numbersTold same)
-    where
-      numbersTold : Told → List ℕ
-      numbersTold (loaded l) = []
-      numbersTold (appended a) = []
-      numbersTold (listed l) = l .numbers
-      numbersTold (dropped d) = []
+      let (k, is, out) = went-on (content (seen (b .space)) (wordOf key b)) _ (on-key b key _ e .2) in
+      (k, is, ap (λ (x : Listed). x .numbers) (accepted-inj (passed _ _ _ out .1)))
 
   -- On any book, a damaged one too: the counts that an accepted read met are those of the list that it tells, and none is 0.
   pub read-counts : KeyCounts (seen (b .space)) (wordOf key b) (l .numbers)
@@ -134,14 +125,14 @@ module _ (b : Book) (key room : ℕ) (l : Listed) (e : answerOf (does b (read ke
 -- A book that stands for a good plain book, in shape, after any calls: the counts of each key are those of what is recorded for it.
 counts-good : (plain : PlainBook) (b : Book) (cs : List Call) → GoodPlain plain → Agrees plain b
     → outOfShape (plain .size) (length (plain .keys)) ≡ false
-    → (key : ℕ) → KeyCounts (seen (after b cs .space)) (wordOf key (after b cs)) (recorded key cs (answers b cs) (keyOf key plain .list))
+    → (key : ℕ) → KeyCounts (seen (after b cs .space)) (wordOf key (after b cs)) (recorded key (answers b cs) (keyOf key plain .list))
 counts-good plain b cs g a shape key =
     let (size, keys) = shapes-kept plain cs in
     let then = books-agree each-alike plain b cs g a in
     let in-shape : outOfShape (plainAfter plain cs .size) (length (plainAfter plain cs .keys)) ≡ false = rw (size, keys) shape in
-    let list : keyOf key (plainAfter plain cs) .list ≡ recorded key cs (answers b cs) (keyOf key plain .list)
+    let list : keyOf key (plainAfter plain cs) .list ≡ recorded key (answers b cs) (keyOf key plain .list)
     = recorded-from plain key cs (g .keys key)
-    ∙ ap (λ (told : List (Answer Told)). recorded key cs told (keyOf key plain .list)) (sym (answers-alike each-alike plain b cs g a)) in
+    ∙ ap (λ (told : Answers cs). recorded key told (keyOf key plain .list)) (sym (answers-alike each-alike each-same plain b cs g a)) in
     subst (KeyCounts (seen (after b cs .space)) (wordOf key (after b cs))) list
     (key-counts (seen (after b cs .space)) (wordOf key (after b cs)) _
     (content-agrees (plainAfter plain cs) (after b cs) (calls-good cs g) in-shape (then .inside in-shape) key))
@@ -149,19 +140,19 @@ counts-good plain b cs g a shape key =
 -- No history leads to a count of 0: after any calls from a good start the counts of each key are those of what is recorded for it, which
 -- begins with what it was read as at the start.
 pub counts-from : (b : Book) (cs : List Call) → GoodStart b
-    → (key : ℕ) → KeyCounts (seen (after b cs .space)) (wordOf key (after b cs)) (recorded key cs (answers b cs) (startList b key))
+    → (key : ℕ) → KeyCounts (seen (after b cs .space)) (wordOf key (after b cs)) (recorded key (answers b cs) (startList b key))
 counts-from b cs g key =
-    subst (λ (list : List ℕ). KeyCounts (seen (after b cs .space)) (wordOf key (after b cs)) (recorded key cs (answers b cs) list)) (start-list b key)
+    subst (λ (list : List ℕ). KeyCounts (seen (after b cs .space)) (wordOf key (after b cs)) (recorded key (answers b cs) list)) (start-list b key)
     (counts-good (plainOf b) b cs (start-good b g) (start-agrees b g) (start-shape b g) key)
 
 -- No history leads to a count of 0: after any calls on a fresh book in shape, whatever its body holds, the counts of each key are those of
 -- what is recorded for it.
 pub counts-fresh : (body : List ℕ) (heads : ℕ) (cs : List Call) → outOfShape (length body) heads ≡ false
     → let b = fresh body heads in
-    (key : ℕ) → KeyCounts (seen (after b cs .space)) (wordOf key (after b cs)) (recorded key cs (answers b cs) [])
+    (key : ℕ) → KeyCounts (seen (after b cs .space)) (wordOf key (after b cs)) (recorded key (answers b cs) [])
 counts-fresh body heads cs shape key =
     let b = fresh body heads in
-    subst (λ (list : List ℕ). KeyCounts (seen (after b cs .space)) (wordOf key (after b cs)) (recorded key cs (answers b cs) list))
+    subst (λ (list : List ℕ). KeyCounts (seen (after b cs .space)) (wordOf key (after b cs)) (recorded key (answers b cs) list))
     (ap (λ (k : Key). k .list) (fresh-key (length body) heads key))
     (counts-good (plainFresh (length body) heads) b cs (fresh-good (length body) heads) (fresh-agrees body heads)
     (rw (length-replicate heads emptyKey) shape) key)

@@ -1,4 +1,4 @@
--- Demand 1, of the book: on any book, a damaged one too, after an accepted call only what the call names differs. That a refused call
+-- Demand 1, of the book: on any book, a damaged one too, after an accepted change only what the change may write differs. That a refused call
 -- leaves everything as it was stands in the contract of each export (`ouriscado/src/account_book.rt`, `kept`); here it is said of the
 -- definitions, where it holds by what a refusal is. Assumes nothing.
 use Prim.Native.Nat.{ℕ, _+_, _-_, _^_, _<_}
@@ -13,31 +13,31 @@ use Rattle.scripthash_layout.specs.Head.{slabWord, unpackHead}
 use Rattle.scripthash_layout.specs.declared.head.ShHeadValue.the-variants.{Slab, Extent}
 use Rattle.scripthash_stream.specs.Stream.{Scan}
 use Rattle.scripthash_pages.specs.Entries.{lastOf, Spot, spotBehind}
-use Rattle.book_statements.specs.Calls.{Call, append, read}
-use Rattle.book_rules.specs.Outcomes.{bookAfter}
+use Rattle.book_rules.specs.Outcomes.{Appended, bookAfter}
+use Rattle.book_statements.specs.Calls.{Change, append, Made}
 use Rattle.book_rules.specs.Places.{stays}
 use Rattle.book_keys.specs.Keys.{pageAt, slabScan, Tail, tailAt}
 use Rattle.book.specs.Book.{Book, Outcome, wordOf, seen}
-use Rattle.book_read.specs.Reads.{listAfter}
+use Rattle.book_read.specs.Reads.{listAfter, reads}
 use Rattle.book_history.specs.Calls.{does}
 use Rattle.book_history.specs.Writes.{Changes}
 use Rattle.book_history.proofs.LawsWrites.{list-refused, refused-nothing, accepted-only}
 use Rattle.book_history.proofs.LawsWritesWords.{slab-word, page-words}
 
--- The body, the head words and the state, for every call.
-pub demand-1 : (b : Book) (c : Call)
+-- The body, the head words and the state, for every change; an enquiry leaves them by what it is.
+pub demand-1 : (b : Book) (c : Change)
     → ((number : ℕ) → does b c ≡ refused number → bookAfter b (does b c) ≡ b)
-    × ((o : Outcome) → does b c ≡ accepted o → Changes b (o .book) c)
+    × ((o : Outcome (Made c)) → does b c ≡ accepted o → Changes b (o .book) c)
 demand-1 b c = (λ number e. refused-nothing b c e, λ o e. accepted-only b c e)
 
 -- The lent list of a read that is refused.
-pub demand-1-list : (b : Book) (key : ℕ) (out : List ℕ) (number : ℕ) → does b (read key (length out)) ≡ refused number
-    → listAfter out (does b (read key (length out))) ≡ out
+pub demand-1-list : (b : Book) (key : ℕ) (out : List ℕ) (number : ℕ) → reads b key (length out) ≡ refused number
+    → listAfter out (reads b key (length out)) ≡ out
 demand-1-list b key out number e = list-refused b key out e
 
 -- The head word of an append that stays where it is: in a slab only used differs, and is one more; behind the last page's stream no head
 -- word differs at all.
-pub demand-1-word : (b : Book) (key n : ℕ) (o : Outcome) → wordOf key b < 2 ^ 64 → does b (append key n) ≡ accepted o
+pub demand-1-word : (b : Book) (key n : ℕ) (o : Outcome Appended) → wordOf key b < 2 ^ 64 → does b (append key n) ≡ accepted o
     → ((class used off : ℕ) (c : Scan) → unpackHead (wordOf key b) ≡ accepted (Slab class used off)
     → slabScan (seen (b .space)) class used off ≡ accepted c → stays class (length (c .numbers) + 1) (c .taken + ulebLen (n - lastOf c)) ≡ true
     → (wordOf key b ≡ slabWord class used off) × (wordOf key (o .book) ≡ slabWord class (used + 1) off))

@@ -18,7 +18,7 @@ use Rattle.book_history.specs.Agrees.{Agrees}
 use Rattle.book_history.specs.Standing.{Standing}
 use Rattle.book_history.specs.PlainOf.{plainOf}
 use Rattle.book_history.proofs.LawsCalls.{answers-alike, books-agree}
-use Rattle.book_history.proofs.LawsEach.{each-alike}
+use Rattle.book_history.proofs.LawsEach.{each-alike, each-same}
 use Rattle.book_history.proofs.LawsStanding.{agrees-stands}
 use Rattle.book_history.proofs.LawsShape.{bytes-still, plain-still, fresh-stands}
 use Rattle.book_history.proofs.LawsStart.{start-shape, start-good, start-agrees}
@@ -31,7 +31,7 @@ pub demand-3-good : (plain : PlainBook) (b : Book) (cs : List Call) → GoodPlai
     → (answers b cs ≡ plainAnswers plain cs) × Standing (plainAfter plain cs) (after b cs)
 demand-3-good plain b cs g a shape =
     let (size, keys) = shapes-kept plain cs in (
-      answers-alike each-alike plain b cs g a,
+      answers-alike each-alike each-same plain b cs g a,
       agrees-stands _ _ (calls-good cs g) (books-agree each-alike plain b cs g a)
           (rw (size, keys) shape),
     )
@@ -52,7 +52,7 @@ module _ (body : List ℕ) (heads : ℕ) (cs : List Call) where
       let p = plainFresh (length body) heads in
       let out : outOfShape (p .size) (length (p .keys)) ≡ true = rw (length-replicate heads emptyKey) e in
       let keys = fresh-agrees body heads .count in (
-        answers-alike each-alike _ _ cs (fresh-good (length body) heads) (fresh-agrees body heads),
+        answers-alike each-alike each-same _ _ cs (fresh-good (length body) heads) (fresh-agrees body heads),
         subst₂ Standing (sym (plain-still p cs out)) (sym (bytes-still (fresh body heads) cs (rw keys out))) (fresh-stands body heads out),
       )
   fresh-like false e = subst Like (fresh-plain body heads) (demand-3-from (fresh body heads) cs (fresh-start body heads e))

@@ -16,25 +16,24 @@ use Rattle.scripthash_cutting.specs.Cutting.{fitting, firstPart, greedyParts, r
 use Rattle.scripthash_fields.specs.Page.{field, setField, createsFieldOf, nextOff, deltaHeader, extentHeader, pageOf}
 use Rattle.scripthash_pages.specs.Entries.{streamPlace, pageScan, spotBehind, oneMore, withAppended}
 use Rattle.scripthash_free.specs.FreeList.{isBlock, pushed, popFree, largestUpTo, blockThen, carve, pushAll}
-use Rattle.book_statements.specs.Calls.{Call, load, append, read, drop, afterCalls}
-use Rattle.book_rules.specs.Outcomes.{Told, loaded, appended, listed, dropped, bookAfter}
-use Rattle.book_statements.specs.Calls.{answersTo}
+use Rattle.book_rules.specs.Outcomes.{Loaded, Appended, Listed, bookAfter, appendedAt, droppedOf, listing, loadedIn}
+use Rattle.book_statements.specs.Calls.{load, append, read, drop, Call, ask, change, Serves, Answers, done, asked, changed, answersTo, afterCalls}
 use Rattle.book_rules.specs.Offered.{offeredNumber, offeredList}
 use Rattle.book_limits.specs.Limits.{outOfShape}
 use Rattle.book_rules.specs.Places.{stays, larger, movesTo, loadsTo}
 use Rattle.book_space.specs.Space.{markBad, shapeBroken, takeMark, rounded, takeFresh, takePopped, takeBlock, release, runAtMark}
 use Rattle.book_keys.specs.Keys.{soundly, sure, goOn, slabScan, linkScan, goodExtent, lastAt, pageThen, walk, totalGood, chainAt, pageBlocks}
 use Rattle.book_keys.specs.Keys.{contentAt, content, createsGood, tailAt}
-use Rattle.book.specs.Book.{Book, Outcome, book, fresh, headWord, onKey}
+use Rattle.book.specs.Book.{Book, book, fresh, headWord, onKey}
 use Rattle.book_blocks.specs.Blocks.{slabWith, lastPageOf, totalWith, pageWith, pageBefore, writeRun}
 use Rattle.book_append.specs.Appends.{movesInto, moves, appendSlab, growChain, appendPage, appendAt, appends}
 use Rattle.book_load.specs.Loads.{loadInto, loadAt, loads}
 use Rattle.book_read.specs.Reads.{reads}
 use Rattle.book_drop.specs.Drops.{drops}
-use Rattle.book_history.specs.Calls.{after, does}
+use Rattle.book_history.specs.Calls.{asks, serves, after, does}
 
 -- The answers to some calls of a book that does so with each, so that they can be computed.
-unfoldable pub computed : (Book → Call → Answer Outcome) → Book → List Call → List (Answer Told)
+unfoldable pub computed : Serves Book → Book → (cs : List Call) → Answers cs
 unfolding refuseIf andThen answered part overwrite isForm value formAt overflows readForm readUleb divided ulebLen shortest packHead
     unpackHead lastFrom streamFrom streamLenFrom storedNumber nextNumber scanFrom decodeStream firstClass classFor classWithSlack
     slabPayload
@@ -44,24 +43,24 @@ unfolding refuseIf andThen answered part overwrite isForm value formAt overflows
     sure
     goOn slabScan linkScan goodExtent lastAt pageThen walk totalGood chainAt pageBlocks contentAt content createsGood tailAt headWord onKey
     movesInto moves slabWith appendSlab totalWith pageWith pageBefore growChain appendPage appendAt appends writeRun loadInto loadAt loads
-    reads drops does
-computed calls b cs = answersTo calls b cs
+    reads drops asks does
+computed k b cs = answersTo k b cs
 
 -- Those of our book.
-abbrev pub runs : Book → List Call → List (Answer Told)
-runs b cs = computed does b cs
+abbrev pub runs : Book → (cs : List Call) → Answers cs
+runs b cs = computed serves b cs
 
 -- An append that is accepted: the key's new place, and the records rewritten.
-abbrev at : ShHeadValue → ℕ → Answer Told
-at place rewritten = accepted (appended (record { place = place; rewritten = rewritten }))
+abbrev at : ShHeadValue → ℕ → Answer Appended
+at place rewritten = accepted (appendedAt place rewritten)
 
 -- A load of so many pages.
-abbrev loads-in : ℕ → Answer Told
-loads-in pages = accepted (loaded (record { pages = pages }))
+abbrev loads-in : ℕ → Answer Loaded
+loads-in pages = accepted (loadedIn pages)
 
 -- A read that is accepted.
-abbrev lists-as : List ℕ → ℕ → Answer Told
-lists-as ns pages = accepted (listed (record { numbers = ns; pages = pages }))
+abbrev lists-as : List ℕ → ℕ → Answer Listed
+lists-as ns pages = accepted (listing ns pages)
 
 -- k numbers in a row, from n on.
 unfoldable pub inARow : ℕ → ℕ → List ℕ
@@ -74,48 +73,44 @@ bodyOf size = replicate size 165
 
 -- 5, 300, 301, 302, 303 to key 0 move at 300 and at 303; 9, 10 to key 1 take the block that was freed.
 pub run-case : runs (fresh (bodyOf 8192) 2)
-    (append 0 5 ∷ append 0 300 ∷ append 0 301 ∷ append 0 302 ∷ append 0 303 ∷ append 1 9 ∷ append 1 10 ∷ read 0 5 ∷ read 1 2 ∷ [])
-    ≡ at (Inline 5 1) 0 ∷ at (Slab 0 2 4096) 1 ∷ at (Slab 0 3 4096) 0 ∷ at (Slab 0 4 4096) 0 ∷ at (Slab 1 5 4112) 4 ∷ at (Inline 9 1)
-    0 ∷ at (Slab 0 2 4096) 1
-    ∷ lists-as (5 ∷ 300 ∷ 301 ∷ 302 ∷ 303 ∷ []) 0 ∷ lists-as (9 ∷ 10 ∷ []) 0 ∷ []
+    (change (append 0 5) ∷ change (append 0 300) ∷ change (append 0 301) ∷ change (append 0 302) ∷ change (append 0 303) ∷ change (append 1 9) ∷ change (append 1 10) ∷ ask (read 0 5) ∷ ask (read 1 2) ∷ [])
+    ≡ changed (at (Inline 5 1) 0) (changed (at (Slab 0 2 4096) 1) (changed (at (Slab 0 3 4096) 0) (changed (at (Slab 0 4 4096) 0) (changed (at (Slab 1 5 4112) 4) (changed (at (Inline 9 1) 0) (changed (at (Slab 0 2 4096) 1) (asked (lists-as (5 ∷ 300 ∷ 301 ∷ 302 ∷ 303 ∷ []) 0) (asked (lists-as (9 ∷ 10 ∷ []) 0) done))))))))
 unfolding computed
 run-case = refl
 
 -- What is turned back.
-pub turned-back : (runs (fresh (bodyOf 4096) 1) (read 0 0 ∷ []) ≡ refused 1 ∷ [])
-    × (runs (fresh (bodyOf 8192) 1) (append 1 5 ∷ append 0 0 ∷ append 0 (2 ^ 63) ∷ append 0 (2 ^ 62) ∷ append 0 5 ∷ append 0 5 ∷ load 0 []
-    ∷ read 0 0 ∷ drop 0 ∷ read 0 0 ∷ [])
-    ≡ refused 2 ∷ refused 12 ∷ refused 13 ∷ refused 14 ∷ at (Inline 5 1) 0 ∷ refused 32 ∷ refused 3 ∷ refused 34 ∷ accepted
-    (dropped (record { length = 1 })) ∷ lists-as [] 0 ∷ [])
+pub turned-back : (runs (fresh (bodyOf 4096) 1) (ask (read 0 0) ∷ [])
+    ≡ asked (refused 1) done)
+    × (runs (fresh (bodyOf 8192) 1) (change (append 1 5) ∷ change (append 0 0) ∷ change (append 0 (2 ^ 63)) ∷ change (append 0 (2 ^ 62)) ∷ change (append 0 5) ∷ change (append 0 5) ∷ change (load 0 []) ∷ ask (read 0 0) ∷ change (drop 0) ∷ ask (read 0 0) ∷ [])
+    ≡ changed (refused 2) (changed (refused 12) (changed (refused 13) (changed (refused 14) (changed (at (Inline 5 1) 0) (changed (refused 32) (changed (refused 3) (asked (refused 34) (changed (accepted (droppedOf 1)) (asked (lists-as [] 0) done))))))))))
 unfolding computed
 turned-back = (refl, refl)
 
 -- A page of 4,072 bytes is full, so that the next number begins another. A drop frees the first page first, so that the last one is taken
 -- again, here by a list that moves out of its slab.
-pub full-page : runs (fresh (bodyOf 16384) 2) (load 0 (inARow 1 4072) ∷ append 0 4073 ∷ append 0 4074 ∷ read 0 4074 ∷ drop 0 ∷ load 1
-    (inARow 1 256) ∷ append 1 257 ∷ read 1 257 ∷ [])
-    ≡ loads-in 1 ∷ at (Extent 8192) 0 ∷ at (Extent 8192) 0 ∷ lists-as (inARow 1 4074) 2 ∷ accepted
-    (dropped (record { length = 4074 })) ∷ loads-in 0 ∷ at (Extent 8192) 256
-    ∷ lists-as (inARow 1 257) 1 ∷ []
+pub full-page : runs (fresh (bodyOf 16384) 2) (change (load 0 (inARow 1 4072)) ∷ change (append 0 4073) ∷ change (append 0 4074) ∷ ask (read 0 4074) ∷ change (drop 0) ∷ change (load 1 (inARow 1 256)) ∷ change (append 1 257) ∷ ask (read 1 257) ∷ [])
+    ≡ changed (loads-in 1) (changed (at (Extent 8192) 0) (changed (at (Extent 8192) 0) (asked (lists-as (inARow 1 4074) 2) (changed (accepted (droppedOf 4074)) (changed (loads-in 0) (changed (at (Extent 8192) 256) (asked (lists-as (inARow 1 257) 1) done)))))))
 unfolding computed inARow
 full-page = refl
 
 -- A list of 4,073 goes to a run of two pages, behind the mark rounded up; the body is full then, but the gap before the run was carved.
 pub loaded-run : runs (fresh (bodyOf 16384) 3)
-    (append 0 1 ∷ append 0 2 ∷ load 1 (inARow 1 4073) ∷ append 1 4074 ∷ load 2 (inARow 1 300) ∷ load 2 (inARow 1 256) ∷ read 1 4074 ∷ [])
-    ≡ at (Inline 1 1) 0 ∷ at (Slab 0 2 4096) 1 ∷ loads-in 2 ∷ at (Extent 12288) 0 ∷ refused 36 ∷ loads-in 0 ∷ lists-as (inARow 1 4074)
-    2 ∷ []
+    (change (append 0 1) ∷ change (append 0 2) ∷ change (load 1 (inARow 1 4073)) ∷ change (append 1 4074) ∷ change (load 2 (inARow 1 300)) ∷ change (load 2 (inARow 1 256)) ∷ ask (read 1 4074) ∷ [])
+    ≡ changed (at (Inline 1 1) 0) (changed (at (Slab 0 2 4096) 1) (changed (loads-in 2) (changed (at (Extent 12288) 0) (changed (refused 36) (changed (loads-in 0) (asked (lists-as (inARow 1 4074) 2) done))))))
 unfolding computed inARow
 loaded-run = refl
 
 -- What damage gets: a slab whose stored count isn't its head's is no sound key, a free head that no block can have isn't popped, and there
 -- is no room behind a mark at the body's end. A number is judged before the key, and the key before its last number.
 pub damaged : (runs (book (bodyOf 8192) (slabWord 0 2 4096 ∷ []) 4112 (replicate 9 0))
-    (read 0 5 ∷ append 0 9 ∷ drop 0 ∷ append 0 0 ∷ load 0 [] ∷ [])
-    ≡ refused 31 ∷ refused 31 ∷ refused 31 ∷ refused 12 ∷ refused 3 ∷ [])
-    × (runs (book (bodyOf 8192) (5 ∷ []) 4112 (4104 ∷ replicate 8 0)) (append 0 6 ∷ append 0 5 ∷ []) ≡ refused 35 ∷ refused 32 ∷ [])
-    × (runs (book (bodyOf 8192) (5 ∷ []) 8192 (replicate 9 0)) (append 0 6 ∷ read 0 1 ∷ []) ≡ refused 36 ∷ lists-as (5 ∷ []) 0 ∷ [])
-    × (runs (book (bodyOf 8192) (5 ∷ []) 8200 (replicate 9 0)) (read 0 1 ∷ []) ≡ refused 1 ∷ [])
+    (ask (read 0 5) ∷ change (append 0 9) ∷ change (drop 0) ∷ change (append 0 0) ∷ change (load 0 []) ∷ [])
+    ≡ asked (refused 31) (changed (refused 31) (changed (refused 31) (changed (refused 12) (changed (refused 3) done)))))
+    × (runs (book (bodyOf 8192) (5 ∷ []) 4112 (4104 ∷ replicate 8 0)) (change (append 0 6) ∷ change (append 0 5) ∷ [])
+    ≡ changed (refused 35) (changed (refused 32) done))
+    × (runs (book (bodyOf 8192) (5 ∷ []) 8192 (replicate 9 0)) (change (append 0 6) ∷ ask (read 0 1) ∷ [])
+    ≡ changed (refused 36) (asked (lists-as (5 ∷ []) 0) done))
+    × (runs (book (bodyOf 8192) (5 ∷ []) 8200 (replicate 9 0)) (ask (read 0 1) ∷ [])
+    ≡ asked (refused 1) done)
 unfolding computed
 damaged = (refl, refl, refl, refl)
 
@@ -132,11 +127,12 @@ totalAfter b cs = createsFieldOf (part (after b cs .space .body) 4096 4096)
 -- A total of 0 says that it was never counted: such a key is read, appended to, which leaves it 0, and dropped. One that is the length
 -- counts on, and another is no sound key's for a read or a drop, while an append looks at the last page only.
 pub never-counted :
-    (runs (pageBook 0 (5 ∷ 9 ∷ [])) (read 0 2 ∷ append 0 300 ∷ read 0 3 ∷ drop 0 ∷ [])
-    ≡ lists-as (5 ∷ 9 ∷ []) 1 ∷ at (Extent 4096) 0 ∷ lists-as (5 ∷ 9 ∷ 300 ∷ []) 1 ∷ accepted (dropped (record { length = 3 })) ∷ [])
-    × (totalAfter (pageBook 0 (5 ∷ 9 ∷ [])) (append 0 300 ∷ []) ≡ 0)
-    × (totalAfter (pageBook 2 (5 ∷ 9 ∷ [])) (append 0 300 ∷ []) ≡ 3)
-    × (runs (pageBook 1 (5 ∷ 9 ∷ [])) (read 0 2 ∷ drop 0 ∷ append 0 300 ∷ []) ≡ refused 31 ∷ refused 31 ∷ at (Extent 4096) 0 ∷ [])
+    (runs (pageBook 0 (5 ∷ 9 ∷ [])) (ask (read 0 2) ∷ change (append 0 300) ∷ ask (read 0 3) ∷ change (drop 0) ∷ [])
+    ≡ asked (lists-as (5 ∷ 9 ∷ []) 1) (changed (at (Extent 4096) 0) (asked (lists-as (5 ∷ 9 ∷ 300 ∷ []) 1) (changed (accepted (droppedOf 3)) done))))
+    × (totalAfter (pageBook 0 (5 ∷ 9 ∷ [])) (change (append 0 300) ∷ []) ≡ 0)
+    × (totalAfter (pageBook 2 (5 ∷ 9 ∷ [])) (change (append 0 300) ∷ []) ≡ 3)
+    × (runs (pageBook 1 (5 ∷ 9 ∷ [])) (ask (read 0 2) ∷ change (drop 0) ∷ change (append 0 300) ∷ [])
+    ≡ asked (refused 31) (changed (refused 31) (changed (at (Extent 4096) 0) done)))
 unfolding computed totalAfter
 never-counted = (refl, refl, refl, refl)
 
@@ -144,7 +140,7 @@ never-counted = (refl, refl, refl, refl)
 -- its class is by shortest forms.
 pub padded :
     let slab : List ℕ = 2 ∷ 0 ∷ 133 ∷ 128 ∷ 128 ∷ 128 ∷ 128 ∷ 128 ∷ 0 ∷ 129 ∷ 128 ∷ 128 ∷ 128 ∷ 128 ∷ 0 ∷ [] in
-    runs (book (overwrite (bodyOf 8192) 4096 slab) (slabWord 0 2 4096 ∷ []) 4112 (replicate 9 0)) (append 0 7 ∷ append 0 8 ∷ read 0 4 ∷ [])
-    ≡ at (Slab 0 3 4096) 0 ∷ at (Slab 1 4 4112) 3 ∷ lists-as (5 ∷ 6 ∷ 7 ∷ 8 ∷ []) 0 ∷ []
+    runs (book (overwrite (bodyOf 8192) 4096 slab) (slabWord 0 2 4096 ∷ []) 4112 (replicate 9 0)) (change (append 0 7) ∷ change (append 0 8) ∷ ask (read 0 4) ∷ [])
+    ≡ changed (at (Slab 0 3 4096) 0) (changed (at (Slab 1 4 4112) 3) (asked (lists-as (5 ∷ 6 ∷ 7 ∷ 8 ∷ []) 0) done))
 unfolding computed
 padded = refl

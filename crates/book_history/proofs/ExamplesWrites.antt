@@ -12,8 +12,8 @@ use Rattle.scripthash_cutting.specs.Cutting.{fitting, firstPart, greedyParts, r
 use Rattle.scripthash_fields.specs.Page.{field, setField, nextOff, deltaHeader, extentHeader, pageOf}
 use Rattle.scripthash_pages.specs.Entries.{streamPlace, pageScan, spotBehind, oneMore, withAppended}
 use Rattle.scripthash_free.specs.FreeList.{isBlock, pushed, popFree, largestUpTo, blockThen, carve, pushAll}
-use Rattle.book_statements.specs.Calls.{Call, load, append, drop, afterCalls}
 use Rattle.book_rules.specs.Outcomes.{bookAfter}
+use Rattle.book_statements.specs.Calls.{Change, load, append, drop, Call, change, afterCalls}
 use Rattle.book_rules.specs.Offered.{offeredNumber, offeredList}
 use Rattle.book_limits.specs.Limits.{outOfShape}
 use Rattle.book_rules.specs.Places.{stays, larger, movesTo, loadsTo}
@@ -24,7 +24,6 @@ use Rattle.book.specs.Book.{Book, fresh, headWord, onKey}
 use Rattle.book_blocks.specs.Blocks.{slabWith, totalWith, pageWith, pageBefore, writeRun}
 use Rattle.book_append.specs.Appends.{movesInto, moves, appendSlab, growChain, appendPage, appendAt, appends}
 use Rattle.book_load.specs.Loads.{loadInto, loadAt, loads}
-use Rattle.book_read.specs.Reads.{reads}
 use Rattle.book_drop.specs.Drops.{drops}
 use Rattle.book_history.specs.Calls.{after, does}
 use mathlib.Core.Bool.{Bool, true, false}
@@ -33,7 +32,7 @@ use Rattle.book_history.specs.Writes.{growingSlab, growingPage, appendWr
 use Rattle.book_history.proofs.Examples.{inARow, bodyOf}
 
 -- What a call names after others.
-unfoldable pub writesAfter : Book → List Call → Call → CallWrites
+unfoldable pub writesAfter : Book → List Call → Change → CallWrites
 unfolding refuseIf andThen answered part overwrite isForm value formAt overflows readForm readUleb divided ulebLen shortest packHead
     unpackHead lastFrom streamFrom streamLenFrom storedNumber nextNumber scanFrom decodeStream firstClass classFor classWithSlack
     slabPayload
@@ -43,22 +42,22 @@ unfolding refuseIf andThen answered part overwrite isForm value formAt overflows
     sure
     goOn slabScan linkScan goodExtent lastAt pageThen walk totalGood chainAt pageBlocks contentAt content createsGood tailAt headWord onKey
     movesInto moves slabWith appendSlab totalWith pageWith pageBefore growChain appendPage appendAt appends writeRun loadInto loadAt loads
-    reads drops does both freeingAll takingPages taking filling writing moving growingSlab growingPage appendWrites loadWrites writes
+    drops does both freeingAll takingPages taking filling writing moving growingSlab growingPage appendWrites loadWrites writes
 writesAfter b cs c = writes (after b cs) c
 
--- What is named.
+-- What may be written.
 abbrev writesOf : List Region → List Region → List Region → Bool → CallWrites
 writesOf body heads free mark = record { heads = heads; space = record { body = body; free = free; mark = mark } }
 
 -- The run case: 300 moves to a slab at the mark, 301 stays there, 303 moves to a larger slab and frees the old one, and 10 takes that
 -- again.
 pub run-writes :
-    (writesAfter (fresh (bodyOf 8192) 2) (append 0 5 ∷ []) (append 0 300) ≡ writesOf (region 4096 5 ∷ []) (region 0 1 ∷ []) [] true)
-    × (writesAfter (fresh (bodyOf 8192) 2) (append 0 5 ∷ append 0 300 ∷ []) (append 0 301)
+    (writesAfter (fresh (bodyOf 8192) 2) (change (append 0 5) ∷ []) (append 0 300) ≡ writesOf (region 4096 5 ∷ []) (region 0 1 ∷ []) [] true)
+    × (writesAfter (fresh (bodyOf 8192) 2) (change (append 0 5) ∷ change (append 0 300) ∷ []) (append 0 301)
     ≡ writesOf (region 4096 2 ∷ region 4101 1 ∷ []) (region 0 1 ∷ []) [] false)
-    × (writesAfter (fresh (bodyOf 8192) 2) (append 0 5 ∷ append 0 300 ∷ append 0 301 ∷ append 0 302 ∷ []) (append 0 303)
+    × (writesAfter (fresh (bodyOf 8192) 2) (change (append 0 5) ∷ change (append 0 300) ∷ change (append 0 301) ∷ change (append 0 302) ∷ []) (append 0 303)
     ≡ writesOf (region 4112 8 ∷ region 4096 8 ∷ []) (region 0 1 ∷ []) (region 0 1 ∷ []) true)
-    × (writesAfter (fresh (bodyOf 8192) 2) (append 0 5 ∷ append 0 300 ∷ append 0 301 ∷ append 0 302 ∷ append 0 303 ∷ append 1 9 ∷ [])
+    × (writesAfter (fresh (bodyOf 8192) 2) (change (append 0 5) ∷ change (append 0 300) ∷ change (append 0 301) ∷ change (append 0 302) ∷ change (append 0 303) ∷ change (append 1 9) ∷ [])
     (append 1 10)
     ≡ writesOf (region 4096 4 ∷ []) (region 1 1 ∷ []) (region 0 1 ∷ []) false)
 unfolding writesAfter
@@ -66,17 +65,17 @@ run-writes = (refl, refl, refl, refl)
 
 -- A full page gets a page behind it, which then gets a number; a drop frees both.
 pub page-writes :
-    (writesAfter (fresh (bodyOf 16384) 1) (load 0 (inARow 1 4072) ∷ []) (append 0 4073)
+    (writesAfter (fresh (bodyOf 16384) 1) (change (load 0 (inARow 1 4072)) ∷ []) (append 0 4073)
     ≡ writesOf (region 8192 4096 ∷ region 4099 5 ∷ region 4116 4 ∷ []) (region 0 1 ∷ []) [] true)
-    × (writesAfter (fresh (bodyOf 16384) 1) (load 0 (inARow 1 4072) ∷ append 0 4073 ∷ []) (append 0 4074)
+    × (writesAfter (fresh (bodyOf 16384) 1) (change (load 0 (inARow 1 4072)) ∷ change (append 0 4073) ∷ []) (append 0 4074)
     ≡ writesOf (region 8193 2 ∷ region 8218 1 ∷ region 8212 4 ∷ []) (region 0 1 ∷ []) [] false)
-    × (writesAfter (fresh (bodyOf 16384) 1) (load 0 (inARow 1 4072) ∷ append 0 4073 ∷ []) (drop 0)
+    × (writesAfter (fresh (bodyOf 16384) 1) (change (load 0 (inARow 1 4072)) ∷ change (append 0 4073) ∷ []) (drop 0)
     ≡ writesOf (region 4096 8 ∷ region 8192 8 ∷ []) (region 0 1 ∷ []) (region 8 1 ∷ region 8 1 ∷ []) false)
 unfolding writesAfter inARow
 page-writes = (refl, refl, refl)
 
 -- A run of two pages behind a slab of 16 bytes: the gap's eight blocks are freed.
-pub gap-writes : writesAfter (fresh (bodyOf 16384) 2) (append 0 1 ∷ append 0 2 ∷ []) (load 1 (inARow 1 4073))
+pub gap-writes : writesAfter (fresh (bodyOf 16384) 2) (change (append 0 1) ∷ change (append 0 2) ∷ []) (load 1 (inARow 1 4073))
     ≡ writesOf (region 4112 8 ∷ region 6160 8 ∷ region 7184 8 ∷ region 7696 8 ∷ region 7952 8 ∷ region 8080 8 ∷ region 8144 8 ∷ region 8176 8
     ∷ region 8192 8192 ∷ []) (region 1 1 ∷ [])
     (region 7 1 ∷ region 6 1 ∷ region 5 1 ∷ region 4 1 ∷ region 3 1 ∷ region 2 1 ∷ region 1 1 ∷ region 0 1 ∷ []) true

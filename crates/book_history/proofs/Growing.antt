@@ -1,25 +1,23 @@
 -- Growing: a good start with bytes behind its body, or with empty words behind its heads, within the limits, is a good start with the same
--- lists, and answers every list of calls as the plain book does that has so much more. A call that was refused with 36 is accepted then, if
+-- lists, and answers every list of calls as the plain book does that has so much more. A change that was refused with 36 is accepted then, if
 -- the body goes on far enough. Assumes nothing.
 use Prim.Native.Nat.{ℕ, _+_, _*_, _≤_}
 use mathlib.Core.Bool.{false}
-use mathlib.Core.List.{List, [], _∷_, _++_}
+use mathlib.Core.List.{List, [], _∷_}
 use mathlib.Core.Option.{none}
-use mathlib.Core.Path.{_≡_, refl, sym, ap, subst, fun-ext, _∙_}
+use mathlib.Core.Path.{_≡_, sym, ap, subst, fun-ext, _∙_}
 use native.Mathlib.Omega.{arith}
-use lib.ListN.{length, getD, replicate, length-append, length-replicate}
+use lib.ListN.{length, replicate, length-append, length-replicate}
 use Rattle.error.specs.Refusal.{Answer, accepted, refused, answered, valueOr, noRoom}
 use Rattle.error.proofs.LawsAnswer.{was-refused}
-use Rattle.buffer.specs.Bytes.{part}
 use Rattle.buffer.proofs.LawsOverwrite.{part-left}
 use Rattle.scripthash_layout.specs.Sizes.{slabBytes, pageSize}
-use Rattle.scripthash_layout.specs.Head.{unpackHead}
 use Rattle.scripthash_free.proofs.LawsBlock.{block-stands}
-use Rattle.book_statements.specs.Calls.{Call, answersTo}
-use Rattle.book_rules.specs.Outcomes.{Told, answerOf}
+use Rattle.book_rules.specs.Outcomes.{answerOf}
+use Rattle.book_statements.specs.Calls.{Change, Call, change, Made, Answers, done, changed, answersTo}
 use Rattle.book_limits.specs.Limits.{outOfShape, pageAfter}
 use Rattle.book_limits.proofs.LawsLimits.{in-shape}
-use Rattle.plain_book.specs.Key.{Place, Key, emptyKey, totalOf}
+use Rattle.plain_book.specs.Key.{Key, emptyKey, totalOf}
 use Rattle.plain_book.specs.Book.{Book as PlainBook, Outcome, keyOf, does, after as plainAfter, answers as plainAnswers}
 use Rattle.plain_book.specs.Sound.{SoundKey}
 use Rattle.plain_book.specs.Good.{Good, GoodPlain}
@@ -29,7 +27,7 @@ use Rattle.book_keys.specs.Keys.{Content}
 use Rattle.book.specs.Book.{Book}
 use Rattle.book_history.specs.Calls.{after, answers}
 use Rattle.book_start.specs.Start.{GoodStart}
-use Rattle.book_history.specs.Agrees.{SlabIn, PageIn, Contents, AgreesSpace, AgreesInside, Agrees}
+use Rattle.book_history.specs.Agrees.{SlabIn, PageIn, Contents, AgreesSpace, Agrees}
 use Rattle.book_history.specs.Standing.{Standing}
 use Rattle.book_history.specs.PlainOf.{listFrom, plainOf, startList}
 use Rattle.book_history.specs.Grown.{grown}
@@ -143,13 +141,16 @@ module _ (b : Book) (bytes : List ℕ) (n : ℕ) (g : GoodStart b)
       (grown-agrees (plainOf b) b bytes n (start-good b g) (start-agrees b g) (start-shape b g) plain-shape)
       (grown-shape (plainOf b) b bytes n (start-good b g) (start-agrees b g) (start-shape b g) plain-shape)
 
-  -- A call that is refused with 36 is accepted by the grown book, if its body goes on far enough behind the mark.
-  pub grown-accepts : (c : Call) → pageAfter (b .space .mark) + pagesEnough c * pageSize ≤ length (b .space .body) + length bytes
-      → answers b (c ∷ []) ≡ refused noRoom ∷ [] → (told : Told) × (answers (grown bytes n b) (c ∷ []) ≡ accepted told ∷ [])
+  -- A change that is refused with 36 is accepted by the grown book, if its body goes on far enough behind the mark.
+  pub grown-accepts : (c : Change) → pageAfter (b .space .mark) + pagesEnough c * pageSize ≤ length (b .space .body) + length bytes
+      → answers b (change c ∷ []) ≡ changed (refused noRoom) done
+      → (told : Made c) × (answers (grown bytes n b) (change c ∷ []) ≡ changed (accepted told) done)
   unfolding answersTo plainOf answered
   grown-accepts c enough e =
-      let first : List (Answer Told) → Answer Told = λ l. getD l 0 (refused noRoom) in
-      let was : answerOf (does (plainOf b) c) ≡ refused noRoom = ap first (sym (demand-3-from b (c ∷ []) g .0) ∙ e) in
+      let was : answerOf (does (plainOf b) c) ≡ refused noRoom = ap (first c) (sym (demand-3-from b (change c ∷ []) g .0) ∙ e) in
       let out = grown-shape (plainOf b) b bytes n (start-good b g) (start-agrees b g) (start-shape b g) plain-shape in
       let (o, did) = room-accepts (plainOf b) (length bytes) n out c enough (was-refused _ _ was) in
-      (o .told, grown-answers (c ∷ []) .0 ∙ ap (λ (a : Answer Outcome). answerOf a ∷ []) did)
+      (o .told, grown-answers (change c ∷ []) .0 ∙ ap (λ (a : Answer (Outcome (Made c))). changed (answerOf a) done) did)
+    where
+      first : (c : Change) → Answers (change c ∷ []) → Answer (Made c)
+      first c (changed a rest) = a

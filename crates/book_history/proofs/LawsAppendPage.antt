@@ -52,6 +52,7 @@ use Rattle.book_history.proofs.LawsHand.{agrees-same, agrees-written, F
 use Rattle.book_history.proofs.LawsHand.{meanwhile-placed, withHand, placed-page}
 use Rattle.book_history.proofs.LawsContent.{last-written, some-pages, last-page-at, last-reads, last-fits, tail-agrees}
 use Rattle.book_history.proofs.LawsContent.{total-more, pages-listed, appendLeaves, append-begins, append-ends}
+use Rattle.book_rules.specs.Outcomes.{Appended}
 
 -- ---- a chain of pages with a number joined to the last
 
@@ -372,7 +373,7 @@ module _ (plain : PlainBook) (b : Book) (g : GoodPlain plain) (a : Agrees plain 
           (key-page key (joinedTo n ps) (places plain) j i x e)
 
   -- What the plain book tells and leaves, once the key's new place is known.
-  abbrev placing : Placed → Answer PlainOutcome
+  abbrev placing : Placed → Answer (PlainOutcome Appended)
   placing = appendLeaves plain key n (keyOf key plain .counted)
 
   -- Both books answer alike where the number joins the last page.

@@ -26,6 +26,7 @@ use Rattle.book_limits.specs.Limits.{outOfShape}
 use Rattle.book_rules.specs.Places.{stays, movesTo}
 use Rattle.book_limits.proofs.LawsLimits.{in-shape}
 use Rattle.book_rules.proofs.LawsRules.{stays-holds, moves-to}
+use Rattle.book_rules.specs.Outcomes.{Appended}
 use Rattle.plain_book.specs.Space.{Taken as PlainTaken}
 use Rattle.plain_book.specs.Key.{Kept, written, longer, Page, Place, empty, inline, slab, pages, lastPage, headOf, freedPlace, countedAfter}
 use Rattle.plain_book.specs.Key.{onePage, Placed, moved, appendPlace}
@@ -58,7 +59,7 @@ use Rattle.book_history.proofs.LawsHand.{placed-one}
 use Rattle.book_history.proofs.LawsDrop.{Given, place-gone, gone-placed}
 
 -- Both books branch by one test, and then the plain one goes on.
-alike-cond-then : (t t' : Bool) (x y : Answer Placed) (go : Placed → Answer PlainOutcome) (u v : Answer Outcome) → t ≡ t'
+alike-cond-then : (t t' : Bool) (x y : Answer Placed) (go : Placed → Answer (PlainOutcome Appended)) (u v : Answer (Outcome Appended)) → t ≡ t'
     → (t ≡ true → Alike (andThen x go) u)
     → (t ≡ false → Alike (andThen y go) v) → Alike (andThen (cond t x y) go) (cond t' u v)
 alike-cond-then true true x y go u v e yes' no' = yes' refl
@@ -77,7 +78,7 @@ module _ (plain : PlainBook) (b : Book) (key n : ℕ) (g : GoodPlain plain) (a :
   grown = extended (keyOf key plain .list) n
 
   -- what the plain book does with the new place
-  abbrev leaves : Placed → Answer PlainOutcome
+  abbrev leaves : Placed → Answer (PlainOutcome Appended)
   leaves = appendLeaves plain key n true
 
   -- the list has one number more

@@ -20,14 +20,13 @@ use Rattle.scripthash_stream.proofs.LawsStream.{last-below, rising-below}
 use Rattle.scripthash_cutting.specs.Cutting.{lastPageRoom}
 use Rattle.scripthash_free.specs.FreeList.{Block, isBlock}
 use Rattle.scripthash_free.proofs.LawsBlock.{block-stands}
-use Rattle.book_statements.specs.Calls.{read}
-use Rattle.book_rules.specs.Outcomes.{appended}
+use Rattle.book_rules.specs.Outcomes.{appendedAt, Appended}
 use Rattle.book_limits.specs.Limits.{outOfShape}
 use Rattle.plain_book.specs.Space.{Space as PlainSpace}
 use Rattle.plain_book.specs.Key.{Kept, written, Page, Place, empty, inline, slab, pages, lastPage, noPage, totalOf, headOf, pagesOf, countedAfter, keyIn}
 use Rattle.plain_book.specs.Key.{Placed, appendPlace}
 use Rattle.plain_book.specs.Book.{Book as PlainBook, Outcome as PlainOutcome, keyOf, withKey, extended, appends as plainAppends}
-use Rattle.plain_book.specs.Book.{reads as plainReads, does as plainDoes}
+use Rattle.plain_book.specs.Book.{reads as plainReads}
 use Rattle.plain_book.specs.Sound.{held, FitsPage, FitPages, RisesFrom, Fits}
 use Rattle.plain_book.specs.Owners.{pageOf, slabOf, slabAt, pageNo, pageIn, has, places}
 use Rattle.plain_book.specs.Good.{GoodPlain}
@@ -45,11 +44,10 @@ use Rattle.book_blocks.proofs.LawsReadsPage.{last-page-reads}
 use Rattle.book.specs.Book.{Book, wordOf, seen}
 use Rattle.book_append.specs.Appends.{appending, appendAt, appends}
 use Rattle.book_read.specs.Reads.{reads}
-use Rattle.book_history.specs.Calls.{does}
 use Rattle.book_history.specs.Agrees.{scanOf, SlabIn, PageIn, SlabReads, PageReads, LastReads, ChainReads, firstPageOff, AgreesSpace}
 use Rattle.book_history.specs.Agrees.{AgreesInside, Agrees}
 use Rattle.book_history.proofs.LawsWords.{stored-told}
-use Rattle.book_history.proofs.LawsStep.{Alike, told-alike, alike-both, alike-on-key, alike-offered, placedContents, agrees-placed}
+use Rattle.book_history.proofs.LawsStep.{same-on-key, Alike, told-alike, alike-on-key, alike-offered, placedContents, agrees-placed}
 
 -- ---- what is asked of a sound key
 
@@ -351,15 +349,11 @@ module _ (plain : PlainBook) (b : Book) (g : GoodPlain plain) (shape : outOfShap
 
 -- ---- a read
 
--- The two books answer a read alike.
-pub read-step : (plain : PlainBook) (b : Book) (key room : ℕ) → GoodPlain plain → Agrees plain b
-    → Alike (plainDoes plain (read key room)) (does b (read key room))
-unfolding plainDoes does plainReads reads
+-- The two books give a read the same answer.
+pub read-step : (plain : PlainBook) (b : Book) (key room : ℕ) → GoodPlain plain → Agrees plain b → reads b key room ≡ plainReads plain key room
+unfolding plainReads reads
 read-step plain b key room g a =
-    alike-on-key plain b key _ _ g a
-    (λ shape h low.
-    rw (then-yes _ _ (content-agrees plain b g shape h key))
-    (alike-both _ _ _ _ _ refl (λ e. told-alike refl a)))
+    same-on-key plain b key _ _ g a (λ shape h low. then-yes _ _ (content-agrees plain b g shape h key))
 
 -- ---- a last page that is written
 
@@ -399,16 +393,16 @@ last-written mark off first base extents creates ns high f b some' few low rises
 -- ---- an append, up to where the key's place decides
 
 -- What a plain book's append leaves, once the key's new place is known, and whether its last page tells a total.
-abbrev pub appendLeaves : PlainBook → ℕ → ℕ → Bool → Placed → Answer PlainOutcome
+abbrev pub appendLeaves : PlainBook → ℕ → ℕ → Bool → Placed → Answer (PlainOutcome Appended)
 appendLeaves plain key n counted p =
     let list = extended (keyOf key plain .list) n in
     accepted (record {
-      told = appended (record { place = headOf list (p .place); rewritten = p .rewritten });
+      told = appendedAt (headOf list (p .place)) (p .rewritten);
       book = withKey key (keyIn list (p .place) counted) (p .space) plain;
     })
 
 -- What a plain book's append does once the number is known to be above the key's last.
-abbrev pub plainAppending : PlainBook → ℕ → ℕ → Bool → Answer PlainOutcome
+abbrev pub plainAppending : PlainBook → ℕ → ℕ → Bool → Answer (PlainOutcome Appended)
 plainAppending plain key n counted =
     andThen (appendPlace (plain .size) (length (keyOf key plain .list)) (extended (keyOf key plain .list) n) n (keyOf key plain .place)
     (plain .space))
@@ -436,7 +430,7 @@ pub append-ends : (plain : PlainBook) (b : Book) (key : ℕ) (list : List ℕ) (
     → totalOf (keyIn list place counted) ≡ total → length (s .body) ≡ length (b .space .body)
     → AgreesSpace inside s (atKey key place (places plain)) none (placedContents plain key total place)
     → Alike (accepted (record {
-      told = appended (record { place = headOf list place; rewritten = rewritten });
+      told = appendedAt (headOf list place) rewritten;
       book =
           withKey key (keyIn list place counted) inside plain;
     }))

@@ -31,7 +31,7 @@ use Rattle.scripthash_cutting.proofs.LawsPages.{pages-allowed}
 use Rattle.scripthash_cutting.proofs.LawsRising.{rising-words, rising-left, rising-right}
 use Rattle.scripthash_free.specs.FreeList.{Block}
 use Rattle.book_statements.specs.Calls.{load}
-use Rattle.book_rules.specs.Outcomes.{loaded}
+use Rattle.book_rules.specs.Outcomes.{loadedIn, Loaded}
 use Rattle.book_rules.specs.Offered.{offeredNumber, offeredList}
 use Rattle.book_limits.specs.Limits.{outOfShape}
 use Rattle.book_rules.specs.Places.{loadsTo}
@@ -225,7 +225,7 @@ placed-stored plain key total place inside s c m slabs pgs a =
 -- ---- what is offered
 
 -- Both books judge the offered numbers alike, and go on where they rise.
-alike-offered-list : (first : Bool) (prev : ℕ) (ns : List ℕ) (x : Answer PlainOutcome) (y : Answer Outcome)
+alike-offered-list : (first : Bool) (prev : ℕ) (ns : List ℕ) (x : Answer (PlainOutcome Loaded)) (y : Answer (Outcome Loaded))
     → (Rising (2 ^ 62) prev ns → Alike x y)
     → Alike (offeredList first prev ns x) (offeredList first prev ns y)
 unfolding offeredList offeredNumber Rising
@@ -299,9 +299,9 @@ module _ (plain : PlainBook) (b : Book) (key : ℕ) (ns : List ℕ) (g : GoodPla
     (shape : outOfShape (plain .size) (length (plain .keys)) ≡ false)
     (h : AgreesInside plain b) (l : key < length (plain .keys)) (rises : Rising (2 ^ 62) 0 ns) (few : length ns ≤ maxOffered) where
   -- what the plain book answers, once the list has a place
-  abbrev loadedTo : Placed → Answer PlainOutcome
+  abbrev loadedTo : Placed → Answer (PlainOutcome Loaded)
   loadedTo p = accepted (record {
-    told = loaded (record { pages = pagesOf (p .place) });
+    told = loadedIn (pagesOf (p .place));
     book =
         withKey key (keyIn ns (p .place) true) (p .space) plain;
   })
@@ -402,7 +402,7 @@ module _ (plain : PlainBook) (b : Book) (key : ℕ) (ns : List ℕ) (g : GoodPla
       placedAt : PlainTaken → Placed
       placedAt t = record { place = pages (runPages (t .off) parts); space = t .space; rewritten = 0 }
 
-      written-at : Taken → Answer Outcome
+      written-at : Taken → Answer (Outcome Loaded)
       written-at u =
           accepted (loading key (Extent (lastOfRun (u .off) (length parts))) (length parts)
           (space (writeRun (u .off) (length parts) (length ns) (u .space .body) (u .off) parts) (u .space .mark) (u .space .free)) b)
@@ -435,7 +435,7 @@ module _ (plain : PlainBook) (b : Book) (key : ℕ) (ns : List ℕ) (g : GoodPla
           (accepted (loading key (Extent last) (length parts)
           (space (writeRun start (length parts) (length ns) (u .space .body) start parts) (u .space .mark) (u .space .free)) b)))
           (run-last start noPage parts some')
-          (told-alike (ap (λ (n : ℕ). loaded (record { pages = n })) (run-length start parts))
+          (told-alike (ap (λ (n : ℕ). loadedIn n) (run-length start parts))
           (agrees-placed plain key ns (pages (runPages start parts)) true beyond l b _ a shape (bytes ∙ long ∙ sym (a .size)) run)))
 
 -- ---- a load
@@ -447,7 +447,7 @@ load-alike : (plain : PlainBook) (b : Book) (key : ℕ) (ns : List ℕ) → Good
     → Alike
     (andThen (loadPlace (plain .size) ns (plain .space))
     (λ p. accepted (record {
-      told = loaded (record { pages = pagesOf (p .place) });
+      told = loadedIn (pagesOf (p .place));
       book =
           withKey key (keyIn ns (p .place) true) (p .space) plain;
     })))

@@ -1,6 +1,6 @@
 -- Books that agree stand alike: heads, mark and free lists. Assumes nothing.
 use Prim.Native.Nat.{ℕ, _+_, _≤_, _<_}
-use mathlib.Core.Bool.{true, false}
+use mathlib.Core.Bool.{false}
 use mathlib.Core.List.{List, [], _∷_}
 use mathlib.Core.Logic.{⊎-elim}
 use mathlib.Core.Option.{none, some}
@@ -21,7 +21,7 @@ use Rattle.plain_book.proofs.LawsOwners.{none-some, deep-none, top-is, under-to
 use Rattle.book_space.specs.Space.{Space}
 use Rattle.error.specs.Refusal.{accepted}
 use Rattle.error.proofs.LawsAnswer.{refuse-no, then-yes}
-use Rattle.book_rules.specs.Outcomes.{listed}
+use Rattle.book_rules.specs.Outcomes.{listing}
 use Rattle.book_limits.specs.Limits.{outOfShape}
 use Rattle.plain_book.specs.Key.{pagesOf}
 use Rattle.plain_book.specs.Book.{Book as PlainBook, keyOf}
@@ -29,7 +29,7 @@ use Rattle.plain_book.specs.Good.{GoodPlain}
 use Rattle.plain_book.specs.Owners.{places}
 use Rattle.book.specs.Book.{Book}
 use Rattle.book_read.specs.Reads.{reads}
-use Rattle.book_history.specs.Agrees.{top, under, Contents, BlockReads, contentsOf, AgreesSpace, Agrees}
+use Rattle.book_history.specs.Agrees.{top, under, Contents, contentsOf, AgreesSpace, Agrees}
 use Rattle.book_history.specs.Standing.{Standing}
 use Rattle.book_history.proofs.LawsStep.{on-key-passes}
 use Rattle.book_history.proofs.LawsTake.{part-start}
@@ -100,11 +100,7 @@ free-list-is plain s at c g a class =
 reads-list : (plain : PlainBook) (b : Book) (key room : ℕ) → GoodPlain plain → Agrees plain b
     → outOfShape (plain .size) (length (plain .keys)) ≡ false
     → key < length (plain .keys) → length (keyOf key plain .list) ≤ room
-    → reads b key room ≡ accepted (record {
-      told =
-          listed (record { numbers = keyOf key plain .list; pages = pagesOf (keyOf key plain .place) });
-      book = b;
-    })
+    → reads b key room ≡ accepted (listing (keyOf key plain .list) (pagesOf (keyOf key plain .place)))
 unfolding reads
 reads-list plain b key room g a shape l fits =
     on-key-passes plain b key _ g a shape l

@@ -31,12 +31,12 @@ use Rattle.book_history.specs.Agrees.{Contents, SlabIn, PageIn, contents
 -- ---- answers alike
 
 -- What the two books answer is alike: the same is told and the books still agree, or both are refused by one number.
-pub data Alike : Answer PlainOutcome → Answer Outcome → Type 0 where
-  told-alike : {o : PlainOutcome} {u : Outcome} → o .told ≡ u .told → Agrees (o .book) (u .book) → Alike (accepted o) (accepted u)
+pub data Alike {T : Type 0} : Answer (PlainOutcome T) → Answer (Outcome T) → Type 0 where
+  told-alike : {o : PlainOutcome T} {u : Outcome T} → o .told ≡ u .told → Agrees (o .book) (u .book) → Alike (accepted o) (accepted u)
   refused-alike : {number : ℕ} → Alike (refused number) (refused number)
 
 -- A test that both books have.
-pub alike-both : (t t' : Bool) (number : ℕ) (a : Answer PlainOutcome) (b : Answer Outcome) → t ≡ t' → (t ≡ false → Alike a b)
+pub alike-both : {T : Type 0} (t t' : Bool) (number : ℕ) (a : Answer (PlainOutcome T)) (b : Answer (Outcome T)) → t ≡ t' → (t ≡ false → Alike a b)
     → Alike (refuseIf t number a) (refuseIf t' number b)
 unfolding refuseIf
 alike-both true true number a b e h = refused-alike
@@ -45,12 +45,12 @@ alike-both false true number a b e h = absurd (true≢false (sym e))
 alike-both false false number a b e h = h refl
 
 -- A test that only the bytes have, and that they pass.
-pub alike-passed : (t : Bool) (number : ℕ) (a : Answer PlainOutcome) (b : Answer Outcome) → t ≡ false → Alike a b
+pub alike-passed : {T : Type 0} (t : Bool) (number : ℕ) (a : Answer (PlainOutcome T)) (b : Answer (Outcome T)) → t ≡ false → Alike a b
     → Alike a (refuseIf t number b)
 alike-passed t number a b e h = subst (Alike a) (sym (refuse-no t number b e)) h
 
 -- Both books branch by one test.
-pub alike-cond : (t t' : Bool) (a a' : Answer PlainOutcome) (b b' : Answer Outcome) → t ≡ t' → (t ≡ true → Alike a b)
+pub alike-cond : {T : Type 0} (t t' : Bool) (a a' : Answer (PlainOutcome T)) (b b' : Answer (Outcome T)) → t ≡ t' → (t ≡ true → Alike a b)
     → (t ≡ false → Alike a' b')
     → Alike (cond t a a') (cond t' b b')
 alike-cond true true a a' b b' e yes' no' = yes' refl
@@ -76,7 +76,7 @@ mark-good plain b g shape size h =
     rw (a, l, u)
 
 -- A call on a key: both books judge the shape and the key alike.
-pub alike-on-key : (plain : PlainBook) (b : Book) (key : ℕ) (x : Answer PlainOutcome) (y : Answer Outcome) → GoodPlain plain
+pub alike-on-key : {T : Type 0} (plain : PlainBook) (b : Book) (key : ℕ) (x : Answer (PlainOutcome T)) (y : Answer (Outcome T)) → GoodPlain plain
     → Agrees plain b
     → (outOfShape (plain .size) (length (plain .keys)) ≡ false → AgreesInside plain b → key < length (plain .keys) → Alike x y)
     → Alike (plainOnKey plain key x) (onKey b key y)
@@ -111,8 +111,29 @@ on-key-passes plain b key after g a shape l =
     let within : key < length (b .heads) = rw (a .count) l in
     refuse-no _ _ _ (rw (out, bad)) ∙ refuse-no _ _ _ (lt-leb (length (b .heads)) key within)
 
+-- An enquiry on a key: both books judge the shape and the key alike, and where what comes after is the same, so are the answers.
+pub same-on-key : {A : Type 0} (plain : PlainBook) (b : Book) (key : ℕ) (x y : Answer A) → GoodPlain plain → Agrees plain b
+    → (outOfShape (plain .size) (length (plain .keys)) ≡ false → AgreesInside plain b → key < length (plain .keys) → y ≡ x)
+    → onKey b key y ≡ plainOnKey plain key x
+unfolding plainOnKey onKey shapeBroken refuseIf
+same-on-key plain b key x y g a go = rw (a .size, a .count) (shape (outOfShape (plain .size) (length (plain .keys))) refl)
+  where
+    there : outOfShape (plain .size) (length (plain .keys)) ≡ false → (t : Bool) → leb (length (plain .keys)) key ≡ t
+        → cond t (refused keyBeyond) y ≡ cond t (refused keyBeyond) x
+    there out true e = refl
+    there out false e = go out (a .inside out) (leb-false (length (plain .keys)) key e)
+
+    shape : (t : Bool) → outOfShape (plain .size) (length (plain .keys)) ≡ t
+        → cond (outOfShape (plain .size) (length (plain .keys)) || markBad (plain .size) (b .space .mark)) (refused shapeBad)
+        (cond (leb (length (plain .keys)) key) (refused keyBeyond) y)
+        ≡ cond (outOfShape (plain .size) (length (plain .keys))) (refused shapeBad) (cond (leb (length (plain .keys)) key) (refused keyBeyond) x)
+    shape true e = rw e refl
+    shape false e =
+        let m : markBad (plain .size) (b .space .mark) ≡ false = rw (← a .size) (mark-good plain b g e (a .size) (a .inside e)) in
+        rw (e, m) (there e (leb (length (plain .keys)) key) refl)
+
 -- A number that is offered: the plain book knows the number before it, the bytes find it later.
-pub alike-offered : (last n : ℕ) (x : Answer PlainOutcome) (y : Answer Outcome)
+pub alike-offered : {T : Type 0} (last n : ℕ) (x : Answer (PlainOutcome T)) (y : Answer (Outcome T))
     → (0 < n → n < 2 ^ 62 → Alike (refuseIf (leb n last) offeredNotRising x) y)
     → Alike (offeredNumber true last n x) (offeredNumber true 0 n y)
 unfolding offeredNumber

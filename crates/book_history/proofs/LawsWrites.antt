@@ -1,5 +1,5 @@
--- Demand 1 of the account book: a refused call leaves the book as it was, and an accepted one changes what it names only. Any book, any
--- call.
+-- Demand 1 of the account book: a refused change leaves the book as it was, and an accepted one writes what it may only. Any book, any
+-- change.
 use Prim.Native.Nat.{ℕ, _+_, _≤_, _<_}
 use mathlib.Core.Bool.{true}
 use mathlib.Core.List.{List, [], _∷_}
@@ -18,8 +18,8 @@ use Rattle.scripthash_layout.specs.declared.head.ShHeadValue.the-variants.{Empt
 use Rattle.scripthash_free.specs.FreeList.{isBlock, Each, Within}
 use Rattle.scripthash_free.proofs.LawsBlock.{block-stands}
 use Rattle.scripthash_free.proofs.LawsGap.{each-map}
-use Rattle.book_statements.specs.Calls.{Call, load, append, read, drop, keyOfCall}
-use Rattle.book_rules.specs.Outcomes.{Listed, listed, bookAfter}
+use Rattle.book_rules.specs.Outcomes.{Listed, Dropped, bookAfter}
+use Rattle.book_statements.specs.Calls.{Change, load, append, drop, keyOfChange, Made}
 use Rattle.book_space.specs.Space.{Space}
 use Rattle.book_keys.specs.Keys.{Content, content, contentAt, pageBlocks}
 use Rattle.book_keys.proofs.LawsSlab.{slab-sound}
@@ -30,7 +30,7 @@ use Rattle.book_start.specs.Making.{makesFresh, madeAfter}
 use Rattle.book_read.specs.Reads.{reads, listAfter}
 use Rattle.book_drop.specs.Drops.{drops}
 use Rattle.book_history.specs.Calls.{does}
-use Rattle.book_history.specs.Writes.{region, Outside, Only, nothing, wordAnd, freeingAll, writes, Differs, Changes}
+use Rattle.book_history.specs.Writes.{region, Outside, Only, wordAnd, freeingAll, writes, Differs, Changes}
 use Rattle.book_history.proofs.LawsOnly.{only-bytes}
 use Rattle.book_history.proofs.LawsWritesSpace.{wrote-released}
 use Rattle.book_history.proofs.LawsWritesLoad.{on-key, differs-not, differs-placed, load-only}
@@ -59,7 +59,7 @@ place-within s (Extent last) k e =
     subst (λ (k : Content). Each (Within 0 (s .mark)) (k .blocks)) same (pages-within (s .mark) (c .offs) (chain-known (seen s) last c is .stands))
 
 -- A drop.
-drop-only : (b : Book) (key : ℕ) {o : Outcome} → drops b key ≡ accepted o → Changes b (o .book) (drop key)
+drop-only : (b : Book) (key : ℕ) {o : Outcome Dropped} → drops b key ≡ accepted o → Changes b (o .book) (drop key)
 unfolding drops writes
 drop-only b key e =
     let k = on-key b key _ e in
@@ -69,37 +69,26 @@ drop-only b key e =
     let blocks = each-map (Within 0 (b .space .mark)) (Within 0 (length (b .space .body))) (λ x h. (h .0, omega (arith, h .1))) (c .blocks)
     (place-within (b .space) place c holds) in
     rw is
-    (subst (λ (o : Outcome). Differs (wordAnd key (freeingAll (c .blocks))) b (o .book)) (accepted-inj out)
+    (subst (λ (o : Outcome Dropped). Differs (wordAnd key (freeingAll (c .blocks))) b (o .book)) (accepted-inj out)
     (differs-placed key _ _ b (wrote-released (c .blocks) (b .space) blocks)))
 
 -- ---- a read
 
--- A read leaves the book as it was.
-pub read-nothing : (b : Book) (key room : ℕ) {o : Outcome} → does b (read key room) ≡ accepted o → o .book ≡ b
-unfolding does reads
-read-nothing b key room e =
-    let k = on-key b key _ e in
-    let (c, is, out) = went-on (content (seen (b .space)) (wordOf key b)) _ (k .2) in
-    ap (λ (o : Outcome). o .book) (sym (accepted-inj (passed _ _ _ out .1)))
-
 -- A read writes its numbers at the beginning of its lent list, and nothing else there.
-pub list-only : (b : Book) (key : ℕ) (out : List ℕ) (l : Listed) {o : Outcome} → does b (read key (length out)) ≡ accepted o
-    → o .told ≡ listed l
-    → Only (region 0 (length (l .numbers)) ∷ []) out (listAfter out (does b (read key (length out))))
-unfolding does reads listAfter
-list-only b key out l {o} e is =
+pub list-only : (b : Book) (key : ℕ) (out : List ℕ) {l : Listed} → reads b key (length out) ≡ accepted l
+    → Only (region 0 (length (l .numbers)) ∷ []) out (listAfter out (reads b key (length out)))
+unfolding reads listAfter
+list-only b key out {l} e =
     let k = on-key b key _ e in
     let (c, held, answer) = went-on (content (seen (b .space)) (wordOf key b)) _ (k .2) in
     let p = passed _ _ _ answer in
-    let same : listed (record { numbers = c .numbers; pages = c .pages }) ≡ listed l = ap (λ (x : Outcome). x .told) (accepted-inj (p .1))
-    ∙ is in
-    let numbers : c .numbers ≡ l .numbers = cc in
+    let numbers : c .numbers ≡ l .numbers = ap (λ (x : Listed). x .numbers) (accepted-inj (p .1)) in
     let fits : length (l .numbers) ≤ length out = rw numbers at (ltb-false (length out) (length (c .numbers)) (p .0)) in
-    rw (e, is) (only-bytes out 0 (length (l .numbers)) (l .numbers) refl (omega arith))
+    rw e (only-bytes out 0 (length (l .numbers)) (l .numbers) refl (omega arith))
 
 -- A refused read leaves its lent list.
-pub list-refused : (b : Book) (key : ℕ) (out : List ℕ) {number : ℕ} → does b (read key (length out)) ≡ refused number
-    → listAfter out (does b (read key (length out))) ≡ out
+pub list-refused : (b : Book) (key : ℕ) (out : List ℕ) {number : ℕ} → reads b key (length out) ≡ refused number
+    → listAfter out (reads b key (length out)) ≡ out
 unfolding listAfter
 list-refused b key out e = rw e
 
@@ -118,31 +107,29 @@ pub fresh-refused : (b : Book) {number : ℕ} → makesFresh b ≡ refused numbe
 unfolding madeAfter
 fresh-refused b e = rw e
 
--- ---- any call
+-- ---- any change
 
--- A refused call leaves the book as it was.
-pub refused-nothing : (b : Book) (c : Call) {number : ℕ} → does b c ≡ refused number → bookAfter b (does b c) ≡ b
+-- A refused change leaves the book as it was.
+pub refused-nothing : (b : Book) (c : Change) {number : ℕ} → does b c ≡ refused number → bookAfter b (does b c) ≡ b
 unfolding bookAfter
 refused-nothing b c e = rw e
 
--- An accepted call changes what it names only.
-pub accepted-only : (b : Book) (c : Call) {o : Outcome} → does b c ≡ accepted o → Changes b (o .book) c
+-- An accepted change writes what it may only.
+pub accepted-only : (b : Book) (c : Change) {o : Outcome (Made c)} → does b c ≡ accepted o → Changes b (o .book) c
 unfolding does writes
 accepted-only b (load key ns) e = load-only b key ns e
 accepted-only b (append key n) e = append-only b key n e
-accepted-only b (read key room) e = subst (λ (a : Book). Differs (record { heads = []; space = nothing }) b a)
-    (sym (read-nothing b key room e)) (differs-not (record { heads = []; space = nothing }) b)
 accepted-only b (drop key) e = drop-only b key e
 
 -- What an answer leaves.
-after-answer : (b : Book) (c : Call) (a : Answer Outcome) → ((o : Outcome) → a ≡ accepted o → Changes b (o .book) c)
+after-answer : (b : Book) (c : Change) (a : Answer (Outcome (Made c))) → ((o : Outcome (Made c)) → a ≡ accepted o → Changes b (o .book) c)
     → Changes b (bookAfter b a) c
 unfolding bookAfter
 after-answer b c (accepted o) f = f o refl
 after-answer b c (refused number) f = differs-not (writes b c) b
 
--- So after any call the book differs from the one before in what the call names only.
-pub call-only : (b : Book) (c : Call) → Changes b (bookAfter b (does b c)) c
+-- So after any change the book differs from the one before only in what the change may write.
+pub call-only : (b : Book) (c : Change) → Changes b (bookAfter b (does b c)) c
 call-only b c = after-answer b c (does b c) (λ o e. accepted-only b c e)
 
 -- A key other than another is outside of its head word.
@@ -151,16 +138,15 @@ outside-key k key other =
     ⊎-elim inl (λ (h : key ≤ k). inr (⊎-elim (λ (e : key ≡ k). absurd (other (sym e))) (λ (l : key < k). omega arith) (eq-or-lt-of-le h)))
     (lt-or-ge k key)
 
--- A call names no head word but its key's.
-words-named : (b : Book) (c : Call) (k : ℕ) → k ≢ keyOfCall c → Outside (writes b c .heads) k
+-- A change may write no head word but its key's.
+words-named : (b : Book) (c : Change) (k : ℕ) → k ≢ keyOfChange c → Outside (writes b c .heads) k
 unfolding writes Outside
 words-named b (load key []) k other = tt
 words-named b (load key (n ∷ [])) k other = (outside-key k key other, tt)
 words-named b (load key (n ∷ m ∷ ns)) k other = (outside-key k key other, tt)
 words-named b (append key n) k other = (outside-key k key other, tt)
-words-named b (read key room) k other = tt
 words-named b (drop key) k other = (outside-key k key other, tt)
 
--- So after any call each head word but its key's is as before.
-pub other-words : (b : Book) (c : Call) (k : ℕ) → k ≢ keyOfCall c → wordOf k (bookAfter b (does b c)) ≡ wordOf k b
+-- So after any change each head word but its key's is as before.
+pub other-words : (b : Book) (c : Change) (k : ℕ) → k ≢ keyOfChange c → wordOf k (bookAfter b (does b c)) ≡ wordOf k b
 other-words b c k other = call-only b c .heads .same k (words-named b c k other)

@@ -29,6 +29,7 @@ use Rattle.book_statements.specs.Calls.{append}
 use Rattle.book_rules.specs.Places.{payloadLen, stays, movesTo}
 use Rattle.book_rules.proofs.LawsOffered.{offered-on}
 use Rattle.book_rules.proofs.LawsRules.{stays-holds, moves-to, bytes-mono}
+use Rattle.book_rules.specs.Outcomes.{Appended}
 use Rattle.book_space.specs.Space.{Space, space, InShape, Taken, takeBlock, release}
 use Rattle.book_space.proofs.LawsLists.{each-one}
 use Rattle.book_space.proofs.LawsTake.{take-took}
@@ -66,28 +67,28 @@ module _ (b : Book) (key : ℕ) (ns : List ℕ) (n : ℕ) (old : List Block) (i 
       wrote-then w (wrote-released old (filled t ys) (rw (w .body .long) here))
 
   -- It moves.
-  into-only : (to : Option ℕ) {o : Outcome} → movesTo (length list) (streamLen list) ≡ to → streamLen list ≤ lastPageRoom
+  into-only : (to : Option ℕ) {o : Outcome Appended} → movesTo (length list) (streamLen list) ≡ to → streamLen list ≤ lastPageRoom
       → movesInto b key ns n old to ≡ accepted o
       → Differs (wordAnd key (both (writing list to (b .space)) (freeingAll old))) b (o .book)
   unfolding movesInto writing
   into-only (some class) is fits e =
       let m = moves-to (length list) (streamLen list) is in
       let w = went-on (takeBlock class (b .space)) _ e in
-      subst (λ (o : Outcome). Differs (wordAnd key (both (writing list (some class) (b .space)) (freeingAll old))) b (o .book))
+      subst (λ (o : Outcome Appended). Differs (wordAnd key (both (writing list (some class) (b .space)) (freeingAll old))) b (o .book))
       (accepted-inj (w .2))
       (differs-placed key _ _ b (moved-wrote class (payloadLen (streamLen list)) (slabPayload list) (omega (arith, m .slab))
       (length-payload list) (m .fits) (w .1)))
   into-only none is fits e =
       let w = went-on (takeBlock pageClass (b .space)) _ e in
       let off = w .0 .off in
-      subst (λ (o : Outcome). Differs (wordAnd key (both (writing list none (b .space)) (freeingAll old))) b (o .book))
+      subst (λ (o : Outcome Appended). Differs (wordAnd key (both (writing list none (b .space)) (freeingAll old))) b (o .book))
       (accepted-inj (w .2))
       (differs-placed key _ _ b
       (moved-wrote pageClass pageSize (lastPageOf off off 1 (length list) list) (omega arith)
       (length-lastPage off off 1 (length list) list fits) (omega arith) (w .1)))
 
   -- It moves to the class for it.
-  moves-only : {o : Outcome} → streamLen list ≤ lastPageRoom → moves b key ns n old ≡ accepted o
+  moves-only : {o : Outcome Appended} → streamLen list ≤ lastPageRoom → moves b key ns n old ≡ accepted o
       → Differs (wordAnd key (moving list old (b .space))) b (o .book)
   unfolding moves moving
   moves-only fits e = into-only (movesTo (length list) (streamLen list)) refl fits e
@@ -134,13 +135,13 @@ module _ (b : Book) (key n class used off : ℕ) (c : Scan) (i : InShape (b .spa
       rw (stream-len-append 0 (c .numbers) (n ∷ [])) (omega (arith, len-at-most difference (omega arith)))
 
   -- It stays there, or moves.
-  grown-only : (there : Bool) {o : Outcome} → stays class (length (c .numbers) + 1) (c .taken + ulebLen difference) ≡ there
+  grown-only : (there : Bool) {o : Outcome Appended} → stays class (length (c .numbers) + 1) (c .taken + ulebLen difference) ≡ there
       → appendSlab b key n class off c ≡ accepted o
       → Differs (wordAnd key (growingSlab n class off c s)) b (o .book)
   unfolding appendSlab growingSlab
   grown-only true t e =
       rw t
-      (subst (λ (o : Outcome). Differs (wordAnd key (both (bytesAt off 2) (bytesAt (off + (2 + c .taken)) (ulebLen difference)))) b
+      (subst (λ (o : Outcome Appended). Differs (wordAnd key (both (bytesAt off 2) (bytesAt (off + (2 + c .taken)) (ulebLen difference)))) b
       (o .book))
       (accepted-inj (rw t at e)) (differs-placed key _ _ b (stays-wrote t)))
   grown-only false t e =
@@ -208,26 +209,26 @@ module _ (b : Book) (key n last : ℕ) (t : Tail) (i : InShape (b .space)) (know
       (omega (arith, old .body .long))))
 
   -- A number in the page, or in a page more.
-  page-only : (spot : Option Spot) {o : Outcome} → spotBehind (pageAt (seen room) last) n (t .scan) ≡ spot
+  page-only : (spot : Option Spot) {o : Outcome Appended} → spotBehind (pageAt (seen room) last) n (t .scan) ≡ spot
       → appendPage b key n last t spot ≡ accepted o
       → Differs (wordAnd key (growingPage last spot room)) b (o .book)
   unfolding appendPage growChain
   page-only (some w) is e =
-      subst (λ (o : Outcome). Differs (wordAnd key (growingPage last (some w) room)) b (o .book)) (accepted-inj e)
+      subst (λ (o : Outcome Appended). Differs (wordAnd key (growingPage last (some w) room)) b (o .book)) (accepted-inj e)
       (differs-placed key _ _ b (joined-wrote w is))
   page-only none is e =
       let g = went-on (takeBlock pageClass room) _ e in
-      subst (λ (o : Outcome). Differs (wordAnd key (growingPage last none room)) b (o .book)) (accepted-inj (g .2))
+      subst (λ (o : Outcome Appended). Differs (wordAnd key (growingPage last none room)) b (o .book)) (accepted-inj (g .2))
       (differs-placed key _ _ b (chain-wrote (g .0) (g .1)))
 
 -- ---- an append
 
 -- An append to a key that stands where its head word tells.
-at-only : (b : Book) (key n : ℕ) (place : ShHeadValue) {o : Outcome} → InShape (b .space) → n < 2 ^ 62 → appendAt b key n place ≡ accepted o
+at-only : (b : Book) (key n : ℕ) (place : ShHeadValue) {o : Outcome Appended} → InShape (b .space) → n < 2 ^ 62 → appendAt b key n place ≡ accepted o
     → Differs (wordAnd key (appendWrites n (b .space) place)) b (o .book)
 unfolding appendAt appendWrites streamLenFrom Each
 at-only b key n Empty i small e =
-    subst (λ (o : Outcome). Differs (wordAnd key nothing) b (o .book)) (accepted-inj e)
+    subst (λ (o : Outcome Appended). Differs (wordAnd key nothing) b (o .book)) (accepted-inj e)
     (differs-placed key _ (b .space) b (wrote-same nothing (b .space)))
 at-only b key n (Inline entry used) i small e =
     let p = passed _ _ _ e in
@@ -249,7 +250,7 @@ at-only b key n (Extent last) i small e =
     refl (p .1))
 
 -- An append.
-pub append-only : (b : Book) (key n : ℕ) {o : Outcome} → appends b key n ≡ accepted o → Changes b (o .book) (append key n)
+pub append-only : (b : Book) (key n : ℕ) {o : Outcome Appended} → appends b key n ≡ accepted o → Changes b (o .book) (append key n)
 unfolding appends writes
 append-only b key n e =
     let k = on-key b key _ e in

@@ -20,6 +20,7 @@ use Rattle.scripthash_free.proofs.LawsBlock.{block-stands}
 use Rattle.book_statements.specs.Calls.{append}
 use Rattle.book_rules.specs.Places.{stays}
 use Rattle.book_rules.proofs.LawsOffered.{offered-on}
+use Rattle.book_rules.specs.Outcomes.{Appended}
 use Rattle.book_space.specs.Space.{InShape}
 use Rattle.book_keys.specs.Keys.{pageAt, slabScan, Tail, tailAt}
 use Rattle.book_keys.proofs.LawsSound.{was-sound}
@@ -35,7 +36,7 @@ unfolding headWord
 word-of place e = ap (λ a. valueOr (λ w. w) a 0) e
 
 -- An accepted append to a key whose word, of 64 bits, tells a place.
-module _ (b : Book) (key n : ℕ) {o : Outcome} (place : ShHeadValue) (word : wordOf key b < 2 ^ 64) (is : unpackHead (wordOf key b)
+module _ (b : Book) (key n : ℕ) {o : Outcome Appended} (place : ShHeadValue) (word : wordOf key b < 2 ^ 64) (is : unpackHead (wordOf key b)
     ≡ accepted place)
     (e : does b (append key n) ≡ accepted o) where
   -- The book is in shape, the key has a head word, and the append to that place is accepted.
@@ -52,7 +53,7 @@ module _ (b : Book) (key n : ℕ) {o : Outcome} (place : ShHeadValue) (word : wo
   word-is = word-of place (pack-unpacked (wordOf key b) place word is)
 
 -- Where the number stays in its slab, the words before and after have the slab's class and offset, and used is one more.
-pub slab-word : (b : Book) (key n class used off : ℕ) (c : Scan) {o : Outcome} → wordOf key b < 2 ^ 64
+pub slab-word : (b : Book) (key n class used off : ℕ) (c : Scan) {o : Outcome Appended} → wordOf key b < 2 ^ 64
     → unpackHead (wordOf key b) ≡ accepted (Slab class used off)
     → slabScan (seen (b .space)) class used off ≡ accepted c → stays class (length (c .numbers) + 1) (c .taken + ulebLen (n - lastOf c)) ≡ true
     → does b (append key n) ≡ accepted o → (wordOf key b ≡ slabWord class used off) × (wordOf key (o .book) ≡ slabWord class (used + 1) off)
@@ -71,13 +72,13 @@ slab-word b key n class used off c {o} word is scanned stay e =
     let packs : (k : ℕ) → headWord (Slab class k off) ≡ slabWord class k off =
     λ k. word-of (Slab class k off) (pack-slab class k off (omega (arith, known .class-to-7)) (omega arith)) in (
       sym (word-is b key n place word is e) ∙ packs used,
-      ap (λ (x : Outcome). wordOf key (x .book)) (sym (accepted-inj (rw stay at did)))
+      ap (λ (x : Outcome Appended). wordOf key (x .book)) (sym (accepted-inj (rw stay at did)))
           ∙ getD-set-same (b .heads) key (headWord (Slab class (length (c .numbers) + 1) off)) 0 (w .1) ∙ packs (length (c .numbers) + 1)
           ∙ ap (λ (k : ℕ). slabWord class (k + 1) off) (known .counted),
     )
 
 -- Where the number joins its last page, the head words are as before.
-pub page-words : (b : Book) (key n last : ℕ) (t : Tail) (w : Spot) {o : Outcome} → wordOf key b < 2 ^ 64
+pub page-words : (b : Book) (key n last : ℕ) (t : Tail) (w : Spot) {o : Outcome Appended} → wordOf key b < 2 ^ 64
     → unpackHead (wordOf key b) ≡ accepted (Extent last)
     → tailAt (seen (b .space)) last ≡ accepted t → spotBehind (pageAt (seen (b .space)) last) n (t .scan) ≡ some w → does b (append key n) ≡ accepted o
     → o .book .heads ≡ b .heads
@@ -90,5 +91,5 @@ page-words b key n last t w {o} word is tail spot e =
     let did : appendPage b key n last t (spotBehind (pageAt (seen (b .space)) last) n (t .scan)) ≡ accepted o =
     subst (λ (x : Tail). appendPage b key n last x (spotBehind (pageAt (seen (b .space)) last) n (x .scan)) ≡ accepted o) same
     (passed _ _ _ (g .2) .1) in
-    ap (λ (x : Outcome). x .book .heads) (sym (accepted-inj (rw spot at did))) ∙ ap (set (b .heads) key) (word-is b key n place word is e)
+    ap (λ (x : Outcome Appended). x .book .heads) (sym (accepted-inj (rw spot at did))) ∙ ap (set (b .heads) key) (word-is b key n place word is e)
     ∙ set-getD (b .heads) key 0

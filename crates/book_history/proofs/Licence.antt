@@ -19,29 +19,29 @@ use Rattle.book_start.specs.Start.{GoodStart}
 use Rattle.book_history.specs.Agrees.{Agrees}
 use Rattle.book_history.specs.PlainOf.{plainOf, startList}
 use Rattle.book_history.proofs.LawsCalls.{answers-alike}
-use Rattle.book_history.proofs.LawsEach.{each-alike}
+use Rattle.book_history.proofs.LawsEach.{each-alike, each-same}
 use Rattle.book_history.proofs.LawsStart.{start-list, start-good, start-agrees}
 use Rattle.book_history.proofs.LawsStartFresh.{fresh-agrees}
 
 -- From any pair: what the keys hold at first counts as recorded.
 pub licence-good : (plain : PlainBook) (b : Book) (cs : List Call) → GoodPlain plain → Agrees plain b
-    → Licensed (plain .size) (length (plain .keys)) (λ key. keyOf key plain .list) cs (answers b cs)
+    → Licensed (plain .size) (length (plain .keys)) (λ key. keyOf key plain .list) (answers b cs)
 licence-good plain b cs g a =
-    rw (answers-alike each-alike plain b cs g a) (licensed-from plain (λ key. keyOf key plain .list) cs (g .keys) (λ key. refl))
+    rw (answers-alike each-alike each-same plain b cs g a) (licensed-from plain (λ key. keyOf key plain .list) cs (g .keys) (λ key. refl))
 
 -- From a good start: what its keys are read as then counts as recorded.
 pub licence-from : (b : Book) (cs : List Call) → GoodStart b
-    → Licensed (length (b .space .body)) (length (b .heads)) (startList b) cs (answers b cs)
+    → Licensed (length (b .space .body)) (length (b .heads)) (startList b) (answers b cs)
 licence-from b cs g =
     let a = start-agrees b g in
     rw (a .size, a .count)
-    (subst (λ (before : ℕ → List ℕ). Licensed (plainOf b .size) (length (plainOf b .keys)) before cs (answers b cs)) (fun-ext (start-list b))
+    (subst (λ (before : ℕ → List ℕ). Licensed (plainOf b .size) (length (plainOf b .keys)) before (answers b cs)) (fun-ext (start-list b))
     (licence-good (plainOf b) b cs (start-good b g) a))
 
 -- From a fresh one nothing is recorded at first, whatever the body holds.
-pub licence : (body : List ℕ) (heads : ℕ) (cs : List Call) → Licensed (length body) heads (λ key. []) cs (answers (fresh body heads) cs)
+pub licence : (body : List ℕ) (heads : ℕ) (cs : List Call) → Licensed (length body) heads (λ key. []) (answers (fresh body heads) cs)
 licence body heads cs =
-    subst₂ (λ (n : ℕ) (before : ℕ → List ℕ). Licensed (length body) n before cs (answers (fresh body heads) cs))
+    subst₂ (λ (n : ℕ) (before : ℕ → List ℕ). Licensed (length body) n before (answers (fresh body heads) cs))
     (length-replicate heads emptyKey)
     (λ i key. fresh-key (length body) heads key i .list)
     (licence-good (plainFresh (length body) heads) (fresh body heads) cs (fresh-good (length body) heads) (fresh-agrees body heads))

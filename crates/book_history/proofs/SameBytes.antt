@@ -5,10 +5,8 @@ use mathlib.Core.Bool.{Bool, true, false}
 use mathlib.Core.List.{List, []}
 use mathlib.Core.Path.{_≡_, refl, sym, ap, ap₂, subst, _∙_}
 use lib.ListN.{length}
-use Rattle.error.specs.Refusal.{Answer}
 use Rattle.error.proofs.LawsAnswer.{accepted-inj}
-use Rattle.book_statements.specs.Calls.{Call}
-use Rattle.book_rules.specs.Outcomes.{Told}
+use Rattle.book_statements.specs.Calls.{Call, Answers}
 use Rattle.book_limits.specs.Limits.{outOfShape}
 use Rattle.book_statements.specs.Recorded.{recorded}
 use Rattle.plain_book.specs.Key.{Key}
@@ -25,7 +23,7 @@ use Rattle.book_history.specs.Agrees.{Agrees}
 use Rattle.book_history.specs.PlainOf.{plainOf, startList}
 use Rattle.book_history.proofs.LawsCalls.{answers-alike, books-agree}
 use Rattle.book_history.proofs.LawsContent.{content-agrees}
-use Rattle.book_history.proofs.LawsEach.{each-alike}
+use Rattle.book_history.proofs.LawsEach.{each-alike, each-same}
 use Rattle.book_history.proofs.LawsShape.{plain-still}
 use Rattle.book_history.proofs.LawsStart.{start-list, start-shape, start-good, start-agrees}
 use Rattle.book_history.proofs.LawsStartFresh.{fresh-agrees}
@@ -62,14 +60,14 @@ module _ (p q : PlainBook) (b d : Book) (g : GoodPlain p) (h : GoodPlain q) (agr
 
   -- A key's list is what was there at first and what was recorded.
   told : (r : PlainBook) (c : Book) (es : List Call) (key : ℕ) → GoodPlain r → Agrees r c
-      → recorded key es (answers c es) (keyOf key r .list) ≡ keyOf key (plainAfter r es) .list
+      → recorded key (answers c es) (keyOf key r .list) ≡ keyOf key (plainAfter r es) .list
   told r c es key good a =
-      ap (λ (told : List (Answer Told)). recorded key es told (keyOf key r .list)) (answers-alike each-alike r c es good a)
+      ap (λ (told : Answers es). recorded key told (keyOf key r .list)) (answers-alike each-alike each-same r c es good a)
       ∙ sym (recorded-from r key es (good .keys key))
 
   -- In shape, the same is recorded for each key, with what was there at first.
   pub records-good : outOfShape (p .size) (length (p .keys)) ≡ false → (key : ℕ)
-      → recorded key cs (answers b cs) (keyOf key p .list) ≡ recorded key ds (answers d ds) (keyOf key q .list)
+      → recorded key (answers b cs) (keyOf key p .list) ≡ recorded key (answers d ds) (keyOf key q .list)
   records-good shape key =
       let (size, keys) = shapes-kept p cs in
       told p b cs key g agrees
@@ -79,8 +77,8 @@ module _ (p q : PlainBook) (b d : Book) (g : GoodPlain p) (h : GoodPlain q) (agr
 
   -- Out of shape, calls are turned back on both, so that each key has what it had.
   pub records-still : outOfShape (p .size) (length (p .keys)) ≡ true → (key : ℕ)
-      → (recorded key cs (answers b cs) (keyOf key p .list) ≡ keyOf key p .list)
-      × (recorded key ds (answers d ds) (keyOf key q .list) ≡ keyOf key q .list)
+      → (recorded key (answers b cs) (keyOf key p .list) ≡ keyOf key p .list)
+      × (recorded key (answers d ds) (keyOf key q .list) ≡ keyOf key q .list)
   records-still shape key =
       let (size, keys) = shapes-kept p cs in
       let (size', keys') = shapes-kept q ds in
@@ -94,12 +92,12 @@ module _ (p q : PlainBook) (b d : Book) (g : GoodPlain p) (h : GoodPlain q) (agr
 
 -- Histories from good starts that end alike have the same recorded for each key, with what it was read as at the start.
 pub records-fixed-from : (b d : Book) (cs ds : List Call) → GoodStart b → GoodStart d → after b cs ≡ after d ds → (key : ℕ)
-    → recorded key cs (answers b cs) (startList b key) ≡ recorded key ds (answers d ds) (startList d key)
+    → recorded key (answers b cs) (startList b key) ≡ recorded key (answers d ds) (startList d key)
 records-fixed-from b d cs ds g h same key =
-    ap (recorded key cs (answers b cs)) (sym (start-list b key))
+    ap (recorded key (answers b cs)) (sym (start-list b key))
     ∙ records-good (plainOf b) (plainOf d) b d (start-good b g) (start-good d h) (start-agrees b g) (start-agrees d h) cs ds same
     (start-shape b g) key
-    ∙ ap (recorded key ds (answers d ds)) (start-list d key)
+    ∙ ap (recorded key (answers d ds)) (start-list d key)
 
 -- ---- after any calls on fresh books
 
@@ -116,8 +114,8 @@ module _ (body other : List ℕ) (heads count : ℕ) (cs ds : List Call)
   nothing size keys key = ap (λ (k : Key). k .list) (fresh-key size keys key)
 
   by-shape : (shape : Bool) → out p ≡ shape → (key : ℕ)
-      → recorded key cs (answers (fresh body heads) cs) (keyOf key p .list)
-      ≡ recorded key ds (answers (fresh other count) ds) (keyOf key q .list)
+      → recorded key (answers (fresh body heads) cs) (keyOf key p .list)
+      ≡ recorded key (answers (fresh other count) ds) (keyOf key q .list)
   by-shape true e key =
       let (left, right) =
       records-still p q (fresh body heads) (fresh other count) (fresh-good (length body) heads) (fresh-good (length other) count)
@@ -128,8 +126,8 @@ module _ (body other : List ℕ) (heads count : ℕ) (cs ds : List Call)
       (fresh-agrees body heads) (fresh-agrees other count) cs ds same e key
 
   -- The same is recorded for each key, by the calls and answers that led there.
-  pub records-fixed : (key : ℕ) → recorded key cs (answers (fresh body heads) cs) [] ≡ recorded key ds (answers (fresh other count) ds) []
+  pub records-fixed : (key : ℕ) → recorded key (answers (fresh body heads) cs) [] ≡ recorded key (answers (fresh other count) ds) []
   records-fixed key =
-      ap (recorded key cs (answers (fresh body heads) cs)) (sym (nothing (length body) heads key))
+      ap (recorded key (answers (fresh body heads) cs)) (sym (nothing (length body) heads key))
       ∙ by-shape (out p) refl key
-      ∙ ap (recorded key ds (answers (fresh other count) ds)) (nothing (length other) count key)
+      ∙ ap (recorded key (answers (fresh other count) ds)) (nothing (length other) count key)

@@ -1,5 +1,5 @@
 -- Hollow books (document 01, "How far a promise goes", (c)): books that keep the form of the calls and none of their meaning. Each is told
--- as what a call does to a book over bytes, our own where nothing else is said.
+-- by what it answers to an enquiry and what a change does to it, as our own does where nothing else is said.
 use Prim.Native.Nat.{ℕ, _+_}
 use mathlib.Core.Bool.{cond}
 use mathlib.Core.List.{List, []}
@@ -7,61 +7,70 @@ use mathlib.Core.Logic.{_≢_}
 use lib.Dec.{eqb}
 use lib.ListN.{length}
 use Rattle.error.specs.Refusal.{Answer, accepted, refused, answered}
-use Rattle.book_statements.specs.Calls.{Call, load, append, read, drop, answersTo}
-use Rattle.book_rules.specs.Outcomes.{Told, loaded, appended, listed, dropped}
+use Rattle.book_rules.specs.Outcomes.{loadedIn, appendedAt, listing}
+use Rattle.book_statements.specs.Calls.{Enquiry, read, Change, load, append, drop, Call, Said, Made, Serves, answersTo}
 use Rattle.plain_book.specs.Book.{fresh as plainFresh, answers as plainAnswers}
 use Rattle.book.specs.Book.{Book, Outcome, fresh, wordOf}
-use Rattle.book_history.specs.Calls.{does}
+use Rattle.book_history.specs.Calls.{asks, does}
 
 -- A book that breaks demand 3: on some fresh book and list of calls its answers aren't the plain book's.
-unfoldable pub Hollow : (Book → Call → Answer Outcome) → Type 0
-Hollow calls =
+unfoldable pub Hollow : Serves Book → Type 0
+Hollow k =
     (body : List ℕ) × (heads : ℕ) × (cs : List Call)
-    × (answersTo calls (fresh body heads) cs ≢ plainAnswers (plainFresh (length body) heads) cs)
+    × (answersTo k (fresh body heads) cs ≢ plainAnswers (plainFresh (length body) heads) cs)
 
 -- One that always gives a number.
-abbrev pub always : ℕ → Book → Call → Answer Outcome
-always number b c = refused number
+abbrev pub always : ℕ → Serves Book
+always number = record { asks = λ b q. refused number; does = λ b c. refused number }
+
+-- What a book answers where all keys read empty.
+unfoldable pub emptyAnswer : Book → (q : Enquiry) → Answer (Said q)
+emptyAnswer b (read key room) = accepted (listing [] 0)
 
 -- One where all keys read empty.
-unfoldable pub readsEmpty : Book → Call → Answer Outcome
-readsEmpty b (load key ns) = does b (load key ns)
-readsEmpty b (append key n) = does b (append key n)
-readsEmpty b (read key room) = accepted (record { told = listed (record { numbers = []; pages = 0 }); book = b })
-readsEmpty b (drop key) = does b (drop key)
+abbrev pub readsEmpty : Serves Book
+readsEmpty = record { asks = emptyAnswer; does = does }
 
 -- The same answer, with the book as it was.
-abbrev pub unwritten : Book → Answer Outcome → Answer Outcome
+abbrev pub unwritten : {T : Type 0} → Book → Answer (Outcome T) → Answer (Outcome T)
 unwritten b a = answered (λ o. record { told = o .told; book = b }) a
 
+-- What changes do whose appends write nothing.
+unfoldable pub writesNothing : Book → (c : Change) → Answer (Outcome (Made c))
+writesNothing b (load key ns) = does b (load key ns)
+writesNothing b (append key n) = unwritten b (does b (append key n))
+writesNothing b (drop key) = does b (drop key)
+
 -- One whose append writes nothing.
-unfoldable pub appendsNothing : Book → Call → Answer Outcome
-appendsNothing b (load key ns) = does b (load key ns)
-appendsNothing b (append key n) = unwritten b (does b (append key n))
-appendsNothing b (read key room) = does b (read key room)
-appendsNothing b (drop key) = does b (drop key)
+abbrev pub appendsNothing : Serves Book
+appendsNothing = record { asks = asks; does = writesNothing }
+
+-- What changes do that store only a key's first append.
+unfoldable pub writesFirst : Book → (c : Change) → Answer (Outcome (Made c))
+writesFirst b (load key ns) = does b (load key ns)
+writesFirst b (append key n) = cond (eqb (wordOf key b) 0) (does b (append key n)) (unwritten b (does b (append key n)))
+writesFirst b (drop key) = does b (drop key)
 
 -- One that stores only a key's first append.
-unfoldable pub firstOnly : Book → Call → Answer Outcome
-firstOnly b (load key ns) = does b (load key ns)
-firstOnly b (append key n) = cond (eqb (wordOf key b) 0) (does b (append key n)) (unwritten b (does b (append key n)))
-firstOnly b (read key room) = does b (read key room)
-firstOnly b (drop key) = does b (drop key)
+abbrev pub firstOnly : Serves Book
+firstOnly = record { asks = asks; does = writesFirst }
 
--- What is told with a page more.
-abbrev pub pageMore : Told → Told
-pageMore (loaded l) = loaded (record { pages = l .pages + 1 })
-pageMore (appended a) = appended a
-pageMore (listed l) = listed (record { numbers = l .numbers; pages = l .pages + 1 })
-pageMore (dropped d) = dropped d
+-- Another figure told of what our book does.
+abbrev pub retold : {T : Type 0} → (T → T) → Answer (Outcome T) → Answer (Outcome T)
+retold other a = answered (λ o. record { told = other (o .told); book = o .book }) a
 
--- What is told with a rewritten record more.
-abbrev pub rewrittenMore : Told → Told
-rewrittenMore (loaded l) = loaded l
-rewrittenMore (appended a) = appended (record { place = a .place; rewritten = a .rewritten + 1 })
-rewrittenMore (listed l) = listed l
-rewrittenMore (dropped d) = dropped d
+-- What changes do whose loads tell a page too many.
+unfoldable pub pageMore : Book → (c : Change) → Answer (Outcome (Made c))
+pageMore b (load key ns) = retold (λ l. loadedIn (l .pages + 1)) (does b (load key ns))
+pageMore b (append key n) = does b (append key n)
+pageMore b (drop key) = does b (drop key)
 
--- One that invents figures: it tells something else of what our book does.
-abbrev pub invents : (Told → Told) → Book → Call → Answer Outcome
-invents other b c = answered (λ o. record { told = other (o .told); book = o .book }) (does b c)
+-- What changes do whose appends tell a rewritten record too many.
+unfoldable pub rewrittenMore : Book → (c : Change) → Answer (Outcome (Made c))
+rewrittenMore b (load key ns) = does b (load key ns)
+rewrittenMore b (append key n) = retold (λ a. appendedAt (a .place) (a .rewritten + 1)) (does b (append key n))
+rewrittenMore b (drop key) = does b (drop key)
+
+-- One that invents figures.
+abbrev pub invents : (Book → (c : Change) → Answer (Outcome (Made c))) → Serves Book
+invents changes = record { asks = asks; does = changes }

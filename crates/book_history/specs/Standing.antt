@@ -1,14 +1,13 @@
 -- What demand 3 says of a book after its calls: it stands as the plain book does.
 use Prim.Native.Nat.{ℕ, _≤_, _<_}
 use mathlib.Core.Bool.{false}
-use mathlib.Core.List.{List}
 use mathlib.Core.Path.{_≡_}
 use lib.ListN.{length, getD}
 use Rattle.error.specs.Refusal.{accepted}
 use Rattle.scripthash_layout.specs.Sizes.{pageClass}
 use Rattle.scripthash_layout.specs.Head.{unpackHead}
 use Rattle.scripthash_free.specs.FreeList.{IsFreeList}
-use Rattle.book_rules.specs.Outcomes.{listed}
+use Rattle.book_rules.specs.Outcomes.{listing}
 use Rattle.book_limits.specs.Limits.{outOfShape}
 use Rattle.plain_book.specs.Space.{stackOf}
 use Rattle.plain_book.specs.Key.{headOf, pagesOf}
@@ -30,7 +29,4 @@ pub record Standing (plain : PlainBook) (b : Book) : Type 0 where
   -- Each key reads as the list that is held there, save where 1 applies; a long enough list is lent.
   pub reads : (key room : ℕ) → outOfShape (plain .size) (length (plain .keys)) ≡ false → key < length (plain .keys)
       → length (keyOf key plain .list) ≤ room
-      → reads b key room ≡ accepted (record {
-        told = listed (record { numbers = keyOf key plain .list; pages = pagesOf (keyOf key plain .place) });
-        book = b;
-      })
+      → reads b key room ≡ accepted (listing (keyOf key plain .list) (pagesOf (keyOf key plain .place)))

@@ -18,7 +18,7 @@ use Rattle.scripthash_stream.specs.Stream.{Scan, streamLen}
 use Rattle.scripthash_cutting.specs.Cutting.{cutting}
 use Rattle.scripthash_pages.specs.Entries.{lastOf, Spot, spotBehind}
 use Rattle.scripthash_free.specs.FreeList.{Block, gapBlocks}
-use Rattle.book_statements.specs.Calls.{Call, load, append, read, drop}
+use Rattle.book_statements.specs.Calls.{Change, load, append, drop}
 use Rattle.book_rules.specs.Places.{payloadLen, stays, movesTo, loadsTo}
 use Rattle.book_limits.specs.Limits.{pageAfter}
 use Rattle.book_space.specs.Space.{Space, takeBlock}
@@ -144,14 +144,13 @@ pub record CallWrites : Type 0 where
 abbrev pub wordAnd : ℕ → SpaceWrites → CallWrites
 wordAnd key n = record { heads = region key 1 ∷ []; space = n }
 
--- What a call on a book may write.
-unfoldable pub writes : Book → Call → CallWrites
+-- What a change of a book may write.
+unfoldable pub writes : Book → Change → CallWrites
 writes b (load key []) = record { heads = []; space = nothing }
 writes b (load key (n ∷ [])) = wordAnd key nothing
 writes b (load key (n ∷ m ∷ ns)) =
     let list = n ∷ m ∷ ns in wordAnd key (loadWrites list (loadsTo (length list) (streamLen list)) (b .space))
 writes b (append key n) = wordAnd key (valueOr (appendWrites n (b .space)) (unpackHead (wordOf key b)) nothing)
-writes b (read key room) = record { heads = []; space = nothing }
 writes b (drop key) = wordAnd key (valueOr (λ c. freeingAll (c .blocks)) (content (seen (b .space)) (wordOf key b)) nothing)
 
 -- The space after differs from the one before only in what may be written; the mark doesn't fall.
@@ -166,6 +165,6 @@ pub record Differs (n : CallWrites) (before after : Book) : Type 0 where
   pub heads : Only (n .heads) (before .heads) (after .heads)
   pub space : Wrote (n .space) (before .space) (after .space)
 
--- The book after a call differs from the one before only in what the call may write.
-abbrev pub Changes : Book → Book → Call → Type 0
+-- The book after a change differs from the one before only in what the change may write.
+abbrev pub Changes : Book → Book → Change → Type 0
 Changes before after c = Differs (writes before c) before after

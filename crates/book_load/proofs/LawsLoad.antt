@@ -18,7 +18,7 @@ use Rattle.scripthash_slabs.specs.Slab.{slabPayload}
 use Rattle.scripthash_cutting.specs.Cutting.{pageRoom, cutting, chunkRanges}
 use Rattle.scripthash_cutting.proofs.LawsPages.{pages-at-most}
 use Rattle.scripthash_cutting.proofs.LawsRising.{rising-words}
-use Rattle.book_rules.specs.Outcomes.{Told, loaded, bookAfter}
+use Rattle.book_rules.specs.Outcomes.{bookAfter, loadedIn, Loaded}
 use Rattle.book_rules.specs.Offered.{offeredNumber, offeredList}
 use Rattle.book_rules.specs.Places.{loadsTo}
 use Rattle.book_rules.proofs.LawsOffered.{rising-all}
@@ -34,7 +34,7 @@ use Rattle.book_load.specs.Steps.{Judged, Parts}
 -- ---- how a call ends
 
 -- A book, and what a call on it comes to, answers and leaves.
-module _ (b : Book) (outcome : Answer Outcome) (answer : Answer Told) (after : Space) where
+module _ (b : Book) (outcome : Answer (Outcome Loaded)) (answer : Answer Loaded) (after : Space) where
   -- A refused call answers its refusal, and leaves the space and the heads.
   pub ends-refused : {number : ℕ} → outcome ≡ refused number → answer ≡ refused number → after ≡ b .space
       → Does outcome b (record { heads = b .heads; space = after }) answer
@@ -44,14 +44,14 @@ module _ (b : Book) (outcome : Answer Outcome) (answer : Answer Told) (after : S
   -- An accepted load tells its pages, leaves its space, and gives the key its place.
   pub ends-loaded : (key : ℕ) (place : ShHeadValue) (pages : ℕ) (heads : List ℕ) {s : Space}
       → outcome ≡ accepted (loading key place pages s b)
-      → answer ≡ accepted (loaded (record { pages = pages })) → heads ≡ set (b .heads) key (headWord place) → after ≡ s
+      → answer ≡ accepted (loadedIn pages) → heads ≡ set (b .heads) key (headWord place) → after ≡ s
       → Does outcome b (record { heads = heads; space = after }) answer
   unfolding bookAfter answered
   ends-loaded key place pages heads e a set-is is = rw (e, set-is, is) record { told = a; left = refl }
 
 -- A load that tells no pages and leaves the book.
-pub ends-same : (b : Book) (outcome : Answer Outcome) → outcome ≡ accepted (record { told = loaded (record { pages = 0 }); book = b })
-    → Does outcome b b (accepted (loaded (record { pages = 0 })))
+pub ends-same : (b : Book) (outcome : Answer (Outcome Loaded)) → outcome ≡ accepted (record { told = loadedIn 0; book = b })
+    → Does outcome b b (accepted (loadedIn 0))
 unfolding bookAfter answered
 ends-same b outcome e = rw e record { told = refl; left = refl }
 
@@ -138,7 +138,7 @@ run-lies s after fks ranges count off i p e =
 -- A list loaded onto an empty key.
 module _ (b : Book) (key : ℕ) where
   -- None changes nothing.
-  pub load-none : (ns : List ℕ) → length ns ≡ 0 → loadAt b key ns ≡ accepted (record { told = loaded (record { pages = 0 }); book = b })
+  pub load-none : (ns : List ℕ) → length ns ≡ 0 → loadAt b key ns ≡ accepted (record { told = loadedIn 0; book = b })
   unfolding loadAt
   load-none [] h = refl
   load-none (n ∷ ns) h = absurd (omega arith)

@@ -12,7 +12,7 @@ use Rattle.scripthash_layout.specs.declared.head.ShHeadValue.the-variants.{Inli
 use Rattle.scripthash_stream.specs.Stream.{maxOffered, streamLen}
 use Rattle.scripthash_slabs.specs.Slab.{slabPayload}
 use Rattle.scripthash_cutting.specs.Cutting.{cutting}
-use Rattle.book_rules.specs.Outcomes.{loaded}
+use Rattle.book_rules.specs.Outcomes.{loadedIn, Loaded}
 use Rattle.book_rules.specs.Offered.{offeredList}
 use Rattle.book_rules.specs.Places.{loadsTo}
 use Rattle.book_space.specs.Space.{Space, space, takeBlock, takeRun}
@@ -20,15 +20,15 @@ use Rattle.book_blocks.specs.Blocks.{writeRun}
 use Rattle.book.specs.Book.{Book, Outcome, wordOf, onKey, placing, filled}
 
 -- What a load leaves: the key's place, and the pages of its run.
-abbrev pub loading : ℕ → ShHeadValue → ℕ → Space → Book → Outcome
-loading key place pages s b = placing (loaded (record { pages = pages })) key place s b
+abbrev pub loading : ℕ → ShHeadValue → ℕ → Space → Book → Outcome Loaded
+loading key place pages s b = placing (loadedIn pages) key place s b
 
 -- The offset of the last of so many pages from an offset on.
 abbrev pub lastOfRun : ℕ → ℕ → ℕ
 lastOfRun off pages = off + (pages - 1) * pageSize
 
 -- A list of two or more goes into a taken slab of a class, or else into a run of pages, a part of its cutting in each.
-unfoldable pub loadInto : Book → ℕ → List ℕ → Option ℕ → Answer Outcome
+unfoldable pub loadInto : Book → ℕ → List ℕ → Option ℕ → Answer (Outcome Loaded)
 loadInto b key ns (some class) =
     andThen (takeBlock class (b .space)) (λ t. accepted (loading key (Slab class (length ns) (t .off)) 0 (filled t (slabPayload ns)) b))
 loadInto b key ns none =
@@ -38,13 +38,13 @@ loadInto b key ns none =
     (space (writeRun (t .off) count (length ns) (t .space .body) (t .off) (cutting ns)) (t .space .mark) (t .space .free)) b))
 
 -- A load of a list onto an empty key: none changes nothing, and one goes into the head word.
-unfoldable pub loadAt : Book → ℕ → List ℕ → Answer Outcome
-loadAt b key [] = accepted (record { told = loaded (record { pages = 0 }); book = b })
+unfoldable pub loadAt : Book → ℕ → List ℕ → Answer (Outcome Loaded)
+loadAt b key [] = accepted (record { told = loadedIn 0; book = b })
 loadAt b key (n ∷ []) = accepted (loading key (Inline n 1) 0 (b .space) b)
 loadAt b key (n ∷ m ∷ ns) = loadInto b key (n ∷ m ∷ ns) (loadsTo (length (n ∷ m ∷ ns)) (streamLen (n ∷ m ∷ ns)))
 
 -- A load of a list onto a key.
-unfoldable pub loads : Book → ℕ → List ℕ → Answer Outcome
+unfoldable pub loads : Book → ℕ → List ℕ → Answer (Outcome Loaded)
 loads b key ns =
     onKey b key
     (refuseIf (not (eqb (wordOf key b) 0)) keyInUse

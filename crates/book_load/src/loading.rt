@@ -6,7 +6,7 @@ ghost use lib.ListN.{length, set};
 ghost use Rattle.error.specs.Refusal.{accepted, refused};
 ghost use Rattle.scripthash_layout.specs.Sizes.{maxSlabClass, slabBytes};
 ghost use Rattle.scripthash_stream.specs.Stream.{Rising, streamLen};
-ghost use Rattle.book_rules.specs.Outcomes.{loaded, bookAfter, answerOf};
+ghost use Rattle.book_rules.specs.Outcomes.{loadedIn, bookAfter, answerOf};
 ghost use Rattle.book_rules.specs.Places.{payloadLen, loadsTo};
 ghost use Rattle.book_space.specs.Space.{InShape};
 ghost use Rattle.book_space.specs.Answers.{spaceOf};
@@ -55,7 +55,7 @@ fn accept_load(
     pages: u64,
 ) -> AfterLoad
     requires { ⌜ key < length (now heads) ⌝ }
-    ensures answer { λ r. ⌜ loadAnswer (r .answer) ≡ accepted (loaded (record { pages = pages })) ⌝ }
+    ensures answer { λ r. ⌜ loadAnswer (r .answer) ≡ accepted (loadedIn pages) ⌝ }
     ensures state { λ r. ⌜ r .state ≡ state ⌝ }
     ensures heads { λ r. ⌜ now (heads .exit) ≡ set (now (heads .entry)) key (headWord place) ⌝ }
 {

@@ -8,29 +8,29 @@ use lib.ListN.{length}
 use Rattle.error.specs.Refusal.{Answer, accepted, refused, refuseIf, andThen, answered, shapeBad, keyBeyond, listTooShort}
 use Rattle.error.proofs.LawsAnswer.{was-accepted, was-refused, answered-yes, answered-no}
 use Rattle.buffer.specs.Bytes.{overwrite}
-use Rattle.book_rules.specs.Outcomes.{listed, answerOf}
+use Rattle.book_rules.specs.Outcomes.{listing, Listed}
 use Rattle.book_space.specs.Space.{shapeBroken}
 use Rattle.book_keys.specs.Keys.{Content, content}
 use Rattle.book_keys.specs.Steps.{Counts, countsOf, inRoom, afterRead, KeyRead}
-use Rattle.book.specs.Book.{Book, Outcome, wordOf, seen}
+use Rattle.book.specs.Book.{Book, wordOf, seen}
 use Rattle.book_read.specs.Reads.{reads, listAfter}
 use Rattle.book_read.specs.Answers.{Counted, countedOf}
 use Rattle.book.proofs.LawsKey.{key-broken, key-beyond, key-there}
 
--- What a read of a key that holds some content leaves.
-abbrev pub reading : Content → Book → Outcome
-reading c b = record { told = listed (record { numbers = c .numbers; pages = c .pages }); book = b }
+-- What a read tells of a key that holds some content.
+abbrev pub reading : Content → Listed
+reading c = listing (c .numbers) (c .pages)
 
 -- What a read tells of what a key holds.
-read-fitting : (b : Book) (room : ℕ) (a : Answer Content)
-    → andThen a (λ c. refuseIf (ltb room (length (c .numbers))) listTooShort (accepted (reading c b)))
-    ≡ answered (λ c. reading c b) (inRoom room a)
+read-fitting : (room : ℕ) (a : Answer Content)
+    → andThen a (λ c. refuseIf (ltb room (length (c .numbers))) listTooShort (accepted (reading c)))
+    ≡ answered reading (inRoom room a)
 unfolding inRoom answered andThen refuseIf
-read-fitting b room (refused number) = refl
-read-fitting b room (accepted c) = by-room (ltb room (length (c .numbers)))
+read-fitting room (refused number) = refl
+read-fitting room (accepted c) = by-room (ltb room (length (c .numbers)))
   where
     by-room : (short : Bool)
-        → refuseIf short listTooShort (accepted (reading c b)) ≡ answered (λ k. reading k b) (refuseIf short listTooShort (accepted c))
+        → refuseIf short listTooShort (accepted (reading c)) ≡ answered reading (refuseIf short listTooShort (accepted c))
     by-room true = refl
     by-room false = refl
 
@@ -49,36 +49,36 @@ module _ (b : Book) (key room : ℕ) where
 
     -- It isn't: what the key holds decides, and the room.
     pub read-key : key < length (b .heads)
-        → reads b key room ≡ answered (λ c. reading c b) (inRoom room (content (seen (b .space)) (wordOf key b)))
+        → reads b key room ≡ answered reading (inRoom room (content (seen (b .space)) (wordOf key b)))
     unfolding reads
-    read-key h = key-there b key _ whole h ∙ read-fitting b room (content (seen (b .space)) (wordOf key b))
+    read-key h = key-there b key _ whole h ∙ read-fitting room (content (seen (b .space)) (wordOf key b))
 
 -- A read tells what an answer of its definition says, and its list is left as that says.
-abbrev pub ReadDoes : Answer Outcome → List ℕ → List ℕ → Answer Counted → Type 0
-ReadDoes a before after tells = (tells ≡ answered countedOf (answerOf a)) × (after ≡ listAfter before a)
+abbrev pub ReadDoes : Answer Listed → List ℕ → List ℕ → Answer Counted → Type 0
+ReadDoes a before after tells = (tells ≡ answered countedOf a) × (after ≡ listAfter before a)
 
 -- A read that is refused, and leaves the list.
-pub read-no : (a : Answer Outcome) (out : List ℕ) {number : ℕ} → a ≡ refused number → ReadDoes a out out (refused number)
+pub read-no : (a : Answer Listed) (out : List ℕ) {number : ℕ} → a ≡ refused number → ReadDoes a out out (refused number)
 unfolding answered listAfter
 read-no a out e = (rw e, rw e)
 
 -- A read that tells how long the list is, and writes it to the lent one's start.
-pub read-yes : (a : Answer Outcome) (b : Book) (c : Content) (counts : Counts) (before after : List ℕ) → a ≡ accepted (reading c b)
+pub read-yes : (a : Answer Listed) (c : Content) (counts : Counts) (before after : List ℕ) → a ≡ accepted (reading c)
     → countsOf c ≡ counts
     → after ≡ overwrite before 0 (c .numbers)
     → ReadDoes a before after (accepted (record { length = counts .length; pages = counts .pages }))
 unfolding answered listAfter
-read-yes a b c counts before after e n w = (rw (e, ← n), rw e w)
+read-yes a c counts before after e n w = (rw (e, ← n), rw e w)
 
 -- A read of a key that is there, by what was told of the key and done to the list.
-module _ (a : Answer Outcome) (b : Book) (held : Answer Content) (told : Answer Counts) (before after : List ℕ)
-    (is : a ≡ answered (λ c. reading c b) (inRoom (length before) held)) (does : KeyRead told before after held) where
+module _ (a : Answer Listed) (held : Answer Content) (told : Answer Counts) (before after : List ℕ)
+    (is : a ≡ answered reading (inRoom (length before) held)) (does : KeyRead told before after held) where
   pub read-refused : {number : ℕ} → told ≡ refused number → ReadDoes a before after (refused number)
   unfolding afterRead
   read-refused {number} e =
       let stop : inRoom (length before) held ≡ refused number = was-refused countsOf (inRoom (length before) held) (sym (does .0) ∙ e) in
       let left : after ≡ before = rw stop at (does .1) in
-      rw left (read-no a before (is ∙ answered-no (λ c. reading c b) _ stop))
+      rw left (read-no a before (is ∙ answered-no reading _ stop))
 
   pub read-accepted : (counts : Counts) → told ≡ accepted counts
       → ReadDoes a before after (accepted (record { length = counts .length; pages = counts .pages }))
@@ -86,4 +86,4 @@ module _ (a : Answer Outcome) (b : Book) (held : Answer Content) (told : Answer 
   read-accepted counts e =
       let got = was-accepted countsOf (inRoom (length before) held) (sym (does .0) ∙ e) in
       let wrote : after ≡ overwrite before 0 (got .0 .numbers) = rw (got .1) at (does .1) in
-      read-yes a b (got .0) counts before after (is ∙ answered-yes (λ c. reading c b) _ (got .1)) (got .2) wrote
+      read-yes a (got .0) counts before after (is ∙ answered-yes reading _ (got .1)) (got .2) wrote

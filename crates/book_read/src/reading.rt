@@ -2,7 +2,6 @@
 ghost use mathlib.Core.Path.{_≡_};
 ghost use lib.ListN.{length};
 ghost use Rattle.error.specs.Refusal.{answered};
-ghost use Rattle.book_rules.specs.Outcomes.{answerOf};
 ghost use Rattle.book_read.specs.Reads.{reads, listAfter};
 ghost use Rattle.book.specs.Answers.{bookOf};
 ghost use Rattle.book_read.specs.Answers.{readAnswer, countedOf};
@@ -14,7 +13,7 @@ use book_space::State;
 // refused.
 pub fn read(body: &[u8], heads: &[u64], state: State, key: u64, out: &mut [u64]) -> BookRead
     ensures answer { λ r. ⌜ readAnswer r
-        ≡ answered countedOf (answerOf (reads (bookOf (now (body .entry)) (now (heads .entry)) state) key (length (now (out .entry))))) ⌝ }
+        ≡ answered countedOf (reads (bookOf (now (body .entry)) (now (heads .entry)) state) key (length (now (out .entry)))) ⌝ }
     ensures list { λ r. ⌜ now (out .exit)
         ≡ listAfter (now (out .entry)) (reads (bookOf (now (body .entry)) (now (heads .entry)) state) key (length (now (out .entry)))) ⌝ }
 {

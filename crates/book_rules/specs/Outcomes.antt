@@ -1,4 +1,4 @@
--- What the calls of an account book tell, and the book after a call. A book may be any.
+-- What the calls of an account book tell, and the book after a change. A book may be any.
 use Prim.Native.Nat.{ℕ}
 use mathlib.Core.List.{List}
 use Rattle.error.specs.Refusal.{Answer, accepted, refused, answered}
@@ -22,23 +22,29 @@ pub record Listed : Type 0 where
 pub record Dropped : Type 0 where
   pub length : ℕ
 
--- What an accepted call tells.
-pub data Told : Type 0 where
-  loaded : Loaded → Told
-  appended : Appended → Told
-  listed : Listed → Told
-  dropped : Dropped → Told
+-- Each of these from its parts.
+abbrev pub loadedIn : ℕ → Loaded
+loadedIn pages = record { pages = pages }
 
--- What an accepted call tells, and the book afterwards.
-pub record OutcomeOf (B : Type 0) : Type 0 where
-  pub told : Told
+abbrev pub appendedAt : ShHeadValue → ℕ → Appended
+appendedAt place rewritten = record { place = place; rewritten = rewritten }
+
+abbrev pub listing : List ℕ → ℕ → Listed
+listing numbers pages = record { numbers = numbers; pages = pages }
+
+abbrev pub droppedOf : ℕ → Dropped
+droppedOf length = record { length = length }
+
+-- What an accepted change tells, and the book afterwards.
+pub record OutcomeOf (B T : Type 0) : Type 0 where
+  pub told : T
   pub book : B
 
--- The book after a call: as it was where the call is turned back.
-unfoldable pub bookAfter : {B : Type 0} → B → Answer (OutcomeOf B) → B
+-- The book after a change: as it was where the change is turned back.
+unfoldable pub bookAfter : {B T : Type 0} → B → Answer (OutcomeOf B T) → B
 bookAfter b (accepted o) = o .book
 bookAfter b (refused number) = b
 
--- What a call tells, or its refusal.
-abbrev pub answerOf : {B : Type 0} → Answer (OutcomeOf B) → Answer Told
+-- What a change tells, or its refusal.
+abbrev pub answerOf : {B T : Type 0} → Answer (OutcomeOf B T) → Answer T
 answerOf a = answered (λ o. o .told) a

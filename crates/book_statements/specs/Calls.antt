@@ -1,29 +1,60 @@
--- The calls of an account book, and lists of calls. A book may be any: what a call does to it is an argument here.
+-- The calls of an account book: enquiries, which leave the book as it is, and changes; what each tells, and lists of calls. A book may be
+-- any: what it answers and does is an argument here.
 use Prim.Native.Nat.{ℕ}
 use mathlib.Core.List.{List, [], _∷_}
 use Rattle.error.specs.Refusal.{Answer}
-use Rattle.book_rules.specs.Outcomes.{Told, OutcomeOf, bookAfter, answerOf}
+use Rattle.book_rules.specs.Outcomes.{Loaded, Appended, Listed, Dropped, OutcomeOf, bookAfter, answerOf}
 
--- A call, with its arguments. A read lends a list with room for some numbers.
+-- An enquiry, with its arguments: a read lends a list with room for some numbers.
+pub data Enquiry : Type 0 where
+  read : ℕ → ℕ → Enquiry
+
+-- A change, with its arguments.
+pub data Change : Type 0 where
+  load : ℕ → List ℕ → Change
+  append : ℕ → ℕ → Change
+  drop : ℕ → Change
+
+-- A call.
 pub data Call : Type 0 where
-  load : ℕ → List ℕ → Call
-  append : ℕ → ℕ → Call
-  read : ℕ → ℕ → Call
-  drop : ℕ → Call
+  ask : Enquiry → Call
+  change : Change → Call
 
--- The key of a call.
-abbrev pub keyOfCall : Call → ℕ
-keyOfCall (load key ns) = key
-keyOfCall (append key n) = key
-keyOfCall (read key room) = key
-keyOfCall (drop key) = key
+-- The key of a change.
+abbrev pub keyOfChange : Change → ℕ
+keyOfChange (load key ns) = key
+keyOfChange (append key n) = key
+keyOfChange (drop key) = key
+
+-- What an accepted enquiry tells.
+abbrev pub Said : Enquiry → Type 0
+Said (read key room) = Listed
+
+-- What an accepted change tells.
+abbrev pub Made : Change → Type 0
+Made (load key ns) = Loaded
+Made (append key n) = Appended
+Made (drop key) = Dropped
+
+-- A book as calls see it: what it answers to each enquiry, and what each change does to it.
+pub record Serves (B : Type 0) : Type 0 where
+  pub asks : B → (q : Enquiry) → Answer (Said q)
+  pub does : B → (c : Change) → Answer (OutcomeOf B (Made c))
+
+-- The answers to a list of calls: one for each, of its kind.
+pub data Answers : List Call → Type 0 where
+  done : Answers []
+  asked : {q : Enquiry} {cs : List Call} → Answer (Said q) → Answers cs → Answers (ask q ∷ cs)
+  changed : {c : Change} {cs : List Call} → Answer (Made c) → Answers cs → Answers (change c ∷ cs)
 
 -- The book after a list of calls.
-unfoldable pub afterCalls : {B : Type 0} → (B → Call → Answer (OutcomeOf B)) → B → List Call → B
-afterCalls does b [] = b
-afterCalls does b (c ∷ cs) = afterCalls does (bookAfter b (does b c)) cs
+unfoldable pub afterCalls : {B : Type 0} → Serves B → B → List Call → B
+afterCalls k b [] = b
+afterCalls k b (ask q ∷ cs) = afterCalls k b cs
+afterCalls k b (change c ∷ cs) = afterCalls k (bookAfter b (k .does b c)) cs
 
--- The answers to a list of calls, each on the book that the one before it left.
-unfoldable pub answersTo : {B : Type 0} → (B → Call → Answer (OutcomeOf B)) → B → List Call → List (Answer Told)
-answersTo does b [] = []
-answersTo does b (c ∷ cs) = answerOf (does b c) ∷ answersTo does (bookAfter b (does b c)) cs
+-- The answers to a list of calls, each on the book that those before it left.
+unfoldable pub answersTo : {B : Type 0} (k : Serves B) (b : B) (cs : List Call) → Answers cs
+answersTo k b [] = done
+answersTo k b (ask q ∷ cs) = asked (k .asks b q) (answersTo k b cs)
+answersTo k b (change c ∷ cs) = changed (answerOf (k .does b c)) (answersTo k (bookAfter b (k .does b c)) cs)

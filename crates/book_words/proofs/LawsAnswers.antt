@@ -1,9 +1,8 @@
 -- Lists of answers: spelled and read back they are the answers, where no refusal has the number 0. Assumes nothing.
 use Prim.Native.Nat.{ℕ, _≤_, _<_, zero-le, suc-le-suc}
-use mathlib.Core.Bool.{true, false}
-use mathlib.Core.List.{List, [], _∷_, _++_}
-use mathlib.Core.Option.{Option, none, some}
-use mathlib.Core.Path.{_≡_, refl, sym, ap, _∙_}
+use mathlib.Core.List.{List, _∷_, _++_}
+use mathlib.Core.Option.{some}
+use mathlib.Core.Path.{_≡_, refl}
 use native.Mathlib.Nat.{le-refl}
 use native.Mathlib.Omega.{arith}
 use borrow.Author.Tests.{le-leb, ne-eqb}
@@ -12,19 +11,19 @@ use lib.Seq.{take-append-seam, drop-append-seam}
 use Rattle.error.specs.Refusal.{Answer, accepted, refused}
 use Rattle.scripthash_layout.specs.declared.head.ShHeadValue.{ShHeadValue}
 use Rattle.scripthash_layout.specs.declared.head.ShHeadValue.the-variants.{Empty, Inline, Slab, Extent}
-use Rattle.book_rules.specs.Outcomes.{Told, Appended, loaded, appended, listed, dropped}
-use Rattle.book_words.specs.Words.{Begins, begins, word, spellAll, readAll}
+use Rattle.book_words.specs.Spelled.{SpelledTold, loaded, appended, listed, dropped}
+use Rattle.book_words.specs.Words.{begins, word}
 use Rattle.book_words.specs.SpellAnswers.{spellPlace, spellTold, spellAnswer, spellAnswers, placeOf, loadedAt, appendedAt, listedAt}
 use Rattle.book_words.specs.SpellAnswers.{droppedAt, toldAt, answerAt, answersOf}
 use Rattle.book_words.proofs.LawsWords.{AllGood, reads-all}
 
 -- A refusal has a number above 0, as all of document 01 have.
-unfoldable pub Numbered : Answer Told → Type 0
+unfoldable pub Numbered : Answer SpelledTold → Type 0
 Numbered (accepted t) = Unit {0}
 Numbered (refused number) = 0 < number
 
 -- an answer has words
-answer-words : (a : Answer Told) → 0 < length (spellAnswer a)
+answer-words : (a : Answer SpelledTold) → 0 < length (spellAnswer a)
 unfolding spellAnswer
 answer-words (accepted t) = suc-le-suc zero-le
 answer-words (refused number) = suc-le-suc zero-le
@@ -40,7 +39,7 @@ append-back (Slab class used off) rewritten rest = refl
 append-back (Extent last) rewritten rest = refl
 
 -- what an accepted call told
-told-back : (t : Told) (rest : List ℕ) → toldAt (spellTold t ++ rest) ≡ begins (accepted t) rest
+told-back : (t : SpelledTold) (rest : List ℕ) → toldAt (spellTold t ++ rest) ≡ begins (accepted t) rest
 unfolding spellTold toldAt loadedAt listedAt droppedAt word
 told-back (loaded l) rest = refl
 told-back (appended a) rest = append-back (a .place) (a .rewritten) rest
@@ -54,11 +53,11 @@ told-back (listed l) rest =
 told-back (dropped d) rest = refl
 
 -- an answer reads back, whatever follows its words
-pub answer-back : (a : Answer Told) (rest : List ℕ) → Numbered a → answerAt (spellAnswer a ++ rest) ≡ begins a rest
+pub answer-back : (a : Answer SpelledTold) (rest : List ℕ) → Numbered a → answerAt (spellAnswer a ++ rest) ≡ begins a rest
 unfolding spellAnswer answerAt word Numbered
 answer-back (accepted t) rest g = told-back t rest
 answer-back (refused number) rest g = rw (ne-eqb number 0 (λ (e : number ≡ 0). omega arith))
 
 -- A list of answers, spelled and read back, is the list.
-pub answers-back : (told : List (Answer Told)) → AllGood Numbered told → answersOf (spellAnswers told) ≡ some told
+pub answers-back : (told : List (Answer SpelledTold)) → AllGood Numbered told → answersOf (spellAnswers told) ≡ some told
 answers-back told g = reads-all spellAnswer answerAt Numbered answer-words answer-back told (length (spellAnswers told)) (le-refl _) g

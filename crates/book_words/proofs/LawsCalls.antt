@@ -1,5 +1,5 @@
 -- Lists of calls: spelled and read back they are the calls, and words that read as calls are their spelling. Assumes nothing.
-use Prim.Native.Nat.{ℕ, zero, suc, _+_, _≤_, _<_, zero-le, suc-le-suc}
+use Prim.Native.Nat.{ℕ, suc, _+_, _≤_, _<_, zero-le, suc-le-suc}
 use mathlib.Core.Bool.{Bool, true, false, cond}
 use mathlib.Core.List.{List, [], _∷_, _++_}
 use mathlib.Core.Option.{Option, none, some}
@@ -12,15 +12,15 @@ use borrow.Author.Tests.{le-leb, eqb-true, leb-true}
 use lib.Dec.{leb, eqb}
 use lib.ListN.{length, getD, take as firstOf, drop as behind, length-append, length-drop, take-append-drop}
 use lib.Seq.{take-append-seam, drop-append-seam, length-take-le, drop-cons}
-use Rattle.book_statements.specs.Calls.{Call, load, append, read, drop}
-use Rattle.book_words.specs.Words.{Begins, begins, word, before, spellAll, readAll}
+use Rattle.book_words.specs.Spelled.{SpelledCall, load, append, read, drop}
+use Rattle.book_words.specs.Words.{Begins, begins, word, before}
 use Rattle.book_words.specs.SpellCalls.{spellCall, spellCalls, loadOf, callOf, callAt, callsOf}
 use Rattle.book_words.proofs.LawsWords.{some-inj, none≢some, AllGood, reads-all, spelled-all, reads-none, reads-some}
 
 -- ---- spelled, and read back
 
 -- a call has words
-call-words : (c : Call) → 0 < length (spellCall c)
+call-words : (c : SpelledCall) → 0 < length (spellCall c)
 unfolding spellCall
 call-words (load key ns) = suc-le-suc zero-le
 call-words (append key n) = suc-le-suc zero-le
@@ -28,7 +28,7 @@ call-words (read key room) = suc-le-suc zero-le
 call-words (drop key) = suc-le-suc zero-le
 
 -- a call reads back, whatever follows its words
-pub call-back : (c : Call) (rest : List ℕ) → callAt (spellCall c ++ rest) ≡ begins c rest
+pub call-back : (c : SpelledCall) (rest : List ℕ) → callAt (spellCall c ++ rest) ≡ begins c rest
 unfolding spellCall callAt callOf word
 call-back (load key ns) rest =
     let room : length ns ≤ length (ns ++ rest) = omega (arith, length-append ns rest) in
@@ -38,30 +38,30 @@ call-back (read key room) rest = refl
 call-back (drop key) rest = refl
 
 -- every list of calls will do
-any-calls : (cs : List Call) → AllGood (λ (c : Call). Unit {0}) cs
+any-calls : (cs : List SpelledCall) → AllGood (λ (c : SpelledCall). Unit {0}) cs
 unfolding AllGood
 any-calls [] = tt
 any-calls (c ∷ cs) = (tt, any-calls cs)
 
 -- A list of calls, spelled and read back, is the list.
-pub calls-back : (cs : List Call) → callsOf (spellCalls cs) ≡ some cs
+pub calls-back : (cs : List SpelledCall) → callsOf (spellCalls cs) ≡ some cs
 calls-back cs =
-    reads-all spellCall callAt (λ (c : Call). Unit {0}) call-words (λ (c : Call) (rest : List ℕ) g. call-back c rest) cs
+    reads-all spellCall callAt (λ (c : SpelledCall). Unit {0}) call-words (λ (c : SpelledCall) (rest : List ℕ) g. call-back c rest) cs
     (length (spellCalls cs)) (le-refl _) (any-calls cs)
 
 -- ---- read, and spelled
 
 -- what a choice came from
-branch : (t : Bool) (x y z : Option (Begins Call)) → cond t x y ≡ z → ((t ≡ true) × (x ≡ z)) ⊎ (y ≡ z)
+branch : (t : Bool) (x y z : Option (Begins SpelledCall)) → cond t x y ≡ z → ((t ≡ true) × (x ≡ z)) ⊎ (y ≡ z)
 branch true x y z e = inl (refl, e)
 branch false x y z e = inr e
 
 -- the words of what was read
-abbrev words-of : Begins Call → List ℕ
+abbrev words-of : Begins SpelledCall → List ℕ
 words-of b = spellCall (b .first) ++ b .rest
 
 -- a load's words
-load-was : (key count : ℕ) (rest : List ℕ) (b : Begins Call) → loadOf key count rest ≡ some b → words-of b ≡ 0 ∷ key ∷ count ∷ rest
+load-was : (key count : ℕ) (rest : List ℕ) (b : Begins SpelledCall) → loadOf key count rest ≡ some b → words-of b ≡ 0 ∷ key ∷ count ∷ rest
 unfolding spellCall
 load-was key count rest b e =
     ⊎-elim (λ (w : (leb count (length rest) ≡ true) × (begins (load key (firstOf count rest)) (behind count rest) ≡ some b)).
@@ -71,7 +71,7 @@ load-was key count rest b e =
     (branch (leb count (length rest)) _ none (some b) e)
 
 -- A call that some words begin with was spelled by them.
-pub call-was : (ws : List ℕ) (b : Begins Call) → callAt ws ≡ some b → spellCall (b .first) ++ b .rest ≡ ws
+pub call-was : (ws : List ℕ) (b : Begins SpelledCall) → callAt ws ≡ some b → spellCall (b .first) ++ b .rest ≡ ws
 unfolding callAt callOf word spellCall
 call-was [] b e = absurd (none≢some e)
 call-was (kind ∷ []) b e = absurd (none≢some e)
@@ -93,13 +93,13 @@ call-was (kind ∷ key ∷ third ∷ rest) b e =
     of-kind k t = ap (λ (n : ℕ). n ∷ key ∷ third ∷ rest) (sym (eqb-true kind k t))
 
 -- Words that read as calls are the words of these calls.
-pub calls-was : (ws : List ℕ) (cs : List Call) → callsOf ws ≡ some cs → spellCalls cs ≡ ws
+pub calls-was : (ws : List ℕ) (cs : List SpelledCall) → callsOf ws ≡ some cs → spellCalls cs ≡ ws
 calls-was ws cs e = spelled-all spellCall callAt call-was (length ws) ws cs e
 
 -- ---- the calls of words, one by one
 
 -- a call takes a word at least
-call-shrinks : (ws : List ℕ) (b : Begins Call) → callAt ws ≡ some b → length (b .rest) < length ws
+call-shrinks : (ws : List ℕ) (b : Begins SpelledCall) → callAt ws ≡ some b → length (b .rest) < length ws
 call-shrinks ws b e =
     omega (arith, ap length (call-was ws b e), length-append (spellCall (b .first)) (b .rest), call-words (b .first))
 
@@ -108,7 +108,7 @@ pub calls-none : (ws : List ℕ) → 0 < length ws → callAt ws ≡ none → ca
 calls-none ws h e = reads-none callAt call-shrinks ws h e
 
 -- others spell the call that they begin with, and those of the words behind it
-pub calls-some : (ws : List ℕ) (b : Begins Call) → 0 < length ws → callAt ws ≡ some b → callsOf ws ≡ before (b .first) (callsOf (b .rest))
+pub calls-some : (ws : List ℕ) (b : Begins SpelledCall) → 0 < length ws → callAt ws ≡ some b → callsOf ws ≡ before (b .first) (callsOf (b .rest))
 calls-some ws b h e = reads-some callAt call-shrinks ws b h e
 
 -- fewer than three words begin no call

@@ -1,3 +1,4 @@
+pub mod Spelled
 pub mod Words
 pub mod SpellCalls
 pub mod SpellAnswers

@@ -5,26 +5,26 @@ use mathlib.Core.List.{List, [], _∷_}
 use mathlib.Core.Option.{Option, none}
 use lib.Dec.{leb, eqb}
 use lib.ListN.{length, take as firstOf, drop as behind}
-use Rattle.book_statements.specs.Calls.{Call, load, append, read, drop}
+use Rattle.book_words.specs.Spelled.{SpelledCall, load, append, read, drop}
 use Rattle.book_words.specs.Words.{Begins, begins, word, spellAll, readAll}
 
 -- The words of a call: the third is a load's count, an append's number, a read's room, and 0 of a drop.
-unfoldable pub spellCall : Call → List ℕ
+unfoldable pub spellCall : SpelledCall → List ℕ
 spellCall (load key ns) = 0 ∷ key ∷ length ns ∷ ns
 spellCall (append key n) = 1 ∷ key ∷ n ∷ []
 spellCall (read key room) = 2 ∷ key ∷ room ∷ []
 spellCall (drop key) = 3 ∷ key ∷ 0 ∷ []
 
 -- The words of a list of calls.
-abbrev pub spellCalls : List Call → List ℕ
+abbrev pub spellCalls : List SpelledCall → List ℕ
 spellCalls cs = spellAll spellCall cs
 
 -- A load of so many of the numbers behind, where there are as many.
-abbrev pub loadOf : ℕ → ℕ → List ℕ → Option (Begins Call)
+abbrev pub loadOf : ℕ → ℕ → List ℕ → Option (Begins SpelledCall)
 loadOf key count rest = cond (leb count (length rest)) (begins (load key (firstOf count rest)) (behind count rest)) none
 
 -- The call of a kind, a key and a third word, with the words behind: none of an unknown kind.
-unfoldable pub callOf : ℕ → ℕ → ℕ → List ℕ → Option (Begins Call)
+unfoldable pub callOf : ℕ → ℕ → ℕ → List ℕ → Option (Begins SpelledCall)
 callOf kind key third rest =
     cond (eqb kind 0) (loadOf key third rest)
     (cond (eqb kind 1) (begins (append key third) rest)
@@ -32,21 +32,21 @@ callOf kind key third rest =
     (cond (eqb kind 3) (cond (eqb third 0) (begins (drop key) rest) none) none)))
 
 -- The call that some words begin with.
-unfoldable pub callAt : List ℕ → Option (Begins Call)
+unfoldable pub callAt : List ℕ → Option (Begins SpelledCall)
 callAt ws = word ws (λ kind ws. word ws (λ key ws. word ws (λ third rest. callOf kind key third rest)))
 
 -- The calls that some words spell.
-abbrev pub callsOf : List ℕ → Option (List Call)
+abbrev pub callsOf : List ℕ → Option (List SpelledCall)
 callsOf ws = readAll callAt (length ws) ws
 
 -- The most words that the answer to a call has, a read's room counted in full.
-unfoldable pub answerRoom : Call → ℕ
+unfoldable pub answerRoom : SpelledCall → ℕ
 answerRoom (load key ns) = 3
 answerRoom (append key n) = 7
 answerRoom (read key room) = 4 + room
 answerRoom (drop key) = 3
 
 -- The most words that the answers to a list of calls have.
-unfoldable pub answersRoom : List Call → ℕ
+unfoldable pub answersRoom : List SpelledCall → ℕ
 answersRoom [] = 0
 answersRoom (c ∷ cs) = answerRoom c + answersRoom cs

@@ -5,7 +5,7 @@ use mathlib.Core.Logic.{_≢_}
 use mathlib.Core.Path.{_≡_, sym, ap, ap₂, _∙_}
 use lib.ListN.{getD, drop}
 use Rattle.error.specs.Refusal.{Answer, accepted, refused, refusalOf}
-use Rattle.book_rules.specs.Outcomes.{Told, answerOf, bookAfter}
+use Rattle.book_rules.specs.Outcomes.{Listed, answerOf, bookAfter}
 use Rattle.book_space.specs.declared.State.{State}
 use Rattle.book.specs.Book.{Book, Outcome}
 use Rattle.book_start.specs.Making.{madeAfter}
@@ -33,7 +33,7 @@ same-words {state = state} {left = after} words-are put left =
 -- A call that is refused leaves the body, the head words and the ten words as they were.
 pub kept-words : {body heads words body-left heads-left words-left : List ℕ} {state left : State} → wordsOf state ≡ words
     → words-left ≡ wordsOf left
-    → (a : Answer Outcome) {number : ℕ} → number ≡ refusalOf a
+    → {T : Type 0} (a : Answer (Outcome T)) {number : ℕ} → number ≡ refusalOf a
     → bookIn body-left heads-left words-left ≡ bookAfter (bookIn body heads words) a → number ≢ 0
     → (body-left ≡ body) × (heads-left ≡ heads) × (words-left ≡ words)
 unfolding bookAfter
@@ -49,7 +49,7 @@ kept-fresh words-are put (accepted o) number left some' = absurd (some' number)
 kept-fresh words-are put (refused n) number left some' = let s = same-words words-are put left in (s .1, s .2)
 
 -- A read that is refused leaves the lent list.
-pub kept-list : (out : List ℕ) {after : List ℕ} (a : Answer Outcome) {number : ℕ} → number ≡ refusalOf a → after ≡ listAfter out a
+pub kept-list : (out : List ℕ) {after : List ℕ} (a : Answer Listed) {number : ℕ} → number ≡ refusalOf a → after ≡ listAfter out a
     → number ≢ 0 → after ≡ out
 unfolding listAfter
 kept-list out (accepted o) number left some' = absurd (some' number)
@@ -68,7 +68,7 @@ module _ {body heads words : List ℕ} {state : State} (words-are : wordsOf stat
   book-words = rw (← words-are)
 
   -- a call on the state, which leaves another that ten words then hold, is a call on the book of the words
-  pub does-words : (call : Book → Answer Outcome) {body-left heads-left words-left : List ℕ} {left : State} {tells : Answer Told}
+  pub does-words : {T : Type 0} (call : Book → Answer (Outcome T)) {body-left heads-left words-left : List ℕ} {left : State} {tells : Answer T}
       → words-left ≡ wordsOf left → tells ≡ answerOf (call (bookOf body heads state))
       → bookOf body-left heads-left left ≡ bookAfter (bookOf body heads state) (call (bookOf body heads state))
       → Does (call (bookIn body heads words)) (bookIn body heads words) (bookIn body-left heads-left words-left) tells

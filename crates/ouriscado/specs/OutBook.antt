@@ -3,8 +3,7 @@ use Prim.Native.Nat.{ℕ}
 use mathlib.Core.List.{List, _∷_}
 use lib.ListN.{getD, drop}
 use Rattle.scripthash_layout.specs.declared.head.ShHeadValue.{ShHeadValue}
-use Rattle.scripthash_layout.specs.declared.head.ShHeadValue.the-variants.{Empty}
-use Rattle.book_rules.specs.Outcomes.{Told, loaded, appended, listed, dropped}
+use Rattle.book_rules.specs.Outcomes.{Loaded, Appended, Dropped}
 use Rattle.book_space.specs.declared.State.{State}
 use Rattle.book.specs.Book.{Book, book}
 
@@ -17,29 +16,17 @@ abbrev pub bookIn : List ℕ → List ℕ → List ℕ → Book
 bookIn body heads words = book body heads (getD words 0 0) (drop 1 words)
 
 -- The pages that a load tells.
-abbrev pub pagesLoaded : Told → ℕ
-pagesLoaded (loaded l) = l .pages
-pagesLoaded (appended a) = 0
-pagesLoaded (listed l) = 0
-pagesLoaded (dropped d) = 0
+abbrev pub pagesLoaded : Loaded → ℕ
+pagesLoaded l = l .pages
 
 -- The place that an append tells.
-abbrev pub newPlace : Told → ShHeadValue
-newPlace (loaded l) = Empty
-newPlace (appended a) = a .place
-newPlace (listed l) = Empty
-newPlace (dropped d) = Empty
+abbrev pub newPlace : Appended → ShHeadValue
+newPlace a = a .place
 
 -- The records rewritten that an append tells.
-abbrev pub recordsRewritten : Told → ℕ
-recordsRewritten (loaded l) = 0
-recordsRewritten (appended a) = a .rewritten
-recordsRewritten (listed l) = 0
-recordsRewritten (dropped d) = 0
+abbrev pub recordsRewritten : Appended → ℕ
+recordsRewritten a = a .rewritten
 
 -- The length that a drop tells.
-abbrev pub lengthDropped : Told → ℕ
-lengthDropped (loaded l) = 0
-lengthDropped (appended a) = 0
-lengthDropped (listed l) = 0
-lengthDropped (dropped d) = d .length
+abbrev pub lengthDropped : Dropped → ℕ
+lengthDropped d = d .length

@@ -268,11 +268,11 @@ pub extern "C" fn ouriscado_book_read(
         (reads (bookIn (now (body .entry)) (now (heads .entry)) (now (state .entry))) key (lengthOfList (now (out .entry)))) ⌝ }
     ensures length { λ r. ⌜ now (length .exit)
         ≡ valueOr (λ t. countedOf t .length)
-        (answerOf (reads (bookIn (now (body .entry)) (now (heads .entry)) (now (state .entry))) key (lengthOfList (now (out .entry)))))
+        (reads (bookIn (now (body .entry)) (now (heads .entry)) (now (state .entry))) key (lengthOfList (now (out .entry))))
         0 ⌝ }
     ensures pages { λ r. ⌜ now (pages .exit)
         ≡ valueOr (λ t. countedOf t .pages)
-        (answerOf (reads (bookIn (now (body .entry)) (now (heads .entry)) (now (state .entry))) key (lengthOfList (now (out .entry)))))
+        (reads (bookIn (now (body .entry)) (now (heads .entry)) (now (state .entry))) key (lengthOfList (now (out .entry))))
         0 ⌝ }
     ensures kept { λ r. ⌜ (r ≢ 0 → now (out .exit) ≡ now (out .entry)) ⌝ }
 {

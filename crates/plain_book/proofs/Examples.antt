@@ -12,24 +12,24 @@ use Rattle.scripthash_stream.specs.Stream.{lastFrom, streamLenFrom}
 use Rattle.scripthash_slabs.specs.Class.{firstClass, classFor, classWithSlack}
 use Rattle.scripthash_cutting.specs.Cutting.{fitting, firstPart, greedyParts, replaceLast}
 use Rattle.scripthash_free.specs.FreeList.{largestUpTo, blockThen, carve}
+use Rattle.book_rules.specs.Outcomes.{Loaded, Appended, bookAfter, appendedAt, droppedOf, listing, loadedIn}
+use Rattle.book_statements.specs.Calls.{load, append, read, drop, Call, ask, change, done, asked, changed, answersTo}
 use Rattle.plain_book.specs.Space.{freedAll, takeMark, rounded, takeFresh, takeFrom, runAtMark}
 use Rattle.book_rules.specs.Places.{stays, larger, movesTo, loadsTo}
 use Rattle.plain_book.specs.Key.{Key, slab, written, longer, lastPage, headOf, freedPages, freedPlace, moved, joins, beginPage}
 use Rattle.plain_book.specs.Key.{appendPages, appendPlace, runPages, loadInto, loadPlace}
 use Rattle.book_statements.specs.Moves.{Tally, noMoves, counted, talliedBy, tallied, tallyOf}
-use Rattle.book_statements.specs.Calls.{Call, load, append, read, drop, answersTo}
-use Rattle.book_rules.specs.Outcomes.{Told, loaded, appended, listed, dropped, bookAfter}
 use Rattle.book_rules.specs.Offered.{offeredNumber, offeredList}
 use Rattle.book_limits.specs.Limits.{outOfShape}
-use Rattle.plain_book.specs.Book.{fresh, onKey, loads, appends, reads, drops, does, answers}
+use Rattle.plain_book.specs.Book.{fresh, onKey, loads, appends, reads, drops, does, answers, asks}
 
 -- An append that is accepted: the key's new place, and the records rewritten.
-abbrev at : ShHeadValue → ℕ → Answer Told
-at place rewritten = accepted (appended (record { place = place; rewritten = rewritten }))
+abbrev at : ShHeadValue → ℕ → Answer Appended
+at place rewritten = accepted (appendedAt place rewritten)
 
 -- A load of so many pages.
-abbrev loads-in : ℕ → Answer Told
-loads-in pages = accepted (loaded (record { pages = pages }))
+abbrev loads-in : ℕ → Answer Loaded
+loads-in pages = accepted (loadedIn pages)
 
 -- k numbers in a row, from n on.
 unfoldable pub inARow : ℕ → ℕ → List ℕ
@@ -37,83 +37,75 @@ inARow n zero = []
 inARow n (suc k) = n ∷ inARow (n + 1) k
 
 -- 5, 300, 301, 302, 303 to key 0 move at 300 and at 303; 9, 10 to key 1 take the block that was freed.
-pub run-case : answers (fresh 8192 2) (append 0 5 ∷ append 0 300 ∷ append 0 301 ∷ append 0 302 ∷ append 0 303 ∷ append 1 9 ∷ append 1 10
-    ∷ [])
-    ≡ at (Inline 5 1) 0 ∷ at (Slab 0 2 4096) 1 ∷ at (Slab 0 3 4096) 0 ∷ at (Slab 0 4 4096) 0 ∷ at (Slab 1 5 4112) 4 ∷ at (Inline 9 1)
-    0 ∷ at (Slab 0 2 4096) 1 ∷ []
+pub run-case : answers (fresh 8192 2) (change (append 0 5) ∷ change (append 0 300) ∷ change (append 0 301) ∷ change (append 0 302) ∷ change (append 0 303) ∷ change (append 1 9) ∷ change (append 1 10) ∷ [])
+    ≡ changed (at (Inline 5 1) 0) (changed (at (Slab 0 2 4096) 1) (changed (at (Slab 0 3 4096) 0) (changed (at (Slab 0 4 4096) 0) (changed (at (Slab 1 5 4112) 4) (changed (at (Inline 9 1) 0) (changed (at (Slab 0 2 4096) 1) done))))))
 unfolding refuseIf andThen divided shortest ulebLen lastFrom streamLenFrom firstClass classFor classWithSlack takeMark takeFresh takeFrom
     headOf freedPlace stays larger movesTo moved written longer appendPlace outOfShape onKey offeredNumber appends does bookAfter answered
     answersTo
 run-case = refl
 
 -- What is turned back: the shape, a key beyond the heads, a key in use, and numbers that can't be offered.
-pub turned-back : (answers (fresh 4096 1) (read 0 0 ∷ []) ≡ refused 1 ∷ [])
-    × (answers (fresh 8192 1) (append 1 5 ∷ append 0 0 ∷ append 0 (2 ^ 63) ∷ append 0 (2 ^ 62) ∷ append 0 5 ∷ append 0 5 ∷ load 0 []
-    ∷ read 0 0 ∷ [])
-    ≡ refused 2 ∷ refused 12 ∷ refused 13 ∷ refused 14 ∷ at (Inline 5 1) 0 ∷ refused 32 ∷ refused 3 ∷ refused 34 ∷ [])
-unfolding refuseIf andThen headOf written longer appendPlace outOfShape onKey offeredNumber appends reads loads does bookAfter answered
+pub turned-back : (answers (fresh 4096 1) (ask (read 0 0) ∷ [])
+    ≡ asked (refused 1) done)
+    × (answers (fresh 8192 1) (change (append 1 5) ∷ change (append 0 0) ∷ change (append 0 (2 ^ 63)) ∷ change (append 0 (2 ^ 62)) ∷ change (append 0 5) ∷ change (append 0 5) ∷ change (load 0 []) ∷ ask (read 0 0) ∷ [])
+    ≡ changed (refused 2) (changed (refused 12) (changed (refused 13) (changed (refused 14) (changed (at (Inline 5 1) 0) (changed (refused 32) (changed (refused 3) (asked (refused 34) done))))))))
+unfolding refuseIf andThen headOf written longer appendPlace outOfShape onKey offeredNumber appends reads loads asks does bookAfter answered
     answersTo lastFrom
 turned-back = (refl, refl)
 
 -- A list by bytes goes to a slab that has fewer slots than numbers, and moves with the next; a drop frees its block for another key.
-pub loaded-slab : answers (fresh 8192 2) (load 0 (inARow 1 14) ∷ append 0 15 ∷ read 0 15 ∷ drop 0 ∷ read 0 0 ∷ load 1 (inARow 1 40) ∷ [])
-    ≡ loads-in 0 ∷ at (Slab 2 15 4112) 14 ∷ accepted (listed (record { numbers = inARow 1 15; pages = 0 })) ∷ accepted
-    (dropped (record { length = 15 }))
-    ∷ accepted (listed (record { numbers = []; pages = 0 })) ∷ loads-in 0 ∷ []
+pub loaded-slab : answers (fresh 8192 2) (change (load 0 (inARow 1 14)) ∷ change (append 0 15) ∷ ask (read 0 15) ∷ change (drop 0) ∷ ask (read 0 0) ∷ change (load 1 (inARow 1 40)) ∷ [])
+    ≡ changed (loads-in 0) (changed (at (Slab 2 15 4112) 14) (asked (accepted (listing (inARow 1 15) 0)) (changed (accepted (droppedOf 15)) (asked (accepted (listing [] 0)) (changed (loads-in 0) done)))))
 unfolding refuseIf andThen divided shortest ulebLen lastFrom streamLenFrom firstClass classFor classWithSlack takeMark takeFresh takeFrom
     headOf freedPlace stays larger movesTo loadsTo moved written longer appendPlace loadInto loadPlace outOfShape onKey offeredNumber
-    offeredList loads appends reads drops does bookAfter answered answersTo inARow
+    offeredList loads appends reads drops asks does bookAfter answered answersTo inARow
 loaded-slab = refl
 
 -- A load's class is by bytes: 15 numbers of a byte each need 17, and four of 9 bytes each need 38.
 pub loaded-by-bytes : answers (fresh 8192 3)
-    (load 0 (inARow 1 15) ∷ load 1 (2 ^ 56 ∷ 2 ^ 57 ∷ 2 ^ 58 ∷ 2 ^ 59 ∷ []) ∷ append 2 5 ∷ append 2 6 ∷ [])
-    ≡ loads-in 0 ∷ loads-in 0 ∷ at (Inline 5 1) 0 ∷ at (Slab 0 2 4192) 1 ∷ []
+    (change (load 0 (inARow 1 15)) ∷ change (load 1 (2 ^ 56 ∷ 2 ^ 57 ∷ 2 ^ 58 ∷ 2 ^ 59 ∷ [])) ∷ change (append 2 5) ∷ change (append 2 6) ∷ [])
+    ≡ changed (loads-in 0) (changed (loads-in 0) (changed (at (Inline 5 1) 0) (changed (at (Slab 0 2 4192) 1) done)))
 unfolding refuseIf andThen divided shortest ulebLen lastFrom streamLenFrom firstClass classFor classWithSlack takeMark takeFresh takeFrom
     headOf freedPlace stays larger movesTo loadsTo moved written longer appendPlace loadInto loadPlace outOfShape onKey offeredNumber
-    offeredList loads appends reads drops does bookAfter answered answersTo inARow
+    offeredList loads appends reads drops asks does bookAfter answered answersTo inARow
 loaded-by-bytes = refl
 
 -- A list of 4,073 goes to a run of two pages, behind the mark rounded up; the body is full then, but the gap before the run was carved.
-pub loaded-run : answers (fresh 16384 3) (append 0 1 ∷ append 0 2 ∷ load 1 (inARow 1 4073) ∷ append 1 4074 ∷ load 2 (inARow 1 300) ∷ load 2
-    (inARow 1 256) ∷ [])
-    ≡ at (Inline 1 1) 0 ∷ at (Slab 0 2 4096) 1 ∷ loads-in 2 ∷ at (Extent 12288) 0 ∷ refused 36 ∷ loads-in 0 ∷ []
+pub loaded-run : answers (fresh 16384 3) (change (append 0 1) ∷ change (append 0 2) ∷ change (load 1 (inARow 1 4073)) ∷ change (append 1 4074) ∷ change (load 2 (inARow 1 300)) ∷ change (load 2 (inARow 1 256)) ∷ [])
+    ≡ changed (at (Inline 1 1) 0) (changed (at (Slab 0 2 4096) 1) (changed (loads-in 2) (changed (at (Extent 12288) 0) (changed (refused 36) (changed (loads-in 0) done)))))
 unfolding refuseIf andThen divided shortest ulebLen lastFrom streamLenFrom firstClass classFor classWithSlack fitting firstPart greedyParts
     replaceLast largestUpTo blockThen carve freedAll takeMark rounded runAtMark takeFresh takeFrom lastPage headOf freedPages freedPlace stays
     larger movesTo loadsTo moved joins beginPage appendPages written longer appendPlace runPages loadInto loadPlace outOfShape onKey
-    offeredNumber offeredList loads appends reads drops does bookAfter answered answersTo inARow
+    offeredNumber offeredList loads appends reads drops asks does bookAfter answered answersTo inARow
 loaded-run = refl
 
 -- A page of 4,072 bytes is full, so that the next number begins another. A drop frees the first page first, so that the last one is taken
 -- again, here by a list that moves out of its slab.
-pub full-page : answers (fresh 16384 2) (load 0 (inARow 1 4072) ∷ append 0 4073 ∷ read 0 4073 ∷ drop 0 ∷ load 1
-    (inARow 1 256) ∷ append 1 257 ∷ [])
-    ≡ loads-in 1 ∷ at (Extent 8192) 0 ∷ accepted (listed (record { numbers = inARow 1 4073; pages = 2 })) ∷ accepted
-    (dropped (record { length = 4073 }))
-    ∷ loads-in 0 ∷ at (Extent 8192) 256 ∷ []
+pub full-page : answers (fresh 16384 2) (change (load 0 (inARow 1 4072)) ∷ change (append 0 4073) ∷ ask (read 0 4073) ∷ change (drop 0) ∷ change (load 1 (inARow 1 256)) ∷ change (append 1 257) ∷ [])
+    ≡ changed (loads-in 1) (changed (at (Extent 8192) 0) (asked (accepted (listing (inARow 1 4073) 2)) (changed (accepted (droppedOf 4073)) (changed (loads-in 0) (changed (at (Extent 8192) 256) done)))))
 unfolding refuseIf andThen divided shortest ulebLen lastFrom streamLenFrom firstClass classFor classWithSlack fitting firstPart greedyParts
     replaceLast largestUpTo blockThen carve freedAll takeMark rounded runAtMark takeFresh takeFrom lastPage headOf freedPages freedPlace stays
     larger movesTo loadsTo moved joins beginPage appendPages written longer appendPlace runPages loadInto loadPlace outOfShape onKey
-    offeredNumber offeredList loads appends reads drops does bookAfter answered answersTo inARow
+    offeredNumber offeredList loads appends reads drops asks does bookAfter answered answersTo inARow
 full-page = refl
 
 -- k numbers from n on, each larger by a step than the one before, appended to key 0.
 unfoldable pub appendSteps : ℕ → ℕ → ℕ → List Call
 appendSteps n step zero = []
-appendSteps n step (suc k) = append 0 n ∷ appendSteps (n + step) step k
+appendSteps n step (suc k) = change (append 0 n) ∷ appendSteps (n + step) step k
 
 -- The tally of key 0 after some calls on a fresh book with one key.
 unfoldable pub tallyAfter : List Call → Tally
-tallyAfter cs = tallyOf 0 cs (answers (fresh 65536 1) cs) noMoves
+tallyAfter cs = tallyOf 0 (answers (fresh 65536 1) cs) noMoves
 
 -- The ceiling of 765 records is reached: 6 numbers that are loaded move at 7, 9, 17, 33, 65 and 129 for their slots, at 256 for their
 -- bytes, and at 257 to a page.
-pub records-reached : tallyAfter (load 0 (inARow 1 6) ∷ (appendSteps 7 1 122 ++ appendSteps (128 + 2 ^ 42) (2 ^ 42) 129))
+pub records-reached : tallyAfter (change (load 0 (inARow 1 6)) ∷ (appendSteps 7 1 122 ++ appendSteps (128 + 2 ^ 42) (2 ^ 42) 129))
     ≡ record { moves = 8; rewritten = 765 }
 unfolding refuseIf andThen divided shortest ulebLen lastFrom streamLenFrom firstClass classFor classWithSlack fitting firstPart greedyParts
     replaceLast largestUpTo blockThen carve freedAll takeMark rounded runAtMark takeFresh takeFrom lastPage headOf freedPages freedPlace stays
     larger movesTo loadsTo moved joins beginPage appendPages written longer appendPlace runPages loadInto loadPlace outOfShape onKey
-    offeredNumber offeredList loads appends reads drops does bookAfter answered answersTo inARow appendSteps counted talliedBy tallied
+    offeredNumber offeredList loads appends reads drops asks does bookAfter answered answersTo inARow appendSteps counted talliedBy tallied
     tallyOf
     tallyAfter
 records-reached = refl
@@ -123,7 +115,7 @@ pub moves-reached : tallyAfter (appendSteps 1 1 146 ++ appendSteps (146 + 2 ^ 50
 unfolding refuseIf andThen divided shortest ulebLen lastFrom streamLenFrom firstClass classFor classWithSlack fitting firstPart greedyParts
     replaceLast largestUpTo blockThen carve freedAll takeMark rounded runAtMark takeFresh takeFrom lastPage headOf freedPages freedPlace stays
     larger movesTo loadsTo moved joins beginPage appendPages written longer appendPlace runPages loadInto loadPlace outOfShape onKey
-    offeredNumber offeredList loads appends reads drops does bookAfter answered answersTo inARow appendSteps counted talliedBy tallied
+    offeredNumber offeredList loads appends reads drops asks does bookAfter answered answersTo inARow appendSteps counted talliedBy tallied
     tallyOf
     tallyAfter
 moves-reached = refl
@@ -133,9 +125,9 @@ moves-reached = refl
 pub padded :
     let found : Key = record { list = 5 ∷ 6 ∷ []; place = slab 0 4096 (record { numbers = 5 ∷ 6 ∷ []; bytes = 13 }); counted = true } in
     answers (record { size = 8192; keys = found ∷ []; space = record { mark = 4112; stacks = replicate 9 [] } })
-    (append 0 7 ∷ append 0 8 ∷ read 0 4 ∷ [])
-    ≡ at (Slab 0 3 4096) 0 ∷ at (Slab 1 4 4112) 3 ∷ accepted (listed (record { numbers = 5 ∷ 6 ∷ 7 ∷ 8 ∷ []; pages = 0 })) ∷ []
+    (change (append 0 7) ∷ change (append 0 8) ∷ ask (read 0 4) ∷ [])
+    ≡ changed (at (Slab 0 3 4096) 0) (changed (at (Slab 1 4 4112) 3) (asked (accepted (listing (5 ∷ 6 ∷ 7 ∷ 8 ∷ []) 0)) done))
 unfolding refuseIf andThen divided shortest ulebLen lastFrom streamLenFrom firstClass classFor classWithSlack takeMark takeFresh takeFrom
-    headOf freedPlace stays larger movesTo moved written longer appendPlace outOfShape onKey offeredNumber appends reads does bookAfter
+    headOf freedPlace stays larger movesTo moved written longer appendPlace outOfShape onKey offeredNumber appends reads asks does bookAfter
     answered answersTo
 padded = refl

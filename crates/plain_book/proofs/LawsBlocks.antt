@@ -12,18 +12,18 @@ use Rattle.scripthash_layout.specs.Sizes.{pageClass, pageSize}
 use Rattle.scripthash_stream.specs.Stream.{streamLen}
 use Rattle.scripthash_cutting.specs.Cutting.{cutting, replaceLast}
 use Rattle.scripthash_free.specs.FreeList.{Block}
+use Rattle.book_rules.specs.Outcomes.{bookAfter}
+use Rattle.book_statements.specs.Calls.{Change, load, append, drop, Made, Call}
 use Rattle.plain_book.specs.Space.{Space, Taken, rounded, runAtMark}
 use Rattle.plain_book.specs.Key.{Key, Page, Place, empty, inline, slab, pages, onePage, freedPlace, Placed, written, longer, keyIn, emptyKey}
 use Rattle.plain_book.specs.Key.{longerPage, joinedTo, runPages}
-use Rattle.book_statements.specs.Calls.{Call, load, append, read, drop}
-use Rattle.book_rules.specs.Outcomes.{bookAfter}
-use Rattle.plain_book.specs.Book.{Book, fresh, Outcome, keyOf, withKey, extended, does, after}
+use Rattle.plain_book.specs.Book.{Book, fresh, Outcome, keyOf, withKey, extended, does, after, serves}
 use Rattle.plain_book.specs.Owners.{Owner, hand, stack, slabOf, pageOf, atDepth, pageNo, slabAt, pageIn, has, Apart, places}
 use Rattle.plain_book.specs.Good.{Good}
 use Rattle.plain_book.specs.Did.{LoadDid, loaded-none, loaded-one, loaded-slab, loaded-run, AppendDid, began, stayed, moved-slab, moved-page, joined-page, begun-page}
 use Rattle.book_rules.proofs.LawsRules.{moves-to, loads-to}
 use Rattle.book_statements.proofs.LawsCalls.{calls-keep}
-use Rattle.plain_book.proofs.LawsHistory.{all-same, load-did, append-did, read-did, drop-did, fresh-key, key-with}
+use Rattle.plain_book.proofs.LawsHistory.{all-same, load-did, append-did, drop-did, fresh-key, key-with}
 use Rattle.plain_book.proofs.LawsOwners.{none-some, atKey, good-slab, good-page, good-fewer, good-twice, good-kept, good-freed-place}
 use Rattle.plain_book.proofs.LawsTaking.{InHand, good-rounded, took-mark, rounded-mark, good-taken, good-run}
 
@@ -111,24 +111,21 @@ good-with b key new space l g =
     g
 
 -- A call keeps a book's space good.
-pub call-space : (b : Book) (c : Call) (a : Answer Outcome) → does b c ≡ a → GoodSpace b → GoodSpace (bookAfter b a)
+pub call-space : (b : Book) (c : Change) (a : Answer (Outcome (Made c))) → does b c ≡ a → GoodSpace b → GoodSpace (bookAfter b a)
 unfolding does bookAfter
 call-space b c (refused number) e g = g
 call-space b (load key ns) (accepted o) e g =
     let (p, within, free, rises, got, is) = load-did b key ns e in
-    rw (ap (λ (x : Outcome). x .book) is) (good-with b key (keyIn ns (p .place) true) (p .space) within
+    rw (ap (λ (x : Outcome _). x .book) is) (good-with b key (keyIn ns (p .place) true) (p .space) within
     (load-good (b .size) (b .space) (places b) key g got))
 call-space b (append key n) (accepted o) e g =
     let (p, within, rises, low, got, is) = append-did b key n e in
-    rw (ap (λ (x : Outcome). x .book) is)
+    rw (ap (λ (x : Outcome _). x .book) is)
     (good-with b key (keyIn (extended (keyOf key b .list) n) (p .place) _) (p .space) within
     (append-good (b .size) (b .space) (places b) key g (length (keyOf key b .list)) (extended (keyOf key b .list) n) n refl got))
-call-space b (read key room) (accepted o) e g =
-    let (within, is) = read-did b key room e in
-    rw (ap (λ (x : Outcome). x .book) is) g
 call-space b (drop key) (accepted o) e g =
     let (within, is) = drop-did b key e in
-    rw (ap (λ (x : Outcome). x .book) is)
+    rw (ap (λ (x : Outcome _). x .book) is)
     (good-with b key emptyKey (freedPlace (keyOf key b .place) (b .space)) within
     (good-freed-place (b .space) (places b) none key (keyOf key b .place) refl g))
 
@@ -153,7 +150,7 @@ fresh-space size heads =
 -- block of its class may, below the mark.
 pub apart-from : (b : Book) (cs : List Call) → GoodSpace b
     → Apart (after b cs .space .mark) (has (after b cs .space) (places (after b cs)) none)
-apart-from b cs g = calls-keep does GoodSpace (λ b c g. call-space b c (does b c) refl g) b cs g .apart
+apart-from b cs g = calls-keep serves GoodSpace (λ b c g. call-space b c (does b c) refl g) b cs g .apart
 
 -- So it is after any list of calls on a fresh book.
 pub blocks-apart : (size heads : ℕ) (cs : List Call)

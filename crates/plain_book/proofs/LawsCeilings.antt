@@ -13,10 +13,10 @@ use Rattle.scripthash_layout.specs.Sizes.{pageSize}
 use Rattle.scripthash_stream.proofs.LawsStream.{rising-below}
 use Rattle.scripthash_cutting.specs.Cutting.{cutting, AllowedCutting}
 use Rattle.scripthash_cutting.proofs.LawsPages.{pages-optimal}
+use Rattle.book_rules.specs.Outcomes.{Loaded, bookAfter, answerOf}
+use Rattle.book_statements.specs.Calls.{Change, load, append, drop, Made, Call, ask, change, answersTo}
 use Rattle.plain_book.specs.Space.{Space}
 use Rattle.plain_book.specs.Key.{Place, empty, inline, slab, pages, Kept, longer, pagesOf, Placed, runPages}
-use Rattle.book_statements.specs.Calls.{Call, load, append, read, drop, answersTo}
-use Rattle.book_rules.specs.Outcomes.{loaded, bookAfter, answerOf}
 use Rattle.plain_book.specs.Book.{Book, fresh, Outcome, keyOf, inUse, extended, loads, does, after, answers}
 use Rattle.book_statements.specs.Moves.{Tally, noMoves, tallyOf}
 use Rattle.plain_book.specs.Sound.{Fits, SoundKey}
@@ -66,7 +66,7 @@ start-spent list (pages ps) f = (omega arith, omega arith)
 -- Take any book with a sound key and any list of calls: from the start or the last drop the key is moved no more than 9 times, and has no
 -- more than 765 records rewritten by moves.
 pub ceilings-from : (b : Book) (key : ℕ) (cs : List Call) → SoundKey (keyOf key b)
-    → (tallyOf key cs (answers b cs) noMoves .moves ≤ mostMoves) × (tallyOf key cs (answers b cs) noMoves .rewritten ≤ mostRewritten)
+    → (tallyOf key (answers b cs) noMoves .moves ≤ mostMoves) × (tallyOf key (answers b cs) noMoves .rewritten ≤ mostRewritten)
 ceilings-from b key cs sound =
     spent-most _ (keyOf key (after b cs) .place) _
     (kept-calls _ spent-kept key b cs noMoves (sound, start-spent (keyOf key b .list) (keyOf key b .place) (sound .fits)) .1)
@@ -74,8 +74,8 @@ ceilings-from b key cs sound =
 -- Take any fresh book and any list of calls: from empty to drop no key is moved more than 9 times, nor has more than 765 records rewritten
 -- by moves.
 pub ceilings : (size heads key : ℕ) (cs : List Call)
-    → (tallyOf key cs (answers (fresh size heads) cs) noMoves .moves ≤ mostMoves)
-    × (tallyOf key cs (answers (fresh size heads) cs) noMoves .rewritten ≤ mostRewritten)
+    → (tallyOf key (answers (fresh size heads) cs) noMoves .moves ≤ mostMoves)
+    × (tallyOf key (answers (fresh size heads) cs) noMoves .rewritten ≤ mostRewritten)
 ceilings size heads key cs = ceilings-from (fresh size heads) key cs (rw (fresh-key size heads key) empty-sound)
 
 -- ---- the pages of a load
@@ -95,27 +95,23 @@ load-pages end s (loaded-slab c t two q got) = omega arith
 load-pages end s {ns} (loaded-run t two q got) = rw (run-length (t .off) (cutting ns)) (le-refl (length (cutting ns)))
 
 -- For every accepted load, every allowed cutting of its list has at least as many pages as the load reports.
-pub load-least : (b : Book) (key : ℕ) (ns : List ℕ) {o : Outcome} → loads b key ns ≡ accepted o
-    → (pages : ℕ) × (o .told ≡ loaded (record { pages = pages })) × ((parts : List (List ℕ)) → AllowedCutting ns parts
-    → pages ≤ length parts)
-load-least b key ns e =
-    let (p, within, free, rises, got, is) = load-did b key ns e in (
-      pagesOf (p .place),
-      ap (λ (x : Outcome). x .told) is,
-      λ parts ok. le-trans (load-pages (b .size) (b .space) got)
-          (pages-optimal ns (rising-below (2 ^ 62) (2 ^ 63) 0 ns (omega arith) rises) parts ok),
-    )
+pub load-least : (b : Book) (key : ℕ) (ns : List ℕ) {o : Outcome Loaded} → loads b key ns ≡ accepted o
+    → (parts : List (List ℕ)) → AllowedCutting ns parts → o .told .pages ≤ length parts
+load-least b key ns e parts ok =
+    let (p, within, free, rises, got, is) = load-did b key ns e in
+    rw (ap (λ (x : Outcome Loaded). x .told .pages) is)
+    (le-trans (load-pages (b .size) (b .space) got) (pages-optimal ns (rising-below (2 ^ 62) (2 ^ 63) 0 ns (omega arith) rises) parts ok))
 
 -- So it is with each load of a list of calls, on any book.
-fewest-pages : (b : Book) (c : Call) (a : Answer Outcome) → does b c ≡ a → FewestPages c (answerOf a)
+fewest-pages : (b : Book) (c : Change) (a : Answer (Outcome (Made c))) → does b c ≡ a → FewestPages c (answerOf a)
 unfolding FewestPages does answered
 fewest-pages b (load key ns) (accepted o) e = load-least b key ns e
 fewest-pages b (load key ns) (refused number) e = tt
 fewest-pages b (append key n) a e = tt
-fewest-pages b (read key room) a e = tt
 fewest-pages b (drop key) a e = tt
 
-pub loads-least : (b : Book) (cs : List Call) → EachFewest cs (answers b cs)
+pub loads-least : (b : Book) (cs : List Call) → EachFewest (answers b cs)
 unfolding EachFewest answersTo
 loads-least b [] = tt
-loads-least b (c ∷ cs) = (fewest-pages b c (does b c) refl, loads-least (bookAfter b (does b c)) cs)
+loads-least b (ask q ∷ cs) = loads-least b cs
+loads-least b (change c ∷ cs) = (fewest-pages b c (does b c) refl, loads-least (bookAfter b (does b c)) cs)

@@ -14,21 +14,21 @@ use Rattle.scripthash_stream.specs.Stream.{streamLen}
 use Rattle.scripthash_cutting.specs.Cutting.{cutting, replaceLast}
 use Rattle.scripthash_free.specs.FreeList.{Block, Adjoin, Each, IsSlab, gapBlocks}
 use Rattle.scripthash_free.proofs.LawsGap.{gap-filled, gap-slabs}
-use Rattle.book_limits.specs.Limits.{pageAfter}
-use Rattle.book_statements.specs.Calls.{Call, load, append, read, drop}
 use Rattle.book_rules.specs.Outcomes.{bookAfter}
+use Rattle.book_statements.specs.Calls.{Change, load, append, drop, Made, Call}
+use Rattle.book_limits.specs.Limits.{pageAfter}
 use Rattle.book_rules.proofs.LawsRules.{moves-to, loads-to}
 use Rattle.book_statements.proofs.LawsCalls.{calls-keep}
 use Rattle.plain_book.specs.Space.{Space, stackOf, freed, freedAll, Taken, takeMark, rounded, takeRun, takeFresh, takeFrom, takeBlock, runAtMark}
 use Rattle.plain_book.specs.Key.{Key, emptyKey, Page, Place, empty, inline, slab, pages, freedPages, freedPlace, Placed, written, keyIn}
 use Rattle.plain_book.specs.Key.{longerPage, runPages}
-use Rattle.plain_book.specs.Book.{Book, fresh, Outcome, withKey, inUse, does, after}
+use Rattle.plain_book.specs.Book.{Book, fresh, Outcome, withKey, inUse, does, after, serves}
 use Rattle.plain_book.specs.Owners.{places}
 use Rattle.plain_book.specs.Sound.{Fits}
 use Rattle.plain_book.specs.Good.{GoodPlain}
 use Rattle.plain_book.specs.Filled.{bytesIn, bytesHeld, bytesAt, bytesFreed, Fills, Filled}
 use Rattle.plain_book.specs.Did.{LoadDid, loaded-none, loaded-one, loaded-slab, loaded-run, AppendDid, began, stayed, moved-slab, moved-page, joined-page, begun-page}
-use Rattle.plain_book.proofs.LawsHistory.{load-did, append-did, read-did, drop-did}
+use Rattle.plain_book.proofs.LawsHistory.{load-did, append-did, drop-did}
 use Rattle.plain_book.proofs.LawsOwners.{withStack}
 use Rattle.plain_book.proofs.LawsTaking.{took-stack, took-mark, freed-stacks}
 use Rattle.plain_book.proofs.LawsGood.{fresh-good, call-good}
@@ -277,36 +277,33 @@ fits-classed list (slab class off kept) f = let few = f .2 in omega arith
 fits-classed list (pages ps) f = tt
 
 -- A call keeps a good book full.
-pub call-full : (lost : ℕ) (b : Book) (c : Call) (a : Answer Outcome) → does b c ≡ a → GoodPlain b → FullBook lost b → FullBook lost (bookAfter b a)
+pub call-full : (lost : ℕ) (b : Book) (c : Change) (a : Answer (Outcome (Made c))) → does b c ≡ a → GoodPlain b → FullBook lost b → FullBook lost (bookAfter b a)
 unfolding does bookAfter
 call-full lost b c (refused number) e g f = f
 call-full lost b (load key ns) (accepted o) e g f =
     let (p, within, free, rises, got, is) = load-did b key ns e in
     let (others, rest, held) = others-of lost b key within f in
     let unused = unused-none (places b key) free in
-    rw (ap (λ (x : Outcome). x .book) is)
+    rw (ap (λ (x : Outcome _). x .book) is)
     (full-with lost b key (keyIn ns (p .place) true) (p .space) others held
     (full-load (b .size) (b .space) others got (same-full (b .space) (omega arith) rest)))
 call-full lost b (append key n) (accepted o) e g f =
     let (p, within, rises, low, got, is) = append-did b key n e in
     let (others, rest, held) = others-of lost b key within f in
-    rw (ap (λ (x : Outcome). x .book) is)
+    rw (ap (λ (x : Outcome _). x .book) is)
     (full-with lost b key (keyIn _ (p .place) _) (p .space) others held
     (full-append (b .size) _ _ n (b .space) others (fits-classed _ (places b key) (g .keys key .fits)) got rest))
-call-full lost b (read key room) (accepted o) e g f =
-    let (within, is) = read-did b key room e in
-    rw (ap (λ (x : Outcome). x .book) is) f
 call-full lost b (drop key) (accepted o) e g f =
     let (within, is) = drop-did b key e in
     let (others, rest, held) = others-of lost b key within f in
     let gone = full-freed-place (places b key) (b .space) others (fits-classed _ (places b key) (g .keys key .fits)) rest in
-    rw (ap (λ (x : Outcome). x .book) is)
+    rw (ap (λ (x : Outcome _). x .book) is)
     (full-with lost b key emptyKey (freedPlace (places b key) (b .space)) others held (empty-full _ others gone))
 
 -- Take any good book, of which so many bytes belong to nobody, and any list of calls: as many belong to nobody afterwards.
 pub filled-from : (lost : ℕ) (b : Book) (cs : List Call) → GoodPlain b → Filled lost b → Filled lost (after b cs)
 filled-from lost b cs g f =
-    calls-keep does (λ x. GoodPlain x × FullBook lost x) (λ x c (good, full). (call-good c good, call-full lost x c (does x c) refl good full)) b cs
+    calls-keep serves (λ x. GoodPlain x × FullBook lost x) (λ x c (good, full). (call-good c good, call-full lost x c (does x c) refl good full)) b cs
     (g, record { nine = g .space .nine; aligned = g .space .aligned; fills = f }) .1 .fills
 
 -- Keys that hold nothing.

@@ -7,7 +7,7 @@ use mathlib.Core.Logic.{_≢_}
 use mathlib.Core.Path.{_≡_, refl, sym, ap, _∙_}
 use lib.Dec.{eqb, leb}
 use lib.ListN.{length, getD, set, replicate}
-use lib.Seq.{getD-set-same, getD-set-other, set-getD}
+use lib.Seq.{getD-set-same, getD-set-other}
 use borrow.Author.Tests.{leb-false, eqb-true, eqb-false}
 use Rattle.error.specs.Refusal.{Answer, accepted, refused, answered, shapeBad, keyBeyond}
 use Rattle.error.proofs.LawsAnswer.{accepted-inj, passed, went-on}
@@ -15,9 +15,8 @@ use Rattle.scripthash_stream.specs.Stream.{Rising, lastFrom}
 use Rattle.plain_book.specs.Space.{Space}
 use Rattle.plain_book.specs.Key.{Key, emptyKey, headOf, pagesOf, freedPlace, countedAfter, Placed, keyIn}
 use Rattle.plain_book.specs.Key.{appendPlace, loadPlace}
-use Rattle.book_statements.specs.Calls.{Call, load, append, read, drop, keyOfCall}
-use Rattle.book_rules.specs.Outcomes.{loaded, appended, listed, dropped, bookAfter, answerOf}
-use Rattle.book_statements.specs.Calls.{afterCalls, answersTo}
+use Rattle.book_rules.specs.Outcomes.{Loaded, Appended, Listed, Dropped, loadedIn, appendedAt, listing, droppedOf, bookAfter, answerOf}
+use Rattle.book_statements.specs.Calls.{Change, load, append, drop, keyOfChange, Made, Call, ask, change, afterCalls, answersTo}
 use Rattle.book_limits.specs.Limits.{outOfShape}
 use Rattle.book_rules.proofs.LawsOffered.{offered-on, offered-all}
 use Rattle.plain_book.specs.Book.{Book, fresh, Outcome, onKey, keyOf, withKey, inUse, extended, loads, appends, reads, drops, does}
@@ -37,10 +36,10 @@ on-key b key after e =
 
 -- ---- what an accepted call did
 
-pub load-did : (b : Book) (key : ℕ) (ns : List ℕ) {o : Outcome} → loads b key ns ≡ accepted o
+pub load-did : (b : Book) (key : ℕ) (ns : List ℕ) {o : Outcome Loaded} → loads b key ns ≡ accepted o
     → (p : Placed) × (key < length (b .keys)) × (inUse (keyOf key b .place) ≡ false) × Rising (2 ^ 62) 0 ns
     × LoadDid (b .size) (b .space) ns p
-    × (o ≡ record { told = loaded (record { pages = pagesOf (p .place) }); book = withKey key (keyIn ns (p .place) true) (p .space) b })
+    × (o ≡ record { told = loadedIn (pagesOf (p .place)); book = withKey key (keyIn ns (p .place) true) (p .space) b })
 unfolding loads
 load-did b key ns e =
     let (within, e1) = on-key b key _ e in
@@ -50,11 +49,11 @@ load-did b key ns e =
     let (p, got, is) = went-on (loadPlace (b .size) ns (b .space)) _ e4 in
     (p, within, free, rises, load-cases (b .size) ns (b .space) got, sym (accepted-inj is))
 
-pub append-did : (b : Book) (key n : ℕ) {o : Outcome} → appends b key n ≡ accepted o
+pub append-did : (b : Book) (key n : ℕ) {o : Outcome Appended} → appends b key n ≡ accepted o
     → (p : Placed) × (key < length (b .keys)) × (lastFrom 0 (keyOf key b .list) < n) × (n < 2 ^ 62)
     × AppendDid (b .size) (length (keyOf key b .list)) (extended (keyOf key b .list) n) n (b .space) (keyOf key b .place) p
     × (o ≡ record {
-      told = appended (record { place = headOf (extended (keyOf key b .list) n) (p .place); rewritten = p .rewritten });
+      told = appendedAt (headOf (extended (keyOf key b .list) n) (p .place)) (p .rewritten);
       book = withKey key (keyIn (extended (keyOf key b .list) n) (p .place) (countedAfter (keyOf key b .place) (keyOf key b .counted)))
           (p .space) b;
     })
@@ -66,22 +65,18 @@ append-did b key n e =
     (b .space)) _ e2 in
     (p, within, rises, low, append-cases (b .size) _ _ n (b .space) (keyOf key b .place) got, sym (accepted-inj is))
 
-pub read-did : (b : Book) (key room : ℕ) {o : Outcome} → reads b key room ≡ accepted o
-    → (key < length (b .keys)) × (o ≡ record {
-      told =
-          listed (record { numbers = keyOf key b .list; pages = pagesOf (keyOf key b .place) });
-      book = b;
-    })
+pub read-did : (b : Book) (key room : ℕ) {l : Listed} → reads b key room ≡ accepted l
+    → (key < length (b .keys)) × (l ≡ listing (keyOf key b .list) (pagesOf (keyOf key b .place)))
 unfolding reads
 read-did b key room e =
     let (within, e1) = on-key b key _ e in
     let (long, is) = passed _ _ _ e1 in
     (within, sym (accepted-inj is))
 
-pub drop-did : (b : Book) (key : ℕ) {o : Outcome} → drops b key ≡ accepted o
+pub drop-did : (b : Book) (key : ℕ) {o : Outcome Dropped} → drops b key ≡ accepted o
     → (key < length (b .keys))
     × (o ≡ record {
-      told = dropped (record { length = length (keyOf key b .list) });
+      told = droppedOf (length (keyOf key b .list));
       book = withKey key emptyKey (freedPlace (keyOf key b .place) (b .space)) b;
     })
 unfolding drops
@@ -120,102 +115,76 @@ pub record KeptByCalls (P : Key → Tally → Type 0) : Type 0 where
   pub drops : P emptyKey noMoves
 
 module _ (P : Key → Tally → Type 0) (kept : KeptByCalls P) where
-  -- What an accepted call changes: its key, and the space; and it keeps what holds of its key.
-  record Changed (b : Book) (key : ℕ) (o : Outcome) : Type 0 where
-    within : key < length (b .keys)
+  -- What an accepted change changes: its key, and the space; and it keeps what holds of its key.
+  record Changed (b : Book) (c : Change) (o : Outcome (Made c)) : Type 0 where
+    within : keyOfChange c < length (b .keys)
     new : Key
     space : Space
-    book : o .book ≡ withKey key new space b
-    keeps : (t : Tally) → P (keyOf key b) t → P new (talliedBy (o .told) t)
+    book : o .book ≡ withKey (keyOfChange c) new space b
+    keeps : (t : Tally) → P (keyOf (keyOfChange c) b) t → P new (talliedBy c (o .told) t)
 
-  load-changed : (b : Book) (key : ℕ) (ns : List ℕ) {o : Outcome} → loads b key ns ≡ accepted o → Changed b key o
-  unfolding talliedBy
-  load-changed b key ns e =
+  call-changed : (b : Book) (c : Change) {o : Outcome (Made c)} → does b c ≡ accepted o → Changed b c o
+  unfolding does talliedBy
+  call-changed b (load key ns) e =
       let (p, within, free, rises, got, is) = load-did b key ns e in
       record {
         within = within;
         new = keyIn ns (p .place) true;
         space = p .space;
-        book = ap (λ (x : Outcome). x .book) is;
-        keeps = λ t h. rw (ap (λ (x : Outcome). talliedBy (x .told) t) is)
-            (kept .loads (b .size) (keyOf key b) ns (b .space) p t h free rises got);
+        book = ap (λ (x : Outcome Loaded). x .book) is;
+        keeps = λ t h. kept .loads (b .size) (keyOf key b) ns (b .space) p t h free rises got;
       }
-
-  append-changed : (b : Book) (key n : ℕ) {o : Outcome} → appends b key n ≡ accepted o → Changed b key o
-  unfolding talliedBy
-  append-changed b key n e =
+  call-changed b (append key n) e =
       let (p, within, rises, low, got, is) = append-did b key n e in
       record {
         within = within;
         new = keyIn (extended (keyOf key b .list) n) (p .place) (countedAfter (keyOf key b .place) (keyOf key b .counted));
         space = p .space;
-        book = ap (λ (x : Outcome). x .book) is;
-        keeps = λ t h. rw (ap (λ (x : Outcome). talliedBy (x .told) t) is)
+        book = ap (λ (x : Outcome Appended). x .book) is;
+        keeps = λ t h. rw (ap (λ (x : Outcome Appended). counted (x .told .rewritten) t) is)
             (kept .appends (b .size) (keyOf key b) n (b .space) p t h rises low got);
       }
-
-  read-changed : (b : Book) (key room : ℕ) {o : Outcome} → reads b key room ≡ accepted o → Changed b key o
-  unfolding talliedBy
-  read-changed b key room e =
-      let (within, is) = read-did b key room e in
-      record {
-        within = within;
-        new = keyOf key b;
-        space = b .space;
-        book = ap (λ (x : Outcome). x .book) is ∙ ap (λ (ks : List Key). record { size = b .size; keys = ks; space = b .space })
-            (sym (set-getD (b .keys) key emptyKey));
-        keeps = λ t h. rw (ap (λ (x : Outcome). talliedBy (x .told) t) is) h;
-      }
-
-  drop-changed : (b : Book) (key : ℕ) {o : Outcome} → drops b key ≡ accepted o → Changed b key o
-  unfolding talliedBy
-  drop-changed b key e =
+  call-changed b (drop key) e =
       let (within, is) = drop-did b key e in
       record {
         within = within;
         new = emptyKey;
         space = freedPlace (keyOf key b .place) (b .space);
-        book = ap (λ (x : Outcome). x .book) is;
-        keeps = λ t h. rw (ap (λ (x : Outcome). talliedBy (x .told) t) is) (kept .drops);
+        book = ap (λ (x : Outcome Dropped). x .book) is;
+        keeps = λ t h. kept .drops;
       }
 
-  call-changed : (b : Book) (c : Call) {o : Outcome} → does b c ≡ accepted o → Changed b (keyOfCall c) o
-  unfolding does
-  call-changed b (load key ns) e = load-changed b key ns e
-  call-changed b (append key n) e = append-changed b key n e
-  call-changed b (read key room) e = read-changed b key room e
-  call-changed b (drop key) e = drop-changed b key e
-
-  -- One call keeps what holds of any key: a call that is turned back, or on another key, changes neither the key nor its tally.
-  pub kept-call : (key : ℕ) (b : Book) (c : Call) (t : Tally) (a : Answer Outcome) → does b c ≡ a → P (keyOf key b) t
+  -- One change keeps what holds of any key: one that is turned back, or of another key, changes neither the key nor its tally.
+  pub kept-call : (key : ℕ) (b : Book) (c : Change) (t : Tally) (a : Answer (Outcome (Made c))) → does b c ≡ a → P (keyOf key b) t
       → P (keyOf key (bookAfter b a)) (tallied key c (answerOf a) t)
   unfolding bookAfter answered tallied
   kept-call key b c t (refused number) e h = h
-  kept-call key b c t (accepted o) e h = go (call-changed b c e) (eqb (keyOfCall c) key) refl
+  kept-call key b c t (accepted o) e h = go (call-changed b c e) (eqb (keyOfChange c) key) refl
     where
-      go : (ch : Changed b (keyOfCall c) o) (x : Bool) → eqb (keyOfCall c) key ≡ x
-          → P (keyOf key (o .book)) (cond x (talliedBy (o .told) t) t)
+      go : (ch : Changed b c o) (x : Bool) → eqb (keyOfChange c) key ≡ x
+          → P (keyOf key (o .book)) (cond x (talliedBy c (o .told) t) t)
       go ch true q =
-          let is : keyOfCall c ≡ key = eqb-true (keyOfCall c) key q in
-          let h' : P (keyOf (keyOfCall c) b) t = rw is h in
-          let new : keyOf (keyOfCall c) (o .book) ≡ ch .new =
-          ap (λ (x : Book). keyOf (keyOfCall c) x) (ch .book) ∙ getD-set-same (b .keys) (keyOfCall c) _ emptyKey (ch .within) in
-          let done : P (keyOf (keyOfCall c) (o .book)) (talliedBy (o .told) t) = rw new (ch .keeps t h') in
-          rw (← is) done
+          let is : keyOfChange c ≡ key = eqb-true (keyOfChange c) key q in
+          let h' : P (keyOf (keyOfChange c) b) t = rw is h in
+          let new : keyOf (keyOfChange c) (o .book) ≡ ch .new =
+          ap (λ (x : Book). keyOf (keyOfChange c) x) (ch .book) ∙ getD-set-same (b .keys) (keyOfChange c) _ emptyKey (ch .within) in
+          let kept-it : P (keyOf (keyOfChange c) (o .book)) (talliedBy c (o .told) t) = rw new (ch .keeps t h') in
+          rw (← is) kept-it
       go ch false q =
-          let other : key ≢ keyOfCall c = λ (e : key ≡ keyOfCall c). eqb-false (keyOfCall c) key q (sym e) in
-          let old : keyOf key (o .book) ≡ keyOf key b = ap (λ (x : Book). keyOf key x) (ch .book) ∙ getD-set-other (b .keys) (keyOfCall c)
-          key _ emptyKey other in
+          let other : key ≢ keyOfChange c = λ (e : key ≡ keyOfChange c). eqb-false (keyOfChange c) key q (sym e) in
+          let old : keyOf key (o .book) ≡ keyOf key b = ap (λ (x : Book). keyOf key x) (ch .book)
+          ∙ getD-set-other (b .keys) (keyOfChange c) key _ emptyKey other in
           rw old h
 
   -- So does every list of calls.
   pub kept-calls : (key : ℕ) (b : Book) (cs : List Call) (t : Tally) → P (keyOf key b) t
-      → P (keyOf key (after b cs)) (tallyOf key cs (answers b cs) t)
+      → P (keyOf key (after b cs)) (tallyOf key (answers b cs) t)
   unfolding afterCalls answersTo tallyOf
   kept-calls key b [] t h = h
-  kept-calls key b (c ∷ cs) t h = kept-calls key (bookAfter b (does b c)) cs _ (kept-call key b c t (does b c) refl h)
+  kept-calls key b (ask q ∷ cs) t h = kept-calls key b cs t h
+  kept-calls key b (change c ∷ cs) t h = kept-calls key (bookAfter b (does b c)) cs _ (kept-call key b c t (does b c) refl h)
 
   -- It holds of every key after any list of calls on a fresh book.
   pub kept-fresh : (size heads key : ℕ) (cs : List Call)
-      → P (keyOf key (after (fresh size heads) cs)) (tallyOf key cs (answers (fresh size heads) cs) noMoves)
+      → P (keyOf key (after (fresh size heads) cs)) (tallyOf key (answers (fresh size heads) cs) noMoves)
   kept-fresh size heads key cs = kept-calls key (fresh size heads) cs noMoves (rw (fresh-key size heads key) (kept .drops))

@@ -11,14 +11,14 @@ use Rattle.error.specs.Refusal.{Answer, accepted, refused}
 use Rattle.error.proofs.LawsAnswer.{accepted-inj, passed}
 use Rattle.scripthash_layout.specs.Sizes.{slabBytes, pageClass, pageSize}
 use Rattle.scripthash_cutting.specs.Cutting.{cutting}
+use Rattle.book_rules.specs.Outcomes.{bookAfter}
+use Rattle.book_statements.specs.Calls.{Change, load, append, drop, Made, Call}
 use Rattle.plain_book.specs.Space.{Space, stackOf, Taken, takeMark, rounded, takeFresh, takeFrom, takeBlock, runAtMark}
 use Rattle.plain_book.specs.Key.{Page, Place, empty, inline, slab, pages, freedPages, freedPlace, Placed}
-use Rattle.book_statements.specs.Calls.{Call, load, append, read, drop}
-use Rattle.book_rules.specs.Outcomes.{bookAfter}
-use Rattle.plain_book.specs.Book.{Book, fresh, Outcome, does, after, keyOf}
+use Rattle.plain_book.specs.Book.{Book, fresh, Outcome, does, after, keyOf, serves}
 use Rattle.plain_book.specs.Did.{LoadDid, loaded-none, loaded-one, loaded-slab, loaded-run, AppendDid, began, stayed, moved-slab, moved-page, joined-page, begun-page}
 use Rattle.book_statements.proofs.LawsCalls.{calls-keep}
-use Rattle.plain_book.proofs.LawsHistory.{load-did, append-did, read-did, drop-did}
+use Rattle.plain_book.proofs.LawsHistory.{load-did, append-did, drop-did}
 
 -- Freeing leaves the mark.
 pages-mark : (ps : List Page) (s : Space) → freedPages ps s .mark ≡ s .mark
@@ -78,25 +78,22 @@ load-within end s {ns} h (loaded-run t two q got) = marked-within end (length (c
 abbrev pub Inside : ℕ → Book → Type 0
 Inside size b = (b .size ≡ size) × (b .space .mark ≤ size)
 
-pub call-inside : (size : ℕ) (b : Book) (c : Call) (a : Answer Outcome) → does b c ≡ a → Inside size b → Inside size (bookAfter b a)
+pub call-inside : (size : ℕ) (b : Book) (c : Change) (a : Answer (Outcome (Made c))) → does b c ≡ a → Inside size b → Inside size (bookAfter b a)
 unfolding does bookAfter
 call-inside size b c (refused number) e h = h
 call-inside size b (load key ns) (accepted o) e (s, m) =
     let (p, within, free, rises, got, is) = load-did b key ns e in
-    rw (ap (λ (x : Outcome). x .book) is) (s, rw (← s) (load-within (b .size) (b .space) (rw s m) got))
+    rw (ap (λ (x : Outcome _). x .book) is) (s, rw (← s) (load-within (b .size) (b .space) (rw s m) got))
 call-inside size b (append key n) (accepted o) e (s, m) =
     let (p, within, rises, low, got, is) = append-did b key n e in
-    rw (ap (λ (x : Outcome). x .book) is) (s, rw (← s) (append-within (b .size) _ _ n (b .space) (rw s m) got))
-call-inside size b (read key room) (accepted o) e h =
-    let (within, is) = read-did b key room e in
-    rw (ap (λ (x : Outcome). x .book) is) h
+    rw (ap (λ (x : Outcome _). x .book) is) (s, rw (← s) (append-within (b .size) _ _ n (b .space) (rw s m) got))
 call-inside size b (drop key) (accepted o) e (s, m) =
     let (within, is) = drop-did b key e in
-    rw (ap (λ (x : Outcome). x .book) is) (s, rw (place-mark (keyOf key b .place) (b .space)) m)
+    rw (ap (λ (x : Outcome _). x .book) is) (s, rw (place-mark (keyOf key b .place) (b .space)) m)
 
 -- Take any book whose mark is within the body and any list of calls: it is so afterwards.
 pub mark-from : (b : Book) (cs : List Call) → b .space .mark ≤ b .size → after b cs .space .mark ≤ b .size
-mark-from b cs h = calls-keep does (Inside (b .size)) (λ b' c i. call-inside (b .size) b' c (does b' c) refl i) b cs (refl, h) .1
+mark-from b cs h = calls-keep serves (Inside (b .size)) (λ b' c i. call-inside (b .size) b' c (does b' c) refl i) b cs (refl, h) .1
 
 -- So it is after any list of calls on a fresh book.
 pub mark-within : (size heads : ℕ) (cs : List Call) → 4096 ≤ size → after (fresh size heads) cs .space .mark ≤ size

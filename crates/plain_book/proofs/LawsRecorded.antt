@@ -12,15 +12,15 @@ use lib.Seq.{getD-set-same, getD-set-other}
 use borrow.Author.Tests.{eqb-true, eqb-false, leb-true, ltb-true}
 use Rattle.error.specs.Refusal.{Answer, accepted, refused, refuseIf, answered, shapeBad, keyBeyond, listTooShort}
 use Rattle.error.proofs.LawsAnswer.{refused≢accepted}
-use Rattle.book_statements.specs.Calls.{Call, load, append, read, drop, keyOfCall, afterCalls, answersTo}
-use Rattle.book_rules.specs.Outcomes.{Told, listed, bookAfter, answerOf}
+use Rattle.book_rules.specs.Outcomes.{Listed, listing, bookAfter, answerOf}
+use Rattle.book_statements.specs.Calls.{Enquiry, read, Change, load, append, drop, Said, Made, Call, ask, change, afterCalls, answersTo}
 use Rattle.book_limits.specs.Limits.{outOfShape}
 use Rattle.book_statements.specs.Moves.{noMoves}
 use Rattle.book_statements.specs.Recorded.{recordedBy, recordedAfter, recorded}
 use Rattle.book_statements.specs.Licence.{AnsweredBy, Licensed}
 use Rattle.plain_book.specs.Space.{Space}
 use Rattle.plain_book.specs.Key.{Key, emptyKey, Place, empty, inline, slab, pages, pagesOf, keyIn}
-use Rattle.plain_book.specs.Book.{Book, fresh, Outcome, onKey, keyOf, withKey, inUse, reads, does, after, answers}
+use Rattle.plain_book.specs.Book.{Book, fresh, Outcome, onKey, keyOf, withKey, inUse, reads, does, after, answers, asks}
 use Rattle.plain_book.specs.Sound.{Fits, SoundKey}
 use Rattle.plain_book.proofs.LawsHistory.{load-did, append-did, read-did, drop-did, fresh-key, kept-call}
 use Rattle.plain_book.proofs.LawsSound.{empty-sound, sound-kept}
@@ -55,55 +55,48 @@ list-with b own key k new space {b'} within is same = ap (λ (x : Book). keyOf k
     go false q = ap (λ (k : Key). k .list) (getD-set-other (b .keys) own key _ emptyKey (λ (e : key ≡ own). eqb-false own key q (sym e)))
 
 -- After a call a key's list is what the call recorded for it.
-call-recorded : (key : ℕ) (b : Book) (c : Call) (a : Answer Outcome) → does b c ≡ a → SoundKey (keyOf key b)
+call-recorded : (key : ℕ) (b : Book) (c : Change) (a : Answer (Outcome (Made c))) → does b c ≡ a → SoundKey (keyOf key b)
     → keyOf key (bookAfter b a) .list ≡ recordedAfter key c (answerOf a) (keyOf key b .list)
 unfolding does bookAfter answered recordedAfter recordedBy
 call-recorded key b c (refused number) e s = refl
 call-recorded key b (load own ns) (accepted o) e s =
     let (p, within, free, rises, got, is) = load-did b own ns e in
-    list-with b own key (keyIn ns (p .place) true) _ (p .space) within (ap (λ (x : Outcome). x .book) is)
+    list-with b own key (keyIn ns (p .place) true) _ (p .space) within (ap (λ (x : Outcome _). x .book) is)
     (λ (z : own ≡ key). rw (unused-holds (keyOf key b .list) (keyOf key b .place) (rw z at free) (s .fits)))
 call-recorded key b (append own n) (accepted o) e s =
     let (p, within, rises, low, got, is) = append-did b own n e in
-    list-with b own key (keyIn _ (p .place) _) _ (p .space) within (ap (λ (x : Outcome). x .book) is)
+    list-with b own key (keyIn _ (p .place) _) _ (p .space) within (ap (λ (x : Outcome _). x .book) is)
     (λ (z : own ≡ key). ap (λ (k : ℕ). keyOf k b .list ++ (n ∷ [])) z)
-call-recorded key b (read own room) (accepted o) e s =
-    let (within, is) = read-did b own room e in
-    ap (λ (x : Outcome). keyOf key (x .book) .list) is ∙ either (eqb own key)
-  where
-    either : (x : Bool) → keyOf key b .list ≡ cond x (keyOf key b .list) (keyOf key b .list)
-    either true = refl
-    either false = refl
 call-recorded key b (drop own) (accepted o) e s =
     let (within, is) = drop-did b own e in
-    list-with b own key emptyKey _ _ within (ap (λ (x : Outcome). x .book) is) (λ z. refl)
+    list-with b own key emptyKey _ _ within (ap (λ (x : Outcome _). x .book) is) (λ z. refl)
 
 -- ---- every list of calls
 
 -- Take any book with a sound key and any list of calls: the key's list afterwards is what was there and what the calls recorded for the
 -- key.
 pub recorded-from : (b : Book) (key : ℕ) (cs : List Call) → SoundKey (keyOf key b)
-    → keyOf key (after b cs) .list ≡ recorded key cs (answers b cs) (keyOf key b .list)
+    → keyOf key (after b cs) .list ≡ recorded key (answers b cs) (keyOf key b .list)
 unfolding afterCalls answersTo recorded
 recorded-from b key [] s = refl
-recorded-from b key (c ∷ cs) s =
+recorded-from b key (ask q ∷ cs) s = recorded-from b key cs s
+recorded-from b key (change c ∷ cs) s =
     recorded-from (bookAfter b (does b c)) key cs (kept-call _ sound-kept key b c noMoves (does b c) refl s)
-    ∙ ap (recorded key cs (answers (bookAfter b (does b c)) cs)) (call-recorded key b c (does b c) refl s)
+    ∙ ap (recorded key (answers (bookAfter b (does b c)) cs)) (call-recorded key b c (does b c) refl s)
 
 -- After any list of calls on a fresh book a key's list is what the calls recorded for it.
 pub recorded-fresh : (size heads key : ℕ) (cs : List Call)
-    → keyOf key (after (fresh size heads) cs) .list ≡ recorded key cs (answers (fresh size heads) cs) []
+    → keyOf key (after (fresh size heads) cs) .list ≡ recorded key (answers (fresh size heads) cs) []
 recorded-fresh size heads key cs =
     recorded-from (fresh size heads) key cs (rw (fresh-key size heads key) empty-sound)
-    ∙ ap (λ (k : Key). recorded key cs (answers (fresh size heads) cs) (k .list)) (fresh-key size heads key)
+    ∙ ap (λ (k : Key). recorded key (answers (fresh size heads) cs) (k .list)) (fresh-key size heads key)
 
 -- ---- reads
 
 -- An accepted read tells the key's list, and its pages.
-pub read-told : (b : Book) (key room : ℕ) {o : Outcome} → does b (read key room) ≡ accepted o
-    → o .told ≡ listed (record { numbers = keyOf key b .list; pages = pagesOf (keyOf key b .place) })
-unfolding does
-read-told b key room e = ap (λ (x : Outcome). x .told) (read-did b key room e .1)
+pub read-told : (b : Book) (key room : ℕ) {l : Listed} → reads b key room ≡ accepted l
+    → l ≡ listing (keyOf key b .list) (pagesOf (keyOf key b .place))
+read-told b key room e = read-did b key room e .1
 
 -- What a refusal came from: the test, or what comes after it.
 refused-by : {A : Type 0} (test : Bool) (number : ℕ) (after : Answer A) {m : ℕ} → refuseIf test number after ≡ refused m
@@ -113,10 +106,10 @@ refused-by true number after e = inl (cc, refl)
 refused-by false number after e = inr e
 
 -- A read is refused only for the shape (1), the key (2), or a lent list that is too short (34), each for its cause.
-pub read-refused : (b : Book) (key room : ℕ) {number : ℕ} → does b (read key room) ≡ refused number
+pub read-refused : (b : Book) (key room : ℕ) {number : ℕ} → reads b key room ≡ refused number
     → ((number ≡ shapeBad) × (outOfShape (b .size) (length (b .keys)) ≡ true))
     ⊎ (((number ≡ keyBeyond) × (length (b .keys) ≤ key)) ⊎ ((number ≡ listTooShort) × (room < length (keyOf key b .list))))
-unfolding does reads onKey
+unfolding reads onKey
 read-refused b key room e =
     ⊎-elim (λ q. inl q)
     (λ e1. inr (⊎-elim (λ q. inl (q .0, leb-true (length (b .keys)) key (q .1)))
@@ -127,43 +120,39 @@ read-refused b key room e =
 
 -- ---- the licence's sentence
 
--- An answer is by what is recorded for its key.
-call-answered : (b : Book) (c : Call) (a : Answer Outcome) (numbers : List ℕ) → does b c ≡ a → keyOf (keyOfCall c) b .list ≡ numbers
-    → AnsweredBy (b .size) (length (b .keys)) c (answerOf a) numbers
-unfolding AnsweredBy answered
-call-answered b (load key ns) a numbers e is = tt
-call-answered b (append key n) a numbers e is = tt
-call-answered b (read key room) (accepted o) numbers e is = (pagesOf (keyOf key b .place), rw (← is) (read-told b key room e))
-call-answered b (read key room) (refused number) numbers e is = rw (← is) (read-refused b key room e)
-call-answered b (drop key) a numbers e is = tt
+-- An answer to an enquiry is by what is recorded.
+ask-answered : (b : Book) (q : Enquiry) (a : Answer (Said q)) (before : ℕ → List ℕ) → asks b q ≡ a
+    → ((key : ℕ) → keyOf key b .list ≡ before key) → AnsweredBy (b .size) (length (b .keys)) q a before
+unfolding AnsweredBy asks
+ask-answered b (read key room) (accepted l) before e is = ap (λ (x : Listed). x .numbers) (read-told b key room e) ∙ is key
+ask-answered b (read key room) (refused number) before e is = rw (← is key) (read-refused b key room e)
 
 -- Take any book of sound keys, whose lists are what was recorded, and any list of calls: the licence's sentence holds.
 pub licensed-from : (b : Book) (before : ℕ → List ℕ) (cs : List Call) → ((key : ℕ) → SoundKey (keyOf key b))
     → ((key : ℕ) → keyOf key b .list ≡ before key)
-    → Licensed (b .size) (length (b .keys)) before cs (answers b cs)
+    → Licensed (b .size) (length (b .keys)) before (answers b cs)
 unfolding Licensed answersTo
 licensed-from b before [] s is = tt
-licensed-from b before (c ∷ cs) s is =
-    let (size, keys) = shape-kept b c in (
-      call-answered b c (does b c) (before (keyOfCall c)) refl (is (keyOfCall c)),
-      subst₂ (λ (m n : ℕ). Licensed m n (λ key. recordedAfter key c (answerOf (does b c)) (before key)) cs
-          (answers (bookAfter b (does b c)) cs)) size keys
-          (licensed-from (bookAfter b (does b c)) _ cs (λ key. kept-call _ sound-kept key b c noMoves (does b c) refl (s key))
-          (λ key. call-recorded key b c (does b c) refl (s key) ∙ ap (recordedAfter key c (answerOf (does b c))) (is key))),
-    )
+licensed-from b before (ask q ∷ cs) s is = (ask-answered b q (asks b q) before refl is, licensed-from b before cs s is)
+licensed-from b before (change c ∷ cs) s is =
+    let (size, keys) = shape-kept b c in
+    subst₂ (λ (m n : ℕ). Licensed m n (λ key. recordedAfter key c (answerOf (does b c)) (before key)) (answers (bookAfter b (does b c)) cs))
+    size keys
+    (licensed-from (bookAfter b (does b c)) _ cs (λ key. kept-call _ sound-kept key b c noMoves (does b c) refl (s key))
+    (λ key. call-recorded key b c (does b c) refl (s key) ∙ ap (recordedAfter key c (answerOf (does b c))) (is key)))
 
 -- On a fresh book, with nothing recorded, the licence's sentence holds of every list of calls.
-pub licensed : (size heads : ℕ) (cs : List Call) → Licensed size heads (λ key. []) cs (answers (fresh size heads) cs)
+pub licensed : (size heads : ℕ) (cs : List Call) → Licensed size heads (λ key. []) (answers (fresh size heads) cs)
 licensed size heads cs =
-    subst (λ (n : ℕ). Licensed size n (λ key. []) cs (answers (fresh size heads) cs)) (length-replicate heads emptyKey)
+    subst (λ (n : ℕ). Licensed size n (λ key. []) (answers (fresh size heads) cs)) (length-replicate heads emptyKey)
     (licensed-from (fresh size heads) (λ key. []) cs (λ key. rw (fresh-key size heads key) empty-sound)
     (λ key. ap (λ (k : Key). k .list) (fresh-key size heads key)))
 
 -- What the licence's sentence says of a read with room enough, on a key of a book in shape: it is accepted, and tells what is recorded.
-pub read-accepted : (size heads key room : ℕ) (a : Answer Told) (numbers : List ℕ) → AnsweredBy size heads (read key room) a numbers
-    → outOfShape size heads ≡ false → key < heads → length numbers ≤ room
-    → (pages : ℕ) × (a ≡ accepted (listed (record { numbers = numbers; pages = pages })))
+pub read-accepted : (size heads key room : ℕ) (a : Answer Listed) (recorded : ℕ → List ℕ) → AnsweredBy size heads (read key room) a recorded
+    → outOfShape size heads ≡ false → key < heads → length (recorded key) ≤ room
+    → (l : Listed) × (a ≡ accepted l) × (l .numbers ≡ recorded key)
 unfolding AnsweredBy
-read-accepted size heads key room (accepted told) numbers (many, is) shape low fits = (many, ap accepted is)
-read-accepted size heads key room (refused number) numbers by shape low fits =
+read-accepted size heads key room (accepted l) recorded is shape low fits = (l, refl, is)
+read-accepted size heads key room (refused number) recorded by shape low fits =
     absurd (⊎-elim (λ (is, out). false≢true (sym shape ∙ out)) (λ r. ⊎-elim (λ (is, beyond). omega arith) (λ (is, short). omega arith) r) by)

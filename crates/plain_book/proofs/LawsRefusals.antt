@@ -9,14 +9,14 @@ use lib.ListN.{length}
 use Rattle.error.specs.Refusal.{Answer, accepted, refused, refuseIf, andThen, answered, shapeBad, keyBeyond, keyInUse, tooManyOffered}
 use Rattle.error.specs.Refusal.{offeredFirstZero, offeredBit63, offeredTooLarge, offeredNotRising, listTooShort, noRoom}
 use Rattle.scripthash_layout.specs.Sizes.{slabBytes, pageClass}
-use Rattle.book_rules.specs.Places.{stays}
-use Rattle.book_statements.specs.Calls.{Call, load, append, read, drop, answersTo}
 use Rattle.book_rules.specs.Outcomes.{answerOf, bookAfter}
+use Rattle.book_statements.specs.Calls.{Enquiry, read, Change, load, append, drop, Call, ask, change, answersTo}
+use Rattle.book_rules.specs.Places.{stays}
 use Rattle.book_rules.specs.Offered.{offeredNumber, offeredList}
 use Rattle.plain_book.specs.Space.{Space, takeMark, rounded, takeRun, takeFresh, takeFrom, runAtMark}
 use Rattle.plain_book.specs.Key.{Place, empty, inline, slab, pages, moved, joins, beginPage, appendPages, appendPlace, loadInto}
 use Rattle.plain_book.specs.Key.{loadPlace, longer}
-use Rattle.plain_book.specs.Book.{Book, Outcome, onKey, loads, appends, reads, drops, does, answers}
+use Rattle.plain_book.specs.Book.{Book, Outcome, onKey, loads, appends, reads, drops, does, answers, asks}
 use Rattle.plain_book.specs.Refusals.{plainRefusals, isOneOf, RefusedBy, EachRefusedBy}
 
 -- An answer of the plain book is accepted, or refused with one of its numbers.
@@ -106,18 +106,22 @@ key-plain : {A : Type 0} (b : Book) (key : ℕ) (after : Answer A) → Plain aft
 unfolding onKey isOneOf plainRefusals
 key-plain b key after p = by-test _ shapeBad _ refl (by-test _ keyBeyond _ refl p)
 
--- A call on any plain book is accepted, or refused with one of its numbers.
-pub call-refused : (b : Book) (c : Call) → RefusedBy plainRefusals (does b c)
-unfolding does loads appends reads drops isOneOf plainRefusals
-call-refused b (load key ns) =
+-- A change of any plain book is accepted, or refused with one of its numbers.
+pub change-refused : (b : Book) (c : Change) → RefusedBy plainRefusals (does b c)
+unfolding does loads appends drops isOneOf plainRefusals
+change-refused b (load key ns) =
     key-plain b key _ (by-test _ keyInUse _ refl (by-test _ tooManyOffered _ refl (list-plain true 0 ns _
     (by-part _ _ (load-plain _ ns _) (λ p. value _)))))
-call-refused b (append key n) = key-plain b key _ (number-plain true _ n _ (by-part _ _ (append-plain _ _ _ n _ _) (λ p. value _)))
-call-refused b (read key room) = key-plain b key _ (by-test _ listTooShort _ refl (value _))
-call-refused b (drop key) = key-plain b key _ (value _)
+change-refused b (append key n) = key-plain b key _ (number-plain true _ n _ (by-part _ _ (append-plain _ _ _ n _ _) (λ p. value _)))
+change-refused b (drop key) = key-plain b key _ (value _)
 
--- What a call tells is refused alike.
-told-plain : (a : Answer Outcome) → Plain a → Plain (answerOf a)
+-- So is an enquiry.
+pub enquiry-refused : (b : Book) (q : Enquiry) → RefusedBy plainRefusals (asks b q)
+unfolding asks reads isOneOf plainRefusals
+enquiry-refused b (read key room) = key-plain b key _ (by-test _ listTooShort _ refl (value _))
+
+-- What a change tells is refused alike.
+told-plain : {T : Type 0} (a : Answer (Outcome T)) → Plain a → Plain (answerOf a)
 unfolding answered RefusedBy
 told-plain (accepted o) p = tt
 told-plain (refused number) p = p
@@ -126,4 +130,5 @@ told-plain (refused number) p = p
 pub answers-refused : (b : Book) (cs : List Call) → EachRefusedBy plainRefusals (answers b cs)
 unfolding answersTo EachRefusedBy
 answers-refused b [] = tt
-answers-refused b (c ∷ cs) = (told-plain (does b c) (call-refused b c), answers-refused (bookAfter b (does b c)) cs)
+answers-refused b (ask q ∷ cs) = (enquiry-refused b q, answers-refused b cs)
+answers-refused b (change c ∷ cs) = (told-plain (does b c) (change-refused b c), answers-refused (bookAfter b (does b c)) cs)

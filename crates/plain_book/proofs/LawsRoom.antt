@@ -1,4 +1,4 @@
--- Room: a call that is refused with 36 is accepted on the same plain book with a body that goes on far enough behind the mark. Assumes nothing.
+-- Room: a change that is refused with 36 is accepted on the same plain book with a body that goes on far enough behind the mark. Assumes nothing.
 use Prim.Native.Nat.{ℕ, zero, suc, _+_, _*_, _≤_}
 use mathlib.Core.Bool.{Bool, true, false, cond}
 use mathlib.Core.List.{List, [], _∷_, _++_}
@@ -14,15 +14,15 @@ use Rattle.scripthash_layout.specs.Sizes.{slabBytes, pageClass, pageSize}
 use Rattle.scripthash_layout.proofs.LawsSizes.{size-mono}
 use Rattle.scripthash_stream.specs.Stream.{streamLen}
 use Rattle.scripthash_cutting.specs.Cutting.{cutting}
+use Rattle.book_statements.specs.Calls.{Change, load, append, drop}
 use Rattle.book_limits.specs.Limits.{outOfShape, pageAfter}
 use Rattle.book_rules.specs.Places.{stays, movesTo, loadsTo}
-use Rattle.book_statements.specs.Calls.{Call, load, append, read, drop}
 use Rattle.book_rules.specs.Offered.{offeredNumber, offeredList}
 use Rattle.book_rules.proofs.LawsRules.{moves-to, loads-to}
 use Rattle.plain_book.specs.Space.{Space, takeMark, rounded, takeRun, takeFresh, takeFrom, runAtMark}
 use Rattle.plain_book.specs.Key.{Place, empty, inline, slab, pages, moved, joins, beginPage, appendPages, appendPlace}
 use Rattle.plain_book.specs.Key.{emptyKey, loadInto, loadPlace, longer}
-use Rattle.plain_book.specs.Book.{Book, onKey, keyOf, loads, appends, reads, drops, does}
+use Rattle.plain_book.specs.Book.{Book, onKey, keyOf, loads, appends, drops, does}
 use Rattle.plain_book.specs.Grown.{grown, pagesEnough}
 use Rattle.plain_book.proofs.LawsHistory.{all-same}
 
@@ -147,10 +147,10 @@ module _ (b : Book) (bytes n : ℕ) (shape : outOfShape (b .size + bytes) (lengt
       after-shape false true q e = let z : 2 ≡ noRoom = cc in absurd (omega arith)
       after-shape false false q e = there (g e) (leb-false (length (b .keys)) key q)
 
-  -- A call that is refused with 36 is accepted on the grown book, if it has room enough.
-  pub room-accepts : (c : Call) → pageAfter (b .space .mark) + pagesEnough c * pageSize ≤ b .size + bytes
+  -- A change that is refused with 36 is accepted on the grown book, if it has room enough.
+  pub room-accepts : (c : Change) → pageAfter (b .space .mark) + pagesEnough c * pageSize ≤ b .size + bytes
       → does b c ≡ refused noRoom → Accepts (does (grown bytes n b) c)
-  unfolding does loads appends reads drops
+  unfolding does loads appends drops
   room-accepts (load key ns) h =
       rw (key-grown key)
       (key-grows key _ _ (if-grows _ _ _ _ (λ z. omega arith) (if-grows _ _ _ _ (λ z. omega arith) (list-grows true 0 ns _ _
@@ -158,5 +158,4 @@ module _ (b : Book) (bytes n : ℕ) (shape : outOfShape (b .size + bytes) (lengt
   room-accepts (append key m) h =
       rw (key-grown key)
       (key-grows key _ _ (number-grows true _ m _ _ (λ e. then-accepts _ _ (append-accepts (b .size + bytes) _ _ m _ (b .space) (omega arith)))))
-  room-accepts (read key room) h = rw (key-grown key) (key-grows key _ _ (if-grows _ _ _ _ (λ z. omega arith) (λ e. (_, refl))))
   room-accepts (drop key) h = rw (key-grown key) (key-grows key _ _ (λ e. (_, refl)))

@@ -10,14 +10,14 @@ use lib.Dec.{eqb}
 use lib.ListN.{length}
 use borrow.Author.Tests.{eqb-true}
 use Rattle.error.specs.Refusal.{Answer, accepted, refused}
-use Rattle.book_statements.specs.Calls.{Call, load, append, read, drop, afterCalls}
 use Rattle.book_rules.specs.Outcomes.{bookAfter}
+use Rattle.book_statements.specs.Calls.{Change, load, append, drop, Made, Call, ask, change, afterCalls}
 use Rattle.book_statements.specs.Moves.{noMoves}
 use Rattle.plain_book.specs.Space.{Space}
 use Rattle.plain_book.specs.Key.{Place, empty, inline, slab, pages, Key, totalOf, countedAfter, keyIn, emptyKey}
 use Rattle.plain_book.specs.Book.{Book, fresh, Outcome, keyOf, withKey, inUse, does, after, NeverDropped}
 use Rattle.plain_book.specs.Sound.{Known, SoundKey}
-use Rattle.plain_book.proofs.LawsHistory.{load-did, append-did, read-did, drop-did, key-with, KeptByCalls, kept-call, kept-calls}
+use Rattle.plain_book.proofs.LawsHistory.{load-did, append-did, drop-did, key-with, KeptByCalls, kept-call, kept-calls}
 use Rattle.plain_book.proofs.LawsHistory.{kept-fresh}
 use Rattle.plain_book.proofs.LawsSound.{sound-kept}
 
@@ -87,33 +87,31 @@ uncounted-with b own key k space within is f new =
     go true e = new (sym (eqb-true key own e))
     go false e = f
 
--- A call that isn't a drop of the key leaves it so.
-uncounted-call : (key : ℕ) (b : Book) (c : Call) (a : Answer Outcome) → does b c ≡ a → SoundKey (keyOf key b) → keyOf key b .counted ≡ false
+-- A change that isn't a drop of the key leaves it so.
+uncounted-call : (key : ℕ) (b : Book) (c : Change) (a : Answer (Outcome (Made c))) → does b c ≡ a → SoundKey (keyOf key b) → keyOf key b .counted ≡ false
     → c ≢ drop key
     → keyOf key (bookAfter b a) .counted ≡ false
 unfolding does bookAfter
 uncounted-call key b c (refused number) e s f ne = f
 uncounted-call key b (load own ns) (accepted o) e s f ne =
     let (p, within, free, rises, got, is) = load-did b own ns e in
-    uncounted-with b own key (keyIn ns (p .place) true) (p .space) within (ap (λ (x : Outcome). x .book) is) f
+    uncounted-with b own key (keyIn ns (p .place) true) (p .space) within (ap (λ (x : Outcome _). x .book) is) f
     (λ (z : own ≡ key).
     absurd (false≢true (sym (rw z at free) ∙ uncounted-used (keyOf key b .place) (keyOf key b .counted) f (s .known))))
 uncounted-call key b (append own n) (accepted o) e s f ne =
     let (p, within, rises, low, got, is) = append-did b own n e in
-    uncounted-with b own key (keyIn _ (p .place) _) (p .space) within (ap (λ (x : Outcome). x .book) is) f
+    uncounted-with b own key (keyIn _ (p .place) _) (p .space) within (ap (λ (x : Outcome _). x .book) is) f
     (λ (z : own ≡ key). rw z (uncounted-append (keyOf key b .place) (keyOf key b .counted) f (s .known)))
-uncounted-call key b (read own room) (accepted o) e s f ne =
-    let (within, is) = read-did b own room e in
-    ap (λ (x : Outcome). keyOf key (x .book) .counted) is ∙ f
 uncounted-call key b (drop own) (accepted o) e s f ne =
     let (within, is) = drop-did b own e in
-    uncounted-with b own key emptyKey _ within (ap (λ (x : Outcome). x .book) is) f (λ (z : own ≡ key). absurd (ne (ap drop z)))
+    uncounted-with b own key emptyKey _ within (ap (λ (x : Outcome _). x .book) is) f (λ (z : own ≡ key). absurd (ne (ap drop z)))
 
 -- Take any book with a sound key that was never counted, and any list of calls without a drop of it: it tells no total afterwards.
 pub uncounted-from : (b : Book) (key : ℕ) (cs : List Call) → SoundKey (keyOf key b) → keyOf key b .counted ≡ false → NeverDropped key cs
     → totalOf (keyOf key (after b cs)) ≡ 0
 unfolding afterCalls NeverDropped
 uncounted-from b key [] s f never = rw f refl
-uncounted-from b key (c ∷ cs) s f (ne, never) =
+uncounted-from b key (ask q ∷ cs) s f (ne, never) = uncounted-from b key cs s f never
+uncounted-from b key (change c ∷ cs) s f (ne, never) =
     uncounted-from (bookAfter b (does b c)) key cs (kept-call _ sound-kept key b c noMoves (does b c) refl s)
-    (uncounted-call key b c (does b c) refl s f ne) never
+    (uncounted-call key b c (does b c) refl s f (λ (z : c ≡ drop key). ne (ap change z))) never

@@ -10,8 +10,8 @@ use Rattle.error.specs.Refusal.{shapeBad, keyBeyond, keyInUse, tooManyOffered}
 use Rattle.scripthash_layout.specs.Sizes.{pageClass}
 use Rattle.scripthash_layout.specs.Head.{payloadStart}
 use Rattle.scripthash_stream.specs.Stream.{maxOffered, lastFrom}
-use Rattle.book_statements.specs.Calls.{Call, load, append, read, drop, afterCalls}
-use Rattle.book_rules.specs.Outcomes.{Told, loaded, appended, listed, dropped, OutcomeOf}
+use Rattle.book_rules.specs.Outcomes.{Loaded, Appended, Listed, Dropped, loadedIn, appendedAt, listing, droppedOf, OutcomeOf}
+use Rattle.book_statements.specs.Calls.{Enquiry, read, Change, load, append, drop, Call, change, Said, Made, Serves, Answers, afterCalls}
 use Rattle.book_statements.specs.Calls.{answersTo}
 use Rattle.book_rules.specs.Offered.{offeredNumber, offeredList}
 use Rattle.book_limits.specs.Limits.{outOfShape}
@@ -30,9 +30,9 @@ abbrev pub fresh : ℕ → ℕ → Book
 fresh size heads =
     record { size = size; keys = replicate heads emptyKey; space = record { mark = payloadStart; stacks = replicate (pageClass + 1) [] } }
 
--- What an accepted call tells, and the book afterwards.
-abbrev pub Outcome : Type 0
-Outcome = OutcomeOf Book
+-- What an accepted change tells, and the book afterwards.
+abbrev pub Outcome : Type 0 → Type 0
+Outcome T = OutcomeOf Book T
 
 -- ---- what is turned back
 
@@ -59,7 +59,7 @@ inUse (slab class off kept) = true
 inUse (pages ps) = true
 
 -- A load: onto an empty key.
-unfoldable pub loads : Book → ℕ → List ℕ → Answer Outcome
+unfoldable pub loads : Book → ℕ → List ℕ → Answer (Outcome Loaded)
 loads b key ns =
     onKey b key
     (refuseIf (inUse (keyOf key b .place)) keyInUse
@@ -67,7 +67,7 @@ loads b key ns =
     (offeredList true 0 ns
     (andThen (loadPlace (b .size) ns (b .space))
     (λ p. accepted (record {
-      told = loaded (record { pages = pagesOf (p .place) });
+      told = loadedIn (pagesOf (p .place));
       book = withKey key (keyIn ns (p .place) true) (p .space) b;
     }))))))
 
@@ -76,51 +76,58 @@ abbrev pub extended : List ℕ → ℕ → List ℕ
 extended ns n = ns ++ (n ∷ [])
 
 -- An append of one number to a key.
-unfoldable pub appends : Book → ℕ → ℕ → Answer Outcome
+unfoldable pub appends : Book → ℕ → ℕ → Answer (Outcome Appended)
 appends b key n =
     onKey b key
     (let list = extended (keyOf key b .list) n in
     offeredNumber true (lastFrom 0 (keyOf key b .list)) n
     (andThen (appendPlace (b .size) (length (keyOf key b .list)) list n (keyOf key b .place) (b .space))
     (λ p. accepted (record {
-      told = appended (record { place = headOf list (p .place); rewritten = p .rewritten });
+      told = appendedAt (headOf list (p .place)) (p .rewritten);
       book = withKey key (keyIn list (p .place) (countedAfter (keyOf key b .place) (keyOf key b .counted))) (p .space) b;
     }))))
 
 -- A read of a key into a lent list with room for some numbers.
-unfoldable pub reads : Book → ℕ → ℕ → Answer Outcome
+unfoldable pub reads : Book → ℕ → ℕ → Answer Listed
 reads b key room =
     onKey b key
     (refuseIf (ltb room (length (keyOf key b .list))) listTooShort
-    (accepted (record { told = listed (record { numbers = keyOf key b .list; pages = pagesOf (keyOf key b .place) }); book = b })))
+    (accepted (listing (keyOf key b .list) (pagesOf (keyOf key b .place)))))
 
 -- A drop of a key: its place is freed.
-unfoldable pub drops : Book → ℕ → Answer Outcome
+unfoldable pub drops : Book → ℕ → Answer (Outcome Dropped)
 drops b key =
     onKey b key
     (accepted (record {
-      told = dropped (record { length = length (keyOf key b .list) });
+      told = droppedOf (length (keyOf key b .list));
       book = withKey key emptyKey (freedPlace (keyOf key b .place) (b .space)) b;
     }))
 
--- What a call does.
-unfoldable pub does : Book → Call → Answer Outcome
+-- What an enquiry answers.
+unfoldable pub asks : Book → (q : Enquiry) → Answer (Said q)
+asks b (read key room) = reads b key room
+
+-- What a change does.
+unfoldable pub does : Book → (c : Change) → Answer (Outcome (Made c))
 does b (load key ns) = loads b key ns
 does b (append key n) = appends b key n
-does b (read key room) = reads b key room
 does b (drop key) = drops b key
+
+-- The plain book as calls see it.
+abbrev pub serves : Serves Book
+serves = record { asks = asks; does = does }
 
 -- ---- histories
 
 -- The book after a list of calls.
 abbrev pub after : Book → List Call → Book
-after b cs = afterCalls does b cs
+after b cs = afterCalls serves b cs
 
--- The answers to a list of calls, each on the book that the one before it left.
-abbrev pub answers : Book → List Call → List (Answer Told)
-answers b cs = answersTo does b cs
+-- The answers to a list of calls, each on the book that those before it left.
+abbrev pub answers : Book → (cs : List Call) → Answers cs
+answers b cs = answersTo serves b cs
 
 -- None of some calls is a drop of a key.
 unfoldable pub NeverDropped : ℕ → List Call → Type 0
 NeverDropped key [] = Unit {0}
-NeverDropped key (c ∷ cs) = (c ≢ drop key) × NeverDropped key cs
+NeverDropped key (c ∷ cs) = (c ≢ change (drop key)) × NeverDropped key cs

@@ -6,6 +6,7 @@ use mathlib.Core.Path.{_≡_}
 use lib.Dec.{eqb}
 use Rattle.error.specs.Refusal.{Answer, accepted, refused, shapeBad, keyBeyond, keyInUse, tooManyOffered, offeredFirstZero, offeredBit63}
 use Rattle.error.specs.Refusal.{offeredTooLarge, offeredNotRising, listTooShort, noRoom}
+use Rattle.book_statements.specs.Calls.{Call, Answers, done, asked, changed}
 
 -- The numbers that document 01 names for the plain book: 1, 2, 3, 10, 12 to 14, 32, 34 and 36.
 unfoldable pub plainRefusals : List ℕ
@@ -23,7 +24,8 @@ unfoldable pub RefusedBy : {A : Type 0} → List ℕ → Answer A → Type 0
 RefusedBy numbers (accepted x) = Unit {0}
 RefusedBy numbers (refused m) = isOneOf m numbers ≡ true
 
--- So is each of some answers.
-unfoldable pub EachRefusedBy : {A : Type 0} → List ℕ → List (Answer A) → Type 0
-EachRefusedBy numbers [] = Unit {0}
-EachRefusedBy numbers (a ∷ rest) = RefusedBy numbers a × EachRefusedBy numbers rest
+-- So is each answer to a list of calls.
+unfoldable pub EachRefusedBy : List ℕ → {cs : List Call} → Answers cs → Type 0
+EachRefusedBy numbers done = Unit {0}
+EachRefusedBy numbers (asked a rest) = RefusedBy numbers a × EachRefusedBy numbers rest
+EachRefusedBy numbers (changed a rest) = RefusedBy numbers a × EachRefusedBy numbers rest

@@ -1,7 +1,7 @@
 -- `put_append` meets its contract. Assumes nothing.
 use mathlib.Core.Path.{ap}
 use Rattle.book_calls.proofs.LawsPut.{re-said}
-use Rattle.book_append.specs.Answers.{appendAnswer}
+use Rattle.book_calls.specs.Flat.{appendTold}
 use borrow.Author.Needs.{needs}
 use Rattle.book_calls.proofs.answers.put_append.Statement.{statement}
 use Rattle.book_calls.proofs.answers.put_append.Tie as tie
@@ -24,7 +24,7 @@ same-length c = search needs
 returns : tie.Need-returns
 returns c =
     let told = c .before .before .before .before .before .answer .given .1 in
-    re-said (ap appendAnswer told) (c .before .before .put-appended .ensures)
+    re-said (ap appendTold told) (c .before .before .put-appended .ensures)
 
 same-length-2 : tie.Need-same-length-2
 same-length-2 c = search needs
@@ -32,7 +32,7 @@ same-length-2 c = search needs
 returns-2 : tie.Need-returns-2
 returns-2 c =
     let told = c .before .before .before .before .before .answer2 .given .1 in
-    re-said (ap appendAnswer told) (c .before .before .put-refusal .ensures)
+    re-said (ap appendTold told) (c .before .before .put-refusal .ensures)
 
 pub put-append-spec : {M : Type 1} → statement M
 put-append-spec =

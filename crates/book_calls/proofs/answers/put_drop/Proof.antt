@@ -1,6 +1,6 @@
 -- `put_drop` meets its contract. Assumes nothing.
 use mathlib.Core.Path.{ap}
-use Rattle.book_drop.specs.Answers.{dropAnswer}
+use Rattle.book_calls.specs.Flat.{dropTold}
 use Rattle.book_calls.proofs.LawsPut.{re-said, drop-put}
 use borrow.Author.Needs.{needs}
 use Rattle.book_calls.proofs.answers.put_drop.Statement.{statement}
@@ -24,7 +24,7 @@ same-length c = search needs
 returns : tie.Need-returns
 returns c =
     let told = c .before .before .before .before .before .answer .given .1 in
-    re-said (ap dropAnswer told) (drop-put _ _ _ (c .before .before .put-three .ensures))
+    re-said (ap dropTold told) (drop-put _ _ _ (c .before .before .put-three .ensures))
 
 same-length-2 : tie.Need-same-length-2
 same-length-2 c = search needs
@@ -32,7 +32,7 @@ same-length-2 c = search needs
 returns-2 : tie.Need-returns-2
 returns-2 c =
     let told = c .before .before .before .before .before .answer2 .given .1 in
-    re-said (ap dropAnswer told) (c .before .before .put-refusal .ensures)
+    re-said (ap dropTold told) (c .before .before .put-refusal .ensures)
 
 pub put-drop-spec : {M : Type 1} → statement M
 put-drop-spec =

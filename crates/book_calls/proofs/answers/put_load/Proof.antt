@@ -1,6 +1,6 @@
 -- `put_load` meets its contract. Assumes nothing.
 use mathlib.Core.Path.{ap}
-use Rattle.book_load.specs.Answers.{loadAnswer}
+use Rattle.book_calls.specs.Flat.{loadTold}
 use Rattle.book_calls.proofs.LawsPut.{re-said, load-put}
 use borrow.Author.Needs.{needs}
 use Rattle.book_calls.proofs.answers.put_load.Statement.{statement}
@@ -24,7 +24,7 @@ same-length c = search needs
 returns : tie.Need-returns
 returns c =
     let told = c .before .before .before .before .before .answer .given .1 in
-    re-said (ap loadAnswer told) (load-put _ _ _ (c .before .before .put-three .ensures))
+    re-said (ap loadTold told) (load-put _ _ _ (c .before .before .put-three .ensures))
 
 same-length-2 : tie.Need-same-length-2
 same-length-2 c = search needs
@@ -32,7 +32,7 @@ same-length-2 c = search needs
 returns-2 : tie.Need-returns-2
 returns-2 c =
     let told = c .before .before .before .before .before .answer2 .given .1 in
-    re-said (ap loadAnswer told) (c .before .before .put-refusal .ensures)
+    re-said (ap loadTold told) (c .before .before .put-refusal .ensures)
 
 pub put-load-spec : {M : Type 1} → statement M
 put-load-spec =

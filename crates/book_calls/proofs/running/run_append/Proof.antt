@@ -1,6 +1,9 @@
 -- `run_append` meets its contract: the append's own, and the words of its answer. Assumes nothing.
-use mathlib.Core.Path.{sym}
-use Rattle.book_history.specs.Calls.{does}
+use mathlib.Core.Path.{sym, ap, _∙_}
+use Rattle.error.specs.Refusal.{answered}
+use Rattle.book_words.specs.Spelled.{appended as spelled}
+use Rattle.book_calls.specs.Flat.{doesSpelled}
+use Rattle.book_calls.proofs.LawsFlat.{retold-book, retold-answer, append-told}
 use Rattle.book_calls.proofs.LawsPut.{re-said}
 use Rattle.book_calls.proofs.LawsRun.{short-as, append-short}
 use Rattle.book_words.specs.SpellCalls.{answerRoom}
@@ -29,12 +32,14 @@ same-length-3 : tie.Need-same-length-3
 same-length-3 c = search needs
 
 returns : tie.Need-returns
-unfolding does answerRoom
+unfolding doesSpelled answerRoom
 returns c =
+    let did = appended c .append in
+    let told = append-told (did .result .answer) ∙ ap (answered spelled) (did .ensures .0) ∙ sym (retold-answer spelled _) in
     record {
-      left = appended c .append .ensures .1;
-      said = re-said (sym (appended c .append .ensures .0)) (c .before .before .put-append .ensures);
-      short = short-as (appended c .append .ensures .0) (append-short (appended c .append .result .answer));
+      left = did .ensures .1 ∙ sym (retold-book spelled _ _);
+      said = re-said (sym told) (c .before .before .put-append .ensures);
+      short = short-as told (append-short (did .result .answer));
     }
 
 pub run-append-spec : {M : Type 1} → statement M

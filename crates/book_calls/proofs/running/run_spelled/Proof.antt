@@ -7,7 +7,7 @@ use native.Mathlib.Omega.{arith}
 use borrow.Author.Needs.{needs}
 use borrow.Rule.Slice.PartMut.{putMid}
 use lib.ListN.{length, drop}
-use Rattle.book_statements.specs.Calls.{Call}
+use Rattle.book_words.specs.Spelled.{SpelledCall}
 use Rattle.book.specs.Book.{Book}
 use Rattle.book.specs.Answers.{bookOf}
 use Rattle.book_words.specs.SpellCalls.{callAt, callsOf}
@@ -22,7 +22,7 @@ use Rattle.book_calls.proofs.running.run_spelled.Tie as tie
 abbrev Inv-loop : tie.InvT-loop
 Inv-loop body₀ heads₀ calls out₀ current₀ at₀ to₀ body heads out current at to =
     (length body ≡ length body₀) × (length heads ≡ length heads₀) × (length out ≡ length out₀) × (at ≤ length calls) × (to ≤ length out)
-    × ((cs : List Call) → callsOf calls ≡ some cs
+    × ((cs : List SpelledCall) → callsOf calls ≡ some cs
     → Running (bookOf body₀ heads₀ current₀) cs calls out₀ (bookOf body heads current) out at to)
 
 abbrev μ-loop : tie.MeasureT-loop
@@ -60,7 +60,7 @@ module _ (d : tie.After-run-call Inv-loop μ-loop) where
   abbrev known : tie.After-known-told Inv-loop μ-loop
   known = d .before .before .before .before
 
-  stepped : (cs : List Call) → callsOf (words known) ≡ some cs
+  stepped : (cs : List SpelledCall) → callsOf (words known) ≡ some cs
       → Running (first known) cs (words known) (start known .args .out .now)
       (bookOf (d .run-call .last .0) (d .run-call .last .1 .0) (d .run-call .result .state))
       (putMid (to known) (length (out known) - to known) (out known) (d .run-call .last .1 .1 .1 .1 .1 .0))

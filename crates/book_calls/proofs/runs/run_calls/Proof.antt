@@ -6,7 +6,7 @@ use mathlib.Core.Path.{_≡_, refl, sym, _∙_}
 use borrow.Author.Tests.{not-true, not-false, leb-true}
 use lib.Dec.{leb}
 use lib.ListN.{length}
-use Rattle.book_statements.specs.Calls.{Call}
+use Rattle.book_words.specs.Spelled.{SpelledCall}
 use Rattle.book_words.specs.SpellCalls.{callsOf, answersRoom}
 use Rattle.book_calls.specs.Steps.{isSome}
 use Rattle.book_calls.proofs.LawsFresh.{was-some, was-none, unspelled, too-short, all-ran}
@@ -27,7 +27,7 @@ module _ (c : tie.Else2) where
   abbrev told : tie.Else1
   told = c .before .before
 
-  fit : (cs : List Call) → callsOf (start told .args .calls .now) ≡ some cs
+  fit : (cs : List SpelledCall) → callsOf (start told .args .calls .now) ≡ some cs
       → leb (answersRoom cs) (length (start told .args .answers .now)) ≡ true
   fit cs e = sym (c .before .calls-fit .ensures cs e) ∙ not-false (c .before .calls-fit .result) (c .if2 .left)
 

@@ -6,7 +6,7 @@ use mathlib.Core.Path.{_≡_, subst}
 use native.Mathlib.Omega.{arith}
 use borrow.Author.Needs.{needs}
 use lib.ListN.{length, drop}
-use Rattle.book_statements.specs.Calls.{Call}
+use Rattle.book_words.specs.Spelled.{SpelledCall}
 use Rattle.book_words.specs.SpellCalls.{callAt, callsOf}
 use Rattle.book_calls.specs.Steps.{NextIs, RoomIs}
 use Rattle.book_calls.specs.declared.words.NextCall.the-variants.{At}
@@ -16,7 +16,7 @@ use Rattle.book_calls.proofs.words.calls_fit.Tie as tie
 
 abbrev Inv-loop : tie.InvT-loop
 Inv-loop calls room left₀ at₀ left at =
-    (at ≤ length calls) × ((cs : List Call) → callsOf calls ≡ some cs → Fitting calls room at left cs)
+    (at ≤ length calls) × ((cs : List SpelledCall) → callsOf calls ≡ some cs → Fitting calls room at left cs)
 
 abbrev μ-loop : tie.MeasureT-loop
 μ-loop calls room left₀ at₀ left at = length calls - at

@@ -7,7 +7,6 @@ use borrow.Author.Needs.{needs}
 use lib.ListN.{length, drop}
 use Rattle.book_words.specs.SpellCalls.{callAt, callsOf}
 use Rattle.book_calls.specs.Steps.{isSome, NextIs}
-use Rattle.book_calls.specs.declared.words.NextCall.{NextCall}
 use Rattle.book_calls.specs.declared.words.NextCall.the-variants.{At, Nowhere}
 use Rattle.book_calls.proofs.LawsSteps.{was-somewhere, spelled-end, spelled-nowhere, spelled-next}
 use Rattle.book_calls.proofs.words.calls_spelled.Statement.{statement}

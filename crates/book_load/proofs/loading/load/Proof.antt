@@ -11,6 +11,7 @@ use Rattle.error.proofs.LawsAnswer.{accepted-inj}
 use Rattle.scripthash_stream.specs.Stream.{Rising, streamLen, maxOffered}
 use Rattle.scripthash_stream.specs.Answers.{bytesAnswer}
 use Rattle.book_rules.proofs.LawsOffered.{offered-all}
+use Rattle.book_rules.specs.Outcomes.{Loaded}
 use Rattle.book_space.specs.Space.{shapeBroken}
 use Rattle.book_space.specs.Answers.{spaceOf}
 use Rattle.book_space.proofs.LawsShape.{shape-holds}
@@ -34,7 +35,7 @@ module _ (c : tie.Start) where
   abbrev list : List ℕ
   list = c .args .fks .now
 
-  abbrev load : Answer Outcome
+  abbrev load : Answer (Outcome Loaded)
   load = loads book key list
 
 -- the book is in shape

@@ -56,10 +56,10 @@ module _ (c : tie.After-read-key) where
   abbrev call : tie.Start
   call = at (there .before)
 
-  is : reads (book call) (call .args .key) (room call) ≡ answered (λ k. reading k (book call)) (inRoom (room call) (held call))
+  is : reads (book call) (call .args .key) (room call) ≡ answered reading (inRoom (room call) (held call))
   is =
       read-key (book call) (call .args .key) (room call) (whole (there .before)) (there .if2 .left)
-      ∙ ap (λ (a : Answer Content). answered (λ k. reading k (book call)) (inRoom (room call) a)) (bare call)
+      ∙ ap (λ (a : Answer Content). answered reading (inRoom (room call) a)) (bare call)
 
 shape-broken-requires : tie.Need-shape-broken-requires
 shape-broken-requires c κs = search needs
@@ -101,7 +101,7 @@ returns-3 c =
     let r = c .before .before .before .before .before in
     let t = call r in
     let number = refused-as _ _ (ap countsAnswer (c .before .enum-told .given .1)) (c .refusal .ensures) in
-    read-refused _ (book t) (held t) (countsAnswer (r .read-key .result)) (t .args .out .now) _ (is r) (r .read-key .ensures) number
+    read-refused _ (held t) (countsAnswer (r .read-key .result)) (t .args .out .now) _ (is r) (r .read-key .ensures) number
 
 same-length-2 : tie.Need-same-length-2
 same-length-2 c = search needs
@@ -111,7 +111,7 @@ returns-4 c =
     let d = c .before in
     let r = d .before .before .before .before in
     let t = call r in
-    read-accepted _ (book t) (held t) (countsAnswer (r .read-key .result)) (t .args .out .now) _ (is r) (r .read-key .ensures)
+    read-accepted _ (held t) (countsAnswer (r .read-key .result)) (t .args .out .now) _ (is r) (r .read-key .ensures)
     (record { length = d .counts .given .0 .0; pages = d .counts .given .0 .1 .0 }) (ap countsAnswer (d .counts .given .1))
 
 pub read-spec : {M : Type 1} → statement M

@@ -2,7 +2,7 @@
 use mathlib.Core.Path.{_∙_, ap}
 use Rattle.error.specs.Refusal.{refusalOf}
 use Rattle.error.proofs.LawsOut.{number-answered, value-same}
-use Rattle.book_rules.specs.Outcomes.{Told}
+use Rattle.book_rules.specs.Outcomes.{Appended}
 use Rattle.book.specs.Book.{Book, Outcome}
 use Rattle.book_append.specs.Appends.{appends}
 use Rattle.ouriscado.specs.OutHead.{kindOut, classOut, usedOut, placeOut}
@@ -38,18 +38,18 @@ returns c =
     let e = r .append .ensures in
     let h = c .put-appended .ensures in
     let d = does-words (r .before .state-of .ensures) (λ (b : Book). appends b (a .key) (a .fk)) (p .put-state .ensures) (e .0) (e .1) in
-    let number = h .0 ∙ ap refusalOf (d .told) ∙ number-answered (λ (o : Outcome). o .told) _ in (
+    let number = h .0 ∙ ap refusalOf (d .told) ∙ number-answered (λ (o : Outcome Appended). o .told) _ in (
       number,
       (
         d .left,
         (
-          h .1 .0 ∙ value-same (λ (t : Told). kindOut (newPlace t)) _ (d .told),
+          h .1 .0 ∙ value-same (λ (t : Appended). kindOut (newPlace t)) _ (d .told),
           (
-            h .1 .1 .0 ∙ value-same (λ (t : Told). classOut (newPlace t)) _ (d .told),
+            h .1 .1 .0 ∙ value-same (λ (t : Appended). classOut (newPlace t)) _ (d .told),
             (
-              h .1 .1 .1 .0 ∙ value-same (λ (t : Told). usedOut (newPlace t)) _ (d .told),
+              h .1 .1 .1 .0 ∙ value-same (λ (t : Appended). usedOut (newPlace t)) _ (d .told),
               (
-                h .1 .1 .1 .1 .0 ∙ value-same (λ (t : Told). placeOut (newPlace t)) _ (d .told),
+                h .1 .1 .1 .1 .0 ∙ value-same (λ (t : Appended). placeOut (newPlace t)) _ (d .told),
                 (
                   h .1 .1 .1 .1 .1 ∙ value-same recordsRewritten _ (d .told),
                   kept-words (r .before .state-of .ensures) (p .put-state .ensures) _ number (d .left),

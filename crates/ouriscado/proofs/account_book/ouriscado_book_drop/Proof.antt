@@ -8,6 +8,7 @@ use Rattle.ouriscado.specs.OutBook.{lengthDropped}
 use Rattle.ouriscado.proofs.LawsBook.{does-words, kept-words}
 use borrow.Author.Needs.{needs}
 use Rattle.ouriscado.proofs.account_book.ouriscado_book_drop.Statement.{statement}
+use Rattle.book_rules.specs.Outcomes.{Dropped}
 use Rattle.ouriscado.proofs.account_book.ouriscado_book_drop.Tie as tie
 
 state-of-requires : tie.Need-state-of-requires
@@ -36,7 +37,7 @@ returns c =
     let e = r .drop .ensures in
     let h = c .put-dropped .ensures in
     let d = does-words (r .before .state-of .ensures) (λ (b : Book). drops b (a .key)) (p .put-state .ensures) (e .0) (e .1) in
-    let number = h .0 ∙ ap refusalOf (d .told) ∙ number-answered (λ (o : Outcome). o .told) _ in (
+    let number = h .0 ∙ ap refusalOf (d .told) ∙ number-answered (λ (o : Outcome Dropped). o .told) _ in (
       number,
       (
         d .left,

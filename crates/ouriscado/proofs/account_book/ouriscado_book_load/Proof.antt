@@ -8,6 +8,7 @@ use Rattle.ouriscado.specs.OutBook.{pagesLoaded}
 use Rattle.ouriscado.proofs.LawsBook.{does-words, kept-words}
 use borrow.Author.Needs.{needs}
 use Rattle.ouriscado.proofs.account_book.ouriscado_book_load.Statement.{statement}
+use Rattle.book_rules.specs.Outcomes.{Loaded}
 use Rattle.ouriscado.proofs.account_book.ouriscado_book_load.Tie as tie
 
 state-of-requires : tie.Need-state-of-requires
@@ -37,7 +38,7 @@ returns c =
     let h = c .put-loaded .ensures in
     let d = does-words (r .before .state-of .ensures) (λ (b : Book). loads b (a .key) (a .fks .now)) (p .put-state .ensures) (e .0)
     (e .1) in
-    let number = h .0 ∙ ap refusalOf (d .told) ∙ number-answered (λ (o : Outcome). o .told) _ in (
+    let number = h .0 ∙ ap refusalOf (d .told) ∙ number-answered (λ (o : Outcome Loaded). o .told) _ in (
       number,
       (
         d .left,

@@ -3,8 +3,7 @@ use mathlib.Core.Path.{_∙_, ap}
 use lib.ListN.{length}
 use Rattle.error.specs.Refusal.{refusalOf, answered}
 use Rattle.error.proofs.LawsOut.{number-answered, value-answered, value-same}
-use Rattle.book_rules.specs.Outcomes.{answerOf}
-use Rattle.book.specs.Book.{Book, Outcome}
+use Rattle.book.specs.Book.{Book}
 use Rattle.book_read.specs.Reads.{reads, listAfter}
 use Rattle.book_read.specs.Answers.{Counted, countedOf}
 use Rattle.ouriscado.proofs.LawsBook.{book-words, kept-list}
@@ -32,8 +31,8 @@ returns c =
     let room = length (a .out .now) in
     let same = book-words (s .state-of .ensures) in
     let h = c .put-listed .ensures in
-    let e = r .read .ensures .0 ∙ ap (λ (b : Book). answered countedOf (answerOf (reads b (a .key) room))) same in
-    let number = h .0 ∙ ap refusalOf e ∙ number-answered countedOf _ ∙ number-answered (λ (o : Outcome). o .told) _ in
+    let e = r .read .ensures .0 ∙ ap (λ (b : Book). answered countedOf (reads b (a .key) room)) same in
+    let number = h .0 ∙ ap refusalOf e ∙ number-answered countedOf _ in
     let list = r .read .ensures .1 ∙ ap (λ (b : Book). listAfter (a .out .now) (reads b (a .key) room)) same in (
       number,
       (

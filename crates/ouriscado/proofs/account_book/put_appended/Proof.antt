@@ -1,7 +1,7 @@
 -- `put_appended` hands out the new place and the records rewritten, or zeros and the refusal. Assumes nothing.
 use mathlib.Core.Path.{_∙_, ap}
 use Rattle.error.proofs.LawsOut.{number-accepted, number-refused, value-accepted, value-refused}
-use Rattle.book_rules.specs.Outcomes.{Told}
+use Rattle.book_rules.specs.Outcomes.{Appended}
 use Rattle.book_append.specs.Answers.{appendAnswer}
 use Rattle.ouriscado.specs.OutHead.{kindOut, classOut, usedOut, placeOut}
 use Rattle.ouriscado.specs.OutBook.{newPlace, recordsRewritten}
@@ -27,13 +27,13 @@ returns c =
     let yes = ap appendAnswer (c .before .before .before .before .before .before .answer .given .1) in (
       h .0 ∙ number-accepted yes,
       (
-        h .1 .0 ∙ value-accepted (λ (t : Told). kindOut (newPlace t)) _ yes,
+        h .1 .0 ∙ value-accepted (λ (t : Appended). kindOut (newPlace t)) _ yes,
         (
-          h .1 .1 .0 ∙ value-accepted (λ (t : Told). classOut (newPlace t)) _ yes,
+          h .1 .1 .0 ∙ value-accepted (λ (t : Appended). classOut (newPlace t)) _ yes,
           (
-            h .1 .1 .1 .0 ∙ value-accepted (λ (t : Told). usedOut (newPlace t)) _ yes,
+            h .1 .1 .1 .0 ∙ value-accepted (λ (t : Appended). usedOut (newPlace t)) _ yes,
             (
-              h .1 .1 .1 .1 ∙ value-accepted (λ (t : Told). placeOut (newPlace t)) _ yes,
+              h .1 .1 .1 .1 ∙ value-accepted (λ (t : Appended). placeOut (newPlace t)) _ yes,
               value-accepted recordsRewritten _ yes,
             ),
           ),
@@ -47,13 +47,13 @@ returns-2 c =
     let no = ap appendAnswer (c .before .before .before .before .before .before .answer2 .given .1) in (
       h .0 ∙ number-refused no,
       (
-        h .1 .0 ∙ value-refused (λ (t : Told). kindOut (newPlace t)) _ no,
+        h .1 .0 ∙ value-refused (λ (t : Appended). kindOut (newPlace t)) _ no,
         (
-          h .1 .1 .0 ∙ value-refused (λ (t : Told). classOut (newPlace t)) _ no,
+          h .1 .1 .0 ∙ value-refused (λ (t : Appended). classOut (newPlace t)) _ no,
           (
-            h .1 .1 .1 .0 ∙ value-refused (λ (t : Told). usedOut (newPlace t)) _ no,
+            h .1 .1 .1 .0 ∙ value-refused (λ (t : Appended). usedOut (newPlace t)) _ no,
             (
-              h .1 .1 .1 .1 ∙ value-refused (λ (t : Told). placeOut (newPlace t)) _ no,
+              h .1 .1 .1 .1 ∙ value-refused (λ (t : Appended). placeOut (newPlace t)) _ no,
               value-refused recordsRewritten _ no,
             ),
           ),
