@@ -362,4 +362,5 @@ def main():
             sys.exit(f"{path.name} isn't what the rules give")
 
 
-main()
+if __name__ == "__main__":
+    main()

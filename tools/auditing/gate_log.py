@@ -7,6 +7,8 @@ from sources import CRATES, ROOT, Wrong
 
 LOG = ROOT / "audit" / "gate.log"
 HEAD = re.compile(r"commit (?P<commit>\w+)\ndate (?P<date>.+)\ntoolchain (?P<toolchain>.+)\n")
+REFUSED = re.compile(r"^rt: must-fail (\S+): refused, as it must be \((?:first at )?(.*?)(?:; )?(\d+) s\)$", re.M)
+AT_A_TIME = re.compile(r"^gate: (\d+) checks at a time on (\d+) processors$", re.M)
 
 
 def git(*words):
@@ -15,7 +17,8 @@ def git(*words):
 
 
 class GateLog:
-    """A run of the gate: what was proved, with how many functions and axioms, which edits were refused, and which programs ran."""
+    """A run of the gate: what was proved, with how many functions and axioms, which edits were refused, and which programs ran. Crates and edits stand in the
+    order in which they were checked, with the seconds that each took on the clock; so many were checked at a time."""
 
     def __init__(self, text):
         head = HEAD.match(text)
@@ -25,7 +28,10 @@ class GateLog:
         self.lines = text.splitlines()
         self.functions, self.axioms, self.times = {}, {}, {}
         self.read_crates()
-        self.refused = dict(re.findall(r"^rt: must-fail (\S+): refused, as it must be \((?:first at )?(.*?)(?:; )?\d+ s\)$", text, re.M))
+        self.refused = {edit: place for edit, place, _ in REFUSED.findall(text)}
+        self.edit_times = {edit: int(seconds) for edit, _, seconds in REFUSED.findall(text)}
+        at_a_time = AT_A_TIME.search(text)
+        self.jobs, self.processors = (int(n) for n in at_a_time.groups()) if at_a_time else (1, 1)
         self.ran = re.findall(r"^rt: (\w+) ran\b", text, re.M)
         self.sums = set(re.findall(r"^logic=proved .*\bsum=(\w+)", text, re.M))
 

@@ -12,55 +12,32 @@ const BEFORE: u64 = 0x5a;
 // What a call answers that the program can't make, or that gives another list: no refusal has this number.
 const UNKNOWN: u32 = 0xffff_ffff;
 
+// The answer of a call that tells two numbers: those, and behind eight numbers its refusal's.
+fn answer(a: u64, b: u64, number: u32) -> [u64; 9] {
+    [a, b, 0, 0, 0, 0, 0, 0, number as u64]
+}
+
 // Loads the list of a line.
-fn load(
-    s: &[u8],
-    body: &mut [u8],
-    heads: &mut [u64],
-    state: &mut [u64; 10],
-    given: &[u64; 4],
-    told: &mut [u64; 8],
-) -> u32 {
+fn load(s: &[u8], key: u64, body: &mut [u8], heads: &mut [u64], state: &mut [u64; 10]) -> [u64; 9] {
     let mut list = memory::list();
     let count = hex_fields::numbers(field(s, 2), &mut list);
     if memory::NUMBERS < count {
-        return UNKNOWN;
+        return answer(0, 0, UNKNOWN);
     }
     let mut pages = BEFORE;
     let number = ouriscado::ouriscado_book_load(
         body,
         heads,
         state,
-        given[1],
+        key,
         &list[0..count],
         &mut pages,
     );
-    told[0] = pages;
-    number
-}
-
-// What an append tells.
-fn appended(kind: u8, class: u8, used: u16, place: u64, rewritten: u64) -> [u64; 8] {
-    [
-        kind as u64,
-        class as u64,
-        used as u64,
-        place,
-        rewritten,
-        0,
-        0,
-        0,
-    ]
+    answer(pages, 0, number)
 }
 
 // Appends a number.
-fn append(
-    body: &mut [u8],
-    heads: &mut [u64],
-    state: &mut [u64; 10],
-    given: &[u64; 4],
-    told: &mut [u64; 8],
-) -> u32 {
+fn append(key: u64, n: u64, body: &mut [u8], heads: &mut [u64], state: &mut [u64; 10]) -> [u64; 9] {
     let mut kind = BEFORE as u8;
     let mut class = BEFORE as u8;
     let mut used = BEFORE as u16;
@@ -70,153 +47,131 @@ fn append(
         body,
         heads,
         state,
-        given[1],
-        given[2],
+        key,
+        n,
         &mut kind,
         &mut class,
         &mut used,
         &mut place,
         &mut rewritten,
     );
-    *told = appended(kind, class, used, place, rewritten);
-    number
+    [
+        kind as u64,
+        class as u64,
+        used as u64,
+        place,
+        rewritten,
+        0,
+        0,
+        0,
+        number as u64,
+    ]
 }
 
 // A list holds what a line says of it, and behind that zeros.
-fn lists(s: &[u8], list: &[u64]) -> bool {
+fn lists(s: &[u8], list: &[u64; memory::NUMBERS]) -> bool {
     let mut wanted = memory::list();
     hex_fields::numbers(field(s, 4), &mut wanted);
     hex_fields::same_numbers(&wanted, list)
 }
 
-// Reads into the start of a list, with the room that a line says; the whole list then has to be the line's.
+// Reads into a list.
 fn read_into(
-    s: &[u8],
+    key: u64,
     body: &[u8],
     heads: &[u64],
     state: &[u64; 10],
-    given: &[u64; 4],
     list: &mut [u64],
-    told: &mut [u64; 8],
-) -> u32 {
-    let room = given[2] as usize;
-    if list.len() < room {
-        return UNKNOWN;
-    }
+) -> [u64; 9] {
     let mut length = BEFORE;
     let mut pages = BEFORE;
-    let part = &mut list[0..room];
     let number = ouriscado::ouriscado_book_read(
         body,
         heads,
         state,
-        given[1],
-        part,
+        key,
+        list,
         &mut length,
         &mut pages,
     );
-    told[0] = length;
-    told[1] = pages;
-    if lists(s, list) {
-        return number;
-    }
-    UNKNOWN
+    answer(length, pages, number)
 }
 
-// Reads a key.
-fn read(
-    s: &[u8],
-    body: &[u8],
-    heads: &[u64],
-    state: &[u64; 10],
-    given: &[u64; 4],
-    told: &mut [u64; 8],
-) -> u32 {
+// Reads a key into the start of a list, with the room that a line says; the whole list then has to be the line's.
+fn read(s: &[u8], key: u64, room: u64, body: &[u8], heads: &[u64], state: &[u64; 10]) -> [u64; 9] {
     let mut list = memory::list();
-    read_into(s, body, heads, state, given, &mut list, told)
+    let end = room as usize;
+    if memory::NUMBERS < end {
+        return answer(0, 0, UNKNOWN);
+    }
+    let told = read_into(key, body, heads, state, &mut list[0..end]);
+    if lists(s, &list) {
+        return told;
+    }
+    answer(0, 0, UNKNOWN)
 }
 
 // Drops a key.
-fn drop(
-    body: &mut [u8],
-    heads: &mut [u64],
-    state: &mut [u64; 10],
-    given: &[u64; 4],
-    told: &mut [u64; 8],
-) -> u32 {
+fn drop(key: u64, body: &mut [u8], heads: &mut [u64], state: &mut [u64; 10]) -> [u64; 9] {
     let mut length = BEFORE;
-    let number = ouriscado::ouriscado_book_drop(body, heads, state, given[1], &mut length);
-    told[0] = length;
-    number
+    let number = ouriscado::ouriscado_book_drop(body, heads, state, key, &mut length);
+    answer(length, 0, number)
 }
 
 // Makes the call of a line: fresh, load, append, read or drop, by the line's number.
 fn call(
     s: &[u8],
+    given: [u64; 4],
     body: &mut [u8],
     heads: &mut [u64],
     state: &mut [u64; 10],
-    given: &[u64; 4],
-    told: &mut [u64; 8],
-) -> u32 {
+) -> [u64; 9] {
     let kind = hex(part(s, 0, 2));
     match kind {
-        0x30 => ouriscado::ouriscado_book_fresh(body, heads, state),
-        0x31 => load(s, body, heads, state, given, told),
-        0x32 => append(body, heads, state, given, told),
-        0x33 => read(s, body, heads, state, given, told),
-        _ => drop(body, heads, state, given, told),
+        0x30 => answer(0, 0, ouriscado::ouriscado_book_fresh(body, heads, state)),
+        0x31 => load(s, given[1], body, heads, state),
+        0x32 => append(given[1], given[2], body, heads, state),
+        0x33 => read(s, given[1], given[2], body, heads, state),
+        _ => drop(given[1], body, heads, state),
     }
 }
 
 // Makes the call of a line on so many words of our book.
-fn call_on(
-    s: &[u8],
-    body: &mut [u8],
-    words: &mut [u64],
-    given: &[u64; 4],
-    told: &mut [u64; 8],
-) -> u32 {
+fn call_on(s: &[u8], given: [u64; 4], body: &mut [u8], words: &mut [u64]) -> [u64; 9] {
     let heads = given[0];
     if memory::HEADS < heads {
-        return UNKNOWN;
+        return answer(0, 0, UNKNOWN);
     }
     let end = memory::STATE + heads as usize;
     if words.len() < end {
-        return UNKNOWN;
+        return answer(0, 0, UNKNOWN);
     }
     let mut state = memory::state_of(words);
-    let number = call(
-        s,
-        body,
-        &mut words[memory::STATE..end],
-        &mut state,
-        given,
-        told,
-    );
+    let told = call(s, given, body, &mut words[memory::STATE..end], &mut state);
     memory::put_state(words, &state);
-    number
+    told
 }
 
-// What was told is what a line says, and nothing besides.
-fn tells(s: &[u8], told: &[u64; 8]) -> bool {
-    let mut wanted = [0u64; 8];
+// The first four numbers of a field.
+fn four(field: &[u8]) -> [u64; 4] {
+    let mut given = [0u64; 4];
+    hex_fields::numbers(field, &mut given);
+    given
+}
+
+// An answer has the refusal of a line, and tells what the line says and nothing besides.
+fn tells(s: &[u8], told: [u64; 9]) -> bool {
+    let mut wanted = [0u64; 9];
     hex_fields::numbers(field(s, 3), &mut wanted);
-    hex_fields::same_numbers(told, &wanted)
+    wanted[8] = hex(part(s, 2, 4));
+    hex_fields::same_numbers(&told, &wanted)
 }
 
 // Makes the call of a line on our book; whether it answers what the line says.
 pub fn agrees(s: &[u8], body: &mut [u8], words: &mut [u64]) -> bool {
-    let mut given = [0u64; 4];
-    hex_fields::numbers(field(s, 1), &mut given);
     let len = hex(part(s, 4, 8)) as usize;
     if body.len() < len {
         return false;
     }
-    let mut told = [0u64; 8];
-    let number = call_on(s, &mut body[0..len], words, &given, &mut told);
-    if number as u64 != hex(part(s, 2, 4)) {
-        return false;
-    }
-    tells(s, &told)
+    tells(s, call_on(s, four(field(s, 1)), &mut body[0..len], words))
 }

@@ -14,27 +14,31 @@ const WRITTEN: u64 = 0x35;
 
 const BEGINS: u64 = 0x36;
 
-// Makes the call of a line, and then compares the book with the one that is wanted.
-fn call_agrees(s: &[u8], body: &mut [u8], wanted: &mut [u8], words: &mut [u64]) -> bool {
-    let answered = calls::agrees(s, body, words);
+// Replays a line on our book: makes its call, or writes what somebody else wrote.
+fn replay_ours(s: &[u8], body: &mut [u8; memory::BODY], words: &mut [u64; 32]) -> bool {
+    if hex(part(s, 0, 2)) < WRITTEN {
+        return calls::agrees(s, body, words);
+    }
+    changes::make(field(s, 5), body, words, memory::OURS);
+    true
+}
+
+// Replays a line, and then compares our book with the one that is wanted.
+fn replay(
+    s: &[u8],
+    body: &mut [u8; memory::BODY],
+    wanted: &mut [u8; memory::BODY],
+    words: &mut [u64; 32],
+) -> bool {
+    let agrees = replay_ours(s, body, words);
     changes::make(field(s, 5), wanted, words, memory::WANTED);
-    if !answered {
+    if !agrees {
         return false;
     }
     if !memory::same_words(words) {
         return false;
     }
     hex_fields::same_bytes(body, wanted)
-}
-
-// Replays a line: what somebody else wrote is written to both books.
-fn replay(s: &[u8], body: &mut [u8], wanted: &mut [u8], words: &mut [u64]) -> bool {
-    if hex(part(s, 0, 2)) < WRITTEN {
-        return call_agrees(s, body, wanted, words);
-    }
-    changes::make(field(s, 5), body, words, memory::OURS);
-    changes::make(field(s, 5), wanted, words, memory::WANTED);
-    true
 }
 
 // How many lines of a file were replayed, how many of them differ, and how many histories began.
@@ -93,7 +97,10 @@ fn counted(s: &[u8], agrees: bool, count: Count) -> Count {
 }
 
 // Replays a text: lines of histories, and at its end one with '=' and what they are.
-fn replay_all(text: &[u8], body: &mut [u8], wanted: &mut [u8], words: &mut [u64]) {
+fn replay_all(text: &[u8]) {
+    let mut body = [0; memory::BODY];
+    let mut wanted = [0; memory::BODY];
+    let mut words = [0; 32];
     let mut count = Count {
         lines: 0,
         differ: 0,
@@ -106,7 +113,7 @@ fn replay_all(text: &[u8], body: &mut [u8], wanted: &mut [u8], words: &mut [u64]
             show(part(s, 1, s.len()), count);
             return;
         }
-        let agrees = replay(s, body, wanted, words);
+        let agrees = replay(s, &mut body, &mut wanted, &mut words);
         count = counted(s, agrees, count);
         if text.len() - at <= s.len() {
             return;
@@ -116,29 +123,23 @@ fn replay_all(text: &[u8], body: &mut [u8], wanted: &mut [u8], words: &mut [u64]
 }
 
 // Reads a file into lent room and replays it; false where there is none.
-fn replay_file(
-    name: &[u8; 2],
-    text: &mut [u8],
-    body: &mut [u8],
-    wanted: &mut [u8],
-    words: &mut [u64],
-) -> bool {
+fn replay_file(name: &[u8; 2], text: &mut [u8]) -> bool {
     let file = os::open_read(name);
     if file < 0 {
         return false;
     }
     let len = io::read_full(file, text);
     libc::close(file);
-    replay_all(&text[0..len], body, wanted, words);
+    replay_all(&text[0..len]);
     true
 }
 
 // Replays the files, each named by h and a digit.
-fn replay_files(text: &mut [u8], body: &mut [u8], wanted: &mut [u8], words: &mut [u64]) {
+fn replay_files(text: &mut [u8]) {
     let mut k: u8 = 0;
     while k < 10 {
         let name = [b'h', b'0' + k];
-        if !replay_file(&name, text, body, wanted, words) {
+        if !replay_file(&name, text) {
             return;
         }
         k += 1;
@@ -147,8 +148,5 @@ fn replay_files(text: &mut [u8], body: &mut [u8], wanted: &mut [u8], words: &mut
 
 fn main() {
     let mut text = io::large_buffer();
-    let mut body = memory::body();
-    let mut wanted = memory::body();
-    let mut words = memory::words();
-    replay_files(&mut text, &mut body, &mut wanted, &mut words);
+    replay_files(&mut text);
 }

@@ -17,25 +17,11 @@ pub const BODY: usize = 61440;
 
 pub const NUMBERS: usize = 16384;
 
-// The bytes of the largest body.
-pub fn body() -> [u8; BODY]
-    ensures { λ r. ⌜ 61440 ≡ length r ⌝ }
-{
-    [0; BODY]
-}
-
 // A list of the most numbers.
 pub fn list() -> [u64; NUMBERS]
     ensures { λ r. ⌜ 16384 ≡ length r ⌝ }
 {
     [0; NUMBERS]
-}
-
-// The words of both books.
-pub fn words() -> [u64; 32]
-    ensures { λ r. ⌜ 32 ≡ length r ⌝ }
-{
-    [0; 32]
 }
 
 // The words of our book are those of the one that is wanted.

@@ -2,6 +2,8 @@
 // one ends is told too.
 use crate::call::BEFORE;
 use crate::call::UNKNOWN;
+use crate::call::tells;
+use crate::call::tells_two;
 
 // Puts the numbers of ranges over the first numbers of a list, as far as it reaches.
 fn put_ranges(ranges: &[[usize; 2]], list: &mut [u64]) {
@@ -65,7 +67,7 @@ fn end_of(ranges: &[[usize; 2]], parts: usize) -> u64 {
 }
 
 // Calls the function of a number: 17 cuts a list, others split the last of some ranges, which two numbers give.
-pub fn call(function: u64, given: &[u64; 4], list: &mut [u64], told: &mut [u64; 4]) -> u32 {
+pub fn call(function: u64, given: [u64; 4], list: &mut [u64]) -> [u64; 5] {
     let range = [given[2] as usize, given[3] as usize];
     let mut ranges = [range; 24];
     let count = given[1] as usize;
@@ -78,10 +80,9 @@ pub fn call(function: u64, given: &[u64; 4], list: &mut [u64], told: &mut [u64; 
         count,
         &mut parts,
     );
-    told[0] = parts as u64;
-    if number == 0 {
-        told[1] = end_of(&ranges, parts);
-        put_new(&ranges, last_of(count), parts, list);
+    if number != 0 {
+        return tells(parts as u64, number);
     }
-    number
+    put_new(&ranges, last_of(count), parts, list);
+    tells_two(parts as u64, end_of(&ranges, parts), 0)
 }

@@ -4,6 +4,7 @@
 mod call;
 mod cut;
 mod free;
+mod head;
 mod page;
 
 use hex_fields::field;
@@ -30,38 +31,27 @@ fn leaves(s: &[u8], bytes: &[u8], list: &[u64]) -> bool {
     hex_fields::same_numbers(&numbers, list)
 }
 
-// Puts the numbers of a field over the first of four.
-fn put_said(field: &[u8], four: &mut [u64; 4]) {
-    hex_fields::numbers(field, four);
-}
-
-// Two arrays of four numbers are the same.
-fn same_four(a: &[u64; 4], b: &[u64; 4]) -> bool {
-    hex_fields::same_numbers(a, b)
-}
-
-// Of the numbers told those are as a line says that it has.
-fn tells(s: &[u8], told: &[u64; 4]) -> bool {
-    let mut expected = *told;
-    put_said(field(s, 4), &mut expected);
-    same_four(told, &expected)
-}
-
-// Calls the function of a line on the numbers that it gives, a buffer and a list, and compares what it answers and tells.
-fn answers(s: &[u8], bytes: &mut [u8], list: &mut [u64]) -> bool {
+// The first four numbers of a field.
+fn four(field: &[u8]) -> [u64; 4] {
     let mut given = [0u64; 4];
-    hex_fields::numbers(field(s, 1), &mut given);
-    let mut told = [0; 4];
-    let number = call::call(hex(part(s, 0, 2)), &given, bytes, list, &mut told);
-    if number as u64 != hex(part(s, 2, 4)) {
+    hex_fields::numbers(field, &mut given);
+    given
+}
+
+// An answer has the refusal of a line, and tells the numbers that the line says.
+fn tells(s: &[u8], answer: [u64; 5]) -> bool {
+    if answer[4] != hex(part(s, 2, 4)) {
         return false;
     }
-    tells(s, &told)
+    let mut expected = answer;
+    hex_fields::numbers(field(s, 4), &mut expected);
+    hex_fields::same_numbers(&answer, &expected)
 }
 
 // Calls the function of a line, and compares what it answers and leaves.
 fn agrees(s: &[u8], bytes: &mut [u8], list: &mut [u64]) -> bool {
-    if answers(s, bytes, list) {
+    let answer = call::call(hex(part(s, 0, 2)), four(field(s, 1)), bytes, list);
+    if tells(s, answer) {
         return leaves(s, bytes, list);
     }
     false

@@ -1,14 +1,12 @@
 -- `replay_all` stays within the text, and ends: each turn goes past a line. Assumes nothing.
 use Prim.Native.Nat.{_≤_, _-_}
-use mathlib.Core.Path.{_≡_}
 use lib.ListN.{length}
 use borrow.Author.Needs.{needs}
 use Rattle.histories.proofs.replay_all.Statement.{statement}
 use Rattle.histories.proofs.replay_all.Tie as tie
 
 abbrev Inv-loop : tie.InvT-loop
-Inv-loop text body₀ wanted₀ words₀ count₀ at₀ body wanted words count at =
-    (length body ≡ length body₀) × (length wanted ≡ length wanted₀) × (length words ≡ length words₀) × (at ≤ length text)
+Inv-loop text body₀ wanted₀ words₀ count₀ at₀ body wanted words count at = at ≤ length text
 
 abbrev μ-loop : tie.MeasureT-loop
 μ-loop text body₀ wanted₀ words₀ count₀ at₀ body wanted words count at = length text - at
@@ -28,15 +26,6 @@ part-requires c κs = search needs
 show-requires : tie.Need-show-requires Inv-loop μ-loop
 show-requires c κs = search needs
 
-same-length : tie.Need-same-length Inv-loop μ-loop
-same-length c = search needs
-
-same-length-2 : tie.Need-same-length-2 Inv-loop μ-loop
-same-length-2 c = search needs
-
-same-length-3 : tie.Need-same-length-3 Inv-loop μ-loop
-same-length-3 c = search needs
-
 returns : tie.Need-returns Inv-loop μ-loop
 returns c = search needs
 
@@ -48,15 +37,6 @@ counted-requires c κs = search needs
 
 sub-if2 : tie.Need-sub-if2 Inv-loop μ-loop
 sub-if2 c = search needs
-
-same-length-4 : tie.Need-same-length-4 Inv-loop μ-loop
-same-length-4 c = search needs
-
-same-length-5 : tie.Need-same-length-5 Inv-loop μ-loop
-same-length-5 c = search needs
-
-same-length-6 : tie.Need-same-length-6 Inv-loop μ-loop
-same-length-6 c = search needs
 
 returns-2 : tie.Need-returns-2 Inv-loop μ-loop
 returns-2 c = search needs
@@ -73,15 +53,6 @@ loop-less c = search needs
 loop-again : tie.Need-loop-again Inv-loop μ-loop
 loop-again c = search needs
 
-same-length-7 : tie.Need-same-length-7 Inv-loop μ-loop
-same-length-7 c = search needs
-
-same-length-8 : tie.Need-same-length-8 Inv-loop μ-loop
-same-length-8 c = search needs
-
-same-length-9 : tie.Need-same-length-9 Inv-loop μ-loop
-same-length-9 c = search needs
-
 returns-3 : tie.Need-returns-3 Inv-loop μ-loop
 returns-3 c = search needs
 
@@ -96,22 +67,13 @@ replay-all-spec =
     find-requires
     part-requires
     show-requires
-    same-length
-    same-length-2
-    same-length-3
     returns
     replay-requires
     counted-requires
     sub-if2
-    same-length-4
-    same-length-5
-    same-length-6
     returns-2
     add-at
     add-at-2
     loop-less
     loop-again
-    same-length-7
-    same-length-8
-    same-length-9
     returns-3)

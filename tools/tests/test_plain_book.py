@@ -1,0 +1,120 @@
+"""The plain book in Python, held to document 01's run case, moves, cuttings and refusals, and to what its programs have to write."""
+import subprocess
+import sys
+import unittest
+
+from paths import ROOT
+from plain_book import Book, Refused, by_bytes, cutting, form_len, stream_len, with_slack
+
+
+def ones(count, first=1):
+    """Numbers side by side."""
+    return list(range(first, first + count))
+
+
+class TestPlainBook(unittest.TestCase):
+    def refused(self, number, call, *words):
+        """A call is refused with a number, and changes nothing."""
+        before = [list(ns) for ns in self.book.lists], list(self.book.places), self.book.mark, [list(s) for s in self.book.stacks]
+        with self.assertRaises(Refused) as caught:
+            call(*words)
+        self.assertEqual(caught.exception.args, (number,))
+        self.assertEqual(before, (self.book.lists, self.book.places, self.book.mark, self.book.stacks))
+
+    def setUp(self):
+        self.book = Book(65536, 4)
+
+    def test_run_case(self):
+        told = [(self.book.append(0, n), self.book.places[0]) for n in (5, 300, 301, 302, 303)]
+        slab, larger = ("slab", 0, 4096), ("slab", 1, 4112)
+        self.assertEqual(told, [(0, ("inline",)), (1, slab), (0, slab), (0, slab), (4, larger)])
+        self.assertEqual(self.book.read(0, 5), ([5, 300, 301, 302, 303], 0))
+        self.assertEqual((self.book.mark, self.book.stacks[0]), (4144, [4096]))
+
+    def test_a_freed_slab_is_taken_again(self):
+        for n in (5, 300, 301, 302, 303):
+            self.book.append(0, n)
+        self.book.append(1, 7)
+        self.book.append(1, 9)
+        self.assertEqual(self.book.places[1], ("slab", 0, 4096))
+        self.assertEqual(self.book.mark, 4144)
+
+    def test_moves_of_one_account(self):
+        moves = [rewritten for n in ones(300) if (rewritten := self.book.append(0, n))]
+        self.assertEqual(moves, [1, 4, 8, 16, 32, 64, 128, 256])
+        self.assertEqual(self.book.places[0][0], "pages")
+        self.assertEqual(sum(moves), 509)
+
+    def test_a_loaded_list_moves_with_slack(self):
+        self.book.load(0, ones(31))
+        self.assertEqual(self.book.places[0], ("slab", 2, 4096))
+        self.assertEqual(self.book.append(0, 32), 31)
+        self.assertEqual(self.book.places[0], ("slab", 4, 4160))
+
+    def test_load_of_pages(self):
+        self.assertEqual(self.book.load(2, ones(4089)), 2)
+        self.assertEqual([(off, room, len(part)) for off, room, part in self.book.places[2][1]], [(4096, 4088, 4088), (8192, 4072, 1)])
+        self.assertEqual(self.book.read(2, 4089), (ones(4089), 2))
+        self.assertEqual(self.book.drop(2), 4089)
+        self.assertEqual(self.book.stacks[8], [4096, 8192])
+
+    def test_cutting_fits_a_last_page(self):
+        for count, lengths in ((4072, [4072]), (4073, [4072, 1]), (4088, [4072, 16]), (4089, [4088, 1])):
+            self.assertEqual([len(part) for part in cutting(ones(count))], lengths)
+
+    def test_load_behind_a_slab_carves_the_gap(self):
+        self.book.load(0, [5, 300])
+        self.book.load(1, ones(5000))
+        self.assertEqual(self.book.places[1][1][0][0], 8192)
+        self.assertEqual([len(stack) for stack in self.book.stacks[:8]], [1] * 8)
+        self.assertEqual(self.book.stacks[7], [4112])
+
+    def test_a_page_takes_a_number_more_up_to_its_last_byte(self):
+        self.book.load(0, ones(4071))
+        self.book.append(0, 4072)
+        self.assertEqual(len(self.book.places[0][1]), 1)
+        self.book.append(0, 4073)
+        self.assertEqual([page[0] for page in self.book.places[0][1]], [4096, 8192])
+
+    def test_refusals(self):
+        self.book.append(0, 5)
+        for number, call, *words in (
+            (2, self.book.read, 4, 9), (3, self.book.load, 0, [6]), (10, self.book.load, 1, ones(65536)),
+            (12, self.book.append, 1, 0), (12, self.book.load, 1, [0, 5]), (13, self.book.append, 0, 2**63), (14, self.book.append, 0, 2**62),
+            (32, self.book.append, 0, 5), (32, self.book.load, 1, [5, 5]), (34, self.book.read, 0, 0), (36, self.book.load, 1, ones(65535)),
+        ):
+            with self.subTest(number=number, call=call.__name__):
+                self.refused(number, call, *words)
+
+    def test_out_of_shape(self):
+        for size, heads in ((4096, 1), (8193, 1), (8192, 0), (2**30 + 4096, 1), (8192, 65537)):
+            self.book = Book(size, heads)
+            self.refused(1, self.book.read, 0, 9)
+        self.assertEqual(Book(8192, 1).read(0, 0), ([], 0))
+
+    def test_lengths_and_classes(self):
+        self.assertEqual([form_len(n) for n in (0, 127, 128, 16383, 16384)], [1, 1, 2, 2, 3])
+        self.assertEqual(stream_len([5, 300, 301]), 4)
+        self.assertEqual([by_bytes(n) for n in (0, 1, 16, 17, 2048, 2049)], [None, 0, 0, 1, 7, None])
+        self.assertEqual([with_slack(n) for n in (1, 3, 4, 255, 256, 257)], [0, 0, 1, 6, 6, None])
+
+
+class TestPrograms(unittest.TestCase):
+    """What programs have to write is what these scripts compute."""
+
+    def holds(self, program):
+        crate = ROOT / "crates" / program
+        with open(crate / "stdin") as script:
+            ran = subprocess.run([sys.executable, ROOT / "tools" / f"{program}.py"], stdin=script, capture_output=True, text=True)
+        self.assertEqual(ran.stderr, "")
+        self.assertEqual(ran.stdout, (crate / "stdout").read_text())
+
+    def test_book_run(self):
+        self.holds("book_run")
+
+    def test_book_shell(self):
+        self.holds("book_shell")
+
+
+if __name__ == "__main__":
+    unittest.main()
