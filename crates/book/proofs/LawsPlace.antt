@@ -21,6 +21,7 @@ use Rattle.book_space.specs.Space.{Space, space, InShape, Taken, takeBlock, spa
 use Rattle.book_space.proofs.LawsSteps.{after-taken, after-refused}
 use Rattle.book_space.proofs.LawsTake.{take-took}
 use Rattle.book.specs.Steps.{Placed, placesInto, spaceWith}
+use Rattle.book_limits.specs.Limits.{mostBody}
 
 -- ---- numbers
 
@@ -54,7 +55,7 @@ module _ (s after : Space) (a : Answer Taken) (space-is : after ≡ spaceAfter s
 pub record Lies (class off : ℕ) (s : Space) : Type 0 where
   pub begins : 4096 ≤ off
   pub ends : off + slabBytes class ≤ length (s .body)
-  pub small : length (s .body) ≤ 2 ^ 30
+  pub small : length (s .body) ≤ mostBody
 
 -- A block that was taken from a space in shape lies so.
 pub block-lies : (class off : ℕ) (s after : Space) → InShape s → class ≤ pageClass

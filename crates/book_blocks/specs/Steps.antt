@@ -6,6 +6,7 @@ use lib.ListN.{length, take}
 use Rattle.scripthash_layout.specs.Sizes.{pageSize}
 use Rattle.scripthash_stream.specs.Stream.{Rising, streamLen, maxOffered}
 use Rattle.scripthash_cutting.specs.Cutting.{pageRoom, lastPageRoom, cutting, rangesFrom}
+use Rattle.book_limits.specs.Limits.{mostBody}
 
 -- A page's offset that a link can name: aligned, not 0, and of one of 2^39 pages.
 pub record PageNamed (off : ℕ) : Type 0 where
@@ -39,4 +40,4 @@ pub record Run (size start : ℕ) (fks : List ℕ) (ranges : List (List ℕ)) (c
   pub aligned : start % pageSize ≡ 0
   pub some : 0 < start
   pub inside : start + count * pageSize ≤ size
-  pub small : size ≤ 2 ^ 30
+  pub small : size ≤ mostBody

@@ -22,7 +22,7 @@ use Rattle.scripthash_fields.specs.Page.{streamCap}
 use Rattle.scripthash_pages.specs.Entries.{lastOf, Spot, spotBehind}
 use Rattle.scripthash_free.specs.FreeList.{Block, isBlock}
 use Rattle.scripthash_free.proofs.LawsBlock.{block-stands}
-use Rattle.book_limits.specs.Limits.{outOfShape}
+use Rattle.book_limits.specs.Limits.{outOfShape, mostBody}
 use Rattle.book_limits.proofs.LawsLimits.{in-shape}
 use Rattle.plain_book.specs.Space.{Space as PlainSpace, Taken as PlainTaken, takeBlock as plainTake}
 use Rattle.plain_book.specs.Key.{written, longer, Page, Place, pages, lastPage, noPage, totalOf, headOf, Placed, longerPage, joins}
@@ -236,7 +236,7 @@ more-reads p page first creates n w r l above low few spot =
 -- A last page that gets a next one is a whole page, reads as it did, and names the next one.
 next-reads : (p : Page) (page : List ℕ) (first creates mark next : ℕ) → PageReads p page → LastReads first creates page
     → p .room ≡ lastPageRoom
-    → mark ≤ 2 ^ 30 → isBlock pageClass next mark ≡ true → let after = pageBefore page next in
+    → mark ≤ mostBody → isBlock pageClass next mark ≡ true → let after = pageBefore page next in
     (length after ≡ pageSize) × (PageReads p after × NextReads next after)
 next-reads p page first creates mark next r l room high stands =
     let s = block-stands pageClass next mark stands in
@@ -410,7 +410,7 @@ module _ (plain : PlainBook) (b : Book) (g : GoodPlain plain) (a : Agrees plain 
       new : Page
       new = record { off = off; room = lastPageRoom; part = written (n ∷ []) }
 
-      high : inside .mark ≤ 2 ^ 30
+      high : inside .mark ≤ mostBody
       high = omega (arith, h .within, h .small)
 
       stands : isBlock pageClass off (inside .mark) ≡ true

@@ -22,7 +22,7 @@ use Rattle.scripthash_stream.specs.Stream.{Rising, lastFrom, streamLen}
 use Rattle.scripthash_slabs.specs.Slab.{slabPayload}
 use Rattle.scripthash_cutting.specs.Cutting.{lastPageRoom}
 use Rattle.scripthash_free.specs.FreeList.{Block, isBlock}
-use Rattle.book_limits.specs.Limits.{outOfShape}
+use Rattle.book_limits.specs.Limits.{outOfShape, mostBody}
 use Rattle.book_rules.specs.Places.{stays, movesTo}
 use Rattle.book_limits.proofs.LawsLimits.{in-shape}
 use Rattle.book_rules.proofs.LawsRules.{stays-holds, moves-to}
@@ -117,7 +117,7 @@ module _ (plain : PlainBook) (b : Book) (key n : ℕ) (g : GoodPlain plain) (a :
 
   -- It has a page's bytes, and reads as the key's only page.
   page-reads : (t : PlainTaken) (u : Taken) → u .off ≡ t .off → Good (t .space) (places plain) (inHandOf pageClass (t .off))
-      → t .space .mark ≤ 2 ^ 30
+      → t .space .mark ≤ mostBody
       → Rising (2 ^ 62) 0 grown → streamLen grown ≤ lastPageRoom
       → (length (onlyPage u) ≡ pageSize)
       × ((block : List ℕ) → Filled pageClass (onlyPage u) block

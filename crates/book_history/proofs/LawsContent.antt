@@ -21,7 +21,7 @@ use Rattle.scripthash_cutting.specs.Cutting.{lastPageRoom}
 use Rattle.scripthash_free.specs.FreeList.{Block, isBlock}
 use Rattle.scripthash_free.proofs.LawsBlock.{block-stands}
 use Rattle.book_rules.specs.Outcomes.{appendedAt, Appended}
-use Rattle.book_limits.specs.Limits.{outOfShape}
+use Rattle.book_limits.specs.Limits.{outOfShape, mostBody}
 use Rattle.plain_book.specs.Space.{Space as PlainSpace}
 use Rattle.plain_book.specs.Key.{Kept, written, Page, Place, empty, inline, slab, pages, lastPage, noPage, totalOf, headOf, pagesOf, countedAfter, keyIn}
 use Rattle.plain_book.specs.Key.{Placed, appendPlace}
@@ -218,7 +218,7 @@ module _ (plain : PlainBook) (b : Book) (g : GoodPlain plain) (shape : outOfShap
     (h : AgreesInside plain b) (key : ℕ) where
   -- A key's head word tells its place.
   pub head-agrees : unpackHead (wordOf key b) ≡ accepted (headOf (keyOf key plain .list) (keyOf key plain .place))
-  head-agrees = h .heads key ∙ stored-told (head-told key g (mark-most g shape))
+  head-agrees = h .heads key ∙ stored-told (head-told key g (omega (arith, mark-most g shape)))
 
   -- A key's slab reads as what it keeps.
   slab-read : (class off : ℕ) (kept : Kept) → keyOf key plain .place ≡ slab class off kept
@@ -358,7 +358,7 @@ read-step plain b key room g a =
 -- ---- a last page that is written
 
 -- A last page as it is written, with a first page and an extent base that stand below the mark, is a whole page, and reads as a last page.
-pub last-written : (mark off first base extents creates : ℕ) (ns : List ℕ) → mark ≤ 2 ^ 30 → isBlock pageClass first mark ≡ true
+pub last-written : (mark off first base extents creates : ℕ) (ns : List ℕ) → mark ≤ mostBody → isBlock pageClass first mark ≡ true
     → isBlock pageClass base mark ≡ true
     → 0 < extents → extents < 2 ^ 32 → creates < 2 ^ 32 → Rising (2 ^ 62) 0 ns → streamLen ns ≤ lastPageRoom → let page =
     lastPageOf first base extents creates ns in

@@ -33,7 +33,7 @@ use Rattle.scripthash_free.specs.FreeList.{Block}
 use Rattle.book_statements.specs.Calls.{load}
 use Rattle.book_rules.specs.Outcomes.{loadedIn, Loaded}
 use Rattle.book_rules.specs.Offered.{offeredNumber, offeredList}
-use Rattle.book_limits.specs.Limits.{outOfShape}
+use Rattle.book_limits.specs.Limits.{outOfShape, mostBody}
 use Rattle.book_rules.specs.Places.{loadsTo}
 use Rattle.book_limits.proofs.LawsLimits.{in-shape}
 use Rattle.book_rules.proofs.LawsRules.{loads-to}
@@ -111,7 +111,7 @@ unfolding ChainReads runPages
 run-next first creates off p q [] block r n = (r, n)
 run-next first creates off p q (s ∷ ps) block r n = (r, n)
 
-module _ (start count creates : ℕ) (aligned : start % 4096 ≡ 0) (from : 4096 ≤ start) (low : start ≤ 2 ^ 30) (some' : 0 < count)
+module _ (start count creates : ℕ) (aligned : start % 4096 ≡ 0) (from : 4096 ≤ start) (low : start ≤ mostBody) (some' : 0 < count)
     (few : count < 2 ^ 32)
     (fits : creates < 2 ^ 32) where
   -- the last page of a run reads as its part
@@ -129,7 +129,7 @@ module _ (start count creates : ℕ) (aligned : start % 4096 ≡ 0) (from : 4096
       )
 
   -- a page before another reads as its part
-  next-of-run : (off next : ℕ) (ns : List ℕ) → Rising (2 ^ 63) 0 ns → streamLen ns ≤ pageRoom → next % 4096 ≡ 0 → next ≤ 2 ^ 30
+  next-of-run : (off next : ℕ) (ns : List ℕ) → Rising (2 ^ 63) 0 ns → streamLen ns ≤ pageRoom → next % 4096 ≡ 0 → next ≤ mostBody
       → (length (pageTo next ns) ≡ slabBytes pageClass) × PageReads (record { off = off; room = pageRoom; part = written ns })
       (pageTo next ns) × NextReads next (pageTo next ns)
   unfolding written
@@ -139,7 +139,7 @@ module _ (start count creates : ℕ) (aligned : start % 4096 ≡ 0) (from : 4096
 
   -- Parts that fit their pages are written from an offset on.
   run-written : (parts : List (List ℕ)) (body : List ℕ) (off : ℕ) → off % 4096 ≡ 0 → off + length parts * pageSize ≤ length body
-      → length body ≤ 2 ^ 30
+      → length body ≤ mostBody
       → Rising (2 ^ 63) 0 (joined parts) → Fit lastPageRoom pageRoom parts
       → RunWritten body (writeRun start count creates body off parts) off start creates (runPages off parts)
   unfolding joined Fit runPages writeRun ChainReads

@@ -314,7 +314,7 @@ module _ (b : Book) (g : GoodStart b) where
       heads : outOfShape (plainOf b .size) (length (plainOf b .keys)) ≡ false → (key : ℕ)
           → unpackHead (wordOf key b) ≡ unpackHead (headWord (headOf (keyOf key (plainOf b) .list) (keyOf key (plainOf b) .place)))
       heads shape key =
-          let t = head-told key start-good (mark-most start-good shape) in
+          let t = head-told key start-good (omega (arith, mark-most start-good shape)) in
           known key .1 ∙ ap accepted (sym (known key .2 .head)) ∙ sym (stored-told t)
 
       space : AgreesSpace (plainOf b .space) (b .space) (places (plainOf b)) none (contentsOf (plainOf b))

@@ -17,7 +17,7 @@ use Rattle.scripthash_slabs.specs.Slab.{slabUsed, decodeSlab}
 use Rattle.scripthash_fields.specs.Page.{linkOf, createsFieldOf, namesExtent, streamCap, isLastLink, linkOffset}
 use Rattle.scripthash_pages.specs.Entries.{pageScan}
 use Rattle.scripthash_free.specs.FreeList.{Block}
-use Rattle.book_limits.specs.Limits.{outOfShape}
+use Rattle.book_limits.specs.Limits.{outOfShape, mostBody}
 use Rattle.plain_book.specs.Space.{Space as PlainSpace, stackOf}
 use Rattle.plain_book.specs.Key.{Kept, Page, Place, empty, inline, slab, pages, totalOf, headOf}
 use Rattle.plain_book.specs.Book.{Book as PlainBook, keyOf}
@@ -121,7 +121,7 @@ pub record AgreesSpace (plain : PlainSpace) (s : Space) (at : ℕ → Place) (he
   -- The mark is within the body.
   pub within : plain .mark ≤ length (s .body)
   -- An offset in the body fits the eight bytes of a link.
-  pub small : length (s .body) ≤ 2 ^ 30
+  pub small : length (s .body) ≤ mostBody
   -- Each block reads as its owner says.
   pub stored : Stored (has plain at held) (BlockReads plain c) (s .body)
 

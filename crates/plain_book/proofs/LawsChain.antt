@@ -15,7 +15,7 @@ use Rattle.scripthash_free.proofs.LawsBlock.{block-stands}
 use Rattle.scripthash_stream.specs.Stream.{Rising, lastFrom}
 use Rattle.scripthash_stream.proofs.LawsStream.{last-append}
 use Rattle.scripthash_cutting.proofs.LawsRising.{rising-left, rising-right}
-use Rattle.book_limits.specs.Limits.{outOfShape}
+use Rattle.book_limits.specs.Limits.{outOfShape, mostBody}
 use Rattle.book_limits.proofs.LawsLimits.{in-shape}
 use Rattle.plain_book.specs.Key.{Page, Place, empty, inline, slab, pages, lastPage, noPage}
 use Rattle.plain_book.specs.Book.{Book, keyOf}
@@ -97,7 +97,7 @@ pages-few {b} key ps g is = few-below (b .space .mark / 4096) (length ps) (λ i.
             (mine i l) (mine j k)))
 
 -- The mark of a good book in shape is at most 2^30.
-pub mark-most : {b : Book} → GoodPlain b → outOfShape (b .size) (length (b .keys)) ≡ false → b .space .mark ≤ 2 ^ 30
+pub mark-most : {b : Book} → GoodPlain b → outOfShape (b .size) (length (b .keys)) ≡ false → b .space .mark ≤ mostBody
 mark-most {b} g shape = omega (arith, g .within shape, in-shape (b .size) (length (b .keys)) shape .most)
 
 -- ---- how many numbers
@@ -123,7 +123,7 @@ pages-count {b} key ps g is =
     rw (← same) (held-count ps fit)
 
 -- A list in a good book whose mark is at most 2^30 has fewer than 2^32 - 1 numbers.
-pub list-few : {b : Book} (key : ℕ) → GoodPlain b → b .space .mark ≤ 2 ^ 30 → length (keyOf key b .list) < 2 ^ 32 - 1
+pub list-few : {b : Book} (key : ℕ) → GoodPlain b → b .space .mark ≤ mostBody → length (keyOf key b .list) < 2 ^ 32 - 1
 unfolding Fits
 list-few {b} key g low = go (keyOf key b .place) refl
   where

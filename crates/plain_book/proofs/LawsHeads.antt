@@ -46,22 +46,22 @@ told-inline n some' low =
       unpacks = unpack-packed (Inline n 1) n (omega arith, omega arith) packs ∙ rw (ne-eqb n 0 (λ (z : n ≡ 0). omega arith));
     }
 
-told-slab : (class used off : ℕ) → class ≤ maxSlabClass → 2 ≤ used → used ≤ maxSlabCount → off < 2 ^ 30 → Told (Slab class used off)
+told-slab : (class used off : ℕ) → class ≤ maxSlabClass → 2 ≤ used → used ≤ maxSlabCount → off < 2 ^ 40 → Told (Slab class used off)
 unfolding packHead refuseIf
 told-slab class used off c two few low =
     let packs : packHead (Slab class used off) ≡ accepted (slabWord class used off) =
-    simp (lt-leb (2 ^ 40) off (omega arith), lt-leb (2 ^ 6) class (omega arith)) in
+    simp (lt-leb (2 ^ 40) off low, lt-leb (2 ^ 6) class (omega arith)) in
     record {
       word = slabWord class used off;
       packs = packs;
       unpacks = unpack-packed (Slab class used off) _ (omega arith, (omega arith, omega arith)) packs ∙ simp (lt-leb used 1 (omega arith));
     }
 
-told-extent : (last : ℕ) → 0 < last → last < 2 ^ 30 → Told (Extent last)
+told-extent : (last : ℕ) → 0 < last → last < 2 ^ 62 → Told (Extent last)
 unfolding packHead refuseIf
 told-extent last some' low =
     let packs : packHead (Extent last) ≡ accepted (extentWord last) =
-    simp (ne-eqb last 0 (λ (z : last ≡ 0). omega arith), lt-leb (2 ^ 62) last (omega arith)) in
+    simp (ne-eqb last 0 (λ (z : last ≡ 0). omega arith), lt-leb (2 ^ 62) last low) in
     record { word = extentWord last; packs = packs; unpacks = unpack-packed (Extent last) _ (omega arith) packs }
 
 -- The last page of some is at an index.
@@ -79,17 +79,17 @@ last-above top prev [] r l = absurd (omega arith)
 last-above top prev (n ∷ []) (a, b, r) l = a
 last-above top prev (n ∷ m ∷ ns) (a, b, r) l = let x = last-above top n (m ∷ ns) r (omega arith) in omega arith
 
--- In a good book whose mark is at most 2^30, each key's place has a head word.
-pub head-told : {b : Book} (key : ℕ) → GoodPlain b → b .space .mark ≤ 2 ^ 30 → Told (headOf (keyOf key b .list) (keyOf key b .place))
+-- In a good book whose mark is at most 2^40, each key's place has a head word.
+pub head-told : {b : Book} (key : ℕ) → GoodPlain b → b .space .mark ≤ 2 ^ 40 → Told (headOf (keyOf key b .list) (keyOf key b .place))
 unfolding headOf Fits has
 head-told {b} key g high = go (keyOf key b .list) (keyOf key b .place) refl (g .keys key .rises) (g .keys key .fits)
   where
-    stands : (w : Owner) (x : Block) → has (b .space) (places b) none w ≡ some x → (0 < x .off) × (x .off < 2 ^ 30)
+    stands : (w : Owner) (x : Block) → has (b .space) (places b) none w ≡ some x → (0 < x .off) × (x .off < 2 ^ 40)
     stands w x e =
         let s = block-stands (x .class) (x .off) (b .space .mark) (g .space .apart .stands w x e) in
         (omega (arith, s .begins), below (x .class) (x .off) (s .ends))
       where
-        below : (class off : ℕ) → off + slabBytes class ≤ b .space .mark → off < 2 ^ 30
+        below : (class off : ℕ) → off + slabBytes class ≤ b .space .mark → off < 2 ^ 40
         below class off ends = let p = bytes-from-16 class in omega arith
 
     go : (list : List ℕ) (place : Place) → keyOf key b .place ≡ place → Rising (2 ^ 62) 0 list → Fits list place → Told (headOf list place)
@@ -102,10 +102,10 @@ head-told {b} key g high = go (keyOf key b .list) (keyOf key b .place) refl (g .
     go list (pages ps) is r (held-is, fit) =
         let (i, at) = last-at noPage ps fit in
         let (a, l) = stands (pageOf key i) _ (ap (pageIn i) is ∙ at) in
-        told-extent (lastPage noPage ps .off) a l
+        told-extent (lastPage noPage ps .off) a (omega arith)
 
--- After any list of calls on a fresh book of at most 2^30 bytes, each key's place has a head word.
-pub heads-told : (size heads key : ℕ) (cs : List Call) → 4096 ≤ size → size ≤ 2 ^ 30
+-- After any list of calls on a fresh book of at most 2^40 bytes, each key's place has a head word.
+pub heads-told : (size heads key : ℕ) (cs : List Call) → 4096 ≤ size → size ≤ 2 ^ 40
     → let k = keyOf key (after (fresh size heads) cs) in Told (headOf (k .list) (k .place))
 heads-told size heads key cs low high =
     let m = mark-within size heads cs low in
