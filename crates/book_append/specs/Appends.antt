@@ -16,7 +16,7 @@ use Rattle.scripthash_stream.specs.Stream.{Scan, streamLen}
 use Rattle.scripthash_slabs.specs.Slab.{slabPayload}
 use Rattle.scripthash_pages.specs.Entries.{lastOf, Spot, spotBehind}
 use Rattle.scripthash_free.specs.FreeList.{Block}
-use Rattle.book_rules.specs.Outcomes.{appendedAt, Appended}
+use Rattle.book_rules.specs.Outcomes.{appendedTo, Appended}
 use Rattle.book_rules.specs.Offered.{offeredNumber}
 use Rattle.book_rules.specs.Places.{stays, movesTo}
 use Rattle.book_space.specs.Space.{Space, space, takeBlock, release}
@@ -26,7 +26,7 @@ use Rattle.book.specs.Book.{Book, Outcome, wordOf, onKey, placing, filled, seen
 
 -- What an append leaves: the key's new place, and the records rewritten.
 abbrev pub appending : ℕ → ShHeadValue → ℕ → Space → Book → Outcome Appended
-appending key place rewritten s b = placing (appendedAt place rewritten) key place s b
+appending key place rewritten s b = placing (appendedTo place rewritten) key place s b
 
 -- ---- moving
 

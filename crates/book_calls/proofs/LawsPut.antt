@@ -13,6 +13,7 @@ use Rattle.scripthash_layout.specs.declared.head.ShHeadValue.the-variants.{Empt
 use Rattle.book_words.specs.Spelled.{SpelledTold, loaded, appended, dropped}
 use Rattle.book_words.specs.SpellAnswers.{spellPlace, spellTold, spellAnswer}
 use Rattle.book_calls.specs.Steps.{Answered}
+use Rattle.book_rules.specs.Outcomes.{loadedIn, appendedTo, droppedOf}
 
 -- one word after the other
 pub three-words : (b : List ℕ) (x y z : ℕ) → 3 ≤ length b → set (set (set b 0 x) 1 y) 2 z ≡ overwrite b 0 (x ∷ y ∷ z ∷ [])
@@ -44,12 +45,12 @@ refusal-put b number h = record { words = sym (overwrite-one b 0 number h); coun
 
 -- the words of a load and of a drop
 pub load-put : (b out : List ℕ) (pages : ℕ) → out ≡ overwrite b 0 (0 ∷ 0 ∷ pages ∷ [])
-    → Answered (accepted (loaded (record { pages = pages }))) b out 3
+    → Answered (accepted (loaded (loadedIn pages))) b out 3
 unfolding spellAnswer spellTold
 load-put b out pages e = record { words = e; count = refl }
 
 pub drop-put : (b out : List ℕ) (length : ℕ) → out ≡ overwrite b 0 (0 ∷ 3 ∷ length ∷ [])
-    → Answered (accepted (dropped (record { length = length }))) b out 3
+    → Answered (accepted (dropped (droppedOf length))) b out 3
 unfolding spellAnswer spellTold
 drop-put b out length e = record { words = e; count = refl }
 
@@ -63,7 +64,7 @@ place-words (Extent last) = refl
 
 -- the words of an append: three, and behind them those of the place
 pub append-put : (b mid : List ℕ) (rewritten : ℕ) (place : ShHeadValue) → 7 ≤ length b → mid ≡ overwrite b 0 (0 ∷ 1 ∷ rewritten ∷ [])
-    → Answered (accepted (appended (record { place = place; rewritten = rewritten }))) b
+    → Answered (accepted (appended (appendedTo place rewritten))) b
     (take 3 mid ++ (overwrite (take (length mid - 3) (drop 3 mid)) 0 (spellPlace place) ++ drop (length mid - 3) (drop 3 mid))) 7
 unfolding spellAnswer spellTold
 append-put b mid rewritten place h e =

@@ -5,7 +5,7 @@ ghost use Prim.Native.Nat.{_≤_, _<_};
 ghost use lib.ListN.{length};
 ghost use Rattle.error.specs.Refusal.{accepted, refused};
 ghost use Rattle.buffer.specs.Bytes.{overwrite};
-ghost use Rattle.book_rules.specs.Outcomes.{appendedAt};
+ghost use Rattle.book_rules.specs.Outcomes.{appendedTo};
 ghost use Rattle.book_words.specs.Spelled.{appended};
 ghost use Rattle.book_words.specs.SpellAnswers.{spellPlace};
 ghost use Rattle.book_calls.specs.Flat.{loadTold, appendTold, dropTold};
@@ -75,7 +75,7 @@ fn put_place(out: &mut [u64], place: ShHeadValue)
 // Writes the words of an accepted append.
 fn put_appended(out: &mut [u64], to: AppendedTo) -> usize
     requires { ⌜ 7 ≤ length (now out) ⌝ }
-    ensures { λ r. ⌜ Answered (accepted (appended (appendedAt (to .place) (to .rewritten)))) (now (out .entry))
+    ensures { λ r. ⌜ Answered (accepted (appended (appendedTo (to .place) (to .rewritten)))) (now (out .entry))
         (now (out .exit)) r ⌝ }
 {
     let place = to.place;

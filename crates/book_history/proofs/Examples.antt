@@ -16,7 +16,7 @@ use Rattle.scripthash_cutting.specs.Cutting.{fitting, firstPart, greedyParts, r
 use Rattle.scripthash_fields.specs.Page.{field, setField, createsFieldOf, nextOff, deltaHeader, extentHeader, pageOf}
 use Rattle.scripthash_pages.specs.Entries.{streamPlace, pageScan, spotBehind, oneMore, withAppended}
 use Rattle.scripthash_free.specs.FreeList.{isBlock, pushed, popFree, largestUpTo, blockThen, carve, pushAll}
-use Rattle.book_rules.specs.Outcomes.{Loaded, Appended, Listed, bookAfter, appendedAt, droppedOf, listing, loadedIn}
+use Rattle.book_rules.specs.Outcomes.{Loaded, Appended, Listed, bookAfter, appendedTo, droppedOf, listing, loadedIn}
 use Rattle.book_statements.specs.Calls.{load, append, read, drop, Call, ask, change, Serves, Answers, done, asked, changed, answersTo, afterCalls}
 use Rattle.book_rules.specs.Offered.{offeredNumber, offeredList}
 use Rattle.book_limits.specs.Limits.{outOfShape}
@@ -52,7 +52,7 @@ runs b cs = computed serves b cs
 
 -- An append that is accepted: the key's new place, and the records rewritten.
 abbrev at : ShHeadValue → ℕ → Answer Appended
-at place rewritten = accepted (appendedAt place rewritten)
+at place rewritten = accepted (appendedTo place rewritten)
 
 -- A load of so many pages.
 abbrev loads-in : ℕ → Answer Loaded

@@ -20,7 +20,7 @@ use Rattle.scripthash_stream.proofs.LawsStream.{last-below, rising-below}
 use Rattle.scripthash_cutting.specs.Cutting.{lastPageRoom}
 use Rattle.scripthash_free.specs.FreeList.{Block, isBlock}
 use Rattle.scripthash_free.proofs.LawsBlock.{block-stands}
-use Rattle.book_rules.specs.Outcomes.{appendedAt, Appended}
+use Rattle.book_rules.specs.Outcomes.{appendedTo, Appended}
 use Rattle.book_limits.specs.Limits.{outOfShape, mostBody}
 use Rattle.plain_book.specs.Space.{Space as PlainSpace}
 use Rattle.plain_book.specs.Key.{Kept, written, Page, Place, empty, inline, slab, pages, lastPage, noPage, totalOf, headOf, pagesOf, countedAfter, keyIn}
@@ -397,7 +397,7 @@ abbrev pub appendLeaves : PlainBook → ℕ → ℕ → Bool → Placed → Answ
 appendLeaves plain key n counted p =
     let list = extended (keyOf key plain .list) n in
     accepted (record {
-      told = appendedAt (headOf list (p .place)) (p .rewritten);
+      told = appendedTo (headOf list (p .place)) (p .rewritten);
       book = withKey key (keyIn list (p .place) counted) (p .space) plain;
     })
 
@@ -430,7 +430,7 @@ pub append-ends : (plain : PlainBook) (b : Book) (key : ℕ) (list : List ℕ) (
     → totalOf (keyIn list place counted) ≡ total → length (s .body) ≡ length (b .space .body)
     → AgreesSpace inside s (atKey key place (places plain)) none (placedContents plain key total place)
     → Alike (accepted (record {
-      told = appendedAt (headOf list place) rewritten;
+      told = appendedTo (headOf list place) rewritten;
       book =
           withKey key (keyIn list place counted) inside plain;
     }))

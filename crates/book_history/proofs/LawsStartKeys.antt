@@ -22,7 +22,7 @@ use Rattle.scripthash_slabs.specs.Slab.{slabUsed}
 use Rattle.scripthash_fields.specs.Page.{createsFieldOf}
 use Rattle.scripthash_pages.proofs.LawsAppended.{count-least}
 use Rattle.scripthash_free.specs.FreeList.{Block}
-use Rattle.plain_book.specs.Key.{Kept, slab, pages, Key, totalOf, noPage, headOf}
+use Rattle.plain_book.specs.Key.{Kept, slab, pages, Key, totalOf, noPage, headOf, keptAs}
 use Rattle.plain_book.specs.Sound.{Fits, SoundKey}
 use Rattle.plain_book.specs.Owners.{pageNo, slabAt, pageIn}
 use Rattle.plain_book.proofs.LawsOwners.{some-inj, none-some}
@@ -90,7 +90,7 @@ module _ (s : Space) where
       let fits = k .taken-fits in
       let each = scan-accepted 0 (slabUsed (blockAt (seen s) class off)) (drop 2 (blockAt (seen s) class off)) c (k .payload .scanned) .at-least in
       let least = count-least 0 (c .numbers) in
-      let kept : Kept = record { numbers = c .numbers; bytes = c .taken } in
+      let kept : Kept = keptAs (c .numbers) (c .taken) in
       let reads : SlabReads kept (blockAt (seen s) class off) =
       record { used = k .stored ∙ sym n; reads = k .payload .into (length (c .numbers)) (le-refl (length (c .numbers))) } in
       let fit : Fits (c .numbers) (slab class off kept) = (refl, omega arith, k .class-to-7, omega arith, omega arith, omega arith) in

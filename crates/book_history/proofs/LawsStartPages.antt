@@ -18,7 +18,7 @@ use Rattle.scripthash_cutting.specs.Cutting.{pageRoom, lastPageRoom}
 use Rattle.scripthash_fields.specs.Page.{linkOf, countOf, namesExtent, streamOf, streamCap, isLastLink, linkOffset}
 use Rattle.scripthash_pages.proofs.LawsAppended.{count-least}
 use Rattle.scripthash_free.specs.FreeList.{Block, isBlock}
-use Rattle.plain_book.specs.Key.{Kept, Page, lastPage}
+use Rattle.plain_book.specs.Key.{Kept, Page, lastPage, keptAs}
 use Rattle.plain_book.specs.Sound.{held, FitsPage, FitPages}
 use Rattle.plain_book.specs.Owners.{pageNo}
 use Rattle.plain_book.proofs.LawsOwners.{some-inj, none-some}
@@ -50,7 +50,7 @@ cap-last page e = rw e
 
 module _ (s : Space) (prev off : ℕ) (c : Scan) (is : linkScan (seen s) prev off ≡ accepted c) where
   -- What a page of a sound chain keeps.
-  part-is : pageFrom s off .part ≡ record { numbers = c .numbers; bytes = c .taken }
+  part-is : pageFrom s off .part ≡ keptAs (c .numbers) (c .taken)
   unfolding pageFrom keptBy
   part-is = rw (link-sound (seen s) prev off c is .scanned)
 

@@ -7,7 +7,7 @@ use mathlib.Core.Logic.{_≢_}
 use lib.Dec.{eqb}
 use lib.ListN.{length}
 use Rattle.error.specs.Refusal.{Answer, accepted, refused, answered}
-use Rattle.book_rules.specs.Outcomes.{loadedIn, appendedAt, listing}
+use Rattle.book_rules.specs.Outcomes.{loadedIn, appendedTo, listing, retold}
 use Rattle.book_statements.specs.Calls.{Enquiry, read, Change, load, append, drop, Call, Said, Made, Serves, answersTo}
 use Rattle.plain_book.specs.Book.{fresh as plainFresh, answers as plainAnswers}
 use Rattle.book.specs.Book.{Book, Outcome, fresh, wordOf}
@@ -55,10 +55,6 @@ writesFirst b (drop key) = does b (drop key)
 abbrev pub firstOnly : Serves Book
 firstOnly = record { asks = asks; does = writesFirst }
 
--- Another figure told of what our book does.
-abbrev pub retold : {T : Type 0} → (T → T) → Answer (Outcome T) → Answer (Outcome T)
-retold other a = answered (λ o. record { told = other (o .told); book = o .book }) a
-
 -- What changes do whose loads tell a page too many.
 unfoldable pub pageMore : Book → (c : Change) → Answer (Outcome (Made c))
 pageMore b (load key ns) = retold (λ l. loadedIn (l .pages + 1)) (does b (load key ns))
@@ -68,7 +64,7 @@ pageMore b (drop key) = does b (drop key)
 -- What changes do whose appends tell a rewritten record too many.
 unfoldable pub rewrittenMore : Book → (c : Change) → Answer (Outcome (Made c))
 rewrittenMore b (load key ns) = does b (load key ns)
-rewrittenMore b (append key n) = retold (λ a. appendedAt (a .place) (a .rewritten + 1)) (does b (append key n))
+rewrittenMore b (append key n) = retold (λ a. appendedTo (a .place) (a .rewritten + 1)) (does b (append key n))
 rewrittenMore b (drop key) = does b (drop key)
 
 -- One that invents figures.

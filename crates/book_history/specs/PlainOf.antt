@@ -12,7 +12,7 @@ use Rattle.scripthash_layout.specs.declared.head.ShHeadValue.the-variants.{Empt
 use Rattle.scripthash_stream.specs.Stream.{Scan}
 use Rattle.scripthash_fields.specs.Page.{createsFieldOf, streamCap}
 use Rattle.scripthash_pages.specs.Entries.{pageScan}
-use Rattle.plain_book.specs.Key.{Kept, written, Page, Place, empty, inline, slab, pages, Key}
+use Rattle.plain_book.specs.Key.{Kept, written, Page, Place, empty, inline, slab, pages, Key, keptAs}
 use Rattle.plain_book.specs.Book.{Book as PlainBook}
 use Rattle.book_space.specs.Space.{Space}
 use Rattle.book_keys.specs.Keys.{pageAt, slabScan, chainAt, content}
@@ -23,7 +23,7 @@ use Rattle.book_start.specs.Start.{followedFrom}
 
 -- What a stream that was scanned keeps: its numbers, and the bytes that it takes as it is stored.
 unfoldable pub keptBy : Answer Scan → Kept
-keptBy (accepted c) = record { numbers = c .numbers; bytes = c .taken }
+keptBy (accepted c) = keptAs (c .numbers) (c .taken)
 keptBy (refused number) = written []
 
 -- The page at an offset, with the room that its version leaves for a stream.

@@ -26,8 +26,8 @@ pub record Dropped : Type 0 where
 abbrev pub loadedIn : ℕ → Loaded
 loadedIn pages = record { pages = pages }
 
-abbrev pub appendedAt : ShHeadValue → ℕ → Appended
-appendedAt place rewritten = record { place = place; rewritten = rewritten }
+abbrev pub appendedTo : ShHeadValue → ℕ → Appended
+appendedTo place rewritten = record { place = place; rewritten = rewritten }
 
 abbrev pub listing : List ℕ → ℕ → Listed
 listing numbers pages = record { numbers = numbers; pages = pages }
@@ -48,3 +48,7 @@ bookAfter b (refused number) = b
 -- What a change tells, or its refusal.
 abbrev pub answerOf : {B T : Type 0} → Answer (OutcomeOf B T) → Answer T
 answerOf a = answered (λ o. o .told) a
+
+-- The same change, told otherwise.
+abbrev pub retold : {B T U : Type 0} → (T → U) → Answer (OutcomeOf B T) → Answer (OutcomeOf B U)
+retold f a = answered (λ o. record { told = f (o .told); book = o .book }) a

@@ -3,7 +3,7 @@ use mathlib.Core.List.{List, [], _∷_}
 use mathlib.Core.Path.{_≡_, refl}
 use Rattle.error.specs.Refusal.{accepted, refused}
 use Rattle.scripthash_layout.specs.declared.head.ShHeadValue.the-variants.{Inline, Slab}
-use Rattle.book_rules.specs.Outcomes.{loadedIn, appendedAt, listing, droppedOf}
+use Rattle.book_rules.specs.Outcomes.{loadedIn, appendedTo, listing, droppedOf}
 use Rattle.book_statements.specs.Calls.{read, load, append, drop, Call, ask, change, Answers, done, asked, changed}
 use Rattle.book_statements.specs.Recorded.{recordedBy, recordedAfter, recorded}
 
@@ -15,8 +15,8 @@ calls =
 
 abbrev told : Answers calls
 told =
-    changed (accepted (appendedAt (Inline 4 1) 0)) (changed (accepted (droppedOf 1)) (changed (accepted (loadedIn 0)) (changed (refused 32)
-    (changed (accepted (appendedAt (Inline 7 1) 0)) (changed (accepted (appendedAt (Slab 0 3 4096) 0))
+    changed (accepted (appendedTo (Inline 4 1) 0)) (changed (accepted (droppedOf 1)) (changed (accepted (loadedIn 0)) (changed (refused 32)
+    (changed (accepted (appendedTo (Inline 7 1) 0)) (changed (accepted (appendedTo (Slab 0 3 4096) 0))
     (asked (accepted (listing (5 ∷ 9 ∷ 12 ∷ []) 0)) done))))))
 
 -- What is recorded for key 0: a drop ends it, a load and an append record, and a change that is turned back or of another key doesn't.

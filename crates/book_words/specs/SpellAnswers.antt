@@ -10,6 +10,7 @@ use Rattle.scripthash_layout.specs.declared.head.ShHeadValue.{ShHeadValue}
 use Rattle.scripthash_layout.specs.declared.head.ShHeadValue.the-variants.{Empty, Inline, Slab, Extent}
 use Rattle.book_words.specs.Spelled.{SpelledTold, loaded, appended, listed, dropped}
 use Rattle.book_words.specs.Words.{Begins, begins, word, spellAll, readAll}
+use Rattle.book_rules.specs.Outcomes.{loadedIn, appendedTo, listing, droppedOf}
 
 -- The words of a place: its mode, and of each mode what it has of class, used and number or offset.
 unfoldable pub spellPlace : ShHeadValue → List ℕ
@@ -41,21 +42,21 @@ placeOf mode class used at =
 
 -- What a call of each kind told, by the words behind the kind: a load, an append, a read, a drop.
 unfoldable pub loadedAt : List ℕ → Option (Begins (Answer SpelledTold))
-loadedAt ws = word ws (λ pages rest. begins (accepted (loaded (record { pages = pages }))) rest)
+loadedAt ws = word ws (λ pages rest. begins (accepted (loaded (loadedIn pages))) rest)
 
 unfoldable pub appendedAt : List ℕ → Option (Begins (Answer SpelledTold))
 appendedAt ws =
     word ws (λ rewritten ws. word ws (λ mode ws. word ws (λ class ws. word ws (λ used ws. word ws (λ at rest.
-    begins (accepted (appended (record { place = placeOf mode class used at; rewritten = rewritten }))) rest)))))
+    begins (accepted (appended (appendedTo (placeOf mode class used at) rewritten))) rest)))))
 
 unfoldable pub listedAt : List ℕ → Option (Begins (Answer SpelledTold))
 listedAt ws =
     word ws (λ pages ws. word ws (λ count rest.
-    cond (leb count (length rest)) (begins (accepted (listed (record { numbers = firstOf count rest; pages = pages }))) (behind count rest))
+    cond (leb count (length rest)) (begins (accepted (listed (listing (firstOf count rest) pages))) (behind count rest))
     none))
 
 unfoldable pub droppedAt : List ℕ → Option (Begins (Answer SpelledTold))
-droppedAt ws = word ws (λ length rest. begins (accepted (dropped (record { length = length }))) rest)
+droppedAt ws = word ws (λ length rest. begins (accepted (dropped (droppedOf length))) rest)
 
 -- What an accepted call told, by the words behind the 0.
 unfoldable pub toldAt : List ℕ → Option (Begins (Answer SpelledTold))

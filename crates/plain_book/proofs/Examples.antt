@@ -12,11 +12,11 @@ use Rattle.scripthash_stream.specs.Stream.{lastFrom, streamLenFrom}
 use Rattle.scripthash_slabs.specs.Class.{firstClass, classFor, classWithSlack}
 use Rattle.scripthash_cutting.specs.Cutting.{fitting, firstPart, greedyParts, replaceLast}
 use Rattle.scripthash_free.specs.FreeList.{largestUpTo, blockThen, carve}
-use Rattle.book_rules.specs.Outcomes.{Loaded, Appended, bookAfter, appendedAt, droppedOf, listing, loadedIn}
+use Rattle.book_rules.specs.Outcomes.{Loaded, Appended, bookAfter, appendedTo, droppedOf, listing, loadedIn}
 use Rattle.book_statements.specs.Calls.{load, append, read, drop, Call, ask, change, done, asked, changed, answersTo}
 use Rattle.plain_book.specs.Space.{freedAll, takeMark, rounded, takeFresh, takeFrom, runAtMark}
 use Rattle.book_rules.specs.Places.{stays, larger, movesTo, loadsTo}
-use Rattle.plain_book.specs.Key.{Key, slab, written, longer, lastPage, headOf, freedPages, freedPlace, moved, joins, beginPage}
+use Rattle.plain_book.specs.Key.{Key, slab, written, longer, lastPage, headOf, freedPages, freedPlace, moved, joins, beginPage, keptAs, keyIn}
 use Rattle.plain_book.specs.Key.{appendPages, appendPlace, runPages, loadInto, loadPlace}
 use Rattle.book_statements.specs.Moves.{Tally, noMoves, counted, talliedBy, tallied, tallyOf}
 use Rattle.book_rules.specs.Offered.{offeredNumber, offeredList}
@@ -25,7 +25,7 @@ use Rattle.plain_book.specs.Book.{fresh, onKey, loads, appends, reads, d
 
 -- An append that is accepted: the key's new place, and the records rewritten.
 abbrev at : ShHeadValue → ℕ → Answer Appended
-at place rewritten = accepted (appendedAt place rewritten)
+at place rewritten = accepted (appendedTo place rewritten)
 
 -- A load of so many pages.
 abbrev loads-in : ℕ → Answer Loaded
@@ -123,7 +123,7 @@ moves-reached = refl
 -- A list found in padded forms, 13 bytes in a slab of 16: a third number fits, and a fourth moves it, where shortest forms would let it
 -- stay; its class is by shortest forms.
 pub padded :
-    let found : Key = record { list = 5 ∷ 6 ∷ []; place = slab 0 4096 (record { numbers = 5 ∷ 6 ∷ []; bytes = 13 }); counted = true } in
+    let found : Key = keyIn (5 ∷ 6 ∷ []) (slab 0 4096 (keptAs (5 ∷ 6 ∷ []) 13)) true in
     answers (record { size = 8192; keys = found ∷ []; space = record { mark = 4112; stacks = replicate 9 [] } })
     (change (append 0 7) ∷ change (append 0 8) ∷ ask (read 0 4) ∷ [])
     ≡ changed (at (Slab 0 3 4096) 0) (changed (at (Slab 1 4 4112) 3) (asked (accepted (listing (5 ∷ 6 ∷ 7 ∷ 8 ∷ []) 0)) done))

@@ -15,7 +15,7 @@ use Rattle.scripthash_stream.specs.Stream.{Rising, lastFrom}
 use Rattle.plain_book.specs.Space.{Space}
 use Rattle.plain_book.specs.Key.{Key, emptyKey, headOf, pagesOf, freedPlace, countedAfter, Placed, keyIn}
 use Rattle.plain_book.specs.Key.{appendPlace, loadPlace}
-use Rattle.book_rules.specs.Outcomes.{Loaded, Appended, Listed, Dropped, loadedIn, appendedAt, listing, droppedOf, bookAfter, answerOf}
+use Rattle.book_rules.specs.Outcomes.{Loaded, Appended, Listed, Dropped, loadedIn, appendedTo, listing, droppedOf, bookAfter, answerOf}
 use Rattle.book_statements.specs.Calls.{Change, load, append, drop, keyOfChange, Made, Call, ask, change, afterCalls, answersTo}
 use Rattle.book_limits.specs.Limits.{outOfShape}
 use Rattle.book_rules.proofs.LawsOffered.{offered-on, offered-all}
@@ -53,7 +53,7 @@ pub append-did : (b : Book) (key n : ℕ) {o : Outcome Appended} → appends b k
     → (p : Placed) × (key < length (b .keys)) × (lastFrom 0 (keyOf key b .list) < n) × (n < 2 ^ 62)
     × AppendDid (b .size) (length (keyOf key b .list)) (extended (keyOf key b .list) n) n (b .space) (keyOf key b .place) p
     × (o ≡ record {
-      told = appendedAt (headOf (extended (keyOf key b .list) n) (p .place)) (p .rewritten);
+      told = appendedTo (headOf (extended (keyOf key b .list) n) (p .place)) (p .rewritten);
       book = withKey key (keyIn (extended (keyOf key b .list) n) (p .place) (countedAfter (keyOf key b .place) (keyOf key b .counted)))
           (p .space) b;
     })

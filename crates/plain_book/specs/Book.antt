@@ -10,7 +10,7 @@ use Rattle.error.specs.Refusal.{shapeBad, keyBeyond, keyInUse, tooManyOffered}
 use Rattle.scripthash_layout.specs.Sizes.{pageClass}
 use Rattle.scripthash_layout.specs.Head.{payloadStart}
 use Rattle.scripthash_stream.specs.Stream.{maxOffered, lastFrom}
-use Rattle.book_rules.specs.Outcomes.{Loaded, Appended, Listed, Dropped, loadedIn, appendedAt, listing, droppedOf, OutcomeOf}
+use Rattle.book_rules.specs.Outcomes.{Loaded, Appended, Listed, Dropped, loadedIn, appendedTo, listing, droppedOf, OutcomeOf}
 use Rattle.book_statements.specs.Calls.{Enquiry, read, Change, load, append, drop, Call, change, Said, Made, Serves, Answers, afterCalls}
 use Rattle.book_statements.specs.Calls.{answersTo}
 use Rattle.book_rules.specs.Offered.{offeredNumber, offeredList}
@@ -83,7 +83,7 @@ appends b key n =
     offeredNumber true (lastFrom 0 (keyOf key b .list)) n
     (andThen (appendPlace (b .size) (length (keyOf key b .list)) list n (keyOf key b .place) (b .space))
     (λ p. accepted (record {
-      told = appendedAt (headOf list (p .place)) (p .rewritten);
+      told = appendedTo (headOf list (p .place)) (p .rewritten);
       book = withKey key (keyIn list (p .place) (countedAfter (keyOf key b .place) (keyOf key b .counted))) (p .space) b;
     }))))
 

@@ -20,13 +20,17 @@ pub record Kept : Type 0 where
   pub numbers : List ℕ
   pub bytes : ℕ
 
+-- One from its parts.
+abbrev pub keptAs : List ℕ → ℕ → Kept
+keptAs numbers bytes = record { numbers = numbers; bytes = bytes }
+
 -- A list written anew: in shortest forms.
 unfoldable pub written : List ℕ → Kept
-written ns = record { numbers = ns; bytes = streamLen ns }
+written ns = keptAs ns (streamLen ns)
 
 -- A kept stream with one number more behind it, in its shortest form.
 unfoldable pub longer : ℕ → Kept → Kept
-longer n k = record { numbers = k .numbers ++ (n ∷ []); bytes = k .bytes + ulebLen (n - lastFrom 0 (k .numbers)) }
+longer n k = keptAs (k .numbers ++ (n ∷ [])) (k .bytes + ulebLen (n - lastFrom 0 (k .numbers)))
 
 -- A page: its offset, how many bytes of a stream it has room for, and the part of the list that it holds.
 pub record Page : Type 0 where
