@@ -1,15 +1,14 @@
 // Claiming the blocks of a key or of a free list in a work list.
 ghost use mathlib.Core.List.{List};
-ghost use Prim.Native.Nat.{ℕ, _/_, _≤_};
-ghost use lib.ListN.{length};
-ghost use Rattle.scripthash_layout.specs.Sizes.{pageClass};
+ghost use Prim.Native.Nat.{ℕ, _/_};
 ghost use Rattle.scripthash_layout.specs.declared.head.ShHeadValue.the-variants.{Slab, Extent};
 ghost use Rattle.scripthash_free.specs.FreeList.{Block};
 ghost use Rattle.book_space.specs.Space.{space};
 ghost use Rattle.book_keys.specs.Keys.{content, contentAt, ground, pageBlocks, soundly};
 ghost use Rattle.book_keys.specs.Steps.{PagesLeft};
 ghost use Rattle.book_start.specs.Start.{claimAll, claimContent, claimFreed};
-ghost use Rattle.book_start.specs.Units.{Marked, Shows, ClaimsAs};
+ghost use Rattle.book_start.specs.Units.{Marked, ClaimsAs};
+ghost use Rattle.book_start.specs.Steps.{KeyToClaim, PagesToClaim, ListToClaim};
 use crate::units::PAGE_UNITS;
 use crate::units::block_units;
 use crate::units::claim_block;
@@ -29,7 +28,7 @@ pub enum Claiming {
 
 // Claims the pages of a sound chain, the first first.
 fn claim_pages(body: &[u8], mark: u64, work: &mut [u8], first: u64, pages: u64) -> Claiming
-    requires { ⌜ Shows mark (now work) × ((offs : List ℕ) × PagesLeft (ground (now body) mark) first pages offs) ⌝ }
+    requires { ⌜ PagesToClaim (now body) mark (now work) first pages ⌝ }
     ensures { λ r. ⌜ ((offs : List ℕ) → PagesLeft (ground (now (body .entry)) mark) first pages offs
         → (units : ℕ) (lent : List ℕ) (claims : List Block) → Marked units mark lent claims (now (work .entry))
         → ClaimsAs units mark lent claims (claimAll claims (pageBlocks offs)) r (now (work .exit))) ⌝ }
@@ -48,7 +47,7 @@ fn claim_pages(body: &[u8], mark: u64, work: &mut [u8], first: u64, pages: u64) 
 
 // Claims the slab of a key.
 fn claim_slab(body: &[u8], mark: u64, work: &mut [u8], class: u8, used: u16, off: u64) -> Claiming
-    requires { ⌜ (mark ≤ length (now body)) × Shows mark (now work) ⌝ }
+    requires { ⌜ KeyToClaim (now body) mark (now work) ⌝ }
     ensures { λ r. ⌜ ((units : ℕ) (lent : List ℕ) (claims : List Block) → Marked units mark lent claims (now (work .entry))
         → ClaimsAs units mark lent claims
         (claimContent claims (soundly (contentAt (ground (now (body .entry)) mark) (Slab class used off)))) r (now (work .exit))) ⌝ }
@@ -65,7 +64,7 @@ fn claim_slab(body: &[u8], mark: u64, work: &mut [u8], class: u8, used: u16, off
 
 // Claims the pages of a key.
 fn claim_chain(body: &[u8], mark: u64, work: &mut [u8], last: u64) -> Claiming
-    requires { ⌜ (mark ≤ length (now body)) × Shows mark (now work) ⌝ }
+    requires { ⌜ KeyToClaim (now body) mark (now work) ⌝ }
     ensures { λ r. ⌜ ((units : ℕ) (lent : List ℕ) (claims : List Block) → Marked units mark lent claims (now (work .entry))
         → ClaimsAs units mark lent claims (claimContent claims (soundly (contentAt (ground (now (body .entry)) mark) (Extent last)))) r
         (now (work .exit))) ⌝ }
@@ -84,7 +83,7 @@ fn claim_chain(body: &[u8], mark: u64, work: &mut [u8], last: u64) -> Claiming
 
 // Claims the blocks of a key that stands at a place.
 fn claim_place(body: &[u8], mark: u64, work: &mut [u8], place: ShHeadValue) -> Claiming
-    requires { ⌜ (mark ≤ length (now body)) × Shows mark (now work) ⌝ }
+    requires { ⌜ KeyToClaim (now body) mark (now work) ⌝ }
     ensures { λ r. ⌜ ((units : ℕ) (lent : List ℕ) (claims : List Block) → Marked units mark lent claims (now (work .entry))
         → ClaimsAs units mark lent claims (claimContent claims (soundly (contentAt (ground (now (body .entry)) mark) place))) r
         (now (work .exit))) ⌝ }
@@ -99,7 +98,7 @@ fn claim_place(body: &[u8], mark: u64, work: &mut [u8], place: ShHeadValue) -> C
 
 // Claims the blocks of a key, by its head word.
 pub fn claim_key(body: &[u8], mark: u64, work: &mut [u8], word: u64) -> Claiming
-    requires { ⌜ (mark ≤ length (now body)) × Shows mark (now work) ⌝ }
+    requires { ⌜ KeyToClaim (now body) mark (now work) ⌝ }
     ensures { λ r. ⌜ ((units : ℕ) (lent : List ℕ) (claims : List Block) → Marked units mark lent claims (now (work .entry))
         → ClaimsAs units mark lent claims (claimContent claims (content (ground (now (body .entry)) mark) word)) r (now (work .exit))) ⌝ }
 {
@@ -112,7 +111,7 @@ pub fn claim_key(body: &[u8], mark: u64, work: &mut [u8], word: u64) -> Claiming
 
 // Claims the blocks of the free list of a class from its head on, over no more blocks than there is room for below the mark.
 pub fn claim_freed(body: &[u8], mark: u64, work: &mut [u8], class: u8, head: u64) -> Claiming
-    requires { ⌜ (class ≤ pageClass) × (mark ≤ length (now body)) × Shows mark (now work) ⌝ }
+    requires { ⌜ ListToClaim (now body) mark (now work) class ⌝ }
     ensures { λ r. ⌜ ((free : List ℕ) (units : ℕ) (lent : List ℕ) (claims : List Block) → Marked units mark lent claims (now (work .entry))
         → ClaimsAs units mark lent claims (claimFreed (mark / 16) (space (now (body .entry)) mark free) class claims head) r
         (now (work .exit))) ⌝ }

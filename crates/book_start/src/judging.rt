@@ -1,7 +1,7 @@
 // Judging a start: keys rising, then classes rising, and the first fault decides.
 ghost use mathlib.Core.List.{List, []};
 ghost use mathlib.Core.Path.{_≡_};
-ghost use Prim.Native.Nat.{ℕ, _/_, _%_, _≤_};
+ghost use Prim.Native.Nat.{ℕ, _/_};
 ghost use lib.ListN.{length};
 ghost use Rattle.error.specs.Refusal.{refusalOf, valueOr};
 ghost use Rattle.scripthash_free.specs.FreeList.{Block};
@@ -10,6 +10,7 @@ ghost use Rattle.book.specs.Answers.{bookOf};
 ghost use Rattle.book_start.specs.Start.{judgeLists, judgeKeys, judges};
 ghost use Rattle.book_start.specs.Answers.{startAnswer, groundOf, whichOf, lostOf};
 ghost use Rattle.book_start.specs.Units.{Marked, Leaves, JudgesAs, workAfter};
+ghost use Rattle.book_start.specs.Steps.{ListsToJudge, KeysToJudge};
 use crate::claiming::Claiming;
 use crate::claiming::claim_freed;
 use crate::claiming::claim_key;
@@ -91,9 +92,7 @@ impl JudgeStart {
 // Claims the blocks of all free lists, classes rising, behind those that the work list shows, which leave so many units to nobody: good
 // where all are claimed, with what they leave, else the first fault.
 fn judge_lists(body: &[u8], mark: u64, free: &[u64], work: &mut [u8], unclaimed: u64) -> JudgeStart
-    requires { ⌜ (length (now free) ≡ 9) × (mark ≤ length (now body))
-        × ((units : ℕ) × (lent : List ℕ) × (claims : List Block) × Marked units mark lent claims (now work)
-        × Leaves mark claims unclaimed) ⌝ }
+    requires { ⌜ ListsToJudge (now body) mark (now free) (now work) unclaimed ⌝ }
     ensures { λ r. ⌜ ((units : ℕ) (lent : List ℕ) (claims : List Block) → Marked units mark lent claims (now (work .entry))
         → Leaves mark claims unclaimed
         → JudgesAs units mark lent (judgeLists (space (now (body .entry)) mark (now (free .entry))) 0 (now (free .entry)) claims) r
@@ -116,8 +115,7 @@ fn judge_lists(body: &[u8], mark: u64, free: &[u64], work: &mut [u8], unclaimed:
 // Claims the blocks of all keys, keys rising, in a work list that shows no claims, and then those of all free lists: good where all are
 // claimed, with the units that they leave, else the first fault.
 fn judge_keys(body: &[u8], heads: &[u64], mark: u64, free: &[u64], work: &mut [u8]) -> JudgeStart
-    requires { ⌜ (length (now free) ≡ 9) × (mark ≤ length (now body)) × (mark % 16 ≡ 0)
-        × ((units : ℕ) × (lent : List ℕ) × Marked units mark lent [] (now work)) ⌝ }
+    requires { ⌜ KeysToJudge (now body) mark (now free) (now work) ⌝ }
     ensures { λ r. ⌜ ((units : ℕ) (lent : List ℕ) → Marked units mark lent [] (now (work .entry))
         → JudgesAs units mark lent (judgeKeys (space (now (body .entry)) mark (now (free .entry))) 0 (now (heads .entry)) []) r
         (now (work .exit))) ⌝ }

@@ -4,8 +4,8 @@ ghost use Prim.Native.Nat.{_+_, _*_, _≤_};
 ghost use lib.ListN.{length, replicate};
 ghost use Rattle.buffer.specs.Bytes.{part, overwrite};
 ghost use Rattle.scripthash_layout.specs.Sizes.{slabBytes, pageClass};
-ghost use Rattle.book_start.specs.Start.{block};
-ghost use Rattle.book_start.specs.Units.{allFree, unitsFree, claimUnits};
+ghost use Rattle.book_start.specs.Units.{allFree};
+ghost use Rattle.book_start.specs.Steps.{BlockToClaim, BlockClaimed};
 use scripthash_layout::slab_bytes;
 
 // The bytes of the body for which a byte of the work list stands.
@@ -52,9 +52,8 @@ pub fn fill_units(work: &mut [u8], from: usize, count: usize, value: u8)
 
 // Claims the block of a class at an offset: marks its units, or tells that one of them is taken and marks none.
 pub fn claim_block(work: &mut [u8], class: u8, off: u64) -> bool
-    requires { ⌜ (class ≤ pageClass) × (off + slabBytes class ≤ 16 * length (now work)) ⌝ }
-    ensures free { λ r. ⌜ r ≡ unitsFree (block class off) (now (work .entry)) ⌝ }
-    ensures list { λ r. ⌜ now (work .exit) ≡ claimUnits (block class off) (now (work .entry)) ⌝ }
+    requires { ⌜ BlockToClaim class off (now work) ⌝ }
+    ensures { λ r. ⌜ BlockClaimed class off (now (work .entry)) r (now (work .exit)) ⌝ }
 {
     let from = off as usize / UNIT_BYTES;
     let count = slab_bytes(class) as usize / UNIT_BYTES;

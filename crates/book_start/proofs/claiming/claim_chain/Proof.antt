@@ -35,7 +35,7 @@ module _ (c : tie.After-end) where
       (got .0, was-sound _ (got .1), got .2)
 
   left : PagesLeft s (end .first) (end .pages) (walked .0 .offs)
-  left = chain-left s (at .args .last) (walked .0) end (at .pre .0) (walked .1) (walked .2)
+  left = chain-left s (at .args .last) (walked .0) end (at .pre .within) (walked .1) (walked .2)
 
   gives : (claims : List Block) → claimContent claims (soundly (contentAt s (Extent (at .args .last))))
       ≡ claimAll claims (pageBlocks (walked .0 .offs))
@@ -59,7 +59,7 @@ returns c units lent claims m =
     (was-unsound _ stop .1)))
 
 claim-pages-requires : tie.Need-claim-pages-requires
-claim-pages-requires c κs = let d = c .before .before in (at d .pre .1, (walked d .0 .offs, left d))
+claim-pages-requires c κs = let d = c .before .before in record { shown = at d .pre .shown; offs = walked d .0 .offs; left = left d }
 
 same-length : tie.Need-same-length
 same-length c = search needs

@@ -18,12 +18,18 @@ use Rattle.book_start.proofs.LawsShown.{list-shared, list-turn}
 use Rattle.book_start.proofs.claiming.claim_freed.Statement.{statement}
 use Rattle.book_start.proofs.claiming.claim_freed.Tie as tie
 
+-- What is known in the middle of claiming a free list.
+record ClaimingList (body : List ℕ) (mark : ℕ) (work₀ : List ℕ) (class head : ℕ) (work : List ℕ) (off left taken : ℕ) : Type 0 where
+  -- The work list is as long as before.
+  same : length work ≡ length work₀
+  -- What is left of the list, claimed behind what the work list shows, gives what all of it gives.
+  goes : (free : List ℕ) (units : ℕ) (lent : List ℕ) (claims : List Block) → Marked units mark lent claims work₀
+      → FreedGo units lent claims (claimFreed (mark / 16) (space body mark free) class claims head) (space body mark free) class off left
+      work taken
+
 abbrev Inv-loop : tie.InvT-loop
 Inv-loop body mark work₀ class head size off₀ left₀ taken₀ work off left taken =
-    (length work ≡ length work₀)
-    × ((free : List ℕ) (units : ℕ) (lent : List ℕ) (claims : List Block) → Marked units mark lent claims work₀
-    → FreedGo units lent claims (claimFreed (mark / 16) (space body mark free) class claims head) (space body mark free) class off left work
-    taken)
+    ClaimingList body mark work₀ class head work off left taken
 
 abbrev μ-loop : tie.MeasureT-loop
 μ-loop body mark work₀ class head size off₀ left₀ taken₀ work off left taken = left
@@ -55,7 +61,7 @@ module _ (t : tie.In-loop Inv-loop μ-loop) where
   more z = t .loop-test .taken z
 
   long : at .args .mark ≤ 16 * length work
-  long = let e = t .before .loop .inv .0 in let p = shown-long (at .args .mark) (at .args .work .now) (at .pre .2) in omega arith
+  long = let e = t .before .loop .inv .same in let p = shown-long (at .args .mark) (at .args .work .now) (at .pre .shown) in omega arith
 
 -- a block that stands below the mark
 module _ (c : tie.Else2 Inv-loop μ-loop) where
@@ -69,10 +75,14 @@ module _ (c : tie.Else2 Inv-loop μ-loop) where
   some = let n = c .before .before .if1 .left in omega arith
 
 loop-holds : tie.Need-loop-holds Inv-loop μ-loop
-loop-holds c = (refl, λ free units lent claims m. record { claims = claims; shows = m; gives = refl; took = omega arith })
+loop-holds c =
+    record {
+      same = refl;
+      goes = λ free units lent claims m. record { claims = claims; shows = m; gives = refl; took = omega arith };
+    }
 
 block-units-requires : tie.Need-block-units-requires Inv-loop μ-loop
-block-units-requires c κs = c .before .before .pre .0
+block-units-requires c κs = c .before .before .pre .class-to-8
 
 same-length : tie.Need-same-length Inv-loop μ-loop
 same-length c = search needs
@@ -81,7 +91,7 @@ returns : tie.Need-returns Inv-loop μ-loop
 returns c free units lent claims m =
     let t = c .before in
     list-long units lent claims _ (s t free) (at t .args .class) (off t) (left t) (work t) (taken t)
-    (t .before .loop .inv .1 free units lent claims m)
+    (t .before .loop .inv .goes free units lent claims m)
     (more t) (omega arith)
 
 is-block-requires : tie.Need-is-block-requires Inv-loop μ-loop
@@ -94,14 +104,17 @@ returns-2 : tie.Need-returns-2 Inv-loop μ-loop
 returns-2 c free units lent claims m =
     let t = c .before .before .before in
     list-strays units lent claims _ (s t free) (at t .args .class) (off t) (left t) (work t) (taken t)
-    (t .before .loop .inv .1 free units lent claims m)
+    (t .before .loop .inv .goes free units lent claims m)
     (more t)
     (let n = c .before .before .if1 .left in omega arith) (sym (c .before .is-block .ensures) ∙ not-true _ (c .if2 .taken))
 
 claim-block-requires : tie.Need-claim-block-requires Inv-loop μ-loop
 claim-block-requires c κs =
     let t = turn (c .before) in
-    (at t .pre .0, block-fits (at t .args .mark) (at t .args .class) (off t) (length (work t)) (long t) (stands (c .before)))
+    record {
+      class-to-8 = at t .pre .class-to-8;
+      inside = block-fits (at t .args .mark) (at t .args .class) (off t) (length (work t)) (long t) (stands (c .before));
+    }
 
 same-length-3 : tie.Need-same-length-3 Inv-loop μ-loop
 same-length-3 c = search needs
@@ -112,15 +125,15 @@ returns-3 c free units lent claims m =
     let t = turn d in
     let b = c .before .before .before .claim-block in
     list-shared units lent claims _ (s t free) (at t .args .class) (off t) (left t) (work t) (taken t)
-    (t .before .loop .inv .1 free units lent claims m)
+    (t .before .loop .inv .goes free units lent claims m)
     (more t) (some d) (stands d) _
-    (b .ensures .1) (sym (b .ensures .0) ∙ not-true _ (c .if3 .taken))
+    (b .ensures .list) (sym (b .ensures .free) ∙ not-true _ (c .if3 .taken))
 
 get-u64-requires : tie.Need-get-u64-requires Inv-loop μ-loop
 get-u64-requires c κs =
     let d = c .before .before .before .before .before in
     let t = turn d in
-    link-inside (at t .args .body .now) (at t .args .mark) (at t .args .class) (off t) (at t .pre .1) (stands d)
+    link-inside (at t .args .body .now) (at t .args .mark) (at t .args .class) (off t) (at t .pre .within) (stands d)
 
 sub-left : tie.Need-sub-left Inv-loop μ-loop
 sub-left c = let n = some (c .before .before .before .before .before .before) in omega arith
@@ -141,14 +154,14 @@ module _ (c : tie.After-get-u64 Inv-loop μ-loop) where
   goes free units lent claims m =
       let b = c .before .before .before .before .claim-block in
       list-turn units lent claims _ (s here free) (at here .args .class) (off here) (left here) (work here) (taken here)
-      (here .before .loop .inv .1 free units lent claims m) (more here) (some passed) (stands passed) _ (b .ensures .1) (c .get-u64 .result)
-      (c .get-u64 .ensures) (sym (b .ensures .0) ∙ not-false _ (c .before .if3 .left)) (size here)
+      (here .before .loop .inv .goes free units lent claims m) (more here) (some passed) (stands passed) _ (b .ensures .list)
+      (c .get-u64 .result) (c .get-u64 .ensures) (sym (b .ensures .free) ∙ not-false _ (c .before .if3 .left)) (size here)
       (here .before .before .block-units .ensures)
 
 add-taken : tie.Need-add-taken Inv-loop μ-loop
 add-taken c =
     let t = here c in
-    let w = at t .pre .2 in
+    let w = at t .pre .shown in
     let few = list-few (w .units) (w .lent) (w .claims) _ (s t []) (at t .args .class) (c .get-u64 .result) (left t - 1) _
     (taken t + size t) (goes c [] (w .units) (w .lent) (w .claims) (w .shows)) in
     omega arith
@@ -161,11 +174,12 @@ loop-again c =
     let d = c .before .before .before .before .before .before in
     let t = turn d in
     let b = c .before .before .before .before .claim-block in
-    let class = at t .args .class in (
-      ap length (b .ensures .1) ∙ length-claim (block class (off t)) (work t) (at t .args .mark) (long t) (stands d)
-          ∙ t .before .loop .inv .0,
-      goes c,
-    )
+    let class = at t .args .class in
+    record {
+      same = ap length (b .ensures .list) ∙ length-claim (block class (off t)) (work t) (at t .args .mark) (long t) (stands d)
+          ∙ t .before .loop .inv .same;
+      goes = goes c;
+    }
 
 same-length-4 : tie.Need-same-length-4 Inv-loop μ-loop
 same-length-4 c = search needs
@@ -175,7 +189,7 @@ returns-4 c free units lent claims m =
     let l = c .before .loop in
     let a = c .before .before .before .before .before .args in
     list-end units lent claims _ (space (a .body .now) (a .mark) free) (a .class) (l .off) (l .left) (l .work) (l .taken)
-    (l .inv .1 free units lent claims m) (omega arith)
+    (l .inv .goes free units lent claims m) (omega arith)
 
 pub claim-freed-spec : {M : Type 1} → statement M
 claim-freed-spec =

@@ -20,12 +20,20 @@ use Rattle.book_start.proofs.LawsShown.{pages-few, pages-end}
 use Rattle.book_start.proofs.claiming.claim_pages.Statement.{statement}
 use Rattle.book_start.proofs.claiming.claim_pages.Tie as tie
 
+-- What is known in the middle of claiming pages.
+record ClaimingPages (s : Ground) (work₀ : List ℕ) (first pages : ℕ) (work : List ℕ) (off left : ℕ) : Type 0 where
+  -- The work list is as long as before.
+  same : length work ≡ length work₀
+  -- The pages that are left stand at these offsets.
+  offs : List ℕ
+  rest : PagesLeft s off left offs
+  -- Claimed behind what the work list shows, they give what all pages give.
+  goes : (whole : List ℕ) → PagesLeft s first pages whole → (units : ℕ) (lent : List ℕ) (claims : List Block)
+      → Marked units (s .mark) lent claims work₀
+      → PagesGo units (s .mark) lent claims (claimAll claims (pageBlocks whole)) s pages off left work
+
 abbrev Inv-loop : tie.InvT-loop
-Inv-loop body mark work₀ first pages off₀ left₀ work off left =
-    (length work ≡ length work₀) × ((offs : List ℕ) × PagesLeft (ground body mark) off left offs)
-    × ((whole : List ℕ) → PagesLeft (ground body mark) first pages whole → (units : ℕ) (lent : List ℕ) (claims : List Block)
-    → Marked units mark lent claims work₀
-    → PagesGo units mark lent claims (claimAll claims (pageBlocks whole)) (ground body mark) pages off left work)
+Inv-loop body mark work₀ first pages off₀ left₀ work off left = ClaimingPages (ground body mark) work₀ first pages work off left
 
 abbrev μ-loop : tie.MeasureT-loop
 μ-loop body mark work₀ first pages off₀ left₀ work off left = left
@@ -47,29 +55,35 @@ module _ (t : tie.In-loop Inv-loop μ-loop) where
   more : 0 < t .before .loop .left
   more = let h = t .loop-test .taken in omega arith
 
-  turn : PageTurn s off (t .before .loop .left) (t .before .loop .inv .1 .0)
-  turn = page-turn s off (t .before .loop .left) (t .before .loop .inv .1 .0) more (t .before .loop .inv .1 .1)
+  turn : PageTurn s off (t .before .loop .left) (t .before .loop .inv .offs)
+  turn = page-turn s off (t .before .loop .left) (t .before .loop .inv .offs) more (t .before .loop .inv .rest)
 
   long : at .args .mark ≤ 16 * length work
-  long = let e = t .before .loop .inv .0 in let p = shown-long (at .args .mark) (at .args .work .now) (at .pre .0) in omega arith
+  long = let e = t .before .loop .inv .same in let p = shown-long (at .args .mark) (at .args .work .now) (at .pre .shown) in omega arith
 
 loop-holds : tie.Need-loop-holds Inv-loop μ-loop
-loop-holds c = (
-  refl,
-  c .before .before .pre .1,
-  λ whole p units lent claims m. record {
-    offs = whole;
-    pages = p;
-    claims = claims;
-    shows = m;
-    gives = refl;
-    took = refl;
-  },
-)
+loop-holds c =
+    record {
+      same = refl;
+      offs = c .before .before .pre .offs;
+      rest = c .before .before .pre .left;
+      goes = λ whole p units lent claims m. record {
+        offs = whole;
+        pages = p;
+        claims = claims;
+        shows = m;
+        gives = refl;
+        took = refl;
+      };
+    }
 
 claim-block-requires : tie.Need-claim-block-requires Inv-loop μ-loop
 claim-block-requires c κs =
-    let t = c .before in (omega arith, block-fits (at t .args .mark) pageClass (off t) (length (work t)) (long t) (turn t .stands))
+    let t = c .before in
+    record {
+      class-to-8 = omega arith;
+      inside = block-fits (at t .args .mark) pageClass (off t) (length (work t)) (long t) (turn t .stands);
+    }
 
 same-length : tie.Need-same-length Inv-loop μ-loop
 same-length c = search needs
@@ -78,15 +92,16 @@ returns : tie.Need-returns Inv-loop μ-loop
 returns c whole p units lent claims m =
     let t = c .before .before .before .before .before in
     let b = c .before .before .before .claim-block in
-    pages-shared units lent claims _ (s t) _ (off t) (t .before .loop .left) (work t) (t .before .loop .inv .2 whole p units lent claims m)
+    pages-shared units lent claims _ (s t) _ (off t) (t .before .loop .left) (work t)
+    (t .before .loop .inv .goes whole p units lent claims m)
     (more t) _
-    (sym (b .ensures .0) ∙ not-true _ (c .if1 .taken)) (b .ensures .1)
+    (sym (b .ensures .free) ∙ not-true _ (c .if1 .taken)) (b .ensures .list)
 
 next-page-requires : tie.Need-next-page-requires Inv-loop μ-loop
 next-page-requires c κs =
     let t = c .before .before .before .before .before in
     let e = block-stands pageClass (off t) (at t .args .mark) (turn t .stands) .ends in
-    let w = t .before .loop .inv .1 .1 .within in
+    let w = t .before .loop .inv .rest .within in
     omega arith
 
 sub-left : tie.Need-sub-left Inv-loop μ-loop
@@ -101,23 +116,25 @@ loop-again c =
     let b = c .before .before .before .before .claim-block in
     let next = c .next-page .result in
     let left = t .before .loop .left in
-    let free = sym (b .ensures .0) ∙ not-false _ (c .before .if1 .left) in (
-      ap length (b .ensures .1) ∙ length-claim (block pageClass (off t)) (work t) (at t .args .mark) (long t) (turn t .stands)
-          ∙ t .before .loop .inv .0,
-      (turn t .behind, subst (λ (n : ℕ). PagesLeft (s t) n (left - 1) (turn t .behind)) (sym (c .next-page .ensures)) (turn t .rest)),
-      λ whole p units lent claims m.
-          pages-turn units lent claims _ (s t) _ (off t) left (work t) (t .before .loop .inv .2 whole p units lent claims m) (more t) _ next
-          (c .next-page .ensures) free (b .ensures .1),
-    )
+    let free = sym (b .ensures .free) ∙ not-false _ (c .before .if1 .left) in
+    record {
+      same = ap length (b .ensures .list) ∙ length-claim (block pageClass (off t)) (work t) (at t .args .mark) (long t) (turn t .stands)
+          ∙ t .before .loop .inv .same;
+      offs = turn t .behind;
+      rest = subst (λ (n : ℕ). PagesLeft (s t) n (left - 1) (turn t .behind)) (sym (c .next-page .ensures)) (turn t .rest);
+      goes = λ whole p units lent claims m.
+          pages-turn units lent claims _ (s t) _ (off t) left (work t) (t .before .loop .inv .goes whole p units lent claims m) (more t) _
+          next (c .next-page .ensures) free (b .ensures .list);
+    }
 
 mul-t12 : tie.Need-mul-t12 Inv-loop μ-loop
 mul-t12 c =
     let l = c .before .loop in
     let t = c .before .before .before .before in
     let a = t .args in
-    let w = t .pre .0 in
+    let w = t .pre .shown in
     let few = pages-few (w .units) (w .lent) (w .claims) _ (ground (a .body .now) (a .mark)) (a .pages) (l .off) (l .left) (l .work)
-    (l .inv .2 (t .pre .1 .0) (t .pre .1 .1) (w .units) (w .lent) (w .claims) (w .shows)) (omega arith) in
+    (l .inv .goes (t .pre .offs) (t .pre .left) (w .units) (w .lent) (w .claims) (w .shows)) (omega arith) in
     omega arith
 
 same-length-2 : tie.Need-same-length-2 Inv-loop μ-loop
@@ -128,7 +145,7 @@ returns-2 c whole p units lent claims m =
     let l = c .before .loop in
     let a = c .before .before .before .before .args in
     pages-end units lent claims _ (ground (a .body .now) (a .mark)) (a .pages) (l .off) (l .left) (l .work)
-    (l .inv .2 whole p units lent claims m) (omega arith)
+    (l .inv .goes whole p units lent claims m) (omega arith)
 
 pub claim-pages-spec : {M : Type 1} → statement M
 claim-pages-spec =

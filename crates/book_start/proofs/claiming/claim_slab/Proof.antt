@@ -67,11 +67,12 @@ returns c units lent claims m =
 claim-block-requires : tie.Need-claim-block-requires
 claim-block-requires c κs =
     let d = c .before in
-    let k = sound d .class-to-7 in (
-      omega arith,
-      block-fits (at d .args .mark) (at d .args .class) (at d .args .off) (length (at d .args .work .now))
-          (shown-long (at d .args .mark) (at d .args .work .now) (at d .pre .1)) (sound d .stands),
-    )
+    let k = sound d .class-to-7 in
+    record {
+      class-to-8 = omega arith;
+      inside = block-fits (at d .args .mark) (at d .args .class) (at d .args .off) (length (at d .args .work .now))
+          (shown-long (at d .args .mark) (at d .args .work .now) (at d .pre .shown)) (sound d .stands);
+    }
 
 same-length : tie.Need-same-length
 same-length c = search needs
@@ -81,8 +82,8 @@ returns-2 c units lent claims m =
     let d = c .before .before .before .before .before in
     let b = c .before .before .before .claim-block in
     one-shared units (at d .args .mark) lent _ claims (at d .args .work .now) m (slab d) (sound d .stands) (gives d claims) _
-    (b .ensures .1)
-    (sym (b .ensures .0) ∙ not-true _ (c .if1 .taken))
+    (b .ensures .list)
+    (sym (b .ensures .free) ∙ not-true _ (c .if1 .taken))
 
 block-units-requires : tie.Need-block-units-requires
 block-units-requires c κs = let k = sound (c .before .before .before .before .before) .class-to-7 in omega arith
@@ -95,8 +96,8 @@ returns-3 c units lent claims m =
     let d = c .before .before .before .before .before .before in
     let b = c .before .before .before .before .claim-block in
     one-claimed units (at d .args .mark) lent _ claims (at d .args .work .now) m (slab d) (sound d .stands) (gives d claims) _
-    (b .ensures .1) (c .block-units .result) (c .block-units .ensures)
-    (sym (b .ensures .0) ∙ not-false _ (c .before .if1 .left))
+    (b .ensures .list) (c .block-units .result) (c .block-units .ensures)
+    (sym (b .ensures .free) ∙ not-false _ (c .before .if1 .left))
 
 pub claim-slab-spec : {M : Type 1} → statement M
 claim-slab-spec =

@@ -1,6 +1,6 @@
 -- `judge_keys` meets its contract. Invariant: the keys that are left, judged behind what the work list shows, give what all of them give.
 -- Assumes nothing.
-use Prim.Native.Nat.{ℕ, _-_, _*_, _≤_}
+use Prim.Native.Nat.{ℕ, _-_, _≤_}
 use mathlib.Core.List.{List, []}
 use mathlib.Core.Path.{_≡_, refl, ap, _∙_}
 use native.Mathlib.Omega.{arith}
@@ -14,11 +14,18 @@ use Rattle.book_start.proofs.LawsVerdict.{KeysGo, keys-took, keys-turn,
 use Rattle.book_start.proofs.judging.judge_keys.Statement.{statement}
 use Rattle.book_start.proofs.judging.judge_keys.Tie as tie
 
+-- What is known in the middle of judging keys.
+record JudgingKeys (s : Space) (heads work₀ work : List ℕ) (lost key : ℕ) : Type 0 where
+  -- The work list is as long as before.
+  same : length work ≡ length work₀
+  -- The next key isn't beyond the last.
+  to-end : key ≤ length heads
+  -- The keys that are left, judged behind what the work list shows, give what all of them give.
+  goes : (units : ℕ) (lent : List ℕ) → Marked units (s .mark) lent [] work₀
+      → KeysGo units lent (judgeKeys s 0 heads []) s heads key work lost
+
 abbrev Inv-loop : tie.InvT-loop
-Inv-loop body heads mark free work₀ lost₀ key₀ work lost key =
-    (length work ≡ length work₀) × (key ≤ length heads)
-    × ((units : ℕ) (lent : List ℕ) → Marked units mark lent [] work₀
-    → KeysGo units lent (judgeKeys (space body mark free) 0 heads []) (space body mark free) heads key work lost)
+Inv-loop body heads mark free work₀ lost₀ key₀ work lost key = JudgingKeys (space body mark free) heads work₀ work lost key
 
 abbrev μ-loop : tie.MeasureT-loop
 μ-loop body heads mark free work₀ lost₀ key₀ work lost key = length heads - key
@@ -44,19 +51,21 @@ module _ (l : tie.At-loop Inv-loop μ-loop) where
   lost = l .loop .lost
 
   -- what no claims lead to
-  go : KeysGo (at .pre .3 .0) (at .pre .3 .1) (judgeKeys s 0 heads []) s heads key work lost
-  go = l .loop .inv .2 (at .pre .3 .0) (at .pre .3 .1) (at .pre .3 .2)
+  go : KeysGo (at .pre .units) (at .pre .lent) (judgeKeys s 0 heads []) s heads key work lost
+  go = l .loop .inv .goes (at .pre .units) (at .pre .lent) (at .pre .marked)
 
 sub-lost : tie.Need-sub-lost Inv-loop μ-loop
-sub-lost c = let f = c .before .before .before .before .pre .3 .2 .from in omega arith
+sub-lost c = let f = c .before .before .before .before .pre .marked .from in omega arith
 
 loop-holds : tie.Need-loop-holds Inv-loop μ-loop
 loop-holds c =
-    let t = c .before .before .before .before in (
-      refl,
-      omega arith,
-      λ units lent m. record { claims = []; shows = m; left = none-leave (t .args .mark) (m .from) (t .pre .2); gives = refl },
-    )
+    let t = c .before .before .before .before in
+    record {
+      same = refl;
+      to-end = omega arith;
+      goes = λ units lent m.
+          record { claims = []; shows = m; left = none-leave (t .args .mark) (m .from) (t .pre .aligned); gives = refl };
+    }
 
 mul-claim-key : tie.Need-mul-claim-key Inv-loop μ-loop
 mul-claim-key c = search needs
@@ -68,7 +77,10 @@ claim-key-requires : tie.Need-claim-key-requires Inv-loop μ-loop
 claim-key-requires c κs =
     let l = c .before .before .before in
     let g = go l in
-    (at l .pre .1, record { units = at l .pre .3 .0; lent = at l .pre .3 .1; claims = g .claims; shows = g .shows })
+    record {
+      within = at l .pre .within;
+      shown = record { units = at l .pre .units; lent = at l .pre .lent; claims = g .claims; shows = g .shows };
+    }
 
 enum-known-got : tie.Need-enum-known-got Inv-loop μ-loop
 enum-known-got c = search needs
@@ -79,8 +91,8 @@ sub-lost-2 c =
     let t = c .before .before .before .before .before .before .before .before in
     let l = t .before in
     let g = go l in
-    let h = keys-took (at l .pre .3 .0) (at l .pre .3 .1) _ (s l) (heads l) (key l) (work l) (lost l) g (t .loop-test .taken) _ (r .result)
-    (r .ensures (at l .pre .3 .0) (at l .pre .3 .1) (g .claims) (g .shows)) _ (c .before .got .given .1) in
+    let h = keys-took (at l .pre .units) (at l .pre .lent) _ (s l) (heads l) (key l) (work l) (lost l) g (t .loop-test .taken) _ (r .result)
+    (r .ensures (at l .pre .units) (at l .pre .lent) (g .claims) (g .shows)) _ (c .before .got .given .1) in
     omega arith
 
 enum-told : tie.Need-enum-told Inv-loop μ-loop
@@ -94,7 +106,7 @@ returns c units lent m =
     let r = c .before .before .before .before .claim-key in
     let t = c .before .before .before .before .before .before .before in
     let l = t .before in
-    let g = l .loop .inv .2 units lent m in
+    let g = l .loop .inv .goes units lent m in
     keys-unsound units lent _ (s l) (heads l) (key l) (work l) (lost l) g (t .loop-test .taken) _ (r .result)
     (r .ensures units lent (g .claims) (g .shows))
     (c .enum-told .given .1)
@@ -110,7 +122,7 @@ returns-2 c units lent m =
     let r = c .before .before .before .before .claim-key in
     let t = c .before .before .before .before .before .before .before in
     let l = t .before in
-    let g = l .loop .inv .2 units lent m in
+    let g = l .loop .inv .goes units lent m in
     keys-shared units lent _ (s l) (heads l) (key l) (work l) (lost l) g (t .loop-test .taken) _ (r .result)
     (r .ensures units lent (g .claims) (g .shows))
     (c .enum-told2 .given .1)
@@ -125,21 +137,30 @@ loop-again : tie.Need-loop-again Inv-loop μ-loop
 loop-again c =
     let r = c .before .before .before .before .before .claim-key in
     let t = c .before .before .before .before .before .before .before .before in
-    let l = t .before in (
-      r .kept .1 .1 .0 ∙ l .loop .inv .0,
-      omega arith,
-      λ units lent m.
-          let g = l .loop .inv .2 units lent m in
+    let l = t .before in
+    record {
+      same = r .kept .1 .1 .0 ∙ l .loop .inv .same;
+      to-end = omega arith;
+      goes = λ units lent m.
+          let g = l .loop .inv .goes units lent m in
           keys-turn units lent _ (s l) (heads l) (key l) (work l) (lost l) g (t .loop-test .taken) _ (r .result) (r .ensures units lent
           (g .claims) (g .shows))
-          _ (c .before .got .given .1),
-    )
+          _ (c .before .got .given .1);
+    }
 
 judge-lists-requires : tie.Need-judge-lists-requires Inv-loop μ-loop
 judge-lists-requires c κs =
     let l = c .before .before in
     let g = go l in
-    (at l .pre .0, at l .pre .1, (at l .pre .3 .0, at l .pre .3 .1, g .claims, g .shows, g .left))
+    record {
+      nine = at l .pre .nine;
+      within = at l .pre .within;
+      units = at l .pre .units;
+      lent = at l .pre .lent;
+      claims = g .claims;
+      marked = g .shows;
+      leaves = g .left;
+    }
 
 same-length-3 : tie.Need-same-length-3 Inv-loop μ-loop
 same-length-3 c = search needs
@@ -148,7 +169,7 @@ returns-3 : tie.Need-returns-3 Inv-loop μ-loop
 returns-3 c units lent m =
     let d = c .before .before .before .before in
     let l = d .before in
-    let g = keys-end units lent _ (s l) (heads l) (key l) (work l) (lost l) (l .loop .inv .2 units lent m) (omega arith) in
+    let g = keys-end units lent _ (s l) (heads l) (key l) (work l) (lost l) (l .loop .inv .goes units lent m) (omega arith) in
     let r = c .before .before .judge-lists .ensures units lent (g .claims) (g .shows) (g .left) in
     record { claims = r .claims; shows = r .shows; told = r .told ∙ ap accepted (g .gives) }
 

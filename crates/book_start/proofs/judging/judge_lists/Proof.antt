@@ -1,6 +1,6 @@
 -- `judge_lists` meets its contract. Invariant: the lists that are left, judged behind what the work list shows, give what all of them give.
 -- Assumes nothing.
-use Prim.Native.Nat.{ℕ, _-_, _*_, _≤_}
+use Prim.Native.Nat.{ℕ, _-_, _≤_}
 use mathlib.Core.List.{List}
 use mathlib.Core.Path.{_≡_, refl, _∙_}
 use native.Mathlib.Omega.{arith}
@@ -14,11 +14,18 @@ use Rattle.book_start.proofs.LawsVerdict.{ListsGo, lists-took, lists-tu
 use Rattle.book_start.proofs.judging.judge_lists.Statement.{statement}
 use Rattle.book_start.proofs.judging.judge_lists.Tie as tie
 
+-- What is known in the middle of judging free lists.
+record JudgingLists (s : Space) (work₀ : List ℕ) (unclaimed : ℕ) (work : List ℕ) (lost class : ℕ) : Type 0 where
+  -- The work list is as long as before.
+  same : length work ≡ length work₀
+  -- The next list isn't beyond the last.
+  to-end : class ≤ length (s .free)
+  -- The lists that are left, judged behind what the work list shows, give what all of them give.
+  goes : (units : ℕ) (lent : List ℕ) (claims : List Block) → Marked units (s .mark) lent claims work₀ → Leaves (s .mark) claims unclaimed
+      → ListsGo units lent (judgeLists s 0 (s .free) claims) s class work lost
+
 abbrev Inv-loop : tie.InvT-loop
-Inv-loop body mark free work₀ unclaimed lost₀ class₀ work lost class =
-    (length work ≡ length work₀) × (class ≤ length free)
-    × ((units : ℕ) (lent : List ℕ) (claims : List Block) → Marked units mark lent claims work₀ → Leaves mark claims unclaimed
-    → ListsGo units lent (judgeLists (space body mark free) 0 free claims) (space body mark free) class work lost)
+Inv-loop body mark free work₀ unclaimed lost₀ class₀ work lost class = JudgingLists (space body mark free) work₀ unclaimed work lost class
 
 abbrev μ-loop : tie.MeasureT-loop
 μ-loop body mark free work₀ unclaimed lost₀ class₀ work lost class = length free - class
@@ -44,14 +51,19 @@ module _ (t : tie.In-loop Inv-loop μ-loop) where
   lost = t .before .loop .lost
 
   -- what some claims lead to
-  go : ListsGo (at .pre .2 .0) (at .pre .2 .1) (judgeLists s 0 free (at .pre .2 .2)) s class work lost
-  go = t .before .loop .inv .2 (at .pre .2 .0) (at .pre .2 .1) (at .pre .2 .2) (at .pre .2 .3) (at .pre .2 .4)
+  go : ListsGo (at .pre .units) (at .pre .lent) (judgeLists s 0 free (at .pre .claims)) s class work lost
+  go = t .before .loop .inv .goes (at .pre .units) (at .pre .lent) (at .pre .claims) (at .pre .marked) (at .pre .leaves)
 
   class-to-8 : class ≤ 8
-  class-to-8 = let e = at .pre .0 in let h = t .loop-test .taken in omega arith
+  class-to-8 = let e = at .pre .nine in let h = t .loop-test .taken in omega arith
 
 loop-holds : tie.Need-loop-holds Inv-loop μ-loop
-loop-holds c = (refl, omega arith, λ units lent claims m l. record { claims = claims; shows = m; left = l; gives = refl })
+loop-holds c =
+    record {
+      same = refl;
+      to-end = omega arith;
+      goes = λ units lent claims m l. record { claims = claims; shows = m; left = l; gives = refl };
+    }
 
 cast-claim-freed : tie.Need-cast-claim-freed Inv-loop μ-loop
 cast-claim-freed c = let h = class-to-8 (c .before) in omega arith
@@ -66,7 +78,11 @@ claim-freed-requires : tie.Need-claim-freed-requires Inv-loop μ-loop
 claim-freed-requires c κs =
     let t = c .before .before in
     let g = go t in
-    (class-to-8 t, at t .pre .1, record { units = at t .pre .2 .0; lent = at t .pre .2 .1; claims = g .claims; shows = g .shows })
+    record {
+      class-to-8 = class-to-8 t;
+      within = at t .pre .within;
+      shown = record { units = at t .pre .units; lent = at t .pre .lent; claims = g .claims; shows = g .shows };
+    }
 
 enum-known-got : tie.Need-enum-known-got Inv-loop μ-loop
 enum-known-got c = search needs
@@ -76,8 +92,8 @@ sub-lost c =
     let r = c .before .before .before .before .before .claim-freed in
     let t = c .before .before .before .before .before .before .before .before in
     let g = go t in
-    let h = lists-took (at t .pre .2 .0) (at t .pre .2 .1) _ (s t) (class t) (work t) (lost t) g (t .loop-test .taken) _ (r .result)
-    (r .ensures (free t) (at t .pre .2 .0) (at t .pre .2 .1) (g .claims) (g .shows)) _ (c .before .got .given .1) in
+    let h = lists-took (at t .pre .units) (at t .pre .lent) _ (s t) (class t) (work t) (lost t) g (t .loop-test .taken) _ (r .result)
+    (r .ensures (free t) (at t .pre .units) (at t .pre .lent) (g .claims) (g .shows)) _ (c .before .got .given .1) in
     omega arith
 
 enum-told : tie.Need-enum-told Inv-loop μ-loop
@@ -90,7 +106,7 @@ returns : tie.Need-returns Inv-loop μ-loop
 returns c units lent claims m left =
     let r = c .before .before .before .before .claim-freed in
     let t = c .before .before .before .before .before .before .before in
-    let g = t .before .loop .inv .2 units lent claims m left in
+    let g = t .before .loop .inv .goes units lent claims m left in
     lists-strays units lent _ (s t) (class t) (work t) (lost t) g (t .loop-test .taken) _ (r .result)
     (r .ensures (free t) units lent (g .claims) (g .shows))
     (c .enum-told .given .1)
@@ -105,7 +121,7 @@ returns-2 : tie.Need-returns-2 Inv-loop μ-loop
 returns-2 c units lent claims m left =
     let r = c .before .before .before .before .claim-freed in
     let t = c .before .before .before .before .before .before .before in
-    let g = t .before .loop .inv .2 units lent claims m left in
+    let g = t .before .loop .inv .goes units lent claims m left in
     lists-shared units lent _ (s t) (class t) (work t) (lost t) g (t .loop-test .taken) _ (r .result)
     (r .ensures (free t) units lent (g .claims) (g .shows))
     (c .enum-told2 .given .1)
@@ -119,15 +135,16 @@ loop-less c = omega arith
 loop-again : tie.Need-loop-again Inv-loop μ-loop
 loop-again c =
     let r = c .before .before .before .before .before .claim-freed in
-    let t = c .before .before .before .before .before .before .before .before in (
-      r .kept .1 .1 .0 ∙ t .before .loop .inv .0,
-      omega arith,
-      λ units lent claims m left.
-          let g = t .before .loop .inv .2 units lent claims m left in
+    let t = c .before .before .before .before .before .before .before .before in
+    record {
+      same = r .kept .1 .1 .0 ∙ t .before .loop .inv .same;
+      to-end = omega arith;
+      goes = λ units lent claims m left.
+          let g = t .before .loop .inv .goes units lent claims m left in
           lists-turn units lent _ (s t) (class t) (work t) (lost t) g (t .loop-test .taken) _ (r .result) (r .ensures (free t) units lent
           (g .claims) (g .shows))
-          _ (c .before .got .given .1),
-    )
+          _ (c .before .got .given .1);
+    }
 
 same-length-3 : tie.Need-same-length-3 Inv-loop μ-loop
 same-length-3 c = search needs
@@ -137,7 +154,7 @@ returns-3 c units lent claims m left =
     let l = c .before .loop in
     let a = c .before .before .before .before .before .args in
     lists-end units lent _ (space (a .body .now) (a .mark) (a .free .now)) (l .class) (l .work) (l .lost)
-    (l .inv .2 units lent claims m left) (omega arith)
+    (l .inv .goes units lent claims m left) (omega arith)
 
 pub judge-lists-spec : {M : Type 1} → statement M
 judge-lists-spec =

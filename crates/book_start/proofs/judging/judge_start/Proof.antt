@@ -89,7 +89,14 @@ judge-keys-requires : tie.Need-judge-keys-requires
 judge-keys-requires c κs =
     let f = c .before .before .before .before .before in
     let e = passed f in
-    (nine (at e), in-shape e .within, in-shape e .aligned, (units (at e), work (at e), shows f))
+    record {
+      nine = nine (at e);
+      within = in-shape e .within;
+      aligned = in-shape e .aligned;
+      units = units (at e);
+      lent = work (at e);
+      marked = shows f;
+    }
 
 fill-units-requires-2 : tie.Need-fill-units-requires-2
 fill-units-requires-2 c κs =

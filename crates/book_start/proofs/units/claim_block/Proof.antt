@@ -19,10 +19,10 @@ module _ (c : tie.After-slab-bytes) where
   at = c .before .before
 
   size : c .slab-bytes .result ≡ slabBytes (at .args .class)
-  size = c .slab-bytes .ensures ∙ bytes-fit (at .args .class) (at .pre .0)
+  size = c .slab-bytes .ensures ∙ bytes-fit (at .args .class) (at .pre .class-to-8)
 
   inside : at .args .off / 16 + c .slab-bytes .result / 16 ≤ length (at .args .work .now)
-  inside = let e = size in let p = at .pre .1 in omega arith
+  inside = let e = size in let p = at .pre .inside in omega arith
 
 -- whether its units are free
 module _ (c : tie.After-units-free) where
@@ -45,7 +45,7 @@ returns : tie.Need-returns
 returns c =
     let t = at (got (c .before)) in
     let free = sym (told (c .before)) ∙ not-true _ (c .if1 .taken) in
-    (sym free, sym (claim-kept (block (t .args .class) (t .args .off)) (t .args .work .now) free))
+    record { free = sym free; list = sym (claim-kept (block (t .args .class) (t .args .off)) (t .args .work .now) free) }
 
 fill-units-requires : tie.Need-fill-units-requires
 fill-units-requires c κs = inside (got (c .before .before))
@@ -57,11 +57,13 @@ returns-2 : tie.Need-returns-2
 returns-2 c =
     let e = c .before .before .before .before in
     let t = at (got (e .before)) in
-    let free = sym (told (e .before)) ∙ not-false _ (e .if1 .left) in (
-      sym free,
-      c .before .before .fill-units .ensures ∙ mark-by (t .args .class) (t .args .off) _ (size (got (e .before))) (t .args .work .now)
-          ∙ sym (claim-marks (block (t .args .class) (t .args .off)) (t .args .work .now) free),
-    )
+    let free = sym (told (e .before)) ∙ not-false _ (e .if1 .left) in
+    record {
+      free = sym free;
+      list = c .before .before .fill-units .ensures
+          ∙ mark-by (t .args .class) (t .args .off) _ (size (got (e .before))) (t .args .work .now)
+          ∙ sym (claim-marks (block (t .args .class) (t .args .off)) (t .args .work .now) free);
+    }
 
 pub claim-block-spec : {M : Type 1} → statement M
 claim-block-spec =

@@ -1,0 +1,81 @@
+-- What the steps of judging promise each other: no answer of a public function is defined here.
+use Prim.Native.Nat.{ℕ, _+_, _*_, _%_, _≤_}
+use mathlib.Core.Bool.{Bool}
+use mathlib.Core.List.{List, []}
+use mathlib.Core.Path.{_≡_}
+use lib.ListN.{length}
+use Rattle.scripthash_layout.specs.Sizes.{slabBytes, pageClass}
+use Rattle.scripthash_free.specs.FreeList.{Block}
+use Rattle.book_keys.specs.Keys.{ground}
+use Rattle.book_keys.specs.Steps.{PagesLeft}
+use Rattle.book_start.specs.Start.{block}
+use Rattle.book_start.specs.Units.{unitsFree, claimUnits, Marked, Shows, Leaves}
+
+-- ---- claiming
+
+-- What is known of a block before it is claimed.
+pub record BlockToClaim (class off : ℕ) (work : List ℕ) : Type 0 where
+  -- There is such a class.
+  pub class-to-8 : class ≤ pageClass
+  -- The work list has its units.
+  pub inside : off + slabBytes class ≤ 16 * length work
+
+-- What claiming a block tells, and the work list after it.
+pub record BlockClaimed (class off : ℕ) (before : List ℕ) (tells : Bool) (after : List ℕ) : Type 0 where
+  -- It tells whether all its units were free.
+  pub free : tells ≡ unitsFree (block class off) before
+  -- Where they were, they are marked; else the list is as before.
+  pub list : after ≡ claimUnits (block class off) before
+
+-- What is known before the blocks of a key are claimed.
+pub record KeyToClaim (body : List ℕ) (mark : ℕ) (work : List ℕ) : Type 0 where
+  -- The mark isn't beyond the body.
+  pub within : mark ≤ length body
+  -- The work list shows the claims before.
+  pub shown : Shows mark work
+
+-- What is known before the pages of a chain are claimed.
+pub record PagesToClaim (body : List ℕ) (mark : ℕ) (work : List ℕ) (first pages : ℕ) : Type 0 where
+  -- The work list shows the claims before.
+  pub shown : Shows mark work
+  -- The chain is sound, and its pages stand at these offsets.
+  pub offs : List ℕ
+  pub left : PagesLeft (ground body mark) first pages offs
+
+-- What is known before the blocks of a class's free list are claimed.
+pub record ListToClaim (body : List ℕ) (mark : ℕ) (work : List ℕ) (class : ℕ) : Type 0 where
+  -- There is such a class.
+  pub class-to-8 : class ≤ pageClass
+  -- The mark isn't beyond the body.
+  pub within : mark ≤ length body
+  -- The work list shows the claims before.
+  pub shown : Shows mark work
+
+-- ---- judging
+
+-- What is known before the free lists are judged.
+pub record ListsToJudge (body : List ℕ) (mark : ℕ) (free work : List ℕ) (unclaimed : ℕ) : Type 0 where
+  -- There is a free head for each class.
+  pub nine : length free ≡ 9
+  -- The mark isn't beyond the body.
+  pub within : mark ≤ length body
+  -- The lent work list shows the claims before.
+  pub units : ℕ
+  pub lent : List ℕ
+  pub claims : List Block
+  pub marked : Marked units mark lent claims work
+  -- They leave so many units to nobody.
+  pub leaves : Leaves mark claims unclaimed
+
+-- What is known before the keys are judged.
+pub record KeysToJudge (body : List ℕ) (mark : ℕ) (free work : List ℕ) : Type 0 where
+  -- There is a free head for each class.
+  pub nine : length free ≡ 9
+  -- The mark isn't beyond the body.
+  pub within : mark ≤ length body
+  -- The mark is a multiple of 16.
+  pub aligned : mark % 16 ≡ 0
+  -- The lent work list shows no claims.
+  pub units : ℕ
+  pub lent : List ℕ
+  pub marked : Marked units mark lent [] work
