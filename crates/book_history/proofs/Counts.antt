@@ -37,7 +37,7 @@ use Rattle.book_history.specs.Calls.{after, answers}
 use Rattle.book_start.specs.Start.{GoodStart}
 use Rattle.book_history.specs.Agrees.{Agrees}
 use Rattle.book_history.specs.PlainOf.{plainOf, startList}
-use Rattle.book_history.specs.Counts.{Counts, PagesCount, PlaceCounts, KeyCounts}
+use Rattle.book_history.specs.Counts.{IsCount, PagesCount, PlaceCounts, KeyCounts}
 use Rattle.book_history.proofs.LawsWritesLoad.{on-key}
 use Rattle.book_history.proofs.LawsContent.{content-agrees}
 use Rattle.book_history.proofs.LawsCalls.{answers-alike, books-agree}
@@ -57,7 +57,7 @@ pages-count s last c e =
     (λ prev off page rest is n u ih. (page .numbers, rest .numbers, refl, page-counts prev off page is, ih))
     _ 0 (k .header .first) c (k .walks)
   where
-    page-counts : (prev off : ℕ) (page : Scan) → linkScan s prev off ≡ accepted page → Counts (countOf (pageAt s off)) (page .numbers)
+    page-counts : (prev off : ℕ) (page : Scan) → linkScan s prev off ≡ accepted page → IsCount (countOf (pageAt s off)) (page .numbers)
     page-counts prev off page is =
         let l = link-sound s prev off page is in
         record { counts = sym (l .read .counted); above-0 = omega (arith, l .read .counted, l .going .some) }

@@ -22,7 +22,7 @@ use Rattle.book_space.specs.Space.{Space}
 use Rattle.book_keys.specs.Keys.{pageBlocks, content}
 use Rattle.book.specs.Book.{Book, fresh, seen}
 use Rattle.book_history.specs.Calls.{after}
-use Rattle.book_start.specs.Start.{blocksAt, bytesOf, blocksIn, heldBy, freedBy, blocksOf as allBlocks, GoodStart, heldOf, listOf}
+use Rattle.book_start.specs.Start.{blocksAt, bytesTaken, blocksIn, heldBy, freedBy, blocksOf as allBlocks, GoodStart, heldOf, listOf}
 use Rattle.book_start.specs.Covered.{lostIn, Covered, forgot}
 use Rattle.book_start.proofs.LawsPairs.{gather, gather-same, held-gathered}
 use Rattle.book_start.proofs.LawsCovered.{start-room, start-covered}
@@ -38,27 +38,27 @@ use Rattle.book_history.proofs.LawsStartFresh.{fresh-start, none-held, 
 
 -- ---- what blocks take
 
-pub both-bytes : (xs ys : List Block) → bytesOf (xs ++ ys) ≡ bytesOf xs + bytesOf ys
-unfolding bytesOf
-both-bytes [] ys = sym (zero-add (bytesOf ys))
+pub both-bytes : (xs ys : List Block) → bytesTaken (xs ++ ys) ≡ bytesTaken xs + bytesTaken ys
+unfolding bytesTaken
+both-bytes [] ys = sym (zero-add (bytesTaken ys))
 both-bytes (x ∷ xs) ys = let e = both-bytes xs ys in omega arith
 
 -- Pages, and a place.
-pages-bytes : (ps : List Page) → bytesOf (pageBlocks (offsOf ps)) ≡ length ps * pageSize
-unfolding bytesOf pageBlocks offsOf
+pages-bytes : (ps : List Page) → bytesTaken (pageBlocks (offsOf ps)) ≡ length ps * pageSize
+unfolding bytesTaken pageBlocks offsOf
 pages-bytes [] = refl
 pages-bytes (p ∷ ps) = let e = pages-bytes ps in omega arith
 
-place-bytes : (place : Place) → bytesOf (blocksOf place) ≡ bytesIn place
-unfolding bytesOf bytesIn
+place-bytes : (place : Place) → bytesTaken (blocksOf place) ≡ bytesIn place
+unfolding bytesTaken bytesIn
 place-bytes empty = refl
 place-bytes inline = refl
 place-bytes (slab class off kept) = omega arith
 place-bytes (pages ps) = pages-bytes ps
 
 -- The places of keys.
-keys-bytes : (ks : List Key) → bytesOf (gather (length ks) (λ i. blocksOf (getD ks i emptyKey .place))) ≡ bytesHeld ks
-unfolding gather bytesOf bytesHeld
+keys-bytes : (ks : List Key) → bytesTaken (gather (length ks) (λ i. blocksOf (getD ks i emptyKey .place))) ≡ bytesHeld ks
+unfolding gather bytesTaken bytesHeld
 keys-bytes [] = refl
 keys-bytes (k ∷ ks) =
     let one = place-bytes (k .place) in
@@ -67,22 +67,22 @@ keys-bytes (k ∷ ks) =
     omega arith
 
 -- Freed blocks of a class, and of all.
-freed-bytes : (class : ℕ) (os : List ℕ) → bytesOf (blocksAt class os) ≡ bytesAt class os
-unfolding bytesOf blocksAt bytesAt
+freed-bytes : (class : ℕ) (os : List ℕ) → bytesTaken (blocksAt class os) ≡ bytesAt class os
+unfolding bytesTaken blocksAt bytesAt
 freed-bytes class [] = refl
 freed-bytes class (o ∷ os) = let e = freed-bytes class os in omega arith
 
-stacks-bytes : (k : ℕ) (st : List (List ℕ)) → bytesOf (gather (length st) (λ i. blocksAt (k + i) (getD st i []))) ≡ bytesFreed k st
-unfolding gather bytesOf bytesFreed
+stacks-bytes : (k : ℕ) (st : List (List ℕ)) → bytesTaken (gather (length st) (λ i. blocksAt (k + i) (getD st i []))) ≡ bytesFreed k st
+unfolding gather bytesTaken bytesFreed
 stacks-bytes k [] = refl
 stacks-bytes k (os ∷ st) =
     let first : k + 0 ≡ k = omega arith in
-    let one : bytesOf (blocksAt (k + 0) os) ≡ bytesAt k os = rw first (freed-bytes k os) in
+    let one : bytesTaken (blocksAt (k + 0) os) ≡ bytesAt k os = rw first (freed-bytes k os) in
     let next : gather (length st) (λ i. blocksAt (k + 1 + i) (getD st i [])) ≡ gather (length st) (λ i. blocksAt (k + suc i) (getD st i []))
     = gather-same (length st) (λ i. blocksAt (k + 1 + i) (getD st i [])) (λ i. blocksAt (k + suc i) (getD st i []))
     (λ i. let same : k + 1 + i ≡ k + suc i = omega arith in rw same) in
-    let rest : bytesOf (gather (length st) (λ i. blocksAt (k + suc i) (getD st i []))) ≡ bytesFreed (k + 1) st
-    = ap bytesOf (sym next) ∙ stacks-bytes (k + 1) st in
+    let rest : bytesTaken (gather (length st) (λ i. blocksAt (k + suc i) (getD st i []))) ≡ bytesFreed (k + 1) st
+    = ap bytesTaken (sym next) ∙ stacks-bytes (k + 1) st in
     let all = both-bytes (blocksAt (k + 0) os) (gather (length st) (λ i. blocksAt (k + suc i) (getD st i []))) in
     omega arith
 
@@ -90,16 +90,16 @@ stacks-bytes k (os ∷ st) =
 
 module _ (plain : PlainBook) (b : Book) (g : GoodPlain plain) (a : Agrees plain b)
     (shape : outOfShape (plain .size) (length (plain .keys)) ≡ false) where
-  held-bytes : bytesOf (heldBy (b .space) (b .heads)) ≡ bytesHeld (plain .keys)
+  held-bytes : bytesTaken (heldBy (b .space) (b .heads)) ≡ bytesHeld (plain .keys)
   held-bytes =
-      ap bytesOf (held-gathered (b .space) (b .heads)
+      ap bytesTaken (held-gathered (b .space) (b .heads)
       ∙ gather-same (length (b .heads)) (heldOf b) (λ i. blocksOf (keyOf i plain .place)) (held-is plain b g a shape)
       ∙ ap (λ (n : ℕ). gather n (λ i. blocksOf (keyOf i plain .place))) (a .count))
       ∙ keys-bytes (plain .keys)
 
-  free-bytes : bytesOf (freedBy (b .space) 0 (b .space .free)) ≡ bytesFreed 0 (plain .space .stacks)
+  free-bytes : bytesTaken (freedBy (b .space) 0 (b .space .free)) ≡ bytesFreed 0 (plain .space .stacks)
   free-bytes =
-      ap bytesOf (freed-gather plain b g a shape
+      ap bytesTaken (freed-gather plain b g a shape
       ∙ gather-same (length (b .space .free)) (listOf b) (λ i. blocksAt (0 + i) (stackOf i (plain .space)))
       (λ i. ap (blocksAt i) (freed-is plain b g a shape i) ∙ ap (λ (c : ℕ). blocksAt c (stackOf i (plain .space))) (sym (zero-add i)))
       ∙ ap (λ (n : ℕ). gather n (λ i. blocksAt (0 + i) (stackOf i (plain .space))))
@@ -107,7 +107,7 @@ module _ (plain : PlainBook) (b : Book) (g : GoodPlain plain) (a : Agrees plain 
       ∙ stacks-bytes 0 (plain .space .stacks)
 
   -- Its blocks take what the plain book's do.
-  pub agrees-bytes : bytesOf (allBlocks b) ≡ bytesHeld (plain .keys) + bytesFreed 0 (plain .space .stacks)
+  pub agrees-bytes : bytesTaken (allBlocks b) ≡ bytesHeld (plain .keys) + bytesFreed 0 (plain .space .stacks)
   agrees-bytes =
       let h = held-bytes in
       let f = free-bytes in
@@ -136,14 +136,14 @@ lost-kept b cs g =
     let mark : b .space .mark ≡ plainOf b .space .mark = refl in
     let mark' : after b cs .space .mark ≡ plainAfter (plainOf b) cs .space .mark = then .inside shape .space .mark in
     let sum : 4096 + (bytesFreed 0 (plainAfter (plainOf b) cs .space .stacks)
-    + (bytesHeld (plainAfter (plainOf b) cs .keys) + (b .space .mark - (4096 + bytesOf (allBlocks b)))))
+    + (bytesHeld (plainAfter (plainOf b) cs .keys) + (b .space .mark - (4096 + bytesTaken (allBlocks b)))))
     ≡ plainAfter (plainOf b) cs .space .mark
-    = filled-from (b .space .mark - (4096 + bytesOf (allBlocks b))) (plainOf b) cs (start-good b g) (omega arith) in
+    = filled-from (b .space .mark - (4096 + bytesTaken (allBlocks b))) (plainOf b) cs (start-good b g) (omega arith) in
     omega arith
 
 -- A fresh book has no block, and its mark is where lists may begin.
 fresh-lost : (body : List ℕ) (heads : ℕ) → lostIn (fresh body heads) ≡ 0
-unfolding lostIn bytesOf
+unfolding lostIn bytesTaken
 fresh-lost body heads = rw (none-held (fresh body heads .space) heads, none-freed (fresh body heads .space) 0 9) refl
 
 module _ (body : List ℕ) (heads : ℕ) (cs : List Call) where
@@ -165,17 +165,17 @@ module _ (body : List ℕ) (heads : ℕ) (cs : List Call) where
 
 -- ---- a head word that is lost
 
-empty-bytes : (s : Space) → bytesOf (blocksIn (content (seen s) 0)) ≡ 0
-unfolding blocksIn bytesOf
+empty-bytes : (s : Space) → bytesTaken (blocksIn (content (seen s) 0)) ≡ 0
+unfolding blocksIn bytesTaken
 empty-bytes s = rw (word-none s) refl
 
 -- The blocks of the other keys.
 forgot-bytes : (s : Space) (ws : List ℕ) (key : ℕ) → key < length ws
-    → bytesOf (heldBy s (set ws key 0)) + bytesOf (blocksIn (content (seen s) (getD ws key 0))) ≡ bytesOf (heldBy s ws)
+    → bytesTaken (heldBy s (set ws key 0)) + bytesTaken (blocksIn (content (seen s) (getD ws key 0))) ≡ bytesTaken (heldBy s ws)
 unfolding heldBy
 forgot-bytes s [] key l = absurd (omega arith)
 forgot-bytes s (w ∷ ws) zero l =
-    let none' : bytesOf (blocksIn (content (seen s) 0)) ≡ 0 = empty-bytes s in
+    let none' : bytesTaken (blocksIn (content (seen s) 0)) ≡ 0 = empty-bytes s in
     let new = both-bytes (blocksIn (content (seen s) 0)) (heldBy s ws) in
     let old = both-bytes (blocksIn (content (seen s) w)) (heldBy s ws) in
     omega arith
@@ -186,7 +186,7 @@ forgot-bytes s (w ∷ ws) (suc key) l =
     omega arith
 
 -- A lost head word shows: as many bytes more belong to nobody as the key's slab or pages take. One of a number in the head word doesn't.
-pub forgot-shows : (b : Book) (key : ℕ) → GoodStart b → key < length (b .heads) → lostIn (forgot key b) ≡ lostIn b + bytesOf (heldOf b key)
+pub forgot-shows : (b : Book) (key : ℕ) → GoodStart b → key < length (b .heads) → lostIn (forgot key b) ≡ lostIn b + bytesTaken (heldOf b key)
 unfolding lostIn
 forgot-shows b key g l =
     let room = start-room b g (from-4096 b g) in

@@ -25,7 +25,7 @@ use Rattle.book_keys.specs.Keys.{soundly, Content, content}
 use Rattle.book_keys.proofs.LawsContent.{content-at, content-inline}
 use Rattle.book.specs.Book.{Book, fresh, wordOf, seen}
 use Rattle.book_history.specs.Calls.{after}
-use Rattle.book_start.specs.Start.{AllApart, Stands, blocksAt, bytesOf, blocksIn, heldBy, followed, followedFrom, freedOf, freedBy, GoodStart, heldOf, listOf}
+use Rattle.book_start.specs.Start.{AllApart, Stands, blocksAt, bytesTaken, blocksIn, heldBy, followed, followedFrom, freedOf, freedBy, GoodStart, heldOf, listOf}
 use Rattle.book_start.specs.Start.{good, judges}
 use Rattle.book_start.specs.Covered.{lostIn, forgot, forgotList}
 use Rattle.book_start.proofs.LawsClaims.{Cross}
@@ -119,17 +119,17 @@ out-apart (suc n) (suc k) f f' o l a =
     (out-cross (f 0) n k (λ i. f (suc i)) (λ i. f' (suc i)) next (omega arith) (apart-cross (f 0) (gather n (λ i. f (suc i))) a)))
 
 -- All blocks take what the others take and what those that are left out do.
-out-bytes : (n k : ℕ) (f f' : ℕ → List Block) → LeftOut k f f' → k < n → bytesOf (gather n f') + bytesOf (f k) ≡ bytesOf (gather n f)
+out-bytes : (n k : ℕ) (f f' : ℕ → List Block) → LeftOut k f f' → k < n → bytesTaken (gather n f') + bytesTaken (f k) ≡ bytesTaken (gather n f)
 unfolding gather
 out-bytes zero k f f' o l = absurd (omega arith)
 out-bytes (suc n) zero f f' o l =
     let all = both-bytes (f 0) (gather n (λ i. f (suc i))) in
-    let rest = ap bytesOf (out-first n f f' o) in
+    let rest = ap bytesTaken (out-first n f f' o) in
     omega arith
 out-bytes (suc n) (suc k) f f' o l =
     let all = both-bytes (f 0) (gather n (λ i. f (suc i))) in
     let others = both-bytes (f 0) (gather n (λ i. f' (suc i))) in
-    let more = ap bytesOf (out-more n k f f' o) in
+    let more = ap bytesTaken (out-more n k f f' o) in
     let rest = out-bytes n k (λ i. f (suc i)) (λ i. f' (suc i)) (out-next k f f' o) (omega arith) in
     omega arith
 
@@ -195,21 +195,21 @@ module _ (b : Book) (key : ℕ) (g : GoodStart b) (l : key < length (b .heads)) 
 
   -- and the check tells as many units more as its slab or pages take.
   pub forgot-told : (room : ℕ) → length (b .space .body) / 16 ≤ room
-      → judges (forgot key b) room ≡ accepted (good (lostIn b / 16 + bytesOf (heldOf b key) / 16))
+      → judges (forgot key b) room ≡ accepted (good (lostIn b / 16 + bytesTaken (heldOf b key) / 16))
   forgot-told room long =
       let shows = forgot-shows b key g l in
       let whole = whole-units (heldOf b key) in
-      let sum : lostIn (forgot key b) / 16 ≡ lostIn b / 16 + bytesOf (heldOf b key) / 16 = omega arith in
+      let sum : lostIn (forgot key b) / 16 ≡ lostIn b / 16 + bytesTaken (heldOf b key) / 16 = omega arith in
       start-judges (forgot key b) (g .nine) room long forgot-start ∙ ap (λ (n : ℕ). accepted (good n)) sum
 
   -- The word of a key with one number takes no block: the check tells the same without it.
   pub forgot-hidden : (room entry used : ℕ) → length (b .space .body) / 16 ≤ room → unpackHead (wordOf key b) ≡ accepted (Inline entry used)
       → judges (forgot key b) room ≡ judges b room
-  unfolding blocksIn bytesOf soundly
+  unfolding blocksIn bytesTaken soundly
   forgot-hidden room entry used long e =
       let none' : heldOf b key ≡ []
       = ap blocksIn (content-at (seen (b .space)) (wordOf key b) (Inline entry used) e ∙ ap soundly (content-inline (seen (b .space)) entry used)) in
-      let same : lostIn b / 16 + bytesOf (heldOf b key) / 16 ≡ lostIn b / 16 = let z = ap bytesOf none' in omega arith in
+      let same : lostIn b / 16 + bytesTaken (heldOf b key) / 16 ≡ lostIn b / 16 = let z = ap bytesTaken none' in omega arith in
       forgot-told room long ∙ ap (λ (n : ℕ). accepted (good n)) same ∙ sym (start-judges b (g .nine) room long g)
 
 -- ---- the head of a free list that is lost
@@ -315,23 +315,23 @@ module _ (b : Book) (class : ℕ) (g : GoodStart b) (l : class ≤ pageClass) wh
       }
 
   -- in which as many bytes more belong to nobody as its blocks take,
-  pub list-shows : lostIn now ≡ lostIn b + bytesOf (listOf b class)
+  pub list-shows : lostIn now ≡ lostIn b + bytesTaken (listOf b class)
   unfolding lostIn
   list-shows =
       let room = start-room b g (from-4096 b g) in
       let out = out-bytes (length free) class (listOf b) (listOf now) lists-out in-free in
-      let was = ap bytesOf (lists-gathered b) in
-      let is = ap bytesOf freed-now in
-      let held = ap bytesOf held-same in
+      let was = ap bytesTaken (lists-gathered b) in
+      let is = ap bytesTaken freed-now in
+      let held = ap bytesTaken held-same in
       let new = both-bytes (heldBy (now .space) (b .heads)) (freedBy (now .space) 0 (set free class 0)) in
       let old = both-bytes (heldBy (b .space) (b .heads)) (freedBy (b .space) 0 free) in
       omega arith
 
   -- and the check tells their units.
   pub list-told : (room : ℕ) → length (b .space .body) / 16 ≤ room
-      → judges now room ≡ accepted (good (lostIn b / 16 + bytesOf (listOf b class) / 16))
+      → judges now room ≡ accepted (good (lostIn b / 16 + bytesTaken (listOf b class) / 16))
   list-told room long =
       let shows = list-shows in
       let whole = whole-units (listOf b class) in
-      let sum : lostIn now / 16 ≡ lostIn b / 16 + bytesOf (listOf b class) / 16 = omega arith in
+      let sum : lostIn now / 16 ≡ lostIn b / 16 + bytesTaken (listOf b class) / 16 = omega arith in
       start-judges now (list-start .nine) room long list-start ∙ ap (λ (n : ℕ). accepted (good n)) sum

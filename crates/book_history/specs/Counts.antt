@@ -12,7 +12,7 @@ use Rattle.scripthash_fields.specs.Page.{countOf}
 use Rattle.book_keys.specs.Keys.{Ground, blockAt, pageAt, Chain, chainAt}
 
 -- A stored count is how many some numbers are, and isn't 0.
-pub record Counts (count : ℕ) (numbers : List ℕ) : Type 0 where
+pub record IsCount (count : ℕ) (numbers : List ℕ) : Type 0 where
   pub counts : count ≡ length numbers
   pub above-0 : 0 < count
 
@@ -20,13 +20,13 @@ pub record Counts (count : ℕ) (numbers : List ℕ) : Type 0 where
 unfoldable pub PagesCount : Ground → List ℕ → List ℕ → Type 0
 PagesCount s [] numbers = numbers ≡ []
 PagesCount s (o ∷ os) numbers =
-    (part : List ℕ) × (rest : List ℕ) × (numbers ≡ part ++ rest) × Counts (countOf (pageAt s o)) part × PagesCount s os rest
+    (part : List ℕ) × (rest : List ℕ) × (numbers ≡ part ++ rest) × IsCount (countOf (pageAt s o)) part × PagesCount s os rest
 
 -- The counts of a place whose key has some numbers: of a slab the head word's and the stored one, of pages that of each page of the chain.
 unfoldable pub PlaceCounts : Ground → ShHeadValue → List ℕ → Type 0
 PlaceCounts s Empty numbers = numbers ≡ []
 PlaceCounts s (Inline entry used) numbers = numbers ≡ entry ∷ []
-PlaceCounts s (Slab class used off) numbers = Counts used numbers × Counts (slabUsed (blockAt s class off)) numbers
+PlaceCounts s (Slab class used off) numbers = IsCount used numbers × IsCount (slabUsed (blockAt s class off)) numbers
 PlaceCounts s (Extent last) numbers = (c : Chain) × (chainAt s last ≡ accepted c) × PagesCount s (c .offs) numbers
 
 -- The counts of the key of a head word, which has some numbers: the word tells a place, and its counts are theirs.

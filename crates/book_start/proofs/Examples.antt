@@ -22,7 +22,7 @@ use Rattle.book_keys.specs.Keys.{content}
 use Rattle.book_blocks.specs.Blocks.{lastPageOf}
 use Rattle.book.specs.Book.{Book, book, fresh, headWord}
 use Rattle.book_start.specs.Start.{Verdict, good, keyUnsound, keyShares, freeStrays, freeShares, shares, sharesOne, claimAll}
-use Rattle.book_start.specs.Start.{bytesOf as bytesTaken, claimContent, claimFreed, onward, judgeLists, judgeKeys, verdictOf, judges}
+use Rattle.book_start.specs.Start.{bytesTaken, claimContent, claimFreed, onward, judgeLists, judgeKeys, verdictOf, judges}
 
 -- The answer to a book with a work list of 512 bytes, which is enough for a body of 8,192.
 unfoldable pub told : Book → Answer Verdict

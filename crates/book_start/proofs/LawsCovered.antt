@@ -16,7 +16,7 @@ use Rattle.scripthash_free.specs.FreeList.{Block, Disjoint, Each, Within}
 use Rattle.scripthash_free.proofs.LawsBlock.{bytes-from-16, block-stands}
 use Rattle.scripthash_free.proofs.LawsGap.{each-map}
 use Rattle.book.specs.Book.{Book}
-use Rattle.book_start.specs.Start.{claimed, claimAll, AllApart, Stands, blocksAt, bytesOf, followedFrom, heldBy, freedBy, blocksOf, heldOf, listOf}
+use Rattle.book_start.specs.Start.{claimed, claimAll, AllApart, Stands, blocksAt, bytesTaken, followedFrom, heldBy, freedBy, blocksOf, heldOf, listOf}
 use Rattle.book_start.specs.Start.{GoodStart}
 use Rattle.book_start.specs.Covered.{Has, OneHas, lostIn, Covered}
 use Rattle.book_start.proofs.LawsClaims.{claims-first, claim-step}
@@ -34,14 +34,14 @@ above o [] = []
 above o (x ∷ xs) = cond (ltb (x .off) o) (above o xs) (x ∷ above o xs)
 
 -- Both are no more than all, and take as many bytes.
-split-bytes : (o : ℕ) (xs : List Block) → bytesOf xs ≡ bytesOf (below o xs) + bytesOf (above o xs)
-unfolding bytesOf below above
+split-bytes : (o : ℕ) (xs : List Block) → bytesTaken xs ≡ bytesTaken (below o xs) + bytesTaken (above o xs)
+unfolding bytesTaken below above
 split-bytes o [] = omega arith
 split-bytes o (x ∷ xs) = go (ltb (x .off) o) (split-bytes o xs)
   where
-    go : (t : Bool) → bytesOf xs ≡ bytesOf (below o xs) + bytesOf (above o xs)
-        → slabBytes (x .class) + bytesOf xs ≡ bytesOf (cond t (x ∷ below o xs) (below o xs))
-        + bytesOf (cond t (above o xs) (x ∷ above o xs))
+    go : (t : Bool) → bytesTaken xs ≡ bytesTaken (below o xs) + bytesTaken (above o xs)
+        → slabBytes (x .class) + bytesTaken xs ≡ bytesTaken (cond t (x ∷ below o xs) (below o xs))
+        + bytesTaken (cond t (above o xs) (x ∷ above o xs))
     go true e = omega arith
     go false e = omega arith
 
@@ -148,8 +148,8 @@ module _ (lo hi : ℕ) (x : Block) (xs : List Block) (d : Each (Disjoint x) xs) 
       high y (e, f) l = let big = bytes-from-16 (y .class) in ⊎-elim (λ m. (m, f .1)) (λ m. absurd (omega arith)) e
 
 -- They take no more bytes than lie there.
-pub room-for : (n lo hi : ℕ) (xs : List Block) → length xs ≤ n → lo ≤ hi → AllApart xs → Each (Within lo hi) xs → lo + bytesOf xs ≤ hi
-unfolding AllApart Each bytesOf
+pub room-for : (n lo hi : ℕ) (xs : List Block) → length xs ≤ n → lo ≤ hi → AllApart xs → Each (Within lo hi) xs → lo + bytesTaken xs ≤ hi
+unfolding AllApart Each bytesTaken
 room-for zero lo hi [] few l a w = omega arith
 room-for zero lo hi (x ∷ xs) few l a w = absurd (omega arith)
 room-for (suc n) lo hi [] few l a w = omega arith
@@ -163,9 +163,9 @@ room-for (suc n) lo hi (x ∷ xs) few l (d, a) ((from, to), w) =
     omega arith
 
 -- Where they take as many, each byte there is one of theirs.
-pub all-covered : (n lo hi : ℕ) (xs : List Block) → length xs ≤ n → AllApart xs → Each (Within lo hi) xs → lo + bytesOf xs ≡ hi
+pub all-covered : (n lo hi : ℕ) (xs : List Block) → length xs ≤ n → AllApart xs → Each (Within lo hi) xs → lo + bytesTaken xs ≡ hi
     → (o : ℕ) → lo ≤ o → o < hi → OneHas o xs
-unfolding AllApart Each bytesOf OneHas
+unfolding AllApart Each bytesTaken OneHas
 all-covered zero lo hi [] few a w full o l h = absurd (omega arith)
 all-covered zero lo hi (x ∷ xs) few a w full o l h = absurd (omega arith)
 all-covered (suc n) lo hi [] few a w full o l h = absurd (omega arith)
@@ -225,7 +225,7 @@ module _ (b : Book) (g : GoodStart b) where
       (rw lists (each-gather (Stands (b .space .mark)) (length (b .space .free)) (listOf b) (λ i l. g .stand i (omega arith))))
 
   -- They take no more bytes than lie between 4,096 and the mark.
-  pub start-room : 4096 ≤ b .space .mark → 4096 + bytesOf (blocksOf b) ≤ b .space .mark
+  pub start-room : 4096 ≤ b .space .mark → 4096 + bytesTaken (blocksOf b) ≤ b .space .mark
   start-room from =
       room-for (length (blocksOf b)) 4096 (b .space .mark) (blocksOf b) (le-refl _) from (g .apart)
       (stand-within (b .space .mark) (blocksOf b) all-stand)
@@ -241,14 +241,14 @@ module _ (b : Book) (g : GoodStart b) where
 -- ---- what claimed blocks take
 
 -- Blocks take whole units.
-pub whole-units : (xs : List Block) → bytesOf xs % 16 ≡ 0
-unfolding bytesOf
+pub whole-units : (xs : List Block) → bytesTaken xs % 16 ≡ 0
+unfolding bytesTaken
 whole-units [] = refl
 whole-units (x ∷ xs) = let e = whole-units xs in omega arith
 
 -- All claimed blocks take what those before take and what those take that were claimed behind them.
-pub claimed-bytes : (before xs after : List Block) → claimAll before xs ≡ claimed after → bytesOf after ≡ bytesOf before + bytesOf xs
-unfolding claimAll bytesOf
+pub claimed-bytes : (before xs after : List Block) → claimAll before xs ≡ claimed after → bytesTaken after ≡ bytesTaken before + bytesTaken xs
+unfolding claimAll bytesTaken
 claimed-bytes before [] after e = let same : before ≡ after = cc in rw same (omega arith)
 claimed-bytes before (x ∷ xs) after e =
     let p = claims-first before x xs (record { after = after; is = e }) in

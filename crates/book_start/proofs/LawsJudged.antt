@@ -15,7 +15,7 @@ use Rattle.book_space.specs.Space.{Space, shapeBroken}
 use Rattle.book_space.proofs.LawsShape.{shape-holds}
 use Rattle.book_keys.specs.Keys.{Content, content}
 use Rattle.book.specs.Book.{Book, seen}
-use Rattle.book_start.specs.Start.{blocksAt, bytesOf, blocksIn, heldBy, followedFrom, freedBy, blocksOf, GoodStart}
+use Rattle.book_start.specs.Start.{blocksAt, bytesTaken, blocksIn, heldBy, followedFrom, freedBy, blocksOf, GoodStart}
 use Rattle.book_start.specs.Start.{Verdict, good, keyUnsound, keyShares, freeStrays, freeShares, Claim, claimed, unfit, shared}
 use Rattle.book_start.specs.Start.{claimAll, claimContent, claimFreed, onward, judgeLists, judgeKeys, verdictOf, judges}
 use Rattle.book_start.specs.Covered.{lostIn}
@@ -52,7 +52,7 @@ no-fault k n = (
 
 -- The units below the mark that some claims leave.
 abbrev leftBy : Space → List Block → ℕ
-leftBy s claims = (s .mark - (4096 + bytesOf claims)) / 16
+leftBy s claims = (s .mark - (4096 + bytesTaken claims)) / 16
 
 -- ---- free lists
 
@@ -183,7 +183,7 @@ cross-none (x ∷ xs) = (tt, cross-none xs)
 -- What the claims of all blocks of a book in shape leave is what belongs to nobody, in whole units.
 left-lost : (b : Book) → shapeBroken (b .space) (length (b .heads)) ≡ false → (c : Claims [] (blocksOf b))
     → leftBy (b .space) (c .after) * 16 ≡ lostIn b
-unfolding lostIn bytesOf
+unfolding lostIn bytesTaken
 left-lost b shape c =
     let whole = shape-holds (b .space) (length (b .heads)) shape .0 .aligned in
     let units = whole-units (blocksOf b) in

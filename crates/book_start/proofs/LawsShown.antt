@@ -20,7 +20,7 @@ use Rattle.book_keys.specs.Keys.{soundly, pageAt, linkScan, Chain, pageThen, wa
 use Rattle.book_keys.proofs.LawsPages.{link-sound}
 use Rattle.book_keys.proofs.LawsWalk.{Ends, GoesOn, walk-step}
 use Rattle.book_keys.specs.Steps.{PagesLeft}
-use Rattle.book_start.specs.Start.{AllApart, Stands, block, bytesOf, sharesOne, Claim, claimed, unfit, claimAll, claimContent}
+use Rattle.book_start.specs.Start.{AllApart, Stands, block, bytesTaken, sharesOne, Claim, claimed, unfit, claimAll, claimContent}
 use Rattle.book_start.specs.Start.{claimFreed}
 use Rattle.book_start.specs.Units.{unitsFree, marked, claimUnits, markAll, cleared, Marked, Shows, ClaimsAs}
 use Rattle.book_start.specs.declared.claiming.Claiming.the-variants.{Done, Unfit, Shared}
@@ -40,7 +40,7 @@ module _ (units mark : ℕ) (lent : List ℕ) (claims : List Block) (work : List
       (arith, m .long)) ∙ n
 
   -- The claims take no more bytes than lie between 4,096 and the mark.
-  pub shown-room : 4096 + bytesOf claims ≤ mark
+  pub shown-room : 4096 + bytesTaken claims ≤ mark
   shown-room = room-for (length claims) 4096 mark claims (le-refl _) (m .from) (m .apart) (stand-within mark claims (m .stand))
 
   module _ (x : Block) (stands : Stands mark x) where
@@ -130,7 +130,7 @@ module _ (units mark : ℕ) (lent : List ℕ) (want : Claim) (claims : List Bloc
     (x : Block) (stands : Stands mark x) (is : want ≡ claimAll claims (x ∷ [])) (after : List ℕ) (e : after ≡ claimUnits x work) where
   pub one-claimed : (taken : ℕ) → slabBytes (x .class) ≡ 16 * taken → unitsFree x work ≡ true
       → ClaimsAs units mark lent claims want (Done taken) after
-  unfolding bytesOf
+  unfolding bytesTaken
   one-claimed taken size free =
       let y = claim-yes units mark lent claims work m x stands after free e in
       record {
@@ -211,7 +211,7 @@ pub record PagesGo (units mark : ℕ) (lent : List ℕ) (before : List Block) (w
   pub claims : List Block
   pub shows : Marked units mark lent claims work
   pub gives : claimAll claims (pageBlocks offs) ≡ want
-  pub took : bytesOf claims + 4096 * left ≡ bytesOf before + 4096 * all
+  pub took : bytesTaken claims + 4096 * left ≡ bytesTaken before + 4096 * all
 
 module _ (units : ℕ) (lent : List ℕ) (before : List Block) (want : Claim) (s : Ground) (all off left : ℕ) (work : List ℕ)
     (g : PagesGo units (s .mark) lent before want s all off left work) where
@@ -220,7 +220,7 @@ module _ (units : ℕ) (lent : List ℕ) (before : List Block) (want : Claim) (s
     pub pages-turn : (next : ℕ) → next ≡ linkOffset (linkOf (pageAt s off)) → unitsFree (block pageClass off) work ≡ true
         → after ≡ claimUnits (block pageClass off) work
         → PagesGo units (s .mark) lent before want s all next (left - 1) after
-    unfolding pageBlocks bytesOf
+    unfolding pageBlocks bytesTaken
     pages-turn next there free e =
         let t = page-turn s off left (g .offs) more (g .pages) in
         let y = claim-yes units (s .mark) lent (g .claims) work (g .shows) (block pageClass off) (t .stands) after free e in
@@ -278,7 +278,7 @@ pub record FreedGo (units : ℕ) (lent : List ℕ) (before : List Block) (want :
   pub claims : List Block
   pub shows : Marked units (s .mark) lent claims work
   pub gives : claimFreed left s class claims off ≡ want
-  pub took : bytesOf claims ≡ bytesOf before + 16 * taken
+  pub took : bytesTaken claims ≡ bytesTaken before + 16 * taken
 
 module _ (units : ℕ) (lent : List ℕ) (before : List Block) (want : Claim) (s : Space) (class off left : ℕ) (work : List ℕ) (taken : ℕ)
     (g : FreedGo units lent before want s class off left work taken) where
@@ -339,7 +339,7 @@ module _ (units : ℕ) (lent : List ℕ) (before : List Block) (want : Claim) (s
         pub list-turn : (next : ℕ) → next ≡ nextOf (s .body) off → unitsFree (block class off) work ≡ true
             → (size : ℕ) → slabBytes class ≡ 16 * size
             → FreedGo units lent before want s class next (left - 1) after (taken + size)
-        unfolding bytesOf
+        unfolding bytesTaken
         list-turn next there free size is =
             let y = claim-yes units (s .mark) lent (g .claims) work (g .shows) (block class off) stands after free e in
             record {

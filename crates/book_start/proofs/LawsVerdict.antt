@@ -16,7 +16,7 @@ use Rattle.scripthash_free.specs.FreeList.{Block, Each}
 use Rattle.book_space.specs.Space.{Space, space, shapeBroken}
 use Rattle.book_keys.specs.Keys.{content, ground}
 use Rattle.book.specs.Book.{Book}
-use Rattle.book_start.specs.Start.{AllApart, bytesOf, Verdict, good, keyUnsound, keyShares, freeStrays, freeShares, Claim}
+use Rattle.book_start.specs.Start.{AllApart, bytesTaken, Verdict, good, keyUnsound, keyShares, freeStrays, freeShares, Claim}
 use Rattle.book_start.specs.Start.{claimed, unfit, shared}
 use Rattle.book_start.specs.Start.{claimContent, claimFreed, onward, judgeLists, judgeKeys, verdictOf, judges}
 use Rattle.book_start.specs.Units.{cleared, markAll, workAfter, Marked, Leaves, claimOf, Took, ClaimsAs, JudgesAs}
@@ -119,7 +119,7 @@ module _ (units : ℕ) (lent : List ℕ) (want : Verdict) (s : Space) (class : �
   unfolding judgeLists
   lists-end h =
       let l = g .left in
-      let rest : lost ≡ (s .mark - (4096 + bytesOf (g .claims))) / 16 = omega arith in
+      let rest : lost ≡ (s .mark - (4096 + bytesTaken (g .claims))) / 16 = omega arith in
       record {
         claims = g .claims;
         shows = g .shows;
@@ -256,7 +256,7 @@ shows-none units mark work after from fits long e = record { from = from; fits =
 
 -- No claims leave all units between 4,096 and the mark.
 pub none-leave : (mark : ℕ) → 4096 ≤ mark → mark % 16 ≡ 0 → Leaves mark [] (mark / 16 - 256)
-unfolding bytesOf
+unfolding bytesTaken
 none-leave mark from whole = omega arith
 
 -- A work list that shows claims, cleared, is the lent one cleared.

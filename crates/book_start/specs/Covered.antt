@@ -7,7 +7,7 @@ use Rattle.scripthash_layout.specs.Sizes.{slabBytes}
 use Rattle.scripthash_free.specs.FreeList.{Block}
 use Rattle.book_space.specs.Space.{space}
 use Rattle.book.specs.Book.{Book}
-use Rattle.book_start.specs.Start.{bytesOf, blocksOf}
+use Rattle.book_start.specs.Start.{bytesTaken, blocksOf}
 
 -- A byte is one of a block's.
 abbrev pub Has : ℕ → Block → Type 0
@@ -20,7 +20,7 @@ OneHas o (x ∷ xs) = Has o x ⊎ OneHas o xs
 
 -- How many bytes between 4,096 and the mark belong to no block, held or free: what lies there, less what all blocks take.
 unfoldable pub lostIn : Book → ℕ
-lostIn b = b .space .mark - (4096 + bytesOf (blocksOf b))
+lostIn b = b .space .mark - (4096 + bytesTaken (blocksOf b))
 
 -- Every byte from 4,096 up to the mark belongs to a block that a key holds or that a free list names.
 abbrev pub Covered : Book → Type 0

@@ -34,9 +34,9 @@ blocksAt class [] = []
 blocksAt class (o ∷ os) = block class o ∷ blocksAt class os
 
 -- The bytes that blocks take.
-unfoldable pub bytesOf : List Block → ℕ
-bytesOf [] = 0
-bytesOf (x ∷ xs) = slabBytes (x .class) + bytesOf xs
+unfoldable pub bytesTaken : List Block → ℕ
+bytesTaken [] = 0
+bytesTaken (x ∷ xs) = slabBytes (x .class) + bytesTaken xs
 
 -- ---- what is held and what is free
 
@@ -158,7 +158,7 @@ onward shared ifUnfit ifShared after = ifShared
 -- The verdict on the free lists of the classes from one on that have these free heads, behind blocks claimed before. Where nothing is
 -- left to claim, what lies between 4,096 and the mark, less what the claimed blocks take, belongs to nobody.
 unfoldable pub judgeLists : Space → ℕ → List ℕ → List Block → Verdict
-judgeLists s class [] before = good ((s .mark - (4096 + bytesOf before)) / 16)
+judgeLists s class [] before = good ((s .mark - (4096 + bytesTaken before)) / 16)
 judgeLists s class (h ∷ hs) before =
     onward (claimFreed (s .mark / 16) s class before h) (freeStrays class) (freeShares class) (λ bs. judgeLists s (class + 1) hs bs)
 

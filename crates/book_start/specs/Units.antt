@@ -9,7 +9,7 @@ use Rattle.error.specs.Refusal.{Answer, accepted, refused}
 use Rattle.buffer.specs.Bytes.{part, overwrite}
 use Rattle.scripthash_layout.specs.Sizes.{slabBytes}
 use Rattle.scripthash_free.specs.FreeList.{Block, Each}
-use Rattle.book_start.specs.Start.{AllApart, Stands, bytesOf, Verdict, Claim, claimed, unfit, shared}
+use Rattle.book_start.specs.Start.{AllApart, Stands, bytesTaken, Verdict, Claim, claimed, unfit, shared}
 use Rattle.book_start.specs.Answers.{startAnswer}
 use Rattle.book_start.specs.declared.claiming.Claiming.{Claiming}
 use Rattle.book_start.specs.declared.claiming.Claiming.the-variants.{Done, Unfit, Shared}
@@ -69,7 +69,7 @@ pub record Shows (mark : ℕ) (work : List ℕ) : Type 0 where
 
 -- So many units below the mark belong to none of some claims: what lies behind 4,096 is theirs, or lost.
 abbrev pub Leaves : ℕ → List Block → ℕ → Type 0
-Leaves mark claims lost = 4096 + (bytesOf claims + 16 * lost) ≡ mark
+Leaves mark claims lost = 4096 + (bytesTaken claims + 16 * lost) ≡ mark
 
 -- What claiming gives that is told so, where these blocks are claimed at its end.
 abbrev pub claimOf : Claiming → List Block → Claim
@@ -79,7 +79,7 @@ claimOf Shared bs = shared
 
 -- The units that claiming tells are those that it took, where some blocks were claimed before and others are at its end.
 abbrev pub Took : List Block → List Block → Claiming → Type 0
-Took before bs (Done taken) = bytesOf bs ≡ bytesOf before + 16 * taken
+Took before bs (Done taken) = bytesTaken bs ≡ bytesTaken before + 16 * taken
 Took before bs Unfit = Unit {0}
 Took before bs Shared = Unit {0}
 
