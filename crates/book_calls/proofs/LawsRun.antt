@@ -17,8 +17,8 @@ use Rattle.buffer.proofs.LawsOrder.{lt-or-ge}
 use Rattle.buffer.proofs.LawsBytes.{overwrite-nil, overwrite-part, length-overwrite}
 use Rattle.buffer.proofs.LawsOverwrite.{overwrite-adjoin}
 use Rattle.book_words.specs.Spelled.{SpelledCall, load, append, read, drop, SpelledTold, listed}
-use Rattle.book_rules.specs.Outcomes.{Listed as List-told, answerOf}
-use Rattle.book.specs.Book.{Book}
+use Rattle.book_rules.specs.Outcomes.{Listed as List-told, bookAfter, answerOf, retold}
+use Rattle.book.specs.Book.{Book, Outcome}
 use Rattle.book_read.specs.Reads.{reads}
 use Rattle.book_load.specs.declared.answers.BookLoad.{BookLoad}
 use Rattle.book_load.specs.declared.answers.BookLoad.the-variants.{Loaded, Refused as NotLoaded}
@@ -36,7 +36,7 @@ use Rattle.book_calls.specs.Steps.{NextIs, Answered, Done, CallHere, Spe
 use Rattle.book_calls.specs.declared.words.NextCall.the-variants.{At, Nowhere}
 use Rattle.book_calls.proofs.LawsSteps.{of-load, of-append, of-read, of-drop, of-other, was-somewhere, spelled-end, spelled-nowhere}
 use Rattle.book_calls.proofs.LawsSteps.{spelled-on, was-before, only}
-use Rattle.book_calls.proofs.LawsFlat.{read-book, read-answer}
+use Rattle.book_calls.proofs.LawsFlat.{retold-book, retold-answer, read-book, read-answer}
 use Rattle.book_calls.proofs.LawsPut.{re-said, place-words}
 use Rattle.book_calls.proofs.LawsRead.{ReadsAs, turned, told, reads-as}
 
@@ -159,6 +159,19 @@ module _ {calls : List ℕ} {at room : ℕ} (h : CallHere calls at room) where
   here-part e =
       let many : third ≡ at + 3 + third - (at + 3) = omega arith in
       here-load e .1 ∙ ap (λ (n : ℕ). load key (firstOf n rest)) many
+
+-- a change was done, and its answer put as it is spelled
+pub change-done : {T : Type 0} (spell : T → SpelledTold) (a : Answer (Outcome T)) {b left : Book} {c : SpelledCall} {put : Answer SpelledTold}
+    {out written : List ℕ} {len : ℕ} → doesSpelled b c ≡ retold spell a → left ≡ bookAfter b a → put ≡ answered spell (answerOf a)
+    → length (spellAnswer put) ≤ answerRoom c
+    → Answered put out written len → Done b c out left written len
+change-done spell a {b} e l p short s =
+    let said = ap answerOf e ∙ retold-answer spell a ∙ sym p in
+    record {
+      left = l ∙ sym (ap (bookAfter b) e ∙ retold-book spell b a);
+      said = re-said said s;
+      short = short-as (sym said) short;
+    }
 
 -- a read leaves the book, and tells its list
 pub read-done : (b : Book) (key room : ℕ) {out written : List ℕ} {len : ℕ} → Answered (answered listed (reads b key room)) out written len

@@ -1,11 +1,10 @@
 -- `run_drop` meets its contract: the drop's own, and the words of its answer. Assumes nothing.
-use mathlib.Core.Path.{sym, ap, _∙_}
+use mathlib.Core.Path.{refl, ap, _∙_}
 use Rattle.error.specs.Refusal.{answered}
 use Rattle.book_words.specs.Spelled.{dropped as spelled}
 use Rattle.book_calls.specs.Flat.{doesSpelled}
-use Rattle.book_calls.proofs.LawsFlat.{retold-book, retold-answer, drop-told}
-use Rattle.book_calls.proofs.LawsPut.{re-said}
-use Rattle.book_calls.proofs.LawsRun.{short-as, drop-short}
+use Rattle.book_calls.proofs.LawsFlat.{drop-told}
+use Rattle.book_calls.proofs.LawsRun.{change-done, drop-short}
 use Rattle.book_words.specs.SpellCalls.{answerRoom}
 use borrow.Author.Needs.{needs}
 use Rattle.book_calls.proofs.running.run_drop.Statement.{statement}
@@ -35,12 +34,8 @@ returns : tie.Need-returns
 unfolding doesSpelled answerRoom
 returns c =
     let did = dropped c .drop in
-    let told = drop-told (did .result .answer) ∙ ap (answered spelled) (did .ensures .0) ∙ sym (retold-answer spelled _) in
-    record {
-      left = did .ensures .1 ∙ sym (retold-book spelled _ _);
-      said = re-said (sym told) (c .before .before .put-drop .ensures);
-      short = short-as told (drop-short (did .result .answer));
-    }
+    let told = drop-told (did .result .answer) ∙ ap (answered spelled) (did .ensures .0) in
+    change-done spelled _ refl (did .ensures .1) told (drop-short (did .result .answer)) (c .before .before .put-drop .ensures)
 
 pub run-drop-spec : {M : Type 1} → statement M
 run-drop-spec =
