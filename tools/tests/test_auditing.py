@@ -4,6 +4,7 @@ import unittest
 import paths
 from gate_log import GateLog
 from names import fits, is_sample, missing_in
+from page import Code, anchor, code_html, contents, inline, markdown, ranges
 from reading import Reading
 from sources import CRATES, Target, Wrong, brought, declaration, target
 from words import chunks, top_level, words_of
@@ -84,6 +85,25 @@ class TestNames(unittest.TestCase):
         self.assertFalse(fits("pack8_…", "unpack8"))
         self.assertTrue(is_sample("CRATE/FILE"))
         self.assertFalse(is_sample("CRATE/file"))
+
+
+class TestPage(unittest.TestCase):
+    def test_contents(self):
+        blocks = ["# Title", "## 1. First\n\n### A. The shop's day\n\ntext\n\n### B. Next", Code(["## no heading"], None, []), "## 2. Last"]
+        self.assertEqual(contents(blocks), "- [1. First](#1-first): [A. The shop's day](#a-the-shops-day); [B. Next](#b-next)\n- [2. Last](#2-last)")
+        self.assertEqual(anchor("A. The shop's day"), "a-the-shops-day")
+
+    def test_ranges_of_letters(self):
+        self.assertEqual([ranges(letters) for letters in ("", "O", "AB", "ABC", "ACDEFO")], ["", "O", "A and B", "A to C", "A, C to F and O"])
+
+    def test_links_with_code(self):
+        self.assertEqual(inline("see [`f`](#a.rt:f), *now*"), 'see <a href="#a.rt:f"><code>f</code></a>, <i>now</i>')
+        self.assertEqual(markdown(["[`f`](#a.rt:f) and [A](#a)"]), "`f` and [A](#a)\n")
+
+    def test_no_word_is_broken(self):
+        self.assertEqual(inline("in a/b-c"), 'in <span class="whole">a/b-c</span>')
+        self.assertEqual(inline("`rt check`"), "<code class=words>rt check</code>")
+        self.assertEqual(code_html(Code(["f < g-h"], "f", [])), '<pre id="f"><span class="row">f &lt; <span class="whole">g-h</span>\n</span></pre>')
 
 
 LOG = """\
