@@ -21,7 +21,7 @@ table { border-collapse: collapse; font-size: .9em; margin: 1em 0; max-width: ca
 th, td { border: 1px solid #999; padding: .25em .5em; text-align: left; vertical-align: top } th { background: #eee }
 td.number, th.number { text-align: right }
 code, pre { font: .82em/1.4 'DejaVu Sans Mono', Menlo, Consolas, monospace }
-code, .whole, pre a { white-space: nowrap } code.words { white-space: normal }
+code, .whole, pre a { white-space: nowrap } code.words { white-space: normal } td:first-child code { white-space: nowrap }
 pre { border-left: 2px solid #bbb; margin: .5em 0; overflow-x: auto; padding: .1em 0 .1em .8em; white-space: pre-wrap }
 pre .row { display: block; padding-left: 4em; text-indent: -4em }
 pre .comment { color: #444; font-style: italic }

@@ -1,7 +1,12 @@
 """What the auditor's page reads: names in documents, words of antt and what they mean, and the log of a run of the gate."""
+import os
+import tempfile
 import unittest
+from pathlib import Path
 
 import paths
+from archive import is_current, made_from
+from day import EXAMPLE, told, with_answers
 from gate_log import GateLog
 from names import fits, is_sample, missing_in
 from page import Code, anchor, code_html, contents, inline, markdown, ranges
@@ -104,6 +109,35 @@ class TestPage(unittest.TestCase):
         self.assertEqual(inline("in a/b-c"), 'in <span class="whole">a/b-c</span>')
         self.assertEqual(inline("`rt check`"), "<code class=words>rt check</code>")
         self.assertEqual(code_html(Code(["f < g-h"], "f", [])), '<pre id="f"><span class="row">f &lt; <span class="whole">g-h</span>\n</span></pre>')
+
+
+class TestDay(unittest.TestCase):
+    SAID = "# one\n> keys 1\na fresh book\n> append 0 5\nappended\n> keys 2\nanother\n> read 0\nread: 0 numbers\n"
+
+    def test_answers_of_the_example(self):
+        self.assertEqual(with_answers("| `keys 1` | {answer} |\n`append 0 5` {answer}\n`keys 2` {answer}; `x`", self.SAID),
+                         "| `keys 1` | a fresh book |\n`append 0 5` appended\n`keys 2` another; `x`")
+        self.assertIn(("append 0 5", "appended: inline 5; 0 records rewritten"), told(EXAMPLE.read_text()))
+
+    def test_an_answer_of_another_book(self):
+        with self.assertRaisesRegex(Wrong, "no `read 0` there"):
+            with_answers("`keys 1` {answer}\n`append 0 5` {answer}\n`read 0` {answer}", self.SAID)
+
+
+class TestArchive(unittest.TestCase):
+    def test_what_it_is_made_from(self):
+        self.assertLessEqual({CRATES / "ouriscado/src", CRATES / "error/specs/Refusal.antt"}, set(made_from()))
+
+    def test_an_archive_that_is_older_or_missing(self):
+        with tempfile.TemporaryDirectory() as folder:
+            archive, source = Path(folder, "a"), Path(folder, "s")
+            source.touch()
+            self.assertFalse(is_current(archive, [source]))
+            archive.touch()
+            os.utime(source, (1, 1))
+            self.assertTrue(is_current(archive, [source]))
+            os.utime(archive, (0, 0))
+            self.assertFalse(is_current(archive, [source]))
 
 
 LOG = """\
