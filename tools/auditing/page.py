@@ -26,10 +26,10 @@ pre { border-left: 2px solid #bbb; margin: .5em 0; overflow-x: auto; padding: .1
 pre .row { display: block; padding-left: 4em; text-indent: -4em }
 pre .comment { color: #444; font-style: italic }
 a { color: #034; text-decoration: none } a:hover { text-decoration: underline } p a, li a, td a { text-decoration: underline }
-@media screen and (max-width: 50em) { table { display: block; overflow-x: auto } code, .whole { white-space: normal } }
-@page { size: A4; margin: 16mm 14mm }
+@media screen and (max-width: 50em) { table { display: block; overflow-x: auto } }
+@page { size: A4; margin: 16mm 14mm; @bottom-right { content: counter(page) " of " counter(pages); font: 8pt Georgia, 'DejaVu Serif', serif } }
 @media print {
-  body { font-size: 10.5pt; line-height: 1.4; margin: 0; max-width: none; padding: 0 } pre { font-size: 7.5pt; overflow: visible } pre .row { break-inside: avoid }
+  body { font-size: 10.5pt; line-height: 1.4; margin: 0; max-width: none; padding: 0 } pre { font-size: 7.5pt; break-inside: avoid; overflow: visible }
   a { color: #111 } h1, h2, h3, h4 { break-after: avoid } tr, li { break-inside: avoid } p { orphans: 3; widows: 3 } p a, li a, td a { text-decoration: none }
 }
 """
@@ -78,6 +78,11 @@ def page(title, blocks):
     return f'<!DOCTYPE html>\n<html lang="en"><head>{head}</head><body>\n{body}\n</body></html>\n'
 
 
+def dead_links(text):
+    """The links of a page that lead nowhere in it."""
+    return sorted(set(re.findall(r'href="#([^"]+)"', text)) - set(re.findall(r' id="([^"]+)"', text)))
+
+
 def code_html(block):
     """Lines of code, with a link at each name that has one."""
     rows = [line_html(line, [link[1:] for link in block.links if link[0] == row]) for row, line in enumerate(block.lines)]
@@ -116,11 +121,11 @@ def run_html(lines):
 
 
 def table_html(lines):
-    """A table; a column whose rule ends with a colon holds numbers."""
+    """A table, whose head stands again on each sheet of paper; a column whose rule ends with a colon holds numbers."""
     rows = [[cell.strip() for cell in line.strip("|").split("|")] for line in lines]
     numbers = [rule.endswith(":") for rule in rows[1]]
-    parts = [row_html("th", rows[0], numbers)] + [row_html("td", row, numbers) for row in rows[2:]]
-    return "<table>" + "\n".join(parts) + "</table>"
+    body = "\n".join(row_html("td", row, numbers) for row in rows[2:])
+    return f"<table><thead>{row_html('th', rows[0], numbers)}</thead>\n<tbody>{body}</tbody></table>"
 
 
 def row_html(tag, cells, numbers):

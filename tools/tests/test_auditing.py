@@ -9,7 +9,7 @@ from archive import is_current, made_from
 from day import EXAMPLE, told, with_answers
 from gate_log import GateLog
 from names import fits, is_sample, missing_in
-from page import Code, anchor, code_html, contents, inline, markdown, ranges
+from page import Code, anchor, code_html, contents, dead_links, inline, markdown, page, ranges
 from reading import Reading
 from sources import CRATES, Target, Wrong, brought, declaration, target
 from words import chunks, top_level, words_of
@@ -104,6 +104,9 @@ class TestPage(unittest.TestCase):
     def test_links_with_code(self):
         self.assertEqual(inline("see [`f`](#a.rt:f), *now*"), 'see <a href="#a.rt:f"><code>f</code></a>, <i>now</i>')
         self.assertEqual(markdown(["[`f`](#a.rt:f) and [A](#a)"]), "`f` and [A](#a)\n")
+
+    def test_links_that_lead_nowhere(self):
+        self.assertEqual(dead_links(page("T", ["# A b\n\n[here](#a-b), [f](#f), [g](#g)", Code(["f"], "f", [])])), ["g"])
 
     def test_no_word_is_broken(self):
         self.assertEqual(inline("in a/b-c"), 'in <span class="whole">a/b-c</span>')
