@@ -10,7 +10,7 @@ from functools import lru_cache
 from sources import CRATES, DECLARES, ROOT
 
 # Words of Rattle, of its contracts and of Rust that documents cite as such, and signs that they explain.
-WORDS = set("requires ensures match rt refusal ? Vec Option Result × ⊎ ≡ .exit .entry →".split())
+WORDS = set("requires ensures match rt refusal ? Vec Option Result × ⊎ ≡ ≢ ⊥ ∷ [] λ ⌜ ⌝ ℕ .exit .entry →".split())
 DECLARED = {
     ".antt": DECLARES,
     ".rt": re.compile(r"\b(?:fn|enum|struct|type|const|mod) (\w+)|^ +([A-Z]\w*)(?=[,({ ])", re.M),

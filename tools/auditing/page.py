@@ -7,41 +7,63 @@ from itertools import groupby
 # Lines as they stand in a file; `anchor` is a link's target, and `links` are (row, column, length, anchor) in order.
 Code = namedtuple("Code", "lines anchor links")
 
+# A link in prose, whose label may be code; and a word with hyphens or slashes in it, behind which a browser would break a line.
+LINK = re.compile(r"\[((?:`[^`]+`|[^\]`])+)\]\(([^)]+)\)")
+JOINED = re.compile(r"[\w.]+(?:[-/][\w.]+)+")
+
 STYLE = """
-body { color: #111; background: #fff; font: 16px/1.45 Georgia, 'DejaVu Serif', serif; margin: 2em auto; max-width: 60em; padding: 0 1em }
-h1, h2, h3, h4, p, ol, ul, blockquote { max-width: 36em }
+body { color: #111; background: #fff; font: 16px/1.5 Georgia, 'DejaVu Serif', serif; hyphens: none; margin: 2em auto; max-width: 60em; padding: 0 1em }
 h1 { font-size: 1.6em } h2 { font-size: 1.3em; border-top: 1px solid #111; padding-top: .6em; margin-top: 2em } h3 { font-size: 1.1em }
 h4 { font-size: 1em; margin-bottom: .3em }
 blockquote { border-left: 3px solid #777; font-style: italic; margin-left: 0; padding-left: 1em }
 li { margin: .45em 0 }
 table { border-collapse: collapse; font-size: .9em; margin: 1em 0; max-width: calc(100% - 2px) }
-th, td { border: 1px solid #999; overflow-wrap: anywhere; padding: .25em .5em; text-align: left; vertical-align: top } th { background: #eee }
+th, td { border: 1px solid #999; padding: .25em .5em; text-align: left; vertical-align: top } th { background: #eee }
 td.number, th.number { text-align: right }
 code, pre { font: .82em/1.4 'DejaVu Sans Mono', Menlo, Consolas, monospace }
-pre { border-left: 2px solid #bbb; margin: .5em 0; padding: .1em 0 .1em .8em; white-space: pre-wrap; overflow-wrap: anywhere }
+code, .whole, pre a { white-space: nowrap } code.words { white-space: normal } td:first-child code { white-space: nowrap }
+pre { border-left: 2px solid #bbb; margin: .5em 0; overflow-x: auto; padding: .1em 0 .1em .8em; white-space: pre-wrap }
+pre .row { display: block; padding-left: 4em; text-indent: -4em }
 pre .comment { color: #444; font-style: italic }
 a { color: #034; text-decoration: none } a:hover { text-decoration: underline } p a, li a, td a { text-decoration: underline }
-@page { margin: 18mm 16mm }
+@media screen and (max-width: 50em) { table { display: block; overflow-x: auto } }
+@page { size: A4; margin: 16mm 14mm; @bottom-right { content: counter(page) " of " counter(pages); font: 8pt Georgia, 'DejaVu Serif', serif } }
 @media print {
-  body { font-size: 10.5pt; margin: 0; max-width: none; padding: 0 } pre { font-size: 7.5pt; break-inside: avoid } a { color: #111 }
-  h1, h2, h3, h4 { break-after: avoid } tr { break-inside: avoid } p a, li a, td a { text-decoration: none }
+  body { font-size: 10.5pt; line-height: 1.4; margin: 0; max-width: none; padding: 0 } pre { font-size: 7.5pt; break-inside: avoid; overflow: visible }
+  a { color: #111 } h1, h2, h3, h4 { break-after: avoid } tr, li { break-inside: avoid } p { orphans: 3; widows: 3 } p a, li a, td a { text-decoration: none }
 }
 """
 
 
 def anchor(text):
     """A heading's link target."""
-    return re.sub(r"[^\w]+", "-", text.lower()).strip("-")
+    return re.sub(r"[^\w]+", "-", text.lower().replace("'", "")).strip("-")
+
+
+def contents(blocks):
+    """The page's sections as a list of links, each with its parts behind a colon."""
+    sections = []
+    for level, heading in re.findall(r"^(##|###) (.+)$", "\n".join(block for block in blocks if not isinstance(block, Code)), re.M):
+        sections += [[]] if level == "##" else []
+        sections[-1].append(f"[{heading}](#{anchor(heading)})")
+    return "\n".join("- " + ": ".join(filter(None, [section[0], "; ".join(section[1:])])) for section in sections)
+
+
+def ranges(letters):
+    """Letters in their order, with three or more that follow each other as a range."""
+    runs = [[letter for _, letter in run] for _, run in groupby(enumerate(letters), lambda pair: ord(pair[1]) - pair[0])]
+    parts = [part for run in runs for part in ([f"{run[0]} to {run[-1]}"] if len(run) > 2 else run)]
+    return " and ".join(filter(None, [", ".join(parts[:-1]), parts[-1]])) if parts else ""
 
 
 # ---- Markdown
 
 
 def markdown(blocks):
-    """The page as Markdown: neighbouring pieces of code share a fence."""
+    """The page as Markdown: neighbouring pieces of code share a fence, and have no link targets."""
     parts = []
     for code, run in groupby(blocks, lambda block: isinstance(block, Code)):
-        texts = ["\n".join(block.lines) if code else block for block in run]
+        texts = ["\n".join(block.lines) if code else LINK.sub(lambda m: m[1] if ":" in m[2] else m[0], block) for block in run]
         parts.append("```\n" + "\n\n".join(texts) + "\n```" if code else "\n\n".join(texts))
     return "\n\n".join(parts) + "\n"
 
@@ -56,22 +78,27 @@ def page(title, blocks):
     return f'<!DOCTYPE html>\n<html lang="en"><head>{head}</head><body>\n{body}\n</body></html>\n'
 
 
+def dead_links(text):
+    """The links of a page that lead nowhere in it."""
+    return sorted(set(re.findall(r'href="#([^"]+)"', text)) - set(re.findall(r' id="([^"]+)"', text)))
+
+
 def code_html(block):
     """Lines of code, with a link at each name that has one."""
     rows = [line_html(line, [link[1:] for link in block.links if link[0] == row]) for row, line in enumerate(block.lines)]
     name = f' id="{html.escape(block.anchor)}"' if block.anchor else ""
-    return f"<pre{name}>" + "\n".join(rows) + "</pre>"
+    return f"<pre{name}>" + "".join(f'<span class="row">{row}\n</span>' for row in rows) + "</pre>"
 
 
 def line_html(line, links):
     """One line of code; a comment is set apart."""
     if line.lstrip().startswith(("-- ", "// ")):
-        return f'<span class="comment">{html.escape(line)}</span>'
+        return f'<span class="comment">{unbroken(html.escape(line))}</span>'
     parts, at = [], 0
     for column, length, target in sorted(links):
-        parts += [html.escape(line[at:column]), f'<a href="#{html.escape(target)}">{html.escape(line[column : column + length])}</a>']
+        parts += [unbroken(html.escape(line[at:column])), f'<a href="#{html.escape(target)}">{html.escape(line[column : column + length])}</a>']
         at = column + length
-    return "".join(parts) + html.escape(line[at:])
+    return "".join(parts) + unbroken(html.escape(line[at:]))
 
 
 def prose_html(text):
@@ -94,11 +121,11 @@ def run_html(lines):
 
 
 def table_html(lines):
-    """A table; a column whose rule ends with a colon holds numbers."""
+    """A table, whose head stands again on each sheet of paper; a column whose rule ends with a colon holds numbers."""
     rows = [[cell.strip() for cell in line.strip("|").split("|")] for line in lines]
     numbers = [rule.endswith(":") for rule in rows[1]]
-    parts = [row_html("th", rows[0], numbers)] + [row_html("td", row, numbers) for row in rows[2:]]
-    return "<table>" + "\n".join(parts) + "</table>"
+    body = "\n".join(row_html("td", row, numbers) for row in rows[2:])
+    return f"<table><thead>{row_html('th', rows[0], numbers)}</thead>\n<tbody>{body}</tbody></table>"
 
 
 def row_html(tag, cells, numbers):
@@ -107,12 +134,28 @@ def row_html(tag, cells, numbers):
 
 def inline(text):
     """Code, bold, emphasis and links within a line."""
-    parts = re.split(r"`([^`]+)`", html.escape(text, quote=False))
-    return "".join(f"<code>{part}</code>" if i % 2 else spoken(part) for i, part in enumerate(parts))
+    parts = LINK.split(text)
+    links = [f'<a href="{html.escape(target)}">{spoken(label)}</a>' for label, target in zip(parts[1::3], parts[2::3])]
+    return "".join(between + link for between, link in zip(map(spoken, parts[::3]), links + [""]))
 
 
 def spoken(text):
-    """What stands between pieces of code."""
-    text = re.sub(r"\*\*(.+?)\*\*", r"<b>\1</b>", text)
-    text = re.sub(r"(?<!\w)\*([^*]+)\*(?!\w)", r"<i>\1</i>", text)
-    return re.sub(r"\[([^\]]+)\]\(([^)]+)\)", r'<a href="\2">\1</a>', text)
+    """What stands between links: code, and prose."""
+    parts = re.split(r"`([^`]+)`", html.escape(text, quote=False))
+    return "".join(code_in_line(part) if i % 2 else stressed(part) for i, part in enumerate(parts))
+
+
+def code_in_line(text):
+    """A piece of code, which breaks at its spaces only."""
+    return f"<code class=words>{unbroken(text)}</code>" if " " in text else f"<code>{text}</code>"
+
+
+def stressed(text):
+    """Prose with what is bold and what is emphasised."""
+    text = re.sub(r"\*\*(.+?)\*\*", r"<b>\1</b>", unbroken(text))
+    return re.sub(r"(?<!\w)\*([^*]+)\*(?!\w)", r"<i>\1</i>", text)
+
+
+def unbroken(text):
+    """A text whose words with hyphens or slashes stay on one line."""
+    return JOINED.sub(r'<span class="whole">\g<0></span>', text)

@@ -63,6 +63,11 @@ def crate_names():
     return re.findall(r"^(\w+):", (ROOT / "crates.txt").read_text(), re.M)
 
 
+def needed_by(crate):
+    """A crate, and those that it needs by crates.txt."""
+    return [crate, *re.search(rf"^{crate}:(.*)$", (ROOT / "crates.txt").read_text(), re.M)[1].split()]
+
+
 def rank(path):
     """Files by their crate's place in crates.txt, code before definitions."""
     crate, folder = path.relative_to(CRATES).parts[:2]

@@ -1,9 +1,15 @@
 """What the auditor's page reads: names in documents, words of antt and what they mean, and the log of a run of the gate."""
+import os
+import tempfile
 import unittest
+from pathlib import Path
 
 import paths
+from archive import is_current, made_from
+from day import EXAMPLE, told, with_answers
 from gate_log import GateLog
 from names import fits, is_sample, missing_in
+from page import Code, anchor, code_html, contents, dead_links, inline, markdown, page, ranges
 from reading import Reading
 from sources import CRATES, Target, Wrong, brought, declaration, target
 from words import chunks, top_level, words_of
@@ -84,6 +90,57 @@ class TestNames(unittest.TestCase):
         self.assertFalse(fits("pack8_…", "unpack8"))
         self.assertTrue(is_sample("CRATE/FILE"))
         self.assertFalse(is_sample("CRATE/file"))
+
+
+class TestPage(unittest.TestCase):
+    def test_contents(self):
+        blocks = ["# Title", "## 1. First\n\n### A. The shop's day\n\ntext\n\n### B. Next", Code(["## no heading"], None, []), "## 2. Last"]
+        self.assertEqual(contents(blocks), "- [1. First](#1-first): [A. The shop's day](#a-the-shops-day); [B. Next](#b-next)\n- [2. Last](#2-last)")
+        self.assertEqual(anchor("A. The shop's day"), "a-the-shops-day")
+
+    def test_ranges_of_letters(self):
+        self.assertEqual([ranges(letters) for letters in ("", "O", "AB", "ABC", "ACDEFO")], ["", "O", "A and B", "A to C", "A, C to F and O"])
+
+    def test_links_with_code(self):
+        self.assertEqual(inline("see [`f`](#a.rt:f), *now*"), 'see <a href="#a.rt:f"><code>f</code></a>, <i>now</i>')
+        self.assertEqual(markdown(["[`f`](#a.rt:f) and [A](#a)"]), "`f` and [A](#a)\n")
+
+    def test_links_that_lead_nowhere(self):
+        self.assertEqual(dead_links(page("T", ["# A b\n\n[here](#a-b), [f](#f), [g](#g)", Code(["f"], "f", [])])), ["g"])
+
+    def test_no_word_is_broken(self):
+        self.assertEqual(inline("in a/b-c"), 'in <span class="whole">a/b-c</span>')
+        self.assertEqual(inline("`rt check`"), "<code class=words>rt check</code>")
+        self.assertEqual(code_html(Code(["f < g-h"], "f", [])), '<pre id="f"><span class="row">f &lt; <span class="whole">g-h</span>\n</span></pre>')
+
+
+class TestDay(unittest.TestCase):
+    SAID = "# one\n> keys 1\na fresh book\n> append 0 5\nappended\n> keys 2\nanother\n> read 0\nread: 0 numbers\n"
+
+    def test_answers_of_the_example(self):
+        self.assertEqual(with_answers("| `keys 1` | {answer} |\n`append 0 5` {answer}\n`keys 2` {answer}; `x`", self.SAID),
+                         "| `keys 1` | a fresh book |\n`append 0 5` appended\n`keys 2` another; `x`")
+        self.assertIn(("append 0 5", "appended: inline 5; 0 records rewritten"), told(EXAMPLE.read_text()))
+
+    def test_an_answer_of_another_book(self):
+        with self.assertRaisesRegex(Wrong, "no `read 0` there"):
+            with_answers("`keys 1` {answer}\n`append 0 5` {answer}\n`read 0` {answer}", self.SAID)
+
+
+class TestArchive(unittest.TestCase):
+    def test_what_it_is_made_from(self):
+        self.assertLessEqual({CRATES / "ouriscado/src", CRATES / "error/specs/Refusal.antt"}, set(made_from()))
+
+    def test_an_archive_that_is_older_or_missing(self):
+        with tempfile.TemporaryDirectory() as folder:
+            archive, source = Path(folder, "a"), Path(folder, "s")
+            source.touch()
+            self.assertFalse(is_current(archive, [source]))
+            archive.touch()
+            os.utime(source, (1, 1))
+            self.assertTrue(is_current(archive, [source]))
+            os.utime(archive, (0, 0))
+            self.assertFalse(is_current(archive, [source]))
 
 
 LOG = """\
