@@ -10,9 +10,10 @@ use Rattle.book_space.specs.Space.{Space}
 use Rattle.book_space.specs.Answers.{spaceOf}
 use Rattle.book.specs.Book.{Book}
 use Rattle.book.specs.Answers.{bookOf}
+use Rattle.book.proofs.LawsKey.{does-from}
 use Rattle.book_append.specs.Appends.{appendAt}
 use Rattle.book.specs.Steps.{placeAnswer}
-use Rattle.book_append.proofs.LawsAppend.{does-as, does-from, placesFor, placed-at, placed-none, inline-low, inline-yes, inline-no}
+use Rattle.book_append.proofs.LawsAppend.{does-as, placesFor, placed-at, placed-none, inline-low, inline-yes, inline-no}
 use Rattle.book_append.proofs.appending.append_inline.Statement.{statement}
 use Rattle.book_append.proofs.appending.append_inline.Tie as tie
 
@@ -50,7 +51,8 @@ unfolding Rising
 move-list-requires c κs =
     let s = c .before .before .before .before .before in
     let above = c .before .before .if1 .left in
-    (s .pre .0 .shape, omega arith, omega arith, (s .pre .1, omega (arith, s .pre .0 .low), (omega arith, s .pre .0 .low, tt)))
+    let known = s .pre .to-append in
+    (known .shape, omega arith, omega arith, (s .pre .some, omega (arith, known .low), (omega arith, known .low, tt)))
 
 enum-known-answer : tie.Need-enum-known-answer
 enum-known-answer c = search needs

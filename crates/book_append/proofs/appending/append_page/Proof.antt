@@ -113,11 +113,9 @@ grow-chain-requires : tie.Need-grow-chain-requires
 grow-chain-requires c κs =
     let l = c .before .before .before in
     let k = l .before .before in
-    let a = start k .args in (
-      start k .pre,
-      page-full (b (start k)) (a .key) (a .n) (a .last) (told k) (omega (arith, l .before .if1 .left))
-          (omega (arith, l .uleb128-len .ensures, c .before .before .if2 .taken)),
-    )
+    let a = start k .args in
+    page-full (b (start k)) (a .key) (a .n) (a .last) (told k) (omega (arith, l .before .if1 .left)) (start k .pre)
+    (omega (arith, l .uleb128-len .ensures, c .before .before .if2 .taken))
 
 same-length-3 : tie.Need-same-length-3
 same-length-3 c = search needs

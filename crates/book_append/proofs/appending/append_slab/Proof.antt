@@ -193,11 +193,8 @@ move-slab-requires : tie.Need-move-slab-requires
 move-slab-requires c κs =
     let t = c .before .before .before in
     let s = start (known t) in
-    let a = s .args in (
-      s .pre,
-      slab-leaves (b s) (a .key) (a .n) (a .class) (a .used) (a .off) (told (known t)) (above t)
-          (test t (c .before .before .if2 .left)),
-    )
+    let a = s .args in
+    slab-leaves (b s) (a .key) (a .n) (a .class) (a .used) (a .off) (told (known t)) (above t) (s .pre) (test t (c .before .before .if2 .left))
 
 same-length-5 : tie.Need-same-length-5
 same-length-5 c = search needs

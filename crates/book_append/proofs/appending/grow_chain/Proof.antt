@@ -15,9 +15,10 @@ use Rattle.book_keys.proofs.LawsPages.{page-inside}
 use Rattle.book_blocks.specs.Blocks.{lastPageOf}
 use Rattle.book.specs.Book.{Book, seen}
 use Rattle.book.specs.Answers.{bookOf}
+use Rattle.book.proofs.LawsKey.{does-from}
 use Rattle.book_append.specs.Appends.{appendAt}
 use Rattle.book.proofs.LawsPlace.{refused-as, took-at, took-none, block-lies, page-named}
-use Rattle.book_append.proofs.LawsAppend.{SoundTail, tail-sound, does-as, does-from, one-fits, chain-no, chain-yes}
+use Rattle.book_append.proofs.LawsAppend.{SoundTail, tail-sound, does-as, one-fits, chain-no, chain-yes}
 use Rattle.book_append.proofs.appending.grow_chain.Statement.{statement}
 use Rattle.book_append.proofs.appending.grow_chain.Tie as tie
 
@@ -33,12 +34,12 @@ module _ (t : tie.After-take-block) where
   after = spaceOf (t .take-block .last .0) (t .take-block .result .state)
 
   -- the old last page is sound
-  sound : SoundTail (b .space) (start .args .last) (start .pre .1 .tail)
-  sound = tail-sound (b .space) (start .args .last) (start .pre .1 .tail) (start .pre .1 .sound)
+  sound : SoundTail (b .space) (start .args .last) (start .pre .tail)
+  sound = tail-sound (b .space) (start .args .last) (start .pre .tail) (start .pre .sound)
 
   -- the old last page lies within the body
   last-inside : start .args .last + pageSize ≤ length (start .args .body .now)
-  last-inside = page-inside (seen (b .space)) (start .args .last) (sound .stands) (start .args .body .now) (start .pre .0 .shape .within)
+  last-inside = page-inside (seen (b .space)) (start .args .last) (sound .stands) (start .args .body .now) (start .pre .to-append .shape .within)
 
 -- a page was taken
 module _ (k : tie.After-known-told) where
@@ -81,7 +82,7 @@ returns c =
     let none = took-none (b t .space) (after t) _ (told .1) (sym (told .0) ∙ is) in
     does-from (none .1)
     (c .refuse-append .ensures (t .take-block .last .0) (a .heads .now) (appendAt (b t) (a .key) (a .n) (Extent (a .last)))
-    (chain-no (b t) (a .key) (a .n) (a .last) (a .first) (a .creates) (start t .pre .1) (none .0)))
+    (chain-no (b t) (a .key) (a .n) (a .last) (a .first) (a .creates) (start t .pre) (none .0)))
 
 link-page-requires : tie.Need-link-page-requires
 link-page-requires c κs = let h = last-inside (taking (c .before)) in omega arith
@@ -89,7 +90,7 @@ link-page-requires c κs = let h = last-inside (taking (c .before)) in omega ari
 total-with-requires : tie.Need-total-with-requires
 total-with-requires c κs =
     let t = taking (c .before .before .before .before) in
-    omega (arith, sound t .creates-low, start t .pre .1 .creates-is)
+    omega (arith, sound t .creates-low, start t .pre .creates-is)
 
 slice-aggregate-put-last-page : tie.Need-slice-aggregate-put-last-page
 slice-aggregate-put-last-page c = search needs
@@ -98,7 +99,7 @@ put-last-page-requires : tie.Need-put-last-page-requires
 put-last-page-requires c κs =
     let k = c .before .before .before .before .before .before .before in
     let t = taking k in
-    let pre = start t .pre .0 in
+    let pre = start t .pre .to-append in
     let lies = block-lies pageClass (off k) (b t .space) (after t) (pre .shape) (omega arith) (took k) in (
       omega (arith, lies .ends),
       record {
@@ -126,7 +127,7 @@ returns-2 c =
     let t = taking k in
     let a = start t .args in
     does-as
-    (chain-yes (b t) (a .key) (a .n) (a .last) (a .first) (a .creates) (start t .pre .1) (linked .link-page .last .0)
+    (chain-yes (b t) (a .key) (a .n) (a .last) (a .first) (a .creates) (start t .pre) (linked .link-page .last .0)
     (written .put-last-page .last .0) (took k)
     (linked .link-page .ensures)
     (written .put-last-page .ensures
