@@ -42,7 +42,7 @@ use Rattle.book_blocks.specs.Steps.{PageNumbers}
 use Rattle.book_blocks.proofs.LawsReadsMore.{extent-start, spot-fits, spot-none}
 use Rattle.book.specs.Book.{Book, Outcome, wordOf, onKey, seen}
 use Rattle.book_append.specs.Appends.{appending, movesInto, moves, appendSlab, growChain, appendPage, appendAt, appends}
-use Rattle.book.specs.Steps.{Placed, placesInto, spaceWith, Does}
+use Rattle.book.specs.Steps.{Placed, placesInto, Does}
 use Rattle.book_append.specs.Steps.{ToAppend, SlabMoves, ChainGrows}
 use Rattle.book.proofs.LawsPlace.{stream-at-most}
 
@@ -187,26 +187,6 @@ moves-as-placed b key ns n old none = then-then (takeBlock pageClass (b .space))
 -- Where a list is placed by its length and its stream's.
 abbrev pub placesFor : Space → List ℕ → Answer Placed
 placesFor s list = placesInto s list (movesTo (length list) (streamLen list))
-
--- The space after a list that was placed.
-after-placed : (s : Space) (a : Answer Placed) {p : Placed} → a ≡ accepted p → spaceWith s a ≡ p .space
-unfolding spaceWith
-after-placed s a e = rw e
-
--- What was told of a placing, its place or its refusal and the space afterwards.
-module _ (s after : Space) (a : Answer Placed) {told : Answer ShHeadValue} (told-is : told ≡ answered (λ (p : Placed). p .place) a)
-    (space-is : after ≡ spaceWith s a) where
-  -- A place was told: the list was placed there, which leaves that space.
-  pub placed-at : {place : ShHeadValue} → told ≡ accepted place → a ≡ accepted (record { place = place; space = after })
-  placed-at {place} e =
-      let (p, is, here) = was-accepted (λ (p : Placed). p .place) a (sym told-is ∙ e) in
-      let same : after ≡ p .space = space-is ∙ after-placed s a is in
-      rw (sym here, same) is
-
-  -- A refusal was told: the space is as it was.
-  pub placed-none : {number : ℕ} → told ≡ refused number → (a ≡ refused number) × (after ≡ s)
-  unfolding spaceWith
-  placed-none e = let is = was-refused (λ (p : Placed). p .place) a (sym told-is ∙ e) in (is, space-is ∙ rw is)
 
 -- A list and one number more, as it is placed.
 module _ (b : Book) (key : ℕ) (ns : List ℕ) (n : ℕ) (old : List Block) (list : List ℕ) (is : list ≡ ns ++ (n ∷ [])) where

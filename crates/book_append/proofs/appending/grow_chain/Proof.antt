@@ -1,7 +1,7 @@
 -- `grow_chain` meets its contract: what the take tells decides; the pages' writes are those of the definition. Assumes nothing.
 use Prim.Native.Nat.{ℕ, _+_, _≤_}
 use mathlib.Core.List.{[], _∷_}
-use mathlib.Core.Path.{_≡_, refl, sym, ap, _∙_}
+use mathlib.Core.Path.{_≡_, refl, ap, _∙_}
 use native.Mathlib.Omega.{arith}
 use borrow.Author.Needs.{needs}
 use lib.ListN.{length}
@@ -51,12 +51,10 @@ module _ (k : tie.After-known-told) where
 
   -- the take is of that page
   took : takeBlock pageClass (b taking .space) ≡ accepted (record { off = off; space = after taking })
-  took =
-      let told = taking .take-block .ensures in
-      took-at (b taking .space) (after taking) _ (told .1) (sym (told .0) ∙ ap takeAnswer (k .before .answer .given .1))
+  took = took-at (b taking .space) (after taking) _ (taking .take-block .ensures) (ap takeAnswer (k .before .answer .given .1))
 
 take-block-requires : tie.Need-take-block-requires
-take-block-requires c κs = search needs
+take-block-requires c κs = record { shape = c .before .before .before .pre .to-append .shape; low = omega arith }
 
 enum-known-answer : tie.Need-enum-known-answer
 enum-known-answer c = search needs
@@ -76,10 +74,9 @@ same-length c = search needs
 returns : tie.Need-returns
 returns c =
     let t = c .before .before .before .before .before .before .before in
-    let told = t .take-block .ensures in
     let a = start t .args in
     let is = refused-as _ _ (ap takeAnswer (c .before .before .enum-told .given .1)) (c .before .refusal .ensures) in
-    let none = took-none (b t .space) (after t) _ (told .1) (sym (told .0) ∙ is) in
+    let none = took-none (b t .space) (after t) _ (t .take-block .ensures) is in
     does-from (none .1)
     (c .refuse-append .ensures (t .take-block .last .0) (a .heads .now) (appendAt (b t) (a .key) (a .n) (Extent (a .last)))
     (chain-no (b t) (a .key) (a .n) (a .last) (a .first) (a .creates) (start t .pre) (none .0)))

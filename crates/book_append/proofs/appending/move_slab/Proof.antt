@@ -17,9 +17,10 @@ use Rattle.book_keys.proofs.LawsSlab.{SoundSlab, slab-sound}
 use Rattle.book.specs.Book.{Book, seen}
 use Rattle.book.specs.Answers.{bookOf}
 use Rattle.book.proofs.LawsKey.{does-from}
+use Rattle.book.proofs.LawsPlace.{placed-at, placed-none}
 use Rattle.book_append.specs.Appends.{appendAt}
 use Rattle.book.specs.Steps.{placeAnswer}
-use Rattle.book_append.proofs.LawsAppend.{slab-free, does-as, placesFor, placed-at, placed-none, list-behind, rises-behind}
+use Rattle.book_append.proofs.LawsAppend.{slab-free, does-as, placesFor, list-behind, rises-behind}
 use Rattle.book_append.proofs.LawsAppend.{slab-moved, slab-unmoved}
 use Rattle.book_append.proofs.appending.move_slab.Statement.{statement}
 use Rattle.book_append.proofs.appending.move_slab.Tie as tie
@@ -109,12 +110,13 @@ move-list-requires : tie.Need-move-list-requires
 move-list-requires c κs =
     let r = c .before .before .before .before in
     let s = start r in
-    let known = sound s in (
-      s .pre .to-append .shape,
-      omega (arith, long r, known .some),
-      omega (arith, long r, known .used-to-256),
-      rw (list-is r) (rises-behind _ (s .args .n) (known .rising) (s .pre .above) (s .pre .to-append .low)),
-    )
+    let known = sound s in
+    record {
+      shape = s .pre .to-append .shape;
+      two = omega (arith, long r, known .some);
+      few = omega (arith, long r, known .used-to-256);
+      rises = rw (list-is r) (rises-behind _ (s .args .n) (known .rising) (s .pre .above) (s .pre .to-append .low));
+    }
 
 enum-known-answer : tie.Need-enum-known-answer
 enum-known-answer c = search needs
@@ -146,8 +148,7 @@ returns c =
     let p = k .before .before .before .before .before .before in
     let r = read p in
     let a = start r .args in
-    let told = p .move-list .ensures in
-    let here = placed-at (b (start r) .space) (after p) (placesFor (b (start r) .space) (list r)) (told .0) (told .1)
+    let here = placed-at (b (start r) .space) (after p) (placesFor (b (start r) .space) (list r)) (p .move-list .ensures)
     (ap placeAnswer (k .before .answer .given .1)) in
     does-as
     (slab-moved (b (start r)) (a .key) (a .n) (a .class) (a .used) (a .off) (start r .pre) (list r) (list-is r)
@@ -163,8 +164,7 @@ returns-2 c =
     let p = k .before .before .before .before .before .before in
     let r = read p in
     let a = start r .args in
-    let told = p .move-list .ensures in
-    let none = placed-none (b (start r) .space) (after p) (placesFor (b (start r) .space) (list r)) (told .0) (told .1)
+    let none = placed-none (b (start r) .space) (after p) (placesFor (b (start r) .space) (list r)) (p .move-list .ensures)
     (ap placeAnswer (k .before .answer2 .given .1)) in
     does-from (none .1)
     (c .refuse-append .ensures (p .move-list .last .0) (a .heads .now)

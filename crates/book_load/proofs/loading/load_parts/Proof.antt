@@ -2,7 +2,7 @@
 use Prim.Native.Nat.{ℕ, _≤_}
 use mathlib.Core.List.{List}
 use mathlib.Core.Option.{none}
-use mathlib.Core.Path.{_≡_, refl, sym, ap, _∙_}
+use mathlib.Core.Path.{_≡_, refl, sym, ap}
 use native.Mathlib.Omega.{arith}
 use borrow.Author.Needs.{needs}
 use lib.ListN.{length}
@@ -49,9 +49,7 @@ module _ (k : tie.After-known-told) where
   off = k .before .answer .given .0 .0
 
   took : takeRun (count taking) (book taking .space) ≡ accepted (record { off = off; space = after taking })
-  took =
-      let told = taking .take-run .ensures in
-      took-at (book taking .space) (after taking) _ (told .1) (sym (told .0) ∙ ap takeAnswer (k .before .answer .given .1))
+  took = took-at (book taking .space) (after taking) _ (taking .take-run .ensures) (ap takeAnswer (k .before .answer .given .1))
 
   lies : Run (length (after taking .body)) off (list taking) (ranges taking) (count taking)
   lies =
@@ -65,7 +63,10 @@ take-run-requires : tie.Need-take-run-requires
 take-run-requires c κs =
     let start = c .before .before .before .before in
     let pre = start .pre in
-    (pre .to-load .shape, omega (arith, pre .cut .parts, parts-few (start .args .fks .now) (pre .cut .judged)))
+    record {
+      shape = pre .to-load .shape;
+      low = omega (arith, pre .cut .parts, parts-few (start .args .fks .now) (pre .cut .judged));
+    }
 
 enum-known-answer : tie.Need-enum-known-answer
 enum-known-answer c = search needs
@@ -86,9 +87,8 @@ returns : tie.Need-returns
 returns c =
     let e = c .before .before in
     let t = e .before .before .before .before .before in
-    let told = t .take-run .ensures in
     let number = refused-as _ _ (ap takeAnswer (e .enum-told .given .1)) (c .before .refusal .ensures) in
-    let (is, same) = took-none (book t .space) (after t) _ (told .1) (sym (told .0) ∙ number) in
+    let (is, same) = took-none (book t .space) (after t) _ (t .take-run .ensures) number in
     let key = start t .args .key in
     does-from same
     (c .refuse-load .ensures (t .take-run .last .0) (start t .args .heads .now) (loadInto (book t) key (list t) none)

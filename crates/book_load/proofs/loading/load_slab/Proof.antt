@@ -2,7 +2,7 @@
 use Prim.Native.Nat.{ℕ}
 use mathlib.Core.List.{List}
 use mathlib.Core.Option.{some}
-use mathlib.Core.Path.{refl, sym, ap, _∙_}
+use mathlib.Core.Path.{refl, sym, ap}
 use borrow.Author.Needs.{needs}
 use Rattle.book_space.specs.Space.{Space}
 use Rattle.book_space.specs.Answers.{spaceOf}
@@ -34,7 +34,9 @@ module _ (t : tie.After-place-in-slab) where
   after = spaceOf (t .place-in-slab .last .0) (t .place-in-slab .result .state)
 
 place-in-slab-requires : tie.Need-place-in-slab-requires
-place-in-slab-requires c κs = search needs
+place-in-slab-requires c κs =
+    let pre = c .before .before .before .before .pre in
+    record { shape = pre .to-load .shape; low = pre .low; few = pre .few; rises = pre .rises; fits = pre .fits }
 
 enum-known-answer : tie.Need-enum-known-answer
 enum-known-answer c = search needs
@@ -59,9 +61,8 @@ returns c =
     let a = c .before .before in
     let k = a .before .before .before in
     let t = k .before .before .before .before .before in
-    let told = t .place-in-slab .ensures in
-    let placed = placed-at (book t .space) (after t) (placesInto (book t .space) (list t) (some (class t))) (told .1) (sym (told .0)
-    ∙ ap placeAnswer (k .answer .given .1)) in
+    let placed = placed-at (book t .space) (after t) (placesInto (book t .space) (list t) (some (class t))) (t .place-in-slab .ensures)
+    (ap placeAnswer (k .answer .given .1)) in
     does-same (sym (slab-loaded (book t) (start t .args .key) (list t) (class t) placed))
     (a .accept-load .ensures (book t) (t .place-in-slab .last .0) refl)
 
@@ -72,9 +73,8 @@ returns-2 : tie.Need-returns-2
 returns-2 c =
     let k = c .before .before in
     let t = k .before .before .before .before .before in
-    let told = t .place-in-slab .ensures in
-    let (is, same) = placed-none (book t .space) (after t) (placesInto (book t .space) (list t) (some (class t))) (told .1) (sym (told .0)
-    ∙ ap placeAnswer (k .answer2 .given .1)) in
+    let (is, same) = placed-none (book t .space) (after t) (placesInto (book t .space) (list t) (some (class t)))
+    (t .place-in-slab .ensures) (ap placeAnswer (k .answer2 .given .1)) in
     let key = start t .args .key in
     does-from same
     (c .refuse-load .ensures (t .place-in-slab .last .0) (start t .args .heads .now) (loadInto (book t) key (list t) (some (class t)))
