@@ -30,8 +30,8 @@ pub struct AfterPlace {
 // Writes a list to a taken slab of a class that has bytes for its payload.
 pub fn place_in_slab(body: &mut [u8], state: State, fks: &[u64], class: u8) -> AfterPlace
     requires { ⌜ ToPlaceInSlab (spaceOf (now body) state) (now fks) class ⌝ }
-    ensures { λ r. ⌜ Places (placesInto (spaceOf (now (body .entry)) state) (now (fks .entry)) (some class)) (spaceOf (now (body .entry)) state)
-        (spaceOf (now (body .exit)) (r .state)) (placeAnswer (r .answer)) ⌝ }
+    ensures { λ r. ⌜ Places (placesInto (spaceOf (now (body .entry)) state) (now (fks .entry)) (some class))
+        (spaceOf (now (body .entry)) state) (spaceOf (now (body .exit)) (r .state)) (placeAnswer (r .answer)) ⌝ }
 {
     let taken = book_space::take_block(body, state, class);
     let state = taken.state;

@@ -66,14 +66,15 @@ put-last-page-requires c κs =
     let k = c .before in
     let t = taking k in
     let pre = start t .pre in
-    let lies = block-lies pageClass (off k) (before t) (after t) (pre .shape) (omega arith) (took k) in (
-      omega (arith, lies .ends),
-      record {
+    let lies = block-lies pageClass (off k) (before t) (after t) (pre .shape) (omega arith) (took k) in
+    record {
+      inside = omega (arith, lies .ends);
+      last = record {
         numbers = record { rises = pre .rises; fits = pre .fits };
         base-named = page-named (off k) (before t) (after t) (pre .shape) (took k);
         some-extents = omega arith;
-      },
-    )
+      };
+    }
 
 same-length-2 : tie.Need-same-length-2
 same-length-2 c = search needs

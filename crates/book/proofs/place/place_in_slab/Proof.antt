@@ -71,7 +71,12 @@ put-slab-requires c κs =
     let pre = start t .pre in
     let size = c .before .slab-bytes .ensures ∙ bytes-fit (class t) (omega (arith, pre .low)) in
     let lies = block-lies (class t) (off k) (before t) (after t) (pre .shape) (omega (arith, pre .low)) (took k) in
-    (omega (arith, size, lies .ends), omega (arith, size, pre .fits), omega (arith, pre .few), pre .rises)
+    record {
+      inside = omega (arith, size, lies .ends);
+      fits = omega (arith, size, pre .fits);
+      few = omega (arith, pre .few);
+      rises = pre .rises;
+    }
 
 cast-used : tie.Need-cast-used
 cast-used c = search needs

@@ -39,7 +39,8 @@ module _ (t : tie.After-take-block) where
 
   -- the old last page lies within the body
   last-inside : start .args .last + pageSize ≤ length (start .args .body .now)
-  last-inside = page-inside (seen (b .space)) (start .args .last) (sound .stands) (start .args .body .now) (start .pre .to-append .shape .within)
+  last-inside =
+      page-inside (seen (b .space)) (start .args .last) (sound .stands) (start .args .body .now) (start .pre .to-append .shape .within)
 
 -- a page was taken
 module _ (k : tie.After-known-told) where
@@ -97,14 +98,15 @@ put-last-page-requires c κs =
     let k = c .before .before .before .before .before .before .before in
     let t = taking k in
     let pre = start t .pre .to-append in
-    let lies = block-lies pageClass (off k) (b t .space) (after t) (pre .shape) (omega arith) (took k) in (
-      omega (arith, lies .ends),
-      record {
+    let lies = block-lies pageClass (off k) (b t .space) (after t) (pre .shape) (omega arith) (took k) in
+    record {
+      inside = omega (arith, lies .ends);
+      last = record {
         numbers = one-fits (start t .args .n) (pre .above) (pre .low);
         base-named = page-named (off k) (b t .space) (after t) (pre .shape) (took k);
         some-extents = omega arith;
-      },
-    )
+      };
+    }
 
 accept-append-requires : tie.Need-accept-append-requires
 accept-append-requires c κs = search needs

@@ -124,7 +124,8 @@ enum-known-answer c = search needs
 release-block-requires : tie.Need-release-block-requires
 release-block-requires c κs =
     let s = start (read (c .before .before .before .before .before .before .before)) in
-    stands-further (s .args .class) (s .args .off) (s .args .state .mark) _ (omega (arith, s .pre .to-append .shape .within)) (sound s .stands)
+    stands-further (s .args .class) (s .args .off) (s .args .state .mark) _ (omega (arith, s .pre .to-append .shape .within))
+    (sound s .stands)
 
 accept-append-requires : tie.Need-accept-append-requires
 accept-append-requires c κs = search needs
