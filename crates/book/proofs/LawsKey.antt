@@ -1,14 +1,15 @@
 -- A call on a key: the tests of the shape and of the key, and a call that does what its definition says. Assumes nothing.
 use Prim.Native.Nat.{ℕ, _≤_, _<_}
 use mathlib.Core.Bool.{true, false}
-use mathlib.Core.Path.{_≡_, sym, _∙_}
+use mathlib.Core.List.{List}
+use mathlib.Core.Path.{_≡_, sym, subst, _∙_}
 use borrow.Author.Tests.{le-leb, lt-leb}
 use lib.Dec.{leb}
 use lib.ListN.{length}
 use Rattle.error.specs.Refusal.{Answer, accepted, refused, shapeBad, keyBeyond}
 use Rattle.error.proofs.LawsAnswer.{refuse-yes, refuse-no, answered-yes, answered-no}
 use Rattle.book_rules.specs.Outcomes.{bookAfter}
-use Rattle.book_space.specs.Space.{shapeBroken}
+use Rattle.book_space.specs.Space.{Space, shapeBroken}
 use Rattle.book.specs.Book.{Book, Outcome, onKey}
 use Rattle.book.specs.Steps.{Does}
 
@@ -52,3 +53,9 @@ module _ {T : Type 0} (before after : Book) (tells : Answer T) (a : Answer (Outc
 pub does-same : {T : Type 0} {a c : Answer (Outcome T)} {before after : Book} {tells : Answer T} → a ≡ c → Does a before after tells
     → Does c before after tells
 does-same e d = rw e at d
+
+-- What it does from one space, it does from another that is the same.
+pub does-from : {T : Type 0} {a : Answer (Outcome T)} {heads : List ℕ} {s same : Space} {after : Book} {tells : Answer T} → s ≡ same
+    → Does a (record { heads = heads; space = s }) after tells → Does a (record { heads = heads; space = same }) after tells
+does-from {T} {a} {heads} {s} {same} {after} {tells} e d =
+    subst (λ (x : Space). Does a (record { heads = heads; space = x }) after tells) e d

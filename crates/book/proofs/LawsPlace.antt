@@ -15,13 +15,14 @@ use Rattle.scripthash_layout.specs.declared.head.ShHeadValue.the-variants.{Slab
 use Rattle.scripthash_stream.specs.Stream.{Rising, streamLenFrom}
 use Rattle.scripthash_slabs.specs.Slab.{slabPayload}
 use Rattle.scripthash_free.proofs.LawsBlock.{block-stands}
+use Rattle.book_limits.specs.Limits.{mostBody}
 use Rattle.book_blocks.specs.Blocks.{lastPageOf}
 use Rattle.book_blocks.specs.Steps.{PageNamed}
-use Rattle.book_space.specs.Space.{Space, space, InShape, Taken, takeBlock, spaceAfter}
+use Rattle.book_space.specs.Space.{Space, space, InShape, Taken, takeBlock}
+use Rattle.book_space.specs.Steps.{Takes}
 use Rattle.book_space.proofs.LawsSteps.{after-taken, after-refused}
 use Rattle.book_space.proofs.LawsTake.{take-took}
-use Rattle.book.specs.Steps.{Placed, placesInto, spaceWith}
-use Rattle.book_limits.specs.Limits.{mostBody}
+use Rattle.book.specs.Steps.{Placed, placesInto, spaceWith, Places}
 
 -- ---- numbers
 
@@ -38,18 +39,18 @@ stream-at-most prev (n ∷ ns) r =
 pub refused-as : {A : Type 0} (a : Answer A) (n : ℕ) {number : ℕ} → a ≡ refused number → n ≡ refusalOf a → a ≡ refused n
 refused-as a n is e = is ∙ ap refused (sym (e ∙ ap refusalOf is))
 
--- What was told of a take, its offset or its refusal and the space afterwards.
-module _ (s after : Space) (a : Answer Taken) (space-is : after ≡ spaceAfter s a) where
+-- What was told of a take, its offset or its refusal, and the space afterwards.
+module _ (s after : Space) (a : Answer Taken) {tells : Answer ℕ} (takes : Takes a s after tells) where
   -- An offset was told: the take is of that offset, and leaves that space.
-  pub took-at : {off : ℕ} → answered (λ (t : Taken). t .off) a ≡ accepted off → a ≡ accepted (record { off = off; space = after })
+  pub took-at : {off : ℕ} → tells ≡ accepted off → a ≡ accepted (record { off = off; space = after })
   took-at {off} e =
-      let (t, is, o) = was-accepted (λ (t : Taken). t .off) a e in
-      let same : after ≡ t .space = space-is ∙ after-taken s a is in
+      let (t, is, o) = was-accepted (λ (t : Taken). t .off) a (sym (takes .told) ∙ e) in
+      let same : after ≡ t .space = takes .left ∙ after-taken s a is in
       rw (sym o, same) is
 
   -- A refusal was told: the take is refused, and the space is as it was.
-  pub took-none : {number : ℕ} → answered (λ (t : Taken). t .off) a ≡ refused number → (a ≡ refused number) × (after ≡ s)
-  took-none e = let is = was-refused (λ (t : Taken). t .off) a e in (is, space-is ∙ after-refused s a is)
+  pub took-none : {number : ℕ} → tells ≡ refused number → (a ≡ refused number) × (after ≡ s)
+  took-none e = let is = was-refused (λ (t : Taken). t .off) a (sym (takes .told) ∙ e) in (is, takes .left ∙ after-refused s a is)
 
 -- A block lies within the body of a space, behind its first 4,096 bytes; the body is at most 2^30 bytes.
 pub record Lies (class off : ℕ) (s : Space) : Type 0 where
@@ -76,50 +77,47 @@ page-named off s after i e =
 
 -- ---- placing
 
--- What placing a list answers, and the space that it leaves.
-abbrev pub PlacedAs : Answer ShHeadValue → Space → Space → Answer Placed → Type 0
-PlacedAs answer after s a = (answer ≡ answered (λ (p : Placed). p .place) a) × (after ≡ spaceWith s a)
-
--- What was told of a placing, the place or its refusal and the space afterwards.
-module _ (s after : Space) (a : Answer Placed) (space-is : after ≡ spaceWith s a) where
+-- What was told of a placing, the place or its refusal, and the space afterwards.
+module _ (s after : Space) (a : Answer Placed) {tells : Answer ShHeadValue} (places : Places a s after tells) where
   -- A place was told: it is of that place, and leaves that space.
-  pub placed-at : {place : ShHeadValue} → answered (λ (p : Placed). p .place) a ≡ accepted place
-      → a ≡ accepted (record { place = place; space = after })
+  pub placed-at : {place : ShHeadValue} → tells ≡ accepted place → a ≡ accepted (record { place = place; space = after })
   unfolding spaceWith
   placed-at {place} e =
-      let (p, is, o) = was-accepted (λ (p : Placed). p .place) a e in
-      let same : after ≡ p .space = space-is ∙ ap (spaceWith s) is in
+      let (p, is, o) = was-accepted (λ (p : Placed). p .place) a (sym (places .told) ∙ e) in
+      let same : after ≡ p .space = places .left ∙ ap (spaceWith s) is in
       rw (sym o, same) is
 
   -- A refusal was told: it is refused, and the space is as it was.
-  pub placed-none : {number : ℕ} → answered (λ (p : Placed). p .place) a ≡ refused number → (a ≡ refused number) × (after ≡ s)
+  pub placed-none : {number : ℕ} → tells ≡ refused number → (a ≡ refused number) × (after ≡ s)
   unfolding spaceWith
-  placed-none e = let is = was-refused (λ (p : Placed). p .place) a e in (is, space-is ∙ ap (spaceWith s) is)
+  placed-none e =
+      let is = was-refused (λ (p : Placed). p .place) a (sym (places .told) ∙ e) in
+      (is, places .left ∙ ap (spaceWith s) is)
 
 -- A list placed in a space, by what the take tells.
 module _ (s : Space) (list : List ℕ) (after : Space) where
   -- A refused take refuses it, and the space stays.
   pub slab-refused : (class : ℕ) {number : ℕ} → (takeBlock class s ≡ refused number) × (after ≡ s)
-      → PlacedAs (refused number) after s (placesInto s list (some class))
+      → Places (placesInto s list (some class)) s after (refused number)
   unfolding placesInto spaceWith andThen answered
-  slab-refused class e = rw (e .0, e .1) (refl, refl)
+  slab-refused class e = rw (e .0, e .1) record { told = refl; left = refl }
 
   -- So it is for a page.
   pub page-refused : {number : ℕ} → (takeBlock pageClass s ≡ refused number) × (after ≡ s)
-      → PlacedAs (refused number) after s (placesInto s list none)
+      → Places (placesInto s list none) s after (refused number)
   unfolding placesInto spaceWith andThen answered
-  page-refused e = rw (e .0, e .1) (refl, refl)
+  page-refused e = rw (e .0, e .1) record { told = refl; left = refl }
 
   -- A slab that was taken and filled is its place.
   pub slab-placed : (class : ℕ) {off : ℕ} → takeBlock class s ≡ accepted (record { off = off; space = after }) → (body : List ℕ)
       → body ≡ overwrite (after .body) off (slabPayload list)
-      → PlacedAs (accepted (Slab class (length list) off)) (space body (after .mark) (after .free)) s (placesInto s list (some class))
+      → Places (placesInto s list (some class)) s (space body (after .mark) (after .free)) (accepted (Slab class (length list) off))
   unfolding placesInto spaceWith andThen answered
-  slab-placed class e body is = rw (e, is) (refl, refl)
+  slab-placed class e body is = rw (e, is) record { told = refl; left = refl }
 
   -- A page that was taken and filled is its place.
   pub page-placed : {off : ℕ} → takeBlock pageClass s ≡ accepted (record { off = off; space = after }) → (body : List ℕ)
       → body ≡ overwrite (after .body) off (lastPageOf off off 1 (length list) list)
-      → PlacedAs (accepted (Extent off)) (space body (after .mark) (after .free)) s (placesInto s list none)
+      → Places (placesInto s list none) s (space body (after .mark) (after .free)) (accepted (Extent off))
   unfolding placesInto spaceWith andThen answered
-  page-placed e body is = rw (e, is) (refl, refl)
+  page-placed e body is = rw (e, is) record { told = refl; left = refl }

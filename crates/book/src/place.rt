@@ -3,13 +3,10 @@ ghost use mathlib.Core.Path.{_≡_};
 ghost use mathlib.Core.Option.{none, some};
 ghost use Prim.Native.Nat.{_^_, _≤_};
 ghost use lib.ListN.{length};
-ghost use Rattle.error.specs.Refusal.{answered};
-ghost use Rattle.scripthash_layout.specs.Sizes.{maxSlabClass, slabBytes};
 ghost use Rattle.scripthash_stream.specs.Stream.{Rising, streamLen};
-ghost use Rattle.book_rules.specs.Places.{payloadLen, movesTo};
-ghost use Rattle.book_space.specs.Space.{InShape};
+ghost use Rattle.book_rules.specs.Places.{movesTo};
 ghost use Rattle.book_space.specs.Answers.{spaceOf};
-ghost use Rattle.book.specs.Steps.{Placed, placesInto, spaceWith, placeAnswer};
+ghost use Rattle.book.specs.Steps.{placesInto, placeAnswer, ToPlaceInSlab, ToPlaceInPage, ToMove, Places};
 use book_space::State;
 use book_space::TakeBlock;
 use error::Refusal;
@@ -32,12 +29,9 @@ pub struct AfterPlace {
 
 // Writes a list to a taken slab of a class that has bytes for its payload.
 pub fn place_in_slab(body: &mut [u8], state: State, fks: &[u64], class: u8) -> AfterPlace
-    requires { ⌜ InShape (spaceOf (now body) state) × (class ≤ maxSlabClass) × (length (now fks) ≤ 256) × Rising (2 ^ 62) 0 (now fks)
-        × (payloadLen (streamLen (now fks)) ≤ slabBytes class) ⌝ }
-    ensures answer { λ r. ⌜ placeAnswer (r .answer)
-        ≡ answered (λ (p : Placed). p .place) (placesInto (spaceOf (now (body .entry)) state) (now (fks .entry)) (some class)) ⌝ }
-    ensures space { λ r. ⌜ spaceOf (now (body .exit)) (r .state)
-        ≡ spaceWith (spaceOf (now (body .entry)) state) (placesInto (spaceOf (now (body .entry)) state) (now (fks .entry)) (some class)) ⌝ }
+    requires { ⌜ ToPlaceInSlab (spaceOf (now body) state) (now fks) class ⌝ }
+    ensures { λ r. ⌜ Places (placesInto (spaceOf (now (body .entry)) state) (now (fks .entry)) (some class))
+        (spaceOf (now (body .entry)) state) (spaceOf (now (body .exit)) (r .state)) (placeAnswer (r .answer)) ⌝ }
 {
     let taken = book_space::take_block(body, state, class);
     let state = taken.state;
@@ -59,12 +53,9 @@ pub fn place_in_slab(body: &mut [u8], state: State, fks: &[u64], class: u8) -> A
 
 // Writes a list to a taken page, the only one of its key.
 fn place_in_page(body: &mut [u8], state: State, fks: &[u64]) -> AfterPlace
-    requires { ⌜ InShape (spaceOf (now body) state) × (length (now fks) ≤ 257) × Rising (2 ^ 62) 0 (now fks) × (streamLen (now fks) ≤ 4072)
-        ⌝ }
-    ensures answer { λ r. ⌜ placeAnswer (r .answer)
-        ≡ answered (λ (p : Placed). p .place) (placesInto (spaceOf (now (body .entry)) state) (now (fks .entry)) none) ⌝ }
-    ensures space { λ r. ⌜ spaceOf (now (body .exit)) (r .state)
-        ≡ spaceWith (spaceOf (now (body .entry)) state) (placesInto (spaceOf (now (body .entry)) state) (now (fks .entry)) none) ⌝ }
+    requires { ⌜ ToPlaceInPage (spaceOf (now body) state) (now fks) ⌝ }
+    ensures { λ r. ⌜ Places (placesInto (spaceOf (now (body .entry)) state) (now (fks .entry)) none) (spaceOf (now (body .entry)) state)
+        (spaceOf (now (body .exit)) (r .state)) (placeAnswer (r .answer)) ⌝ }
 {
     let taken = book_space::take_block(body, state, SH_PAGE_SLAB_CLASS);
     let state = taken.state;
@@ -85,13 +76,10 @@ fn place_in_page(body: &mut [u8], state: State, fks: &[u64]) -> AfterPlace
 
 // Writes a list of 2 to 257 numbers to where lists move: a taken slab of the class for it, or else a taken page.
 pub fn move_list(body: &mut [u8], state: State, fks: &[u64]) -> AfterPlace
-    requires { ⌜ InShape (spaceOf (now body) state) × (2 ≤ length (now fks)) × (length (now fks) ≤ 257) × Rising (2 ^ 62) 0 (now fks) ⌝ }
-    ensures answer { λ r. ⌜ placeAnswer (r .answer) ≡ answered (λ (p : Placed). p .place)
-        (placesInto (spaceOf (now (body .entry)) state) (now (fks .entry))
-        (movesTo (length (now (fks .entry))) (streamLen (now (fks .entry))))) ⌝ }
-    ensures space { λ r. ⌜ spaceOf (now (body .exit)) (r .state) ≡ spaceWith (spaceOf (now (body .entry)) state)
-        (placesInto (spaceOf (now (body .entry)) state) (now (fks .entry))
-        (movesTo (length (now (fks .entry))) (streamLen (now (fks .entry))))) ⌝ }
+    requires { ⌜ ToMove (spaceOf (now body) state) (now fks) ⌝ }
+    ensures { λ r. ⌜ Places (placesInto (spaceOf (now (body .entry)) state) (now (fks .entry))
+        (movesTo (length (now (fks .entry))) (streamLen (now (fks .entry))))) (spaceOf (now (body .entry)) state)
+        (spaceOf (now (body .exit)) (r .state)) (placeAnswer (r .answer)) ⌝ }
 {
     let bytes = compact_len(fks);
     let class = book_rules::moves_to(fks.len() as u32, bytes);

@@ -3,7 +3,7 @@ use Prim.Native.Nat.{ℕ, _+_, _-_, _^_, _≤_, _<_}
 use mathlib.Core.Bool.{Bool, true, false, cond, _&&_}
 use mathlib.Core.List.{List, [], _∷_, _++_}
 use mathlib.Core.Option.{Option, none, some}
-use mathlib.Core.Path.{_≡_, refl, sym, ap, subst, _∙_}
+use mathlib.Core.Path.{_≡_, refl, sym, ap, _∙_}
 use native.Mathlib.Omega.{arith}
 use borrow.Author.Tests.{le-leb, lt-leb, ltb-true, leb-false, eqb-false}
 use lib.Dec.{leb, eqb}
@@ -42,8 +42,8 @@ use Rattle.book_blocks.specs.Steps.{PageNumbers}
 use Rattle.book_blocks.proofs.LawsReadsMore.{extent-start, spot-fits, spot-none}
 use Rattle.book.specs.Book.{Book, Outcome, wordOf, onKey, seen}
 use Rattle.book_append.specs.Appends.{appending, movesInto, moves, appendSlab, growChain, appendPage, appendAt, appends}
-use Rattle.book.specs.Steps.{Placed, placesInto, spaceWith, Does}
-use Rattle.book_append.specs.Steps.{SlabMoves, ChainGrows}
+use Rattle.book.specs.Steps.{Placed, placesInto, Does}
+use Rattle.book_append.specs.Steps.{ToAppend, SlabMoves, ChainGrows}
 use Rattle.book.proofs.LawsPlace.{stream-at-most}
 
 -- ---- what an append does
@@ -52,11 +52,6 @@ use Rattle.book.proofs.LawsPlace.{stream-at-most}
 pub does-as : {a same : Answer (Outcome Appended)} {before after : Book} {tells : Answer Appended} → a ≡ same → Does same before after tells
     → Does a before after tells
 does-as e d = rw e d
-
--- What it does from one space, it does from another that is the same.
-pub does-from : {a : Answer (Outcome Appended)} {heads : List ℕ} {s same : Space} {after : Book} {tells : Answer Appended} → s ≡ same
-    → Does a (record { heads = heads; space = s }) after tells → Does a (record { heads = heads; space = same }) after tells
-does-from {a} {heads} {s} {same} {after} {tells} e d = subst (λ (x : Space). Does a (record { heads = heads; space = x }) after tells) e d
 
 -- One number fits a last page.
 pub one-fits : (n : ℕ) → 0 < n → n < 2 ^ 62 → PageNumbers lastPageRoom (n ∷ [])
@@ -193,26 +188,6 @@ moves-as-placed b key ns n old none = then-then (takeBlock pageClass (b .space))
 abbrev pub placesFor : Space → List ℕ → Answer Placed
 placesFor s list = placesInto s list (movesTo (length list) (streamLen list))
 
--- The space after a list that was placed.
-after-placed : (s : Space) (a : Answer Placed) {p : Placed} → a ≡ accepted p → spaceWith s a ≡ p .space
-unfolding spaceWith
-after-placed s a e = rw e
-
--- What was told of a placing, its place or its refusal and the space afterwards.
-module _ (s after : Space) (a : Answer Placed) {told : Answer ShHeadValue} (told-is : told ≡ answered (λ (p : Placed). p .place) a)
-    (space-is : after ≡ spaceWith s a) where
-  -- A place was told: the list was placed there, which leaves that space.
-  pub placed-at : {place : ShHeadValue} → told ≡ accepted place → a ≡ accepted (record { place = place; space = after })
-  placed-at {place} e =
-      let (p, is, here) = was-accepted (λ (p : Placed). p .place) a (sym told-is ∙ e) in
-      let same : after ≡ p .space = space-is ∙ after-placed s a is in
-      rw (sym here, same) is
-
-  -- A refusal was told: the space is as it was.
-  pub placed-none : {number : ℕ} → told ≡ refused number → (a ≡ refused number) × (after ≡ s)
-  unfolding spaceWith
-  placed-none e = let is = was-refused (λ (p : Placed). p .place) a (sym told-is ∙ e) in (is, space-is ∙ rw is)
-
 -- A list and one number more, as it is placed.
 module _ (b : Book) (key : ℕ) (ns : List ℕ) (n : ℕ) (old : List Block) (list : List ℕ) (is : list ≡ ns ++ (n ∷ [])) where
   -- It moves to where it was placed, and the old blocks are pushed.
@@ -291,7 +266,7 @@ module _ (b : Book) (key n : ℕ) where
     slab-above c sound h = then-yes _ _ (soundly-yes _ sound) ∙ refuse-no (leb n (lastOf c)) _ _ (lt-leb n (lastOf c) h)
 
     -- A number that moves with the slab's list, as it is placed.
-    module _ (m : SlabMoves (b .space) n class used off) (list : List ℕ) (is : list ≡ m .scan .numbers ++ (n ∷ [])) where
+    module _ (m : SlabMoves b key n class used off) (list : List ℕ) (is : list ≡ m .scan .numbers ++ (n ∷ [])) where
       -- It moves.
       slab-moves : appendAt b key n (Slab class used off) ≡ moves b key (m .scan .numbers) n (record { class = class; off = off } ∷ [])
       unfolding appendSlab
@@ -333,8 +308,10 @@ module _ (b : Book) (key n : ℕ) where
             slab-above (t .scan) (t .sound) (omega (arith, t .last-is)) ∙ rw (counted, t .last-is, t .taken-is, e, w, is)
 
         -- One that doesn't stay moves.
-        pub slab-leaves : stays class (used + 1) (taken + ulebLen (n - last)) ≡ false → SlabMoves (b .space) n class used off
-        slab-leaves e = record {
+        pub slab-leaves : ToAppend b key n → stays class (used + 1) (taken + ulebLen (n - last)) ≡ false
+            → SlabMoves b key n class used off
+        slab-leaves p e = record {
+          to-append = p;
           scan = t .scan;
           sound = t .sound;
           above = omega (arith, t .last-is);
@@ -379,8 +356,9 @@ module _ (b : Book) (key n : ℕ) where
             page-above (t .tail) (t .sound) (omega (arith, t .fk-is)) ∙ rw (spot, t .taken-is, t .fk-is, t .creates-is, w)
 
         -- One that it has no room for goes to a page more.
-        pub page-full : pageSize < 24 + taken + ulebLen (n - fk) → ChainGrows (b .space) n last first creates
-        page-full over = record {
+        pub page-full : ToAppend b key n → pageSize < 24 + taken + ulebLen (n - fk) → ChainGrows b key n last first creates
+        page-full p over = record {
+          to-append = p;
           tail = t .tail;
           sound = t .sound;
           above = omega (arith, t .fk-is);
@@ -389,7 +367,7 @@ module _ (b : Book) (key n : ℕ) where
           creates-is = t .creates-is;
         }
 
-  module _ (last first creates : ℕ) (g : ChainGrows (b .space) n last first creates) where
+  module _ (last first creates : ℕ) (g : ChainGrows b key n last first creates) where
     -- A chain grows.
     growing : appendAt b key n (Extent last) ≡ growChain b key n last (g .tail)
     unfolding appendPage

@@ -2,9 +2,8 @@
 ghost use mathlib.Core.List.{List};
 ghost use mathlib.Core.Path.{_≡_};
 ghost use Prim.Native.Nat.{ℕ, _<_};
-ghost use lib.ListN.{length, getD};
+ghost use lib.ListN.{length};
 ghost use Rattle.error.specs.Refusal.{Answer, accepted, refused};
-ghost use Rattle.scripthash_layout.specs.Head.{unpackHead};
 ghost use Rattle.scripthash_layout.specs.declared.head.ShHeadValue.the-variants.{Inline, Slab, Extent};
 ghost use Rattle.book_rules.specs.Outcomes.{bookAfter, answerOf, Appended};
 ghost use Rattle.book_space.specs.Answers.{spaceOf};
@@ -12,7 +11,7 @@ ghost use Rattle.book.specs.Book.{Book, Outcome};
 ghost use Rattle.book_append.specs.Appends.{appending, appendAt, appends};
 ghost use Rattle.book.specs.Answers.{bookOf};
 ghost use Rattle.book_append.specs.Answers.{appendAnswer};
-ghost use Rattle.book_append.specs.Steps.{ToAppend, SlabMoves, ChainGrows};
+ghost use Rattle.book_append.specs.Steps.{ToAppend, AppendsAt, AppendsInline, SlabMoves, ChainGrows};
 ghost use Rattle.book.specs.Steps.{Does};
 use crate::answers::AfterAppend;
 use crate::answers::AppendedTo;
@@ -76,7 +75,7 @@ fn append_inline(
     n: u64,
     entry: u64,
 ) -> AfterAppend
-    requires { ⌜ ToAppend (bookOf (now body) (now heads) state) key n × (0 < entry) ⌝ }
+    requires { ⌜ AppendsInline (bookOf (now body) (now heads) state) key n entry ⌝ }
     ensures { λ r. ⌜ ((used : ℕ)
         → Does (appendAt (bookOf (now (body .entry)) (now (heads .entry)) state) key n (Inline entry used))
         (bookOf (now (body .entry)) (now (heads .entry)) state) (bookOf (now (body .exit)) (now (heads .exit)) (r .state))
@@ -106,7 +105,7 @@ fn move_slab(
     used: u16,
     off: u64,
 ) -> AfterAppend
-    requires { ⌜ ToAppend (bookOf (now body) (now heads) state) key n × SlabMoves (spaceOf (now body) state) n class used off ⌝ }
+    requires { ⌜ SlabMoves (bookOf (now body) (now heads) state) key n class used off ⌝ }
     ensures { λ r. ⌜ Does (appendAt (bookOf (now (body .entry)) (now (heads .entry)) state) key n (Slab class used off))
         (bookOf (now (body .entry)) (now (heads .entry)) state) (bookOf (now (body .exit)) (now (heads .exit)) (r .state))
         (appendAnswer (r .answer)) ⌝ }
@@ -175,7 +174,7 @@ fn grow_chain(
     first: u64,
     creates: u32,
 ) -> AfterAppend
-    requires { ⌜ ToAppend (bookOf (now body) (now heads) state) key n × ChainGrows (spaceOf (now body) state) n last first creates ⌝ }
+    requires { ⌜ ChainGrows (bookOf (now body) (now heads) state) key n last first creates ⌝ }
     ensures { λ r. ⌜ Does (appendAt (bookOf (now (body .entry)) (now (heads .entry)) state) key n (Extent last))
         (bookOf (now (body .entry)) (now (heads .entry)) state) (bookOf (now (body .exit)) (now (heads .exit)) (r .state))
         (appendAnswer (r .answer)) ⌝ }
@@ -243,7 +242,7 @@ fn append_at(
     n: u64,
     place: ShHeadValue,
 ) -> AfterAppend
-    requires { ⌜ ToAppend (bookOf (now body) (now heads) state) key n × (unpackHead (getD (now heads) key 0) ≡ accepted place) ⌝ }
+    requires { ⌜ AppendsAt (bookOf (now body) (now heads) state) key n place ⌝ }
     ensures { λ r. ⌜ Does (appendAt (bookOf (now (body .entry)) (now (heads .entry)) state) key n place)
         (bookOf (now (body .entry)) (now (heads .entry)) state) (bookOf (now (body .exit)) (now (heads .exit)) (r .state))
         (appendAnswer (r .answer)) ⌝ }

@@ -1,15 +1,12 @@
 // Pages in a body: written from a list, grown by one number, and linked.
 ghost use mathlib.Core.Path.{_≡_};
-ghost use mathlib.Core.Bool.{false};
 ghost use Prim.Native.Nat.{_+_, _^_, _≤_, _<_};
 ghost use lib.ListN.{length};
 ghost use Rattle.buffer.specs.Bytes.{part, overwrite};
-ghost use Rattle.compact.specs.Uleb128.{ulebLen};
 ghost use Rattle.scripthash_layout.specs.Sizes.{pageSize};
-ghost use Rattle.scripthash_stream.specs.Stream.{maxOffered};
-ghost use Rattle.scripthash_fields.specs.Page.{versionOf, countOf, streamOff};
+ghost use Rattle.scripthash_fields.specs.Page.{streamOff};
 ghost use Rattle.book_blocks.specs.Blocks.{lastPageOf, totalWith, pageWith, pageBefore, pageTo};
-ghost use Rattle.book_blocks.specs.Steps.{LastPage, LinkedPage};
+ghost use Rattle.book_blocks.specs.Steps.{LastPageLent, LastPageIn, LinkedPageIn, PageGrowsLent, PageGrowsIn};
 use scripthash_fields::SH_PAGE_EXTENT_HEADER_LEN;
 use scripthash_fields::SH_PAGE_OFF_EXTENT_CREATES;
 use scripthash_fields::SH_PAGE_OFF_N_FKS;
@@ -19,7 +16,7 @@ use scripthash_layout::SH_PAGE_SIZE;
 
 // Makes a page a key's last: packed with its extent, then the first page's offset and creates are written.
 fn make_last(page: &mut [u8], fks: &[u64], first: u64, base: u64, extents: u32, creates: u32)
-    requires { ⌜ (length (now page) ≡ pageSize) × LastPage (now fks) base extents ⌝ }
+    requires { ⌜ LastPageLent (now page) (now fks) base extents ⌝ }
     ensures { λ _. ⌜ now (page .exit) ≡ lastPageOf first base extents creates (now (fks .entry)) ⌝ }
 {
     scripthash_pages::sh_page_pack_extent_last_fks(page, fks, base, extents, 0);
@@ -37,7 +34,7 @@ pub fn put_last_page(
     extents: u32,
     creates: u32,
 )
-    requires { ⌜ (off + pageSize ≤ length (now body)) × LastPage (now fks) base extents ⌝ }
+    requires { ⌜ LastPageIn (now body) off (now fks) base extents ⌝ }
     ensures { λ _. ⌜ now (body .exit) ≡ overwrite (now (body .entry)) off (lastPageOf first base extents creates (now (fks .entry))) ⌝ }
 {
     let end = off + SH_PAGE_SIZE;
@@ -46,7 +43,7 @@ pub fn put_last_page(
 
 // Writes a list as a page of a run at an offset of a body, linked to the next page.
 pub fn put_page_to(body: &mut [u8], off: usize, fks: &[u64], next: u64)
-    requires { ⌜ (off + pageSize ≤ length (now body)) × LinkedPage (now fks) next ⌝ }
+    requires { ⌜ LinkedPageIn (now body) off (now fks) next ⌝ }
     ensures { λ _. ⌜ now (body .exit) ≡ overwrite (now (body .entry)) off (pageTo next (now (fks .entry))) ⌝ }
 {
     let end = off + SH_PAGE_SIZE;
@@ -67,8 +64,7 @@ pub fn total_with(creates: u32) -> u32
 // Counts one number more in a page that names an extent, and writes its form behind the bytes that its stream takes, and creates, one more
 // or unknown.
 fn append_last(page: &mut [u8], taken: usize, difference: u64, creates: u32)
-    requires { ⌜ (length (now page) ≡ pageSize) × (versionOf (now page) ≡ 2) × (countOf (now page) < maxOffered)
-        × (24 + taken + ulebLen difference ≤ pageSize) × (creates + 1 < 2 ^ 32) ⌝ }
+    requires { ⌜ PageGrowsLent (now page) taken difference creates ⌝ }
     ensures { λ _. ⌜ now (page .exit)
         ≡ pageWith (now (page .entry)) (record { at = streamOff (now (page .entry)) + taken; difference = difference }) creates ⌝ }
 {
@@ -80,8 +76,7 @@ fn append_last(page: &mut [u8], taken: usize, difference: u64, creates: u32)
 
 // Appends a number, by its difference, to a key's last page in a body: only the count, the new form and creates are written.
 pub fn grow_page(body: &mut [u8], last: usize, taken: usize, difference: u64, creates: u32)
-    requires { ⌜ (last + pageSize ≤ length (now body)) × (versionOf (part (now body) last pageSize) ≡ 2)
-        × (countOf (part (now body) last pageSize) < maxOffered) × (24 + taken + ulebLen difference ≤ pageSize) × (creates + 1 < 2 ^ 32) ⌝ }
+    requires { ⌜ PageGrowsIn (now body) last taken difference creates ⌝ }
     ensures { λ _. ⌜ now (body .exit) ≡ overwrite (now (body .entry)) last
         (pageWith (part (now (body .entry)) last pageSize) (record {
           at = streamOff (part (now (body .entry)) last pageSize) + taken;

@@ -7,10 +7,9 @@ use mathlib.Core.Path.{_≡_, refl, sym, ap, _∙_}
 use native.Mathlib.Omega.{arith}
 use borrow.Author.Tests.{le-ltb, lt-ltb, le-leb, lt-leb, eq-eqb, ne-eqb}
 use lib.Dec.{leb, ltb, eqb}
-use lib.ListN.{length, getD, set}
+use lib.ListN.{length, getD}
 use Rattle.error.specs.Refusal.{Answer, accepted, refused, refuseIf, andThen, answered, shapeBad, keyBeyond, keyInUse, tooManyOffered}
 use Rattle.error.proofs.LawsAnswer.{refused≢accepted, refuse-yes, refuse-no, refused-alike, then-yes, then-no}
-use Rattle.scripthash_layout.specs.declared.head.ShHeadValue.{ShHeadValue}
 use Rattle.scripthash_layout.specs.declared.head.ShHeadValue.the-variants.{Inline, Slab, Extent}
 use Rattle.scripthash_stream.specs.Stream.{Rising, streamLen, maxOffered}
 use Rattle.scripthash_stream.proofs.LawsStream.{rising-below}
@@ -26,28 +25,12 @@ use Rattle.book_blocks.specs.Blocks.{writeRun}
 use Rattle.book_blocks.specs.Steps.{Run}
 use Rattle.book_space.specs.Space.{Space, space, InShape, takeBlock, takeRun, shapeBroken}
 use Rattle.book_space.proofs.LawsTake.{run-ran}
-use Rattle.book.specs.Book.{Book, Outcome, headWord, wordOf, onKey, filled}
+use Rattle.book.specs.Book.{Book, Outcome, wordOf, onKey, filled}
 use Rattle.book_load.specs.Loads.{loading, lastOfRun, loadInto, loadAt, loads}
 use Rattle.book.specs.Steps.{Placed, placesInto, Does}
 use Rattle.book_load.specs.Steps.{Judged, Parts}
 
 -- ---- how a call ends
-
--- A book, and what a call on it comes to, answers and leaves.
-module _ (b : Book) (outcome : Answer (Outcome Loaded)) (answer : Answer Loaded) (after : Space) where
-  -- A refused call answers its refusal, and leaves the space and the heads.
-  pub ends-refused : {number : ℕ} → outcome ≡ refused number → answer ≡ refused number → after ≡ b .space
-      → Does outcome b (record { heads = b .heads; space = after }) answer
-  unfolding bookAfter answered
-  ends-refused e a is = rw (e, is) record { told = a; left = refl }
-
-  -- An accepted load tells its pages, leaves its space, and gives the key its place.
-  pub ends-loaded : (key : ℕ) (place : ShHeadValue) (pages : ℕ) (heads : List ℕ) {s : Space}
-      → outcome ≡ accepted (loading key place pages s b)
-      → answer ≡ accepted (loadedIn pages) → heads ≡ set (b .heads) key (headWord place) → after ≡ s
-      → Does outcome b (record { heads = heads; space = after }) answer
-  unfolding bookAfter answered
-  ends-loaded key place pages heads e a set-is is = rw (e, set-is, is) record { told = a; left = refl }
 
 -- A load that tells no pages and leaves the book.
 pub ends-same : (b : Book) (outcome : Answer (Outcome Loaded)) → outcome ≡ accepted (record { told = loadedIn 0; book = b })
@@ -110,11 +93,10 @@ module _ (b : Book) (key : ℕ) (ns : List ℕ) (count : ℕ) (parts : count ≡
 
   -- A run that is taken is written, and its last page is the key's place.
   pub run-loaded : {off : ℕ} (t : Space) → takeRun count (b .space) ≡ accepted (record { off = off; space = t })
-      → loadInto b key ns none
-      ≡ accepted (loading key (Extent (lastOfRun off count)) count
-      (space (writeRun off count (length ns) (t .body) off (cutting ns)) (t .mark) (t .free)) b)
+      → (body : List ℕ) → body ≡ writeRun off count (length ns) (t .body) off (cutting ns)
+      → loadInto b key ns none ≡ accepted (loading key (Extent (lastOfRun off count)) count (space body (t .mark) (t .free)) b)
   unfolding loadInto
-  run-loaded t e = rw parts (then-yes (takeRun (length (cutting ns)) (b .space)) _ (rw parts at e))
+  run-loaded t e body is = rw (is, parts) (then-yes (takeRun (length (cutting ns)) (b .space)) _ (rw parts at e))
 
 -- A run that was taken for the parts of a list can be written.
 pub run-lies : (s after : Space) (fks : List ℕ) (ranges : List (List ℕ)) (count off : ℕ) → InShape s → Parts fks ranges count

@@ -1,21 +1,20 @@
 // Loading a list onto an empty key.
+ghost use mathlib.Core.List.{List};
 ghost use mathlib.Core.Option.{none, some};
 ghost use mathlib.Core.Path.{_≡_};
-ghost use Prim.Native.Nat.{_^_, _≤_, _<_};
-ghost use lib.ListN.{length, set};
-ghost use Rattle.error.specs.Refusal.{accepted, refused};
-ghost use Rattle.scripthash_layout.specs.Sizes.{maxSlabClass, slabBytes};
-ghost use Rattle.scripthash_stream.specs.Stream.{Rising, streamLen};
-ghost use Rattle.book_rules.specs.Outcomes.{loadedIn, bookAfter, answerOf};
-ghost use Rattle.book_rules.specs.Places.{payloadLen, loadsTo};
-ghost use Rattle.book_space.specs.Space.{InShape};
+ghost use Prim.Native.Nat.{ℕ, _<_};
+ghost use lib.ListN.{length};
+ghost use Rattle.error.specs.Refusal.{Answer, accepted, refused};
+ghost use Rattle.scripthash_stream.specs.Stream.{streamLen};
+ghost use Rattle.book_rules.specs.Outcomes.{bookAfter, answerOf, Loaded};
+ghost use Rattle.book_rules.specs.Places.{loadsTo};
 ghost use Rattle.book_space.specs.Answers.{spaceOf};
-ghost use Rattle.book.specs.Book.{headWord};
-ghost use Rattle.book_load.specs.Loads.{loadInto, loadAt, loads};
+ghost use Rattle.book.specs.Book.{Book, Outcome};
+ghost use Rattle.book_load.specs.Loads.{loading, loadInto, loadAt, loads};
 ghost use Rattle.book.specs.Answers.{bookOf};
 ghost use Rattle.book_load.specs.Answers.{loadAnswer};
 ghost use Rattle.book.specs.Steps.{Does};
-ghost use Rattle.book_load.specs.Steps.{Judged, Parts};
+ghost use Rattle.book_load.specs.Steps.{ToLoadJudged, ToLoadList, ToLoadSlab, ToLoadRun, ToLoadParts};
 use crate::answers::AfterLoad;
 use crate::answers::BookLoad;
 use book::PlaceList;
@@ -37,8 +36,8 @@ const MOST_PAGES: usize = 163;
 
 // A refused load leaves the state.
 fn refuse_load(state: State, number: Refusal) -> AfterLoad
-    ensures answer { λ r. ⌜ loadAnswer (r .answer) ≡ refused number ⌝ }
-    ensures state { λ r. ⌜ r .state ≡ state ⌝ }
+    ensures { λ r. ⌜ ((body heads : List ℕ) (a : Answer (Outcome Loaded)) → a ≡ refused number
+        → Does a (bookOf body heads state) (bookOf body heads (r .state)) (loadAnswer (r .answer))) ⌝ }
 {
     AfterLoad {
         answer: BookLoad::Refused(number),
@@ -55,9 +54,9 @@ fn accept_load(
     pages: u64,
 ) -> AfterLoad
     requires { ⌜ key < length (now heads) ⌝ }
-    ensures answer { λ r. ⌜ loadAnswer (r .answer) ≡ accepted (loadedIn pages) ⌝ }
-    ensures state { λ r. ⌜ r .state ≡ state ⌝ }
-    ensures heads { λ r. ⌜ now (heads .exit) ≡ set (now (heads .entry)) key (headWord place) ⌝ }
+    ensures { λ r. ⌜ ((b : Book) (body : List ℕ) → b .heads ≡ now (heads .entry)
+        → Does (accepted (loading key place pages (spaceOf body state) b)) b (bookOf body (now (heads .exit)) (r .state))
+        (loadAnswer (r .answer))) ⌝ }
 {
     put_head(heads, key, place);
     AfterLoad {
@@ -75,8 +74,7 @@ fn load_slab(
     fks: &[u64],
     class: u8,
 ) -> AfterLoad
-    requires { ⌜ InShape (spaceOf (now body) state) × (key < length (now heads)) × (class ≤ maxSlabClass) × (length (now fks) ≤ 256)
-        × Rising (2 ^ 62) 0 (now fks) × (payloadLen (streamLen (now fks)) ≤ slabBytes class) ⌝ }
+    requires { ⌜ ToLoadSlab (bookOf (now body) (now heads) state) key (now fks) class ⌝ }
     ensures { λ r. ⌜ Does (loadInto (bookOf (now (body .entry)) (now (heads .entry)) state) key (now (fks .entry)) (some class))
         (bookOf (now (body .entry)) (now (heads .entry)) state) (bookOf (now (body .exit)) (now (heads .exit)) (r .state))
         (loadAnswer (r .answer)) ⌝ }
@@ -100,7 +98,7 @@ fn load_parts(
     ranges: &[ChunkRange],
     count: usize,
 ) -> AfterLoad
-    requires { ⌜ InShape (spaceOf (now body) state) × (key < length (now heads)) × Parts (now fks) (now ranges) count ⌝ }
+    requires { ⌜ ToLoadParts (bookOf (now body) (now heads) state) key (now fks) (now ranges) count ⌝ }
     ensures { λ r. ⌜ Does (loadInto (bookOf (now (body .entry)) (now (heads .entry)) state) key (now (fks .entry)) none)
         (bookOf (now (body .entry)) (now (heads .entry)) state) (bookOf (now (body .exit)) (now (heads .exit)) (r .state))
         (loadAnswer (r .answer)) ⌝ }
@@ -124,7 +122,7 @@ fn load_parts(
 
 // Loads a list into a run of pages, a part of its cutting in each.
 fn load_run(body: &mut [u8], heads: &mut [u64], state: State, key: usize, fks: &[u64]) -> AfterLoad
-    requires { ⌜ InShape (spaceOf (now body) state) × (key < length (now heads)) × (0 < length (now fks)) × Judged (now fks) ⌝ }
+    requires { ⌜ ToLoadRun (bookOf (now body) (now heads) state) key (now fks) ⌝ }
     ensures { λ r. ⌜ Does (loadInto (bookOf (now (body .entry)) (now (heads .entry)) state) key (now (fks .entry)) none)
         (bookOf (now (body .entry)) (now (heads .entry)) state) (bookOf (now (body .exit)) (now (heads .exit)) (r .state))
         (loadAnswer (r .answer)) ⌝ }
@@ -146,8 +144,7 @@ fn load_list(
     fks: &[u64],
     bytes: usize,
 ) -> AfterLoad
-    requires { ⌜ InShape (spaceOf (now body) state) × (key < length (now heads)) × (2 ≤ length (now fks)) × Judged (now fks)
-        × (bytes ≡ streamLen (now fks)) ⌝ }
+    requires { ⌜ ToLoadList (bookOf (now body) (now heads) state) key (now fks) bytes ⌝ }
     ensures { λ r. ⌜ Does (loadInto (bookOf (now (body .entry)) (now (heads .entry)) state) key (now (fks .entry))
         (loadsTo (length (now (fks .entry))) (streamLen (now (fks .entry))))) (bookOf (now (body .entry)) (now (heads .entry)) state)
         (bookOf (now (body .exit)) (now (heads .exit)) (r .state)) (loadAnswer (r .answer)) ⌝ }
@@ -168,7 +165,7 @@ fn load_judged(
     fks: &[u64],
     bytes: usize,
 ) -> AfterLoad
-    requires { ⌜ InShape (spaceOf (now body) state) × (key < length (now heads)) × Judged (now fks) × (bytes ≡ streamLen (now fks)) ⌝ }
+    requires { ⌜ ToLoadJudged (bookOf (now body) (now heads) state) key (now fks) bytes ⌝ }
     ensures { λ r. ⌜ Does (loadAt (bookOf (now (body .entry)) (now (heads .entry)) state) key (now (fks .entry)))
         (bookOf (now (body .entry)) (now (heads .entry)) state) (bookOf (now (body .exit)) (now (heads .exit)) (r .state))
         (loadAnswer (r .answer)) ⌝ }

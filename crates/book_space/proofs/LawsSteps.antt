@@ -3,16 +3,17 @@ use Prim.Native.Nat.{ℕ, _+_, _≤_, _<_}
 use mathlib.Core.List.{List, [], _∷_}
 use mathlib.Core.Option.{none, some}
 use mathlib.Core.Bool.{true}
-use mathlib.Core.Path.{_≡_, refl, ap, _∙_}
+use mathlib.Core.Path.{_≡_, refl, sym, ap, _∙_}
 use borrow.Author.Tests.{lt-ltb, le-ltb, ne-eqb}
 use lib.ListN.{length}
 use Rattle.error.specs.Refusal.{Answer, accepted, refused, answered, noRoom}
-use Rattle.error.proofs.LawsAnswer.{refuse-yes, refuse-no, then-yes, then-no, was-accepted, was-refused}
+use Rattle.error.proofs.LawsAnswer.{refuse-yes, refuse-no, then-yes, then-no, answered-yes, answered-no, was-accepted, was-refused}
 use Rattle.scripthash_layout.specs.Sizes.{slabBytes, pageClass}
 use Rattle.scripthash_free.specs.FreeList.{Lists, Pop, isBlock, pushFree, popFree, pushAll, listsAfter, headsAfter}
 use Rattle.scripthash_free.proofs.LawsFree.{after-accepted, heads-accepted, push-yes}
 use Rattle.book_space.specs.Space.{Space, space, listsOf, withLists, Taken, takeMark, takeRun, takeFresh, takePopped, takeBlock}
 use Rattle.book_space.specs.Space.{spaceAfter, release}
+use Rattle.book_space.specs.Steps.{Takes}
 
 -- The space of an accepted take stands afterwards.
 pub after-taken : (s : Space) (a : Answer Taken) {t : Taken} → a ≡ accepted t → spaceAfter s a ≡ t .space
@@ -23,6 +24,19 @@ after-taken s a e = rw e
 pub after-refused : (s : Space) (a : Answer Taken) {number : ℕ} → a ≡ refused number → spaceAfter s a ≡ s
 unfolding spaceAfter
 after-refused s a e = rw e
+
+-- What a take does by one answer, it does by another that is the same.
+pub takes-same : {a c : Answer Taken} {before after : Space} {tells : Answer ℕ} → a ≡ c → Takes a before after tells
+    → Takes c before after tells
+takes-same e t = rw (sym e) t
+
+-- A take that is accepted tells its offset, and leaves its space.
+pub takes-yes : (s : Space) (a : Answer Taken) {t : Taken} → a ≡ accepted t → Takes a s (t .space) (accepted (t .off))
+takes-yes s a e = record { told = sym (answered-yes (λ (t : Taken). t .off) a e); left = sym (after-taken s a e) }
+
+-- One that is refused tells its number, and leaves the space as it was.
+pub takes-no : (s : Space) (a : Answer Taken) {number : ℕ} → a ≡ refused number → Takes a s s (refused number)
+takes-no s a e = record { told = sym (answered-no (λ (t : Taken). t .off) a e); left = sym (after-refused s a e) }
 
 -- Bytes that fit are taken at the mark, and others are refused.
 pub mark-yes : (bytes : ℕ) (s : Space) → s .mark + bytes ≤ length (s .body)

@@ -1,10 +1,10 @@
 // Taking a block of a class, or a run of pages: a freed block, or else bytes from the mark on.
-ghost use Prim.Native.Nat.{_≤_};
 ghost use mathlib.Core.Path.{_≡_};
-ghost use Rattle.error.specs.Refusal.{answered, refusalOf};
+ghost use Rattle.error.specs.Refusal.{refusalOf};
 ghost use Rattle.scripthash_layout.specs.Sizes.{maxSlabClass, pageClass, slabBytes};
-ghost use Rattle.book_space.specs.Space.{InShape, Taken, takeMark, takeRun, takeBlock, spaceAfter};
+ghost use Rattle.book_space.specs.Space.{takeMark, takeRun, takeBlock};
 ghost use Rattle.book_space.specs.Answers.{spaceOf, takeAnswer};
+ghost use Rattle.book_space.specs.Steps.{ToTake, Takes};
 use crate::State;
 use error::Refusal;
 use scripthash_free::PopFree;
@@ -38,11 +38,9 @@ impl TakeBlock {
 // Takes a run of pages at the mark, rounded up to a page; the blocks of the gap are pushed onto their free lists. Nothing is written
 // where the run would pass the body's end.
 pub fn take_run(body: &mut [u8], state: State, pages: u64) -> AfterTake
-    requires { ⌜ InShape (spaceOf (now body) state) × (pages ≤ 65535) ⌝ }
-    ensures answer { λ r. ⌜ takeAnswer (r .answer)
-        ≡ answered (λ (t : Taken). t .off) (takeRun pages (spaceOf (now (body .entry)) state)) ⌝ }
-    ensures space { λ r. ⌜ spaceOf (now (body .exit)) (r .state)
-        ≡ spaceAfter (spaceOf (now (body .entry)) state) (takeRun pages (spaceOf (now (body .entry)) state)) ⌝ }
+    requires { ⌜ ToTake (spaceOf (now body) state) pages 65535 ⌝ }
+    ensures { λ r. ⌜ Takes (takeRun pages (spaceOf (now (body .entry)) state)) (spaceOf (now (body .entry)) state)
+        (spaceOf (now (body .exit)) (r .state)) (takeAnswer (r .answer)) ⌝ }
 {
     let mark = state.mark;
     let from = (mark + (SH_PAGE_BYTES - 1)) / SH_PAGE_BYTES * SH_PAGE_BYTES;
@@ -63,11 +61,9 @@ pub fn take_run(body: &mut [u8], state: State, pages: u64) -> AfterTake
 
 // Takes a slab of a class 0 to 7 at the mark.
 fn take_slab(body: &[u8], state: State, class: u8) -> AfterTake
-    requires { ⌜ InShape (spaceOf (now body) state) × (class ≤ maxSlabClass) ⌝ }
-    ensures answer { λ r. ⌜ takeAnswer (r .answer)
-        ≡ answered (λ (t : Taken). t .off) (takeMark (slabBytes class) (spaceOf (now (body .entry)) state)) ⌝ }
-    ensures space { λ r. ⌜ spaceOf (now (body .entry)) (r .state)
-        ≡ spaceAfter (spaceOf (now (body .entry)) state) (takeMark (slabBytes class) (spaceOf (now (body .entry)) state)) ⌝ }
+    requires { ⌜ ToTake (spaceOf (now body) state) class maxSlabClass ⌝ }
+    ensures { λ r. ⌜ Takes (takeMark (slabBytes class) (spaceOf (now (body .entry)) state)) (spaceOf (now (body .entry)) state)
+        (spaceOf (now (body .entry)) (r .state)) (takeAnswer (r .answer)) ⌝ }
 {
     let mark = state.mark;
     let end = mark + scripthash_layout::slab_bytes(class);
@@ -86,11 +82,9 @@ fn take_slab(body: &[u8], state: State, class: u8) -> AfterTake
 
 // Takes a block of a class: the first freed one, or where there is none a fresh one at the mark.
 pub fn take_block(body: &mut [u8], state: State, class: u8) -> AfterTake
-    requires { ⌜ InShape (spaceOf (now body) state) × (class ≤ pageClass) ⌝ }
-    ensures answer { λ r. ⌜ takeAnswer (r .answer)
-        ≡ answered (λ (t : Taken). t .off) (takeBlock class (spaceOf (now (body .entry)) state)) ⌝ }
-    ensures space { λ r. ⌜ spaceOf (now (body .exit)) (r .state)
-        ≡ spaceAfter (spaceOf (now (body .entry)) state) (takeBlock class (spaceOf (now (body .entry)) state)) ⌝ }
+    requires { ⌜ ToTake (spaceOf (now body) state) class pageClass ⌝ }
+    ensures { λ r. ⌜ Takes (takeBlock class (spaceOf (now (body .entry)) state)) (spaceOf (now (body .entry)) state)
+        (spaceOf (now (body .exit)) (r .state)) (takeAnswer (r .answer)) ⌝ }
 {
     let mark = state.mark;
     let mut free = state.free;

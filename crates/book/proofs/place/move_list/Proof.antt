@@ -20,7 +20,7 @@ module _ (c : tie.Start) where
   list = c .args .fks .now
 
   bytes : streamLen list ≤ 2570
-  bytes = omega (arith, stream-at-most 0 list (c .pre .3), c .pre .2)
+  bytes = omega (arith, stream-at-most 0 list (c .pre .rises), c .pre .few)
 
 -- the class that was chosen is the one that the list moves to
 module _ (t : tie.After-moves-to) where
@@ -63,7 +63,7 @@ place-in-slab-requires c κs =
     let k = c .before in
     let pre = start (choosing k) .pre in
     let m = moves-to (length (list (start (choosing k)))) (streamLen (list (start (choosing k)))) (to-slab k) in
-    (pre .0, m .slab, m .few, pre .3, m .fits)
+    record { shape = pre .shape; low = m .slab; few = m .few; rises = pre .rises; fits = m .fits }
 
 enum-told : tie.Need-enum-told
 enum-told c = search needs
@@ -71,7 +71,7 @@ enum-told c = search needs
 place-in-page-requires : tie.Need-place-in-page-requires
 place-in-page-requires c κs =
     let s = start (choosing-page (c .before)) in
-    (s .pre .0, s .pre .2, s .pre .3, omega (arith, bytes s))
+    record { shape = s .pre .shape; few = s .pre .few; rises = s .pre .rises; fits = omega (arith, bytes s) }
 
 same-length : tie.Need-same-length
 same-length c = search needs

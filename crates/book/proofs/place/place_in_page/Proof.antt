@@ -1,7 +1,7 @@
 -- `place_in_page` meets its contract: what the take tells decides. Assumes nothing.
 use Prim.Native.Nat.{ℕ}
 use mathlib.Core.List.{List}
-use mathlib.Core.Path.{_≡_, sym, ap, _∙_}
+use mathlib.Core.Path.{_≡_, ap}
 use native.Mathlib.Omega.{arith}
 use borrow.Author.Needs.{needs}
 use Rattle.error.specs.Refusal.{accepted}
@@ -35,12 +35,10 @@ module _ (k : tie.After-known-told) where
   off = k .before .answer .given .0 .0
 
   took : takeBlock pageClass (before taking) ≡ accepted (record { off = off; space = after taking })
-  took =
-      let told = taking .take-block .ensures in
-      took-at (before taking) (after taking) _ (told .1) (sym (told .0) ∙ ap takeAnswer (k .before .answer .given .1))
+  took = took-at (before taking) (after taking) _ (taking .take-block .ensures) (ap takeAnswer (k .before .answer .given .1))
 
 take-block-requires : tie.Need-take-block-requires
-take-block-requires c κs = search needs
+take-block-requires c κs = record { shape = c .before .before .before .pre .shape; low = omega arith }
 
 enum-known-answer : tie.Need-enum-known-answer
 enum-known-answer c = search needs
@@ -57,9 +55,8 @@ same-length c = search needs
 returns : tie.Need-returns
 returns c =
     let t = c .before .before .before .before .before .before in
-    let told = t .take-block .ensures in
     let is = refused-as _ _ (ap takeAnswer (c .before .enum-told .given .1)) (c .refusal .ensures) in
-    page-refused (before t) (list t) (after t) (took-none (before t) (after t) _ (told .1) (sym (told .0) ∙ is))
+    page-refused (before t) (list t) (after t) (took-none (before t) (after t) _ (t .take-block .ensures) is)
 
 cast-count : tie.Need-cast-count
 cast-count c = search needs
@@ -69,14 +66,15 @@ put-last-page-requires c κs =
     let k = c .before in
     let t = taking k in
     let pre = start t .pre in
-    let lies = block-lies pageClass (off k) (before t) (after t) (pre .0) (omega arith) (took k) in (
-      omega (arith, lies .ends),
-      record {
-        numbers = record { rises = pre .2; fits = pre .3 };
-        base-named = page-named (off k) (before t) (after t) (pre .0) (took k);
+    let lies = block-lies pageClass (off k) (before t) (after t) (pre .shape) (omega arith) (took k) in
+    record {
+      inside = omega (arith, lies .ends);
+      last = record {
+        numbers = record { rises = pre .rises; fits = pre .fits };
+        base-named = page-named (off k) (before t) (after t) (pre .shape) (took k);
         some-extents = omega arith;
-      },
-    )
+      };
+    }
 
 same-length-2 : tie.Need-same-length-2
 same-length-2 c = search needs

@@ -1,7 +1,7 @@
 -- `place_in_slab` meets its contract: what the take tells decides. Assumes nothing.
 use Prim.Native.Nat.{ℕ}
 use mathlib.Core.List.{List}
-use mathlib.Core.Path.{_≡_, sym, ap, _∙_}
+use mathlib.Core.Path.{_≡_, ap, _∙_}
 use native.Mathlib.Omega.{arith}
 use borrow.Author.Needs.{needs}
 use Rattle.error.specs.Refusal.{accepted}
@@ -38,12 +38,10 @@ module _ (k : tie.After-known-told) where
   off = k .before .answer .given .0 .0
 
   took : takeBlock (class taking) (before taking) ≡ accepted (record { off = off; space = after taking })
-  took =
-      let told = taking .take-block .ensures in
-      took-at (before taking) (after taking) _ (told .1) (sym (told .0) ∙ ap takeAnswer (k .before .answer .given .1))
+  took = took-at (before taking) (after taking) _ (taking .take-block .ensures) (ap takeAnswer (k .before .answer .given .1))
 
 take-block-requires : tie.Need-take-block-requires
-take-block-requires c κs = search needs
+take-block-requires c κs = let pre = c .before .before .before .pre in record { shape = pre .shape; low = omega (arith, pre .low) }
 
 enum-known-answer : tie.Need-enum-known-answer
 enum-known-answer c = search needs
@@ -60,9 +58,8 @@ same-length c = search needs
 returns : tie.Need-returns
 returns c =
     let t = c .before .before .before .before .before .before in
-    let told = t .take-block .ensures in
     let is = refused-as _ _ (ap takeAnswer (c .before .enum-told .given .1)) (c .refusal .ensures) in
-    slab-refused (before t) (list t) (after t) (class t) (took-none (before t) (after t) _ (told .1) (sym (told .0) ∙ is))
+    slab-refused (before t) (list t) (after t) (class t) (took-none (before t) (after t) _ (t .take-block .ensures) is)
 
 slab-bytes-requires : tie.Need-slab-bytes-requires
 slab-bytes-requires c κs = search needs
@@ -72,9 +69,14 @@ put-slab-requires c κs =
     let k = c .before .before in
     let t = taking k in
     let pre = start t .pre in
-    let size = c .before .slab-bytes .ensures ∙ bytes-fit (class t) (omega (arith, pre .1)) in
-    let lies = block-lies (class t) (off k) (before t) (after t) (pre .0) (omega (arith, pre .1)) (took k) in
-    (omega (arith, size, lies .ends), omega (arith, size, pre .4), omega (arith, pre .2), pre .3)
+    let size = c .before .slab-bytes .ensures ∙ bytes-fit (class t) (omega (arith, pre .low)) in
+    let lies = block-lies (class t) (off k) (before t) (after t) (pre .shape) (omega (arith, pre .low)) (took k) in
+    record {
+      inside = omega (arith, size, lies .ends);
+      fits = omega (arith, size, pre .fits);
+      few = omega (arith, pre .few);
+      rises = pre .rises;
+    }
 
 cast-used : tie.Need-cast-used
 cast-used c = search needs

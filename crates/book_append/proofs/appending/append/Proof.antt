@@ -2,7 +2,6 @@
 use Prim.Native.Nat.{_^_, _<_}
 use mathlib.Core.Bool.{true, false}
 use mathlib.Core.Path.{_≡_, sym, ap, _∙_}
-use native.Mathlib.Omega.{arith}
 use borrow.Author.Needs.{needs}
 use lib.ListN.{length}
 use Rattle.error.specs.Refusal.{accepted}
@@ -149,7 +148,7 @@ append-at-requires : tie.Need-append-at-requires
 append-at-requires c κs =
     let h = c .before .before .before in
     let u = h .before .before in
-    (known (u .before .before), sym (u .unpack8 .ensures) ∙ ap unpackAnswer (h .head .given .1))
+    record { to-append = known (u .before .before); stands = sym (u .unpack8 .ensures) ∙ ap unpackAnswer (h .head .given .1) }
 
 same-length-5 : tie.Need-same-length-5
 same-length-5 c = search needs

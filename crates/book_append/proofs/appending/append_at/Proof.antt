@@ -1,10 +1,9 @@
 -- `append_at` meets its contract: the place decides which append it is. Assumes nothing.
 use mathlib.Core.Path.{_≡_, refl, ap, _∙_}
 use borrow.Author.Needs.{needs}
-use lib.ListN.{getD}
 use Rattle.scripthash_layout.specs.declared.head.ShHeadValue.{ShHeadValue}
 use Rattle.error.specs.Refusal.{accepted}
-use Rattle.book.specs.Book.{Book}
+use Rattle.book.specs.Book.{Book, wordOf}
 use Rattle.book.specs.Answers.{bookOf}
 use Rattle.book_append.specs.Appends.{appendAt}
 use Rattle.book_append.proofs.LawsAppend.{does-as, at-empty, inline-above}
@@ -34,7 +33,10 @@ append-inline-requires : tie.Need-append-inline-requires
 append-inline-requires c κs =
     let p = c .before .before .before in
     let s = p .before .before .before .before in
-    (s .pre .0, inline-above (getD (s .args .heads .now) (s .args .key) 0) _ _ (s .pre .1 ∙ ap accepted (p .place .given .1)))
+    record {
+      to-append = s .pre .to-append;
+      some = inline-above (wordOf (s .args .key) (b s)) _ _ (s .pre .stands ∙ ap accepted (p .place .given .1));
+    }
 
 enum-known-place-2 : tie.Need-enum-known-place-2
 enum-known-place-2 c = search needs

@@ -10,9 +10,11 @@ use Rattle.book_space.specs.Space.{Space}
 use Rattle.book_space.specs.Answers.{spaceOf}
 use Rattle.book.specs.Book.{Book}
 use Rattle.book.specs.Answers.{bookOf}
+use Rattle.book.proofs.LawsKey.{does-from}
+use Rattle.book.proofs.LawsPlace.{placed-at, placed-none}
 use Rattle.book_append.specs.Appends.{appendAt}
 use Rattle.book.specs.Steps.{placeAnswer}
-use Rattle.book_append.proofs.LawsAppend.{does-as, does-from, placesFor, placed-at, placed-none, inline-low, inline-yes, inline-no}
+use Rattle.book_append.proofs.LawsAppend.{does-as, placesFor, inline-low, inline-yes, inline-no}
 use Rattle.book_append.proofs.appending.append_inline.Statement.{statement}
 use Rattle.book_append.proofs.appending.append_inline.Tie as tie
 
@@ -50,7 +52,13 @@ unfolding Rising
 move-list-requires c κs =
     let s = c .before .before .before .before .before in
     let above = c .before .before .if1 .left in
-    (s .pre .0 .shape, omega arith, omega arith, (s .pre .1, omega (arith, s .pre .0 .low), (omega arith, s .pre .0 .low, tt)))
+    let known = s .pre .to-append in
+    record {
+      shape = known .shape;
+      two = omega arith;
+      few = omega arith;
+      rises = (s .pre .some, omega (arith, known .low), (omega arith, known .low, tt));
+    }
 
 enum-known-answer : tie.Need-enum-known-answer
 enum-known-answer c = search needs
@@ -76,8 +84,7 @@ returns-2 c used =
     let p = k .before .before .before .before .before .before in
     let s = start p in
     let a = s .args in
-    let told = p .move-list .ensures in
-    let here = placed-at (b s .space) (after p) (placesFor (b s .space) (list p)) (told .0) (told .1)
+    let here = placed-at (b s .space) (after p) (placesFor (b s .space) (list p)) (p .move-list .ensures)
     (ap placeAnswer (k .before .answer .given .1)) in
     does-as (inline-yes (b s) (a .key) (a .n) (a .entry) used (omega (arith, p .before .before .before .if1 .left)) here)
     (c .before .before .accept-append .ensures (b s) (p .move-list .last .0) refl)
@@ -91,8 +98,7 @@ returns-3 c used =
     let p = k .before .before .before .before .before .before in
     let s = start p in
     let a = s .args in
-    let told = p .move-list .ensures in
-    let none = placed-none (b s .space) (after p) (placesFor (b s .space) (list p)) (told .0) (told .1)
+    let none = placed-none (b s .space) (after p) (placesFor (b s .space) (list p)) (p .move-list .ensures)
     (ap placeAnswer (k .before .answer2 .given .1)) in
     does-from (none .1)
     (c .refuse-append2 .ensures (p .move-list .last .0) (a .heads .now) (appendAt (b s) (a .key) (a .n) (Inline (a .entry) used))

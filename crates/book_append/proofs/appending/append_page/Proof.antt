@@ -113,11 +113,9 @@ grow-chain-requires : tie.Need-grow-chain-requires
 grow-chain-requires c κs =
     let l = c .before .before .before in
     let k = l .before .before in
-    let a = start k .args in (
-      start k .pre,
-      page-full (b (start k)) (a .key) (a .n) (a .last) (told k) (omega (arith, l .before .if1 .left))
-          (omega (arith, l .uleb128-len .ensures, c .before .before .if2 .taken)),
-    )
+    let a = start k .args in
+    page-full (b (start k)) (a .key) (a .n) (a .last) (told k) (omega (arith, l .before .if1 .left)) (start k .pre)
+    (omega (arith, l .uleb128-len .ensures, c .before .before .if2 .taken))
 
 same-length-3 : tie.Need-same-length-3
 same-length-3 c = search needs
@@ -133,13 +131,16 @@ grow-page-requires c κs =
     let l = c .before .before in
     let k = l .before .before in
     let known = sound k in
-    let a = start k .args in (
-      page-inside (seen (b (start k) .space)) (a .last) (known .stands) (a .body .now) (start k .pre .shape .within),
-      eqb-true _ 2 (known .names),
-      omega (arith, known .few),
-      omega (arith, l .uleb128-len .ensures, c .before .if2 .left),
-      omega (arith, known .creates-low, told k .creates-is),
-    )
+    let a = start k .args in
+    record {
+      inside = page-inside (seen (b (start k) .space)) (a .last) (known .stands) (a .body .now) (start k .pre .shape .within);
+      grows = record {
+        version-is = eqb-true _ 2 (known .names);
+        few = omega (arith, known .few);
+        fits = omega (arith, l .uleb128-len .ensures, c .before .if2 .left);
+        creates-low = omega (arith, known .creates-low, told k .creates-is);
+      };
+    }
 
 accept-append-requires : tie.Need-accept-append-requires
 accept-append-requires c κs = search needs

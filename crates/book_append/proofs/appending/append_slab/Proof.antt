@@ -160,11 +160,12 @@ grow-slab-requires c κs =
     let known-slab = sound (known (staying d)) in
     let a = from d .args in
     let stands = block-stands (a .class) (a .off) (a .state .mark) (known-slab .stands) in
-    let holds = stays-holds (a .class) (a .used + 1) _ (test (staying d) (d .before .if2 .taken)) in (
-      omega (arith, size d, stands .ends, from d .pre .shape .within),
-      omega (arith, known-slab .used-to-256),
-      omega (arith, size d, holds .2),
-    )
+    let holds = stays-holds (a .class) (a .used + 1) _ (test (staying d) (d .before .if2 .taken)) in
+    record {
+      inside = omega (arith, size d, stands .ends, from d .pre .shape .within);
+      few = omega (arith, known-slab .used-to-256);
+      fits = omega (arith, size d, holds .2);
+    }
 
 add-t28 : tie.Need-add-t28
 add-t28 c = omega (arith, sound (known (staying (c .before .before .before .before))) .used-to-256)
@@ -193,11 +194,9 @@ move-slab-requires : tie.Need-move-slab-requires
 move-slab-requires c κs =
     let t = c .before .before .before in
     let s = start (known t) in
-    let a = s .args in (
-      s .pre,
-      slab-leaves (b s) (a .key) (a .n) (a .class) (a .used) (a .off) (told (known t)) (above t)
-          (test t (c .before .before .if2 .left)),
-    )
+    let a = s .args in
+    slab-leaves (b s) (a .key) (a .n) (a .class) (a .used) (a .off) (told (known t)) (above t) (s .pre)
+    (test t (c .before .before .if2 .left))
 
 same-length-5 : tie.Need-same-length-5
 same-length-5 c = search needs

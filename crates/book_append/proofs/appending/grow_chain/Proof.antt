@@ -1,7 +1,7 @@
 -- `grow_chain` meets its contract: what the take tells decides; the pages' writes are those of the definition. Assumes nothing.
 use Prim.Native.Nat.{ℕ, _+_, _≤_}
 use mathlib.Core.List.{[], _∷_}
-use mathlib.Core.Path.{_≡_, refl, sym, ap, _∙_}
+use mathlib.Core.Path.{_≡_, refl, ap, _∙_}
 use native.Mathlib.Omega.{arith}
 use borrow.Author.Needs.{needs}
 use lib.ListN.{length}
@@ -15,9 +15,10 @@ use Rattle.book_keys.proofs.LawsPages.{page-inside}
 use Rattle.book_blocks.specs.Blocks.{lastPageOf}
 use Rattle.book.specs.Book.{Book, seen}
 use Rattle.book.specs.Answers.{bookOf}
+use Rattle.book.proofs.LawsKey.{does-from}
 use Rattle.book_append.specs.Appends.{appendAt}
 use Rattle.book.proofs.LawsPlace.{refused-as, took-at, took-none, block-lies, page-named}
-use Rattle.book_append.proofs.LawsAppend.{SoundTail, tail-sound, does-as, does-from, one-fits, chain-no, chain-yes}
+use Rattle.book_append.proofs.LawsAppend.{SoundTail, tail-sound, does-as, one-fits, chain-no, chain-yes}
 use Rattle.book_append.proofs.appending.grow_chain.Statement.{statement}
 use Rattle.book_append.proofs.appending.grow_chain.Tie as tie
 
@@ -33,12 +34,13 @@ module _ (t : tie.After-take-block) where
   after = spaceOf (t .take-block .last .0) (t .take-block .result .state)
 
   -- the old last page is sound
-  sound : SoundTail (b .space) (start .args .last) (start .pre .1 .tail)
-  sound = tail-sound (b .space) (start .args .last) (start .pre .1 .tail) (start .pre .1 .sound)
+  sound : SoundTail (b .space) (start .args .last) (start .pre .tail)
+  sound = tail-sound (b .space) (start .args .last) (start .pre .tail) (start .pre .sound)
 
   -- the old last page lies within the body
   last-inside : start .args .last + pageSize ≤ length (start .args .body .now)
-  last-inside = page-inside (seen (b .space)) (start .args .last) (sound .stands) (start .args .body .now) (start .pre .0 .shape .within)
+  last-inside =
+      page-inside (seen (b .space)) (start .args .last) (sound .stands) (start .args .body .now) (start .pre .to-append .shape .within)
 
 -- a page was taken
 module _ (k : tie.After-known-told) where
@@ -50,12 +52,10 @@ module _ (k : tie.After-known-told) where
 
   -- the take is of that page
   took : takeBlock pageClass (b taking .space) ≡ accepted (record { off = off; space = after taking })
-  took =
-      let told = taking .take-block .ensures in
-      took-at (b taking .space) (after taking) _ (told .1) (sym (told .0) ∙ ap takeAnswer (k .before .answer .given .1))
+  took = took-at (b taking .space) (after taking) _ (taking .take-block .ensures) (ap takeAnswer (k .before .answer .given .1))
 
 take-block-requires : tie.Need-take-block-requires
-take-block-requires c κs = search needs
+take-block-requires c κs = record { shape = c .before .before .before .pre .to-append .shape; low = omega arith }
 
 enum-known-answer : tie.Need-enum-known-answer
 enum-known-answer c = search needs
@@ -75,13 +75,12 @@ same-length c = search needs
 returns : tie.Need-returns
 returns c =
     let t = c .before .before .before .before .before .before .before in
-    let told = t .take-block .ensures in
     let a = start t .args in
     let is = refused-as _ _ (ap takeAnswer (c .before .before .enum-told .given .1)) (c .before .refusal .ensures) in
-    let none = took-none (b t .space) (after t) _ (told .1) (sym (told .0) ∙ is) in
+    let none = took-none (b t .space) (after t) _ (t .take-block .ensures) is in
     does-from (none .1)
     (c .refuse-append .ensures (t .take-block .last .0) (a .heads .now) (appendAt (b t) (a .key) (a .n) (Extent (a .last)))
-    (chain-no (b t) (a .key) (a .n) (a .last) (a .first) (a .creates) (start t .pre .1) (none .0)))
+    (chain-no (b t) (a .key) (a .n) (a .last) (a .first) (a .creates) (start t .pre) (none .0)))
 
 link-page-requires : tie.Need-link-page-requires
 link-page-requires c κs = let h = last-inside (taking (c .before)) in omega arith
@@ -89,7 +88,7 @@ link-page-requires c κs = let h = last-inside (taking (c .before)) in omega ari
 total-with-requires : tie.Need-total-with-requires
 total-with-requires c κs =
     let t = taking (c .before .before .before .before) in
-    omega (arith, sound t .creates-low, start t .pre .1 .creates-is)
+    omega (arith, sound t .creates-low, start t .pre .creates-is)
 
 slice-aggregate-put-last-page : tie.Need-slice-aggregate-put-last-page
 slice-aggregate-put-last-page c = search needs
@@ -98,15 +97,16 @@ put-last-page-requires : tie.Need-put-last-page-requires
 put-last-page-requires c κs =
     let k = c .before .before .before .before .before .before .before in
     let t = taking k in
-    let pre = start t .pre .0 in
-    let lies = block-lies pageClass (off k) (b t .space) (after t) (pre .shape) (omega arith) (took k) in (
-      omega (arith, lies .ends),
-      record {
+    let pre = start t .pre .to-append in
+    let lies = block-lies pageClass (off k) (b t .space) (after t) (pre .shape) (omega arith) (took k) in
+    record {
+      inside = omega (arith, lies .ends);
+      last = record {
         numbers = one-fits (start t .args .n) (pre .above) (pre .low);
         base-named = page-named (off k) (b t .space) (after t) (pre .shape) (took k);
         some-extents = omega arith;
-      },
-    )
+      };
+    }
 
 accept-append-requires : tie.Need-accept-append-requires
 accept-append-requires c κs = search needs
@@ -126,7 +126,7 @@ returns-2 c =
     let t = taking k in
     let a = start t .args in
     does-as
-    (chain-yes (b t) (a .key) (a .n) (a .last) (a .first) (a .creates) (start t .pre .1) (linked .link-page .last .0)
+    (chain-yes (b t) (a .key) (a .n) (a .last) (a .first) (a .creates) (start t .pre) (linked .link-page .last .0)
     (written .put-last-page .last .0) (took k)
     (linked .link-page .ensures)
     (written .put-last-page .ensures

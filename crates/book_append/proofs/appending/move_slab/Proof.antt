@@ -16,9 +16,11 @@ use Rattle.book_keys.proofs.LawsSound.{soundly-yes}
 use Rattle.book_keys.proofs.LawsSlab.{SoundSlab, slab-sound}
 use Rattle.book.specs.Book.{Book, seen}
 use Rattle.book.specs.Answers.{bookOf}
+use Rattle.book.proofs.LawsKey.{does-from}
+use Rattle.book.proofs.LawsPlace.{placed-at, placed-none}
 use Rattle.book_append.specs.Appends.{appendAt}
 use Rattle.book.specs.Steps.{placeAnswer}
-use Rattle.book_append.proofs.LawsAppend.{slab-free, does-as, does-from, placesFor, placed-at, placed-none, list-behind, rises-behind}
+use Rattle.book_append.proofs.LawsAppend.{slab-free, does-as, placesFor, list-behind, rises-behind}
 use Rattle.book_append.proofs.LawsAppend.{slab-moved, slab-unmoved}
 use Rattle.book_append.proofs.appending.move_slab.Statement.{statement}
 use Rattle.book_append.proofs.appending.move_slab.Tie as tie
@@ -29,8 +31,8 @@ module _ (s : tie.Start) where
   b = bookOf (s .args .body .now) (s .args .heads .now) (s .args .state)
 
   -- what is known of the slab
-  sound : SoundSlab (seen (b .space)) (s .args .class) (s .args .used) (s .args .off) (s .pre .1 .scan)
-  sound = slab-sound (seen (b .space)) (s .args .class) (s .args .used) (s .args .off) (s .pre .1 .scan) (s .pre .1 .sound)
+  sound : SoundSlab (seen (b .space)) (s .args .class) (s .args .used) (s .args .off) (s .pre .scan)
+  sound = slab-sound (seen (b .space)) (s .args .class) (s .args .used) (s .args .off) (s .pre .scan) (s .pre .sound)
 
 -- the list was read
 module _ (r : tie.After-slab-into) where
@@ -42,7 +44,7 @@ module _ (r : tie.After-slab-into) where
   list = take (start .args .used + 1 - 0) (set (r .slab-into .last .1 .1 .1 .0) (start .args .used) (start .args .n))
 
   abbrev numbers : List ℕ
-  numbers = start .pre .1 .scan .numbers
+  numbers = start .pre .scan .numbers
 
   -- the array has room for the list and one number more
   few : length numbers < 257
@@ -52,8 +54,8 @@ module _ (r : tie.After-slab-into) where
   read-is : r .slab-into .last .1 .1 .1 .0 ≡ overwrite (replicate 257 0) 0 numbers
   read-is =
       let a = start .args in
-      let there = slab-free (a .body .now) (a .state .mark) (a .state .free) (a .class) (a .used) (a .off) ∙ start .pre .1 .sound in
-      r .slab-into .ensures (a .state .mark) (a .used) (start .pre .1 .scan) (soundly-yes _ there) (omega (arith, few))
+      let there = slab-free (a .body .now) (a .state .mark) (a .state .free) (a .class) (a .used) (a .off) ∙ start .pre .sound in
+      r .slab-into .ensures (a .state .mark) (a .used) (start .pre .scan) (soundly-yes _ there) (omega (arith, few))
 
   -- what is placed is the list and the number
   list-is : list ≡ numbers ++ (start .args .n ∷ [])
@@ -84,7 +86,7 @@ slab-into-requires c κs =
     let s = c .before .before .before .before in
     let known = sound s in
     let stands = block-stands (s .args .class) (s .args .off) (s .args .state .mark) (known .stands) in
-    (known .class-to-7, omega (arith, stands .ends, s .pre .0 .shape .within))
+    (known .class-to-7, omega (arith, stands .ends, s .pre .to-append .shape .within))
 
 mul-list : tie.Need-mul-list
 mul-list c = search needs
@@ -108,12 +110,13 @@ move-list-requires : tie.Need-move-list-requires
 move-list-requires c κs =
     let r = c .before .before .before .before in
     let s = start r in
-    let known = sound s in (
-      s .pre .0 .shape,
-      omega (arith, long r, known .some),
-      omega (arith, long r, known .used-to-256),
-      rw (list-is r) (rises-behind _ (s .args .n) (known .rising) (s .pre .1 .above) (s .pre .0 .low)),
-    )
+    let known = sound s in
+    record {
+      shape = s .pre .to-append .shape;
+      two = omega (arith, long r, known .some);
+      few = omega (arith, long r, known .used-to-256);
+      rises = rw (list-is r) (rises-behind _ (s .args .n) (known .rising) (s .pre .above) (s .pre .to-append .low));
+    }
 
 enum-known-answer : tie.Need-enum-known-answer
 enum-known-answer c = search needs
@@ -121,7 +124,8 @@ enum-known-answer c = search needs
 release-block-requires : tie.Need-release-block-requires
 release-block-requires c κs =
     let s = start (read (c .before .before .before .before .before .before .before)) in
-    stands-further (s .args .class) (s .args .off) (s .args .state .mark) _ (omega (arith, s .pre .0 .shape .within)) (sound s .stands)
+    stands-further (s .args .class) (s .args .off) (s .args .state .mark) _ (omega (arith, s .pre .to-append .shape .within))
+    (sound s .stands)
 
 accept-append-requires : tie.Need-accept-append-requires
 accept-append-requires c κs = search needs
@@ -145,11 +149,10 @@ returns c =
     let p = k .before .before .before .before .before .before in
     let r = read p in
     let a = start r .args in
-    let told = p .move-list .ensures in
-    let here = placed-at (b (start r) .space) (after p) (placesFor (b (start r) .space) (list r)) (told .0) (told .1)
+    let here = placed-at (b (start r) .space) (after p) (placesFor (b (start r) .space) (list r)) (p .move-list .ensures)
     (ap placeAnswer (k .before .answer .given .1)) in
     does-as
-    (slab-moved (b (start r)) (a .key) (a .n) (a .class) (a .used) (a .off) (start r .pre .1) (list r) (list-is r)
+    (slab-moved (b (start r)) (a .key) (a .n) (a .class) (a .used) (a .off) (start r .pre) (list r) (list-is r)
     (spaceOf (f .release-block .last .0) (f .release-block .result)) here (f .release-block .ensures))
     (c .before .before .accept-append .ensures (b (start r)) (f .release-block .last .0) refl)
 
@@ -162,13 +165,12 @@ returns-2 c =
     let p = k .before .before .before .before .before .before in
     let r = read p in
     let a = start r .args in
-    let told = p .move-list .ensures in
-    let none = placed-none (b (start r) .space) (after p) (placesFor (b (start r) .space) (list r)) (told .0) (told .1)
+    let none = placed-none (b (start r) .space) (after p) (placesFor (b (start r) .space) (list r)) (p .move-list .ensures)
     (ap placeAnswer (k .before .answer2 .given .1)) in
     does-from (none .1)
     (c .refuse-append .ensures (p .move-list .last .0) (a .heads .now)
     (appendAt (b (start r)) (a .key) (a .n) (Slab (a .class) (a .used) (a .off)))
-    (slab-unmoved (b (start r)) (a .key) (a .n) (a .class) (a .used) (a .off) (start r .pre .1) (list r) (list-is r) (none .0)))
+    (slab-unmoved (b (start r)) (a .key) (a .n) (a .class) (a .used) (a .off) (start r .pre) (list r) (list-is r) (none .0)))
 
 pub move-slab-spec : {M : Type 1} → statement M
 move-slab-spec =

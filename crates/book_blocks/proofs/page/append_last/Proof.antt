@@ -17,7 +17,7 @@ get-u16-requires c κs = search needs
 
 add-put-u16 : tie.Need-add-put-u16
 add-put-u16 c = let s = c .before .before .before .before in
-    omega (arith, s .pre .2, count-read (s .args .page .now), c .before .get-u16 .ensures)
+    omega (arith, s .pre .grows .few, count-read (s .args .page .now), c .before .get-u16 .ensures)
 
 put-u16-requires : tie.Need-put-u16-requires
 put-u16-requires c κs = search needs
@@ -49,7 +49,8 @@ returns c =
     ∙ ap₂ (λ (b : List ℕ) (t : ℕ). overwrite b 20 (bytesOf 4 t))
     (formed .put-form .ensures .1 ∙ ap (λ (b : List ℕ). overwrite b (24 + a .taken) (shortest (a .difference))) (counted .put-u16 .ensures))
     (total .total-with .ensures)
-    ∙ grown-written (a .page .now) (got .get-u16 .result) (a .taken) (a .difference) (a .creates) (omega (arith, s .pre .0)) (s .pre .1)
+    ∙ grown-written (a .page .now) (got .get-u16 .result) (a .taken) (a .difference) (a .creates) (omega (arith, s .pre .long))
+    (s .pre .grows .version-is)
     (got .get-u16 .ensures)
 
 pub append-last-spec : {M : Type 1} → statement M

@@ -6,7 +6,7 @@ use native.Mathlib.Omega.{arith}
 use borrow.Author.Needs.{needs}
 use Rattle.buffer.specs.Bytes.{part}
 use Rattle.buffer.proofs.LawsOverwrite.{length-part}
-use Rattle.scripthash_fields.specs.Page.{versionOf, countOf, streamOff}
+use Rattle.scripthash_fields.specs.Page.{streamOff}
 use Rattle.scripthash_fields.proofs.LawsFields.{stream-off-extent}
 use Rattle.book_blocks.specs.Blocks.{pageWith}
 use Rattle.book_blocks.proofs.LawsWrites.{lent-is, length-lent-block, block-back, length-pageWith}
@@ -30,13 +30,10 @@ append-last-requires c κs =
     let s = c .before .before in
     let a = s .args in
     let body = a .body .now in
-    let lent = lent-is body (a .last) 4096 in (
-      length-lent-block body (a .last) 4096 (s .pre .0),
-      ap (λ (b : List ℕ). versionOf b) lent ∙ s .pre .1,
-      omega (arith, ap (λ (b : List ℕ). countOf b) lent, s .pre .2),
-      s .pre .3,
-      s .pre .4,
-    )
+    record {
+      long = length-lent-block body (a .last) 4096 (s .pre .inside);
+      grows = rw (lent-is body (a .last) 4096) (s .pre .grows);
+    }
 
 same-length : tie.Need-same-length
 same-length c = search needs
@@ -49,7 +46,8 @@ returns c =
     let page = part body (a .last) 4096 in
     block-back body (a .last) 4096 _ _
     (length-pageWith page (record { at = streamOff page + a .taken; difference = a .difference }) (a .creates)
-    (length-part body (a .last) 4096 (s .pre .0)) (omega (arith, stream-off-extent page (s .pre .1), s .pre .3)))
+    (length-part body (a .last) 4096 (s .pre .inside))
+    (omega (arith, stream-off-extent page (s .pre .grows .version-is), s .pre .grows .fits)))
     (c .before .before .append-last .ensures
     ∙ ap (λ (b : List ℕ). pageWith b (record { at = streamOff b + a .taken; difference = a .difference }) (a .creates))
     (lent-is body (a .last) 4096))

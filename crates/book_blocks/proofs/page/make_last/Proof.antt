@@ -25,7 +25,7 @@ returns c =
     let packed = linked .before .before .before .before .before in
     let s = packed .before .before .before .before in
     let a = s .args in
-    last-written (a .page .now) (a .fks .now) _ _ _ (a .first) (a .base) (a .extents) (a .creates) _ (s .pre .0) (s .pre .1)
+    last-written (a .page .now) (a .fks .now) _ _ _ (a .first) (a .base) (a .extents) (a .creates) _ (s .pre .long) (s .pre .last)
     (packed .sh-page-pack-extent-last-fks .ensures .1) (linked .before .link-to .ensures) (linked .put-u40 .ensures)
     (c .before .before .put-u32 .ensures)
 

@@ -27,9 +27,9 @@ returns : tie.Need-returns
 returns c =
     let s = c .before .before .before .before .before .before in
     let a = s .args in
-    block-back (a .body .now) (a .off) 4096 _ _ (length-pageTo (a .next) (a .fks .now) (s .pre .1 .numbers .fits))
+    block-back (a .body .now) (a .off) 4096 _ _ (length-pageTo (a .next) (a .fks .now) (s .pre .linked .numbers .fits))
     (c .before .before .sh-page-pack-fks .ensures .1
-    ∙ page-written _ (a .fks .now) (a .next) (length-lent-block (a .body .now) (a .off) 4096 (s .pre .0)) (s .pre .1))
+    ∙ page-written _ (a .fks .now) (a .next) (length-lent-block (a .body .now) (a .off) 4096 (s .pre .inside)) (s .pre .linked))
 
 pub put-page-to-spec : {M : Type 1} → statement M
 put-page-to-spec =

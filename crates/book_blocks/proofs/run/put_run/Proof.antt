@@ -16,11 +16,17 @@ use Rattle.book_blocks.proofs.LawsWrites.{RunLeft, RunTurn, RunEnd, cut
 use Rattle.book_blocks.proofs.run.put_run.Statement.{statement}
 use Rattle.book_blocks.proofs.run.put_run.Tie as tie
 
+-- what holds at index k: which page comes, what is left, and what writing that comes to
+record Turning (body₀ : List ℕ) (start : ℕ) (fks : List ℕ) (ranges : List (List ℕ)) (count : ℕ) (body : List ℕ) (off from k : ℕ)
+    : Type 0 where
+  more : k + 1 ≤ count
+  long : length body ≡ length body₀
+  page : off ≡ start + k * pageSize
+  left : RunLeft fks (take count ranges) k from (drop k (cutting fks))
+  writes : writeRun start count (length fks) body off (drop k (cutting fks)) ≡ writeRun start count (length fks) body₀ start (cutting fks)
+
 abbrev Inv-loop : tie.InvT-loop
-Inv-loop body₀ start fks ranges count off₀ from₀ k₀ body off from k =
-    let parts = drop k (cutting fks) in
-    (k + 1 ≤ count) × (length body ≡ length body₀) × (off ≡ start + k * pageSize) × RunLeft fks (take count ranges) k from parts
-    × (writeRun start count (length fks) body off parts ≡ writeRun start count (length fks) body₀ start (cutting fks))
+Inv-loop body₀ start fks ranges count off₀ from₀ k₀ body off from k = Turning body₀ start fks ranges count body off from k
 
 abbrev μ-loop : tie.MeasureT-loop
 μ-loop body₀ start fks ranges count off₀ from₀ k₀ body off from k = count - k
@@ -45,11 +51,11 @@ module _ (c : tie.In-loop Inv-loop μ-loop) where
       let l = c .before .loop in
       let few : 1 < length (drop (l .k) (cutting fks)) = simp length-drop (omega (arith, start .pre .parts)) in
       rw (getD-take (start .args .count) (start .args .ranges .now) (l .k) [] (omega arith)) at
-      (run-turn fks (take (start .args .count) (start .args .ranges .now)) (l .k) (l .from) (drop (l .k) (cutting fks)) few (l .inv .3))
+      (run-turn fks (take (start .args .count) (start .args .ranges .now)) (l .k) (l .from) (drop (l .k) (cutting fks)) few (l .inv .left))
 
   -- its page lies in the body, and another behind it
   room : c .before .loop .off + 2 * pageSize ≤ length (c .before .loop .body)
-  room = let inv = c .before .loop .inv in omega (arith, start .pre .inside, inv .1, inv .2)
+  room = let inv = c .before .loop .inv in omega (arith, start .pre .inside, inv .long, inv .page)
 
 -- behind the loop
 module _ (c : tie.After-loop Inv-loop μ-loop) where
@@ -63,8 +69,8 @@ module _ (c : tie.After-loop Inv-loop μ-loop) where
   ends =
       let l = c .before .loop in
       let one : length (drop (l .k) (cutting (entry .args .fks .now))) ≡ 1 =
-      simp length-drop (omega (arith, entry .pre .parts, l .inv .0)) in
-      run-end (entry .args .fks .now) (take (entry .args .count) (entry .args .ranges .now)) (l .k) (l .from) _ one (l .inv .3)
+      simp length-drop (omega (arith, entry .pre .parts, l .inv .more)) in
+      run-end (entry .args .fks .now) (take (entry .args .count) (entry .args .ranges .now)) (l .k) (l .from) _ one (l .inv .left)
 
   -- what is left is lent whole
   whole : take (length (entry .args .fks .now) - c .before .loop .from) left ≡ left
@@ -72,17 +78,17 @@ module _ (c : tie.After-loop Inv-loop μ-loop) where
 
   -- the last page lies in the body
   last-room : c .before .loop .off + pageSize ≤ length (c .before .loop .body)
-  last-room = let inv = c .before .loop .inv in omega (arith, entry .pre .inside, inv .0, inv .1, inv .2)
+  last-room = let inv = c .before .loop .inv in omega (arith, entry .pre .inside, inv .more, inv .long, inv .page)
 
 loop-holds : tie.Need-loop-holds Inv-loop μ-loop
 loop-holds c =
     let s = c .before .before in
     let a = s .args in
     let begins = run-start (length (a .body .now)) (a .start) (a .fks .now) (a .ranges .now) (a .count) (s .pre) in
-    (omega (arith, begins .0), refl, omega arith, begins .1, refl)
+    record { more = omega (arith, begins .0); long = refl; page = omega arith; left = begins .1; writes = refl }
 
 add-loop : tie.Need-add-loop Inv-loop μ-loop
-add-loop c = omega (arith, c .loop .inv .0)
+add-loop c = omega (arith, c .loop .inv .more)
 
 mul-range : tie.Need-mul-range Inv-loop μ-loop
 mul-range c = omega (arith, start c .pre .inside, start c .pre .small)
@@ -113,17 +119,18 @@ put-page-to-requires : tie.Need-put-page-to-requires Inv-loop μ-loop
 put-page-to-requires c κs =
     let d = c .before .before .before in
     let inv = d .before .loop .inv in
-    let pre = start d .pre in (
-      omega (arith, room d),
-      record {
+    let pre = start d .pre in
+    record {
+      inside = omega (arith, room d);
+      linked = record {
         numbers = turn d .numbers;
         next-named = record {
-          aligned = omega (arith, pre .aligned, inv .2);
+          aligned = omega (arith, pre .aligned, inv .page);
           some = omega arith;
-          small = omega (arith, room d, pre .small, inv .1);
+          small = omega (arith, room d, pre .small, inv .long);
         };
-      },
-    )
+      };
+    }
 
 add-k : tie.Need-add-k Inv-loop μ-loop
 add-k c = omega arith
@@ -140,16 +147,18 @@ loop-again c =
     let put = c .before .before .put-page-to in
     let page = pageTo (l .off + pageSize) (cut (fks d) (from d) (to d)) in
     let behind = drop-drop 1 (l .k) (cutting (fks d)) in
-    let long = length-pageTo (l .off + pageSize) (cut (fks d) (from d) (to d)) (t .numbers .fits) in (
-      omega arith,
-      ap length (put .ensures) ∙ length-overwrite (l .body) (l .off) page (omega (arith, long, room d)) ∙ l .inv .1,
-      omega (arith, l .inv .2),
-      rw behind at (t .left),
-      ap (λ (b : List ℕ). writeRun (a .start) (a .count) (length (fks d)) b (l .off + pageSize) (drop (l .k + 1) (cutting (fks d))))
+    let long = length-pageTo (l .off + pageSize) (cut (fks d) (from d) (to d)) (t .numbers .fits) in
+    record {
+      more = omega arith;
+      long = ap length (put .ensures) ∙ length-overwrite (l .body) (l .off) page (omega (arith, long, room d)) ∙ l .inv .long;
+      page = omega (arith, l .inv .page);
+      left = rw behind at (t .left);
+      writes =
+          ap (λ (b : List ℕ). writeRun (a .start) (a .count) (length (fks d)) b (l .off + pageSize) (drop (l .k + 1) (cutting (fks d))))
           (put .ensures)
           ∙ ap (writeRun (a .start) (a .count) (length (fks d)) (overwrite (l .body) (l .off) page) (l .off + pageSize)) (sym behind)
-          ∙ sym (t .writes (a .start) (a .count) (length (fks d)) (l .body) (l .off)) ∙ l .inv .4,
-    )
+          ∙ sym (t .writes (a .start) (a .count) (length (fks d)) (l .body) (l .off)) ∙ l .inv .writes;
+    }
 
 mul-put-last-page : tie.Need-mul-put-last-page Inv-loop μ-loop
 mul-put-last-page c = omega (arith, ends (c .before) .within, entry (c .before) .pre .few)
@@ -172,17 +181,18 @@ cast-put-last-page-2 c = omega (arith, entry (c .before .before) .pre .few)
 put-last-page-requires : tie.Need-put-last-page-requires Inv-loop μ-loop
 put-last-page-requires c κs =
     let d = c .before .before in
-    let pre = entry d .pre in (
-      last-room d,
-      record {
+    let pre = entry d .pre in
+    record {
+      inside = last-room d;
+      last = record {
         numbers = rw (whole d) (ends d .numbers);
         base-named = record { aligned = pre .aligned; some = pre .some; small = omega (arith, pre .inside, pre .small) };
-        some-extents = omega (arith, d .before .loop .inv .0);
-      },
-    )
+        some-extents = omega (arith, d .before .loop .inv .more);
+      };
+    }
 
 same-length : tie.Need-same-length Inv-loop μ-loop
-same-length c = omega (arith, c .before .before .before .before .before .before .loop .inv .1)
+same-length c = omega (arith, c .before .before .before .before .before .before .loop .inv .long)
 
 returns : tie.Need-returns Inv-loop μ-loop
 returns c =
@@ -191,7 +201,7 @@ returns c =
     let a = entry d .args in
     c .before .before .put-last-page .ensures
     ∙ ap (λ (ns : List ℕ). overwrite (l .body) (l .off) (lastPageOf (a .start) (a .start) (a .count) (length (a .fks .now)) ns)) (whole d)
-    ∙ sym (ends d .writes (a .start) (a .count) (length (a .fks .now)) (l .body) (l .off)) ∙ l .inv .4
+    ∙ sym (ends d .writes (a .start) (a .count) (length (a .fks .now)) (l .body) (l .off)) ∙ l .inv .writes
 
 pub put-run-spec : {M : Type 1} → statement M
 put-run-spec =

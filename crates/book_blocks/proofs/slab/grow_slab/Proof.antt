@@ -34,9 +34,9 @@ returns c =
     let s = c .before .before .before .before .before in
     let a = s .args in
     let body = a .body .now in
-    let long = length-part body (a .off) (a .size) (s .pre .0) in
+    let long = length-part body (a .off) (a .size) (s .pre .inside) in
     block-back body (a .off) (a .size) _ _
-    (length-slabWith (part body (a .off) (a .size)) (a .used) (a .taken) (a .difference) (omega (arith, long, s .pre .2)) ∙ long)
+    (length-slabWith (part body (a .off) (a .size)) (a .used) (a .taken) (a .difference) (omega (arith, long, s .pre .fits)) ∙ long)
     (c .before .before .grow-block .ensures
     ∙ ap (λ (b : List ℕ). slabWith b (a .used) (a .taken) (a .difference)) (lent-is body (a .off) (a .size)))
 

@@ -22,8 +22,8 @@ part-put-payload-end c = search needs
 put-payload-requires : tie.Need-put-payload-requires
 put-payload-requires c κs =
     let s = c .before .before .before in
-    let long = length-lent-block (s .args .body .now) (s .args .off) (s .args .size) (s .pre .0) in
-    (omega (arith, long, s .pre .1), s .pre .2, rising-below (2 ^ 62) (2 ^ 63) 0 (s .args .fks .now) (omega arith) (s .pre .3))
+    let long = length-lent-block (s .args .body .now) (s .args .off) (s .args .size) (s .pre .inside) in
+    (omega (arith, long, s .pre .fits), s .pre .few, rising-below (2 ^ 62) (2 ^ 63) 0 (s .args .fks .now) (omega arith) (s .pre .rises))
 
 same-length : tie.Need-same-length
 same-length c = search needs
@@ -31,8 +31,8 @@ same-length c = search needs
 returns : tie.Need-returns
 returns c =
     let s = c .before .before .before .before .before .before in
-    start-back (s .args .body .now) (s .args .off) (s .args .size) _ _ (s .pre .0)
-    (omega (arith, length-payload (s .args .fks .now), s .pre .1)) (c .before .before .put-payload .ensures)
+    start-back (s .args .body .now) (s .args .off) (s .args .size) _ _ (s .pre .inside)
+    (omega (arith, length-payload (s .args .fks .now), s .pre .fits)) (c .before .before .put-payload .ensures)
 
 pub put-slab-spec : {M : Type 1} → statement M
 put-slab-spec =

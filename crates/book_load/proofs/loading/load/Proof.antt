@@ -13,13 +13,12 @@ use Rattle.scripthash_stream.specs.Answers.{bytesAnswer}
 use Rattle.book_rules.proofs.LawsOffered.{offered-all}
 use Rattle.book_rules.specs.Outcomes.{Loaded}
 use Rattle.book_space.specs.Space.{shapeBroken}
-use Rattle.book_space.specs.Answers.{spaceOf}
 use Rattle.book_space.proofs.LawsShape.{shape-holds}
 use Rattle.book.specs.Book.{Book, Outcome, wordOf}
 use Rattle.book_load.specs.Loads.{loads}
 use Rattle.book.specs.Answers.{bookOf}
 use Rattle.book.proofs.LawsPlace.{refused-as}
-use Rattle.book_load.proofs.LawsLoad.{ends-refused, loads-shape, loads-beyond, loads-in-use, loads-too-many, loads-offered}
+use Rattle.book_load.proofs.LawsLoad.{loads-shape, loads-beyond, loads-in-use, loads-too-many, loads-offered}
 use Rattle.book_load.proofs.LawsLoad.{loads-on}
 use Rattle.book_load.proofs.loading.load.Statement.{statement}
 use Rattle.book_load.proofs.loading.load.Tie as tie
@@ -90,9 +89,8 @@ returns : tie.Need-returns
 returns c =
     let t = c .before .before in
     let s = t .before .before .before .before .before in
-    let e = ends-refused (book s) (load s) _ _ (loads-shape (book s) (key s) (list s) (sym (t .shape-broken .ensures)
-    ∙ c .before .if1 .taken))
-    (c .refuse-load .ensures .0) (ap (spaceOf (s .args .body .now)) (c .refuse-load .ensures .1)) in
+    let e = c .refuse-load .ensures (s .args .body .now) (s .args .heads .now) (load s)
+    (loads-shape (book s) (key s) (list s) (sym (t .shape-broken .ensures) ∙ c .before .if1 .taken)) in
     (e .told, e .left)
 
 refuse-load-requires-2 : tie.Need-refuse-load-requires-2
@@ -105,8 +103,8 @@ returns-2 : tie.Need-returns-2
 returns-2 c =
     let t = c .before .before in
     let s = start t in
-    let e = ends-refused (book s) (load s) _ _ (loads-beyond (book s) (key s) (list s) (good t) (c .before .if2 .taken))
-    (c .refuse-load2 .ensures .0) (ap (spaceOf (s .args .body .now)) (c .refuse-load2 .ensures .1)) in
+    let e = c .refuse-load2 .ensures (s .args .body .now) (s .args .heads .now) (load s)
+    (loads-beyond (book s) (key s) (list s) (good t) (c .before .if2 .taken)) in
     (e .told, e .left)
 
 mul-if3 : tie.Need-mul-if3
@@ -125,8 +123,8 @@ returns-3 : tie.Need-returns-3
 returns-3 c =
     let t = c .before .before .before in
     let s = start (t .before) in
-    let e = ends-refused (book s) (load s) _ _ (loads-in-use (book s) (key s) (list s) (good (t .before)) (known t) (c .before .if3 .taken))
-    (c .refuse-load3 .ensures .0) (ap (spaceOf (s .args .body .now)) (c .refuse-load3 .ensures .1)) in
+    let e = c .refuse-load3 .ensures (s .args .body .now) (s .args .heads .now) (load s)
+    (loads-in-use (book s) (key s) (list s) (good (t .before)) (known t) (c .before .if3 .taken)) in
     (e .told, e .left)
 
 refuse-load-requires-4 : tie.Need-refuse-load-requires-4
@@ -139,9 +137,8 @@ returns-4 : tie.Need-returns-4
 returns-4 c =
     let t = c .before .before in
     let s = start (shaped t) in
-    let e = ends-refused (book s) (load s) _ _
-    (loads-too-many (book s) (key s) (list s) (good (shaped t)) (known (t .before .before)) (empty t) (c .before .if4 .taken))
-    (c .refuse-load4 .ensures .0) (ap (spaceOf (s .args .body .now)) (c .refuse-load4 .ensures .1)) in
+    let e = c .refuse-load4 .ensures (s .args .body .now) (s .args .heads .now) (load s)
+    (loads-too-many (book s) (key s) (list s) (good (shaped t)) (known (t .before .before)) (empty t) (c .before .if4 .taken)) in
     (e .told, e .left)
 
 judge-list-requires : tie.Need-judge-list-requires
@@ -169,10 +166,9 @@ returns-5 c =
     let t = j .before in
     let s = begin t in
     let number = refused-as _ _ (ap bytesAnswer (told .enum-told .given .1)) (c .before .refusal .ensures) in
-    let e = ends-refused (book s) (load s) _ _
+    let e = c .refuse-load5 .ensures (s .args .body .now) (s .args .heads .now) (load s)
     (loads-offered (book s) (key s) (list s) (good (shaped (t .before))) (known (t .before .before .before)) (empty (t .before)) (few t)
-    (sym (j .judge-list .ensures) ∙ number))
-    (c .refuse-load5 .ensures .0) (ap (spaceOf (s .args .body .now)) (c .refuse-load5 .ensures .1)) in
+    (sym (j .judge-list .ensures) ∙ number)) in
     (e .told, e .left)
 
 load-judged-requires : tie.Need-load-judged-requires
@@ -181,7 +177,11 @@ load-judged-requires c κs =
     let t = listed k in
     let s = begin t in
     let shape = shape-holds (book s .space) (length (book s .heads)) (good (shaped (t .before))) in
-    (shape .0, known (t .before .before .before), record { rises = judged k .0; few = few t }, sym (accepted-inj (judged k .1)))
+    record {
+      to-load = record { shape = shape .0; keyed = known (t .before .before .before) };
+      judged = record { rises = judged k .0; few = few t };
+      bytes-are = sym (accepted-inj (judged k .1));
+    }
 
 same-length-6 : tie.Need-same-length-6
 same-length-6 c = search needs

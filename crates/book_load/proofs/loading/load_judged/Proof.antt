@@ -1,15 +1,13 @@
 -- `load_judged` meets its contract: the list's length decides. Assumes nothing.
 use Prim.Native.Nat.{ℕ}
 use mathlib.Core.List.{List}
-use mathlib.Core.Path.{ap}
+use mathlib.Core.Path.{refl, sym}
 use native.Mathlib.Omega.{arith}
 use borrow.Author.Needs.{needs}
-use lib.ListN.{getD}
-use Rattle.scripthash_layout.specs.declared.head.ShHeadValue.the-variants.{Inline}
-use Rattle.book_space.specs.Answers.{spaceOf}
 use Rattle.book.specs.Book.{Book}
 use Rattle.book.specs.Answers.{bookOf}
-use Rattle.book_load.proofs.LawsLoad.{ends-same, ends-loaded, load-none, load-one, load-more}
+use Rattle.book.proofs.LawsKey.{does-same}
+use Rattle.book_load.proofs.LawsLoad.{ends-same, load-none, load-one, load-more}
 use Rattle.book_load.proofs.loading.load_judged.Statement.{statement}
 use Rattle.book_load.proofs.loading.load_judged.Tie as tie
 
@@ -38,17 +36,19 @@ returns-2 c =
     let a = c .before .before in
     let one = a .before .before .before in
     let s = one .before .before .before .before .before in
-    let key = s .args .key in
-    let accept = a .accept-load .ensures in
-    ends-loaded (book s) _ _ _ key (Inline (getD (list s) 0 0) 1) 0 (a .accept-load .last .0)
-    (load-one (book s) key (list s) (one .if2 .taken)) (accept .0) (accept .1 .1)
-    (ap (spaceOf (s .args .body .now)) (accept .1 .0))
+    does-same (sym (load-one (book s) (s .args .key) (list s) (one .if2 .taken)))
+    (a .accept-load .ensures (book s) (s .args .body .now) refl)
 
 load-list-requires : tie.Need-load-list-requires
 load-list-requires c κs =
     let more = c .before .before in
     let pre = more .before .before .before .before .before .pre in
-    (pre .0, pre .1, omega (arith, more .if2 .left, more .before .if1 .left), pre .2, pre .3)
+    record {
+      to-load = pre .to-load;
+      two-fks = omega (arith, more .if2 .left, more .before .if1 .left);
+      judged = pre .judged;
+      bytes-are = pre .bytes-are;
+    }
 
 same-length-2 : tie.Need-same-length-2
 same-length-2 c = search needs

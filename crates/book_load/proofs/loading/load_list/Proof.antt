@@ -23,7 +23,7 @@ module _ (t : tie.After-loads-to) where
   list = start .args .fks .now
 
   chose : loadsTo (length list) (streamLen list) ≡ chosen (t .loads-to .result)
-  chose = sym (t .loads-to .ensures ∙ ap (loadsTo (length list)) (start .pre .4))
+  chose = sym (t .loads-to .ensures ∙ ap (loadsTo (length list)) (start .pre .bytes-are))
 
 -- a slab of a class
 module _ (k : tie.After-known-told) where
@@ -41,7 +41,8 @@ module _ (e : tie.After-enum-told) where
 loads-to-requires : tie.Need-loads-to-requires
 loads-to-requires c κs =
     let start = c .before .before .before in
-    omega (arith, start .pre .4, start .pre .3 .few, stream-at-most 0 (start .args .fks .now) (start .pre .3 .rises))
+    let pre = start .pre in
+    omega (arith, pre .bytes-are, pre .judged .few, stream-at-most 0 (start .args .fks .now) (pre .judged .rises))
 
 enum-known-class : tie.Need-enum-known-class
 enum-known-class c = search needs
@@ -52,7 +53,7 @@ load-slab-requires c κs =
     let t = choosing k in
     let pre = start t .pre in
     let (few, low, fits) = loads-to (length (list t)) (streamLen (list t)) (to-slab k) in
-    (pre .0, pre .1, low, few, pre .3 .rises, fits)
+    record { to-load = pre .to-load; low = low; few = few; rises = pre .judged .rises; fits = fits }
 
 enum-told : tie.Need-enum-told
 enum-told c = search needs
@@ -60,7 +61,7 @@ enum-told c = search needs
 load-run-requires : tie.Need-load-run-requires
 load-run-requires c κs =
     let pre = start (c .before .before .before .before) .pre in
-    (pre .0, pre .1, omega (arith, pre .2), pre .3)
+    record { to-load = pre .to-load; some-fks = omega (arith, pre .two-fks); judged = pre .judged }
 
 same-length : tie.Need-same-length
 same-length c = search needs

@@ -1,21 +1,22 @@
 -- `load_parts` meets its contract: what taking the run tells decides. Assumes nothing.
 use Prim.Native.Nat.{ℕ, _≤_}
 use mathlib.Core.List.{List}
-use mathlib.Core.Path.{_≡_, sym, ap, _∙_}
+use mathlib.Core.Option.{none}
+use mathlib.Core.Path.{_≡_, refl, sym, ap}
 use native.Mathlib.Omega.{arith}
 use borrow.Author.Needs.{needs}
 use lib.ListN.{length}
 use Rattle.error.specs.Refusal.{accepted}
-use Rattle.scripthash_layout.specs.declared.head.ShHeadValue.the-variants.{Extent}
 use Rattle.book_blocks.specs.Steps.{Run}
 use Rattle.book_blocks.proofs.LawsWrites.{run-start}
-use Rattle.book_space.specs.Space.{Space, space, takeRun}
+use Rattle.book_space.specs.Space.{Space, takeRun}
 use Rattle.book_space.specs.Answers.{spaceOf, takeAnswer}
 use Rattle.book.specs.Book.{Book}
-use Rattle.book_load.specs.Loads.{lastOfRun}
+use Rattle.book_load.specs.Loads.{loadInto}
 use Rattle.book.specs.Answers.{bookOf}
+use Rattle.book.proofs.LawsKey.{does-same, does-from}
 use Rattle.book.proofs.LawsPlace.{refused-as, took-at, took-none}
-use Rattle.book_load.proofs.LawsLoad.{ends-refused, ends-loaded, parts-few, run-loaded, run-not-loaded, run-lies}
+use Rattle.book_load.proofs.LawsLoad.{parts-few, run-loaded, run-not-loaded, run-lies}
 use Rattle.book_load.proofs.loading.load_parts.Statement.{statement}
 use Rattle.book_load.proofs.loading.load_parts.Tie as tie
 
@@ -48,14 +49,12 @@ module _ (k : tie.After-known-told) where
   off = k .before .answer .given .0 .0
 
   took : takeRun (count taking) (book taking .space) ≡ accepted (record { off = off; space = after taking })
-  took =
-      let told = taking .take-run .ensures in
-      took-at (book taking .space) (after taking) _ (told .1) (sym (told .0) ∙ ap takeAnswer (k .before .answer .given .1))
+  took = took-at (book taking .space) (after taking) _ (taking .take-run .ensures) (ap takeAnswer (k .before .answer .given .1))
 
   lies : Run (length (after taking .body)) off (list taking) (ranges taking) (count taking)
   lies =
       let pre = start taking .pre in
-      run-lies (book taking .space) (after taking) (list taking) (ranges taking) (count taking) off (pre .0) (pre .2) took
+      run-lies (book taking .space) (after taking) (list taking) (ranges taking) (count taking) off (pre .to-load .shape) (pre .cut) took
 
   some-pages : 1 ≤ count taking
   some-pages = run-start (length (after taking .body)) off (list taking) (ranges taking) (count taking) lies .0
@@ -63,7 +62,11 @@ module _ (k : tie.After-known-told) where
 take-run-requires : tie.Need-take-run-requires
 take-run-requires c κs =
     let start = c .before .before .before .before in
-    (start .pre .0, omega (arith, start .pre .2 .parts, parts-few (start .args .fks .now) (start .pre .2 .judged)))
+    let pre = start .pre in
+    record {
+      shape = pre .to-load .shape;
+      low = omega (arith, pre .cut .parts, parts-few (start .args .fks .now) (pre .cut .judged));
+    }
 
 enum-known-answer : tie.Need-enum-known-answer
 enum-known-answer c = search needs
@@ -84,12 +87,12 @@ returns : tie.Need-returns
 returns c =
     let e = c .before .before in
     let t = e .before .before .before .before .before in
-    let told = t .take-run .ensures in
     let number = refused-as _ _ (ap takeAnswer (e .enum-told .given .1)) (c .before .refusal .ensures) in
-    let (is, same) = took-none (book t .space) (after t) _ (told .1) (sym (told .0) ∙ number) in
-    ends-refused (book t) _ _ _ (run-not-loaded (book t) (start t .args .key) (list t) (count t) (start t .pre .2 .parts) is)
-    (c .refuse-load .ensures .0)
-    (ap (spaceOf (t .take-run .last .0)) (c .refuse-load .ensures .1) ∙ same)
+    let (is, same) = took-none (book t .space) (after t) _ (t .take-run .ensures) number in
+    let key = start t .args .key in
+    does-from same
+    (c .refuse-load .ensures (t .take-run .last .0) (start t .args .heads .now) (loadInto (book t) key (list t) none)
+    (run-not-loaded (book t) key (list t) (count t) (start t .pre .cut .parts) is))
 
 put-run-requires : tie.Need-put-run-requires
 put-run-requires c κs = lies (c .before)
@@ -118,11 +121,10 @@ returns-2 c =
     let p = a .before .before .before .before in
     let k = p .before .before in
     let t = taking k in
-    let key = start t .args .key in
-    let accept = a .accept-load .ensures in
-    ends-loaded (book t) _ _ _ key (Extent (lastOfRun (off k) (count t))) (count t) (a .accept-load .last .0)
-    (run-loaded (book t) key (list t) (count t) (start t .pre .2 .parts) (after t) (took k)) (accept .0) (accept .1 .1)
-    (ap (spaceOf (p .put-run .last .0)) (accept .1 .0) ∙ ap (λ (b : List ℕ). space b (after t .mark) (after t .free)) (p .put-run .ensures))
+    does-same
+    (sym (run-loaded (book t) (start t .args .key) (list t) (count t) (start t .pre .cut .parts) (after t) (took k) (p .put-run .last .0)
+    (p .put-run .ensures)))
+    (a .accept-load .ensures (book t) (p .put-run .last .0) refl)
 
 pub load-parts-spec : {M : Type 1} → statement M
 load-parts-spec =

@@ -22,7 +22,7 @@ module _ (t : tie.After-sh-page-chunk-ranges) where
   list = start .args .fks .now
 
   was-cut : chunkAnswer (t .sh-page-chunk-ranges .result) ≡ accepted (length (cutting list))
-  was-cut = t .sh-page-chunk-ranges .ensures .0 ∙ all-cut list (start .pre .3)
+  was-cut = t .sh-page-chunk-ranges .ensures .0 ∙ all-cut list (start .pre .judged)
 
 slice-aggregate-sh-page-chunk-ranges : tie.Need-slice-aggregate-sh-page-chunk-ranges
 slice-aggregate-sh-page-chunk-ranges c = search needs
@@ -56,16 +56,16 @@ load-parts-requires c κs =
     let t = k .before .before .before in
     let pre = start t .pre in
     let told = sym (t .sh-page-chunk-ranges .ensures .0) ∙ ap chunkAnswer (k .cut .given .1) in
-    let (parts, ranges) = ranges-cut (replicate 163 (replicate 2 0)) (list t) (k .cut .given .0 .0) told in (
-      pre .0,
-      pre .1,
-      record {
-        judged = pre .3;
-        some-fks = pre .2;
+    let (parts, ranges) = ranges-cut (replicate 163 (replicate 2 0)) (list t) (k .cut .given .0 .0) told in
+    record {
+      to-load = pre .to-load;
+      cut = record {
+        judged = pre .judged;
+        some-fks = pre .some-fks;
         parts = parts;
         ranges-are = ap (take (k .cut .given .0 .0)) (t .sh-page-chunk-ranges .ensures .1) ∙ ranges;
-      },
-    )
+      };
+    }
 
 same-length : tie.Need-same-length
 same-length c = search needs

@@ -2,15 +2,17 @@
 use Prim.Native.Nat.{ℕ}
 use mathlib.Core.List.{List}
 use mathlib.Core.Option.{some}
-use mathlib.Core.Path.{sym, ap, _∙_}
+use mathlib.Core.Path.{refl, sym, ap}
 use borrow.Author.Needs.{needs}
 use Rattle.book_space.specs.Space.{Space}
 use Rattle.book_space.specs.Answers.{spaceOf}
 use Rattle.book.specs.Book.{Book}
 use Rattle.book.specs.Answers.{bookOf}
 use Rattle.book.specs.Steps.{placesInto, placeAnswer}
+use Rattle.book_load.specs.Loads.{loadInto}
+use Rattle.book.proofs.LawsKey.{does-same, does-from}
 use Rattle.book.proofs.LawsPlace.{placed-at, placed-none}
-use Rattle.book_load.proofs.LawsLoad.{ends-refused, ends-loaded, slab-loaded, slab-not-loaded}
+use Rattle.book_load.proofs.LawsLoad.{slab-loaded, slab-not-loaded}
 use Rattle.book_load.proofs.loading.load_slab.Statement.{statement}
 use Rattle.book_load.proofs.loading.load_slab.Tie as tie
 
@@ -32,7 +34,9 @@ module _ (t : tie.After-place-in-slab) where
   after = spaceOf (t .place-in-slab .last .0) (t .place-in-slab .result .state)
 
 place-in-slab-requires : tie.Need-place-in-slab-requires
-place-in-slab-requires c κs = search needs
+place-in-slab-requires c κs =
+    let pre = c .before .before .before .before .pre in
+    record { shape = pre .to-load .shape; low = pre .low; few = pre .few; rises = pre .rises; fits = pre .fits }
 
 enum-known-answer : tie.Need-enum-known-answer
 enum-known-answer c = search needs
@@ -57,14 +61,10 @@ returns c =
     let a = c .before .before in
     let k = a .before .before .before in
     let t = k .before .before .before .before .before in
-    let told = t .place-in-slab .ensures in
-    let placed = placed-at (book t .space) (after t) (placesInto (book t .space) (list t) (some (class t))) (told .1) (sym (told .0)
-    ∙ ap placeAnswer (k .answer .given .1)) in
-    let accept = a .accept-load .ensures in
-    let key = start t .args .key in
-    ends-loaded (book t) _ _ _ key (k .answer .given .0 .0) 0 (a .accept-load .last .0) (slab-loaded (book t) key (list t) (class t) placed)
-    (accept .0) (accept .1 .1)
-    (ap (spaceOf (t .place-in-slab .last .0)) (accept .1 .0))
+    let placed = placed-at (book t .space) (after t) (placesInto (book t .space) (list t) (some (class t))) (t .place-in-slab .ensures)
+    (ap placeAnswer (k .answer .given .1)) in
+    does-same (sym (slab-loaded (book t) (start t .args .key) (list t) (class t) placed))
+    (a .accept-load .ensures (book t) (t .place-in-slab .last .0) refl)
 
 same-length-3 : tie.Need-same-length-3
 same-length-3 c = search needs
@@ -73,11 +73,12 @@ returns-2 : tie.Need-returns-2
 returns-2 c =
     let k = c .before .before in
     let t = k .before .before .before .before .before in
-    let told = t .place-in-slab .ensures in
-    let (is, same) = placed-none (book t .space) (after t) (placesInto (book t .space) (list t) (some (class t))) (told .1) (sym (told .0)
-    ∙ ap placeAnswer (k .answer2 .given .1)) in
-    ends-refused (book t) _ _ _ (slab-not-loaded (book t) (start t .args .key) (list t) (class t) is) (c .refuse-load .ensures .0)
-    (ap (spaceOf (t .place-in-slab .last .0)) (c .refuse-load .ensures .1) ∙ same)
+    let (is, same) = placed-none (book t .space) (after t) (placesInto (book t .space) (list t) (some (class t)))
+    (t .place-in-slab .ensures) (ap placeAnswer (k .answer2 .given .1)) in
+    let key = start t .args .key in
+    does-from same
+    (c .refuse-load .ensures (t .place-in-slab .last .0) (start t .args .heads .now) (loadInto (book t) key (list t) (some (class t)))
+    (slab-not-loaded (book t) key (list t) (class t) is))
 
 pub load-slab-spec : {M : Type 1} → statement M
 load-slab-spec =

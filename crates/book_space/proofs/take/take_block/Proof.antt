@@ -1,13 +1,13 @@
 -- `take_block` meets its contract: what the pop tells decides, and then the class. Assumes nothing.
 use Prim.Native.Nat.{ℕ}
 use mathlib.Core.Path.{_≡_, sym, ap, _∙_}
-use Rattle.error.specs.Refusal.{answered}
-use Rattle.error.proofs.LawsAnswer.{answered-yes, answered-no}
+use native.Mathlib.Omega.{arith}
 use Rattle.scripthash_layout.specs.Sizes.{slabBytes}
 use Rattle.scripthash_free.specs.Answers.{popAnswer}
-use Rattle.book_space.specs.Space.{Space, Taken, takeMark, takeRun, takeFresh, takeBlock, spaceAfter}
+use Rattle.book_space.specs.Space.{Space, takeMark, takeRun, takeFresh, takeBlock}
 use Rattle.book_space.specs.Answers.{spaceOf}
-use Rattle.book_space.proofs.LawsSteps.{after-taken, after-refused, fresh-page, fresh-slab, told-block, told-none, told-refused}
+use Rattle.book_space.proofs.LawsSteps.{takes-same, takes-yes, takes-no, fresh-page, fresh-slab, told-block, told-none}
+use Rattle.book_space.proofs.LawsSteps.{told-refused}
 use borrow.Author.Needs.{needs}
 use Rattle.book_space.proofs.take.take_block.Statement.{statement}
 use Rattle.book_space.proofs.take.take_block.Tie as tie
@@ -40,7 +40,8 @@ enum-told : tie.Need-enum-told
 enum-told c = search needs
 
 take-run-requires : tie.Need-take-run-requires
-take-run-requires c κs = search needs
+take-run-requires c κs =
+    record { shape = start (c .before .before .before .before) .pre .shape; low = omega arith }
 
 same-length : tie.Need-same-length
 same-length c = search needs
@@ -51,11 +52,13 @@ returns c =
     let t = told .before .before in
     let answer : takeBlock (class t) (before t) ≡ takeRun 1 (before t)
     = fresh told ∙ ap (λ (k : ℕ). takeFresh k (before t)) (c .before .before .before .before .if1 .taken) ∙ fresh-page (before t) in
-    let run = c .before .before .take-run .ensures in
-    (run .0 ∙ ap (answered (λ (x : Taken). x .off)) (sym answer), run .1 ∙ ap (spaceAfter (before t)) (sym answer))
+    takes-same (sym answer) (c .before .before .take-run .ensures)
 
 take-slab-requires : tie.Need-take-slab-requires
-take-slab-requires c κs = search needs
+take-slab-requires c κs =
+    let e = c .before in
+    let pre = start (e .before .before .before) .pre in
+    record { shape = pre .shape; low = omega (arith, pre .low, e .if1 .left) }
 
 enum-known-popped-2 : tie.Need-enum-known-popped-2
 enum-known-popped-2 c = search needs
@@ -68,7 +71,7 @@ returns-2 c =
     let t = c .before .before .before in
     let answer = told-block (class t) (before t) (t .pop-lent .last .1 .0) (sym (t .pop-lent .ensures .0)
     ∙ ap popAnswer (c .before .popped .given .1)) (t .pop-lent .ensures .1) in
-    (sym (answered-yes (λ (x : Taken). x .off) _ answer), sym (after-taken (before t) _ answer))
+    takes-yes (before t) _ answer
 
 same-length-3 : tie.Need-same-length-3
 same-length-3 c = search needs
@@ -79,8 +82,7 @@ returns-3 c =
     let t = told .before .before in
     let answer : takeBlock (class t) (before t) ≡ takeMark (slabBytes (class t)) (before t)
     = fresh told ∙ fresh-slab (class t) (before t) (c .before .before .if1 .left) in
-    let slab = c .take-slab .ensures in
-    (slab .0 ∙ ap (answered (λ (x : Taken). x .off)) (sym answer), slab .1 ∙ ap (spaceAfter (before t)) (sym answer))
+    takes-same (sym answer) (c .take-slab .ensures)
 
 same-length-4 : tie.Need-same-length-4
 same-length-4 c = search needs
@@ -89,7 +91,7 @@ returns-4 : tie.Need-returns-4
 returns-4 c =
     let t = c .before .before .before in
     let answer = told-refused (class t) (before t) (sym (t .pop-lent .ensures .0) ∙ ap popAnswer (c .before .popped2 .given .1)) in
-    (sym (answered-no (λ (x : Taken). x .off) _ answer), sym (after-refused (before t) _ answer))
+    takes-no (before t) _ answer
 
 pub take-block-spec : {M : Type 1} → statement M
 take-block-spec =

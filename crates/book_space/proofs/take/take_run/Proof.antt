@@ -1,10 +1,8 @@
 -- `take_run` meets its contract: the run's end against the body's decides, and the gap can be carved. Assumes nothing.
-use mathlib.Core.Path.{sym}
-use Rattle.error.proofs.LawsAnswer.{answered-yes, answered-no}
 use Rattle.scripthash_free.specs.FreeList.{lists}
-use Rattle.book_space.specs.Space.{Space, Taken}
+use Rattle.book_space.specs.Space.{Space}
 use Rattle.book_space.specs.Answers.{spaceOf}
-use Rattle.book_space.proofs.LawsSteps.{after-taken, after-refused}
+use Rattle.book_space.proofs.LawsSteps.{takes-yes, takes-no}
 use Rattle.book_space.proofs.LawsTake.{run-yes, run-no}
 use borrow.Author.Needs.{needs}
 use Rattle.book_space.proofs.take.take_run.Statement.{statement}
@@ -33,8 +31,8 @@ add-end c = search needs
 returns : tie.Need-returns
 returns c =
     let start = c .before .before in
-    let answer = run-no (start .args .pages) (before start) (start .pre .0) (c .if1 .taken) in
-    (sym (answered-no (λ (x : Taken). x .off) _ answer), sym (after-refused (before start) _ answer))
+    let answer = run-no (start .args .pages) (before start) (start .pre .shape) (c .if1 .taken) in
+    takes-no (before start) _ answer
 
 carve-lent-requires : tie.Need-carve-lent-requires
 carve-lent-requires c κs = search needs
@@ -47,8 +45,9 @@ returns-2 c =
     let t = c .before .before .before .before .before .before in
     let start = t .before .before in
     let l = lists (c .before .before .carve-lent .last .0) (c .before .before .carve-lent .last .1 .0) in
-    let answer = run-yes (start .args .pages) (before start) (start .pre .0) l (c .before .before .carve-lent .ensures .1) (t .if1 .left) in
-    (sym (answered-yes (λ (x : Taken). x .off) _ answer), sym (after-taken (before start) _ answer))
+    let carved = c .before .before .carve-lent .ensures .1 in
+    let answer = run-yes (start .args .pages) (before start) (start .pre .shape) l carved (t .if1 .left) in
+    takes-yes (before start) _ answer
 
 pub take-run-spec : {M : Type 1} → statement M
 take-run-spec =

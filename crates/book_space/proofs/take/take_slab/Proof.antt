@@ -1,14 +1,13 @@
 -- `take_slab` meets its contract: the slab's end against the body's decides. Assumes nothing.
 use Prim.Native.Nat.{ℕ, _+_, _≤_}
-use mathlib.Core.Path.{_≡_, sym, ap, _∙_}
+use mathlib.Core.Path.{_≡_, ap, _∙_}
 use native.Mathlib.Omega.{arith}
-use Rattle.error.proofs.LawsAnswer.{answered-yes, answered-no}
 use Rattle.scripthash_layout.specs.Sizes.{slabBytes}
 use Rattle.scripthash_free.proofs.LawsBlock.{bytes-fit}
 use Rattle.scripthash_layout.proofs.LawsSizes.{size-mono}
-use Rattle.book_space.specs.Space.{Space, space, Taken}
+use Rattle.book_space.specs.Space.{Space, space}
 use Rattle.book_space.specs.Answers.{spaceOf}
-use Rattle.book_space.proofs.LawsSteps.{after-taken, after-refused, mark-yes, mark-no}
+use Rattle.book_space.proofs.LawsSteps.{takes-yes, takes-no, mark-yes, mark-no}
 use borrow.Author.Needs.{needs}
 use Rattle.book_space.proofs.take.take_slab.Statement.{statement}
 use Rattle.book_space.proofs.take.take_slab.Tie as tie
@@ -22,31 +21,31 @@ module _ (t : tie.After-slab-bytes) where
   before = spaceOf (start .args .body .now) (start .args .state)
 
   size : t .slab-bytes .result ≡ slabBytes (start .args .class)
-  size = t .slab-bytes .ensures ∙ bytes-fit (start .args .class) (omega (arith, start .pre .1))
+  size = t .slab-bytes .ensures ∙ bytes-fit (start .args .class) (omega (arith, start .pre .low))
 
   few : slabBytes (start .args .class) ≤ 2048
-  few = size-mono 4 {c = start .args .class} {d = 7} (start .pre .1)
+  few = size-mono 4 {c = start .args .class} {d = 7} (start .pre .low)
 
 slab-bytes-requires : tie.Need-slab-bytes-requires
 slab-bytes-requires c κs = search needs
 
 add-end : tie.Need-add-end
-add-end c = omega (arith, size c, few c, start c .pre .0)
+add-end c = omega (arith, size c, few c, start c .pre .shape)
 
 returns : tie.Need-returns
 returns c =
     let t = c .before in
     let answer = mark-no (slabBytes (start t .args .class)) (before t) (omega (arith, size t, c .if1 .taken)) in
-    (sym (answered-no (λ (x : Taken). x .off) _ answer), sym (after-refused (before t) _ answer))
+    takes-no (before t) _ answer
 
 returns-2 : tie.Need-returns-2
 returns-2 c =
     let t = c .before .before in
     let a = start t .args in
-    let answer = mark-yes (slabBytes (a .class)) (before t) (omega (arith, size t, c .before .if1 .left)) in (
-      sym (answered-yes (λ (x : Taken). x .off) _ answer),
-      ap (λ (bytes : ℕ). space (a .body .now) (a .state .mark + bytes) (a .state .free)) (size t) ∙ sym (after-taken (before t) _ answer),
-    )
+    let answer = mark-yes (slabBytes (a .class)) (before t) (omega (arith, size t, c .before .if1 .left)) in
+    let after = ap (λ (bytes : ℕ). space (a .body .now) (a .state .mark + bytes) (a .state .free)) (size t) in
+    let took = takes-yes (before t) _ answer in
+    record { told = took .told; left = after ∙ took .left }
 
 pub take-slab-spec : {M : Type 1} → statement M
 take-slab-spec = tie.close (tie.spec slab-bytes-requires add-end returns returns-2)
