@@ -12,7 +12,7 @@ sys.path.insert(0, str(Path(__file__).resolve().parent.parent / "host"))
 from boundary.refusals import TEXTS
 from plain_book import Book, Refused
 
-LINE_BYTES, NUMBERS, KEYS, BODY_BYTES = 16384, 4096, 4096, 262144
+LINE_BYTES, NUMBERS, KEYS, BODY_BYTES = 16384, 262144, 65536, 262144
 FORMS = {
     "body": "body BYTES",
     "keys": "keys COUNT",
@@ -23,7 +23,21 @@ FORMS = {
     "places": "places alone",
     "space": "space alone",
     "check": "check alone",
+    "help": "help alone",
 }
+HELP = [
+    f"body BYTES: the size of a book, in whole pages of 4096 bytes, from 8192 to {BODY_BYTES}",
+    f"keys COUNT: makes a fresh book of so many accounts, which are the keys 0, 1, ...; from 1 to {KEYS}",
+    "append KEY NUMBER: records a number, from 1 to 2^62 - 1, above the last that is recorded",
+    "load KEY NUMBER ...: records rising numbers in an empty account",
+    "drop KEY: empties an account",
+    "read KEY, or read KEY ROOM: shows an account's numbers, where there is room for all of them",
+    "places: shows where each account stands",
+    "space: shows the mark and the freed blocks",
+    "check: tells whether the book is a good start",
+    "help: shows these lines",
+    f"a line that begins with # is a comment; the most bytes of a line are {LINE_BYTES}",
+]
 
 class Unread(Exception):
     """A line that can't be read, with what to say."""
@@ -78,11 +92,14 @@ class Shell:
         self.book = Book(0, 0)
 
     def body(self, size):
-        self.book = Book(limited(size, BODY_BYTES, "too many bytes"), 0)
+        self.book = Book(limited(size, BODY_BYTES, "too many bytes for a body"), 0)
         return f"body of {size} bytes"
 
     def keys(self, count):
-        self.book = Book(self.book.size, limited(count, KEYS, "too many keys"))
+        limited(count, KEYS, "too many keys")
+        if self.book.size == 0:
+            raise Unread("no body yet: type body BYTES first")
+        self.book = Book(self.book.size, count)
         if self.book.out_of_shape():
             raise Refused(1)
         return f"{counted(count, 'key')} over {counted(self.book.size, 'byte')}: a fresh book"
@@ -96,7 +113,9 @@ class Shell:
         return f"appended: {place(self.book, key)}; {counted(rewritten, 'record')} rewritten"
 
     def read(self, key, room=NUMBERS):
-        ns, pages = self.book.read(key, limited(room, NUMBERS, "too much room"))
+        ns, pages = self.book.read(key, room)
+        if not ns:
+            return "read: nothing is recorded"
         return f"read: {counted(len(ns), 'number')}, {counted(pages, 'page')}:" + "".join(f" {n}" for n in ns)
 
     def drop(self, key):
@@ -122,25 +141,33 @@ class Shell:
             claimed |= units
         return "a good start"
 
+    def help(self):
+        return HELP
+
 
 def answer(shell, words):
     """The lines of the answer to a line."""
     ns = numbers(words[1:])
     if words[0] not in FORMS:
-        raise Unread("expected body, keys, load, append, read, drop, places, space or check")
-    alone = dict.fromkeys(("places", "space", "check"), (0, 0))
+        raise Unread("expected body, keys, load, append, read, drop, places, space, check or help")
+    alone = dict.fromkeys(("places", "space", "check", "help"), (0, 0))
     least, most = {"load": (1, NUMBERS), "append": (2, 2), "read": (1, 2), **alone}.get(words[0], (1, 1))
     if not least <= len(ns) <= most:
         raise Unread(f"expected {FORMS[words[0]]}")
+    if words[0] == "read" and len(ns) == 2:
+        limited(ns[1], NUMBERS, "too much room")
+    if words[0] not in ("body", "keys", "help") and not shell.book.lists:
+        raise Unread("no book yet: type body BYTES, then keys COUNT")
     told = getattr(shell, words[0])(*ns)
     return told if isinstance(told, list) else [told]
 
 
 def main():
-    shell = Shell()
+    shell, turned_back, unread = Shell(), 0, 0
     for number, line in enumerate(sys.stdin.read().split("\n"), 1):
         if len(line) >= LINE_BYTES:
-            print(f"line {number}: too many bytes, the most here is {LINE_BYTES}")
+            print(f"line {number}: too many bytes on a line, the most here is {LINE_BYTES}")
+            unread += 1
             continue
         words = line.split()
         if not words:
@@ -154,8 +181,11 @@ def main():
                 print(told)
         except Refused as refused:
             print(f"refused {refused}: {TEXTS[int(str(refused))]}")
+            turned_back += 1
         except Unread as why:
             print(f"line {number}: {why}")
+            unread += 1
+    print(f"{counted(turned_back, 'line')} refused, {counted(unread, 'line')} not understood")
 
 
 main()

@@ -15,13 +15,17 @@ pub enum Command {
     Places,
     Space,
     Check,
+    Help,
     // A word that the shell doesn't know, or nothing to do.
     Nothing,
+    // A line that can't be read, which was reported.
+    Unread,
 }
 
-// What a line asks for, with so many numbers in the lent list: the first of them, and the second. Where a read has no second one, it is the
-// room of the whole list.
+// What the line of a number asks for, with so many numbers in the lent list: the first of them, and the second. Where a read has no second
+// one, it is the room of the whole list.
 pub struct Asked {
+    pub number: u64,
     pub what: Command,
     pub count: usize,
     pub first: u64,
@@ -31,7 +35,19 @@ pub struct Asked {
 // Nothing is to be done.
 fn nothing() -> Asked {
     Asked {
+        number: 0,
         what: Command::Nothing,
+        count: 0,
+        first: 0,
+        second: 0,
+    }
+}
+
+// A line was reported, and nothing is to be done for it.
+fn unread() -> Asked {
+    Asked {
+        number: 0,
+        what: Command::Unread,
         count: 0,
         first: 0,
         second: 0,
@@ -48,6 +64,9 @@ fn question(word: &[u8]) -> Command {
     }
     if check::same(word, b"check") {
         return Command::Check;
+    }
+    if check::same(word, b"help") {
+        return Command::Help;
     }
     if check::same(word, b"body") {
         return Command::Body;
@@ -78,7 +97,7 @@ fn command_of(word: &[u8]) -> Command {
 // The fewest numbers that a line has.
 fn fewest(command: Command) -> usize {
     match command {
-        Command::Places | Command::Space | Command::Check => 0,
+        Command::Places | Command::Space | Command::Check | Command::Help => 0,
         Command::Append => 2,
         Command::Nothing => usize::MAX,
         _ => 1,
@@ -88,7 +107,7 @@ fn fewest(command: Command) -> usize {
 // The most numbers that a line has.
 fn most(command: Command) -> usize {
     match command {
-        Command::Places | Command::Space | Command::Check => 0,
+        Command::Places | Command::Space | Command::Check | Command::Help => 0,
         Command::Append | Command::Read => 2,
         Command::Load => usize::MAX,
         _ => 1,
@@ -103,7 +122,8 @@ fn form_of_book(command: Command) {
         Command::Places => text::words(b"places alone"),
         Command::Space => text::words(b"space alone"),
         Command::Check => text::words(b"check alone"),
-        _ => text::words(b"body, keys, load, append, read, drop, places, space or check"),
+        Command::Help => text::words(b"help alone"),
+        _ => text::words(b"body, keys, load, append, read, drop, places, space, check or help"),
     }
 }
 
@@ -135,10 +155,16 @@ fn within(number: u64, n: u64, limit: usize, what: &[u8]) -> bool {
 }
 
 // What is asked for is within the limits.
-fn allowed(number: u64, asked: Asked, room: usize) -> bool {
+fn allowed(asked: Asked, room: usize) -> bool {
+    let number = asked.number;
     let what = asked.what;
     match what {
-        Command::Body => within(number, asked.first, reports::BODY_BYTES, b"too many bytes"),
+        Command::Body => within(
+            number,
+            asked.first,
+            reports::BODY_BYTES,
+            b"too many bytes for a body",
+        ),
         Command::Keys => within(number, asked.first, reports::KEYS, b"too many keys"),
         Command::Read => within(number, asked.second, room, b"too much room"),
         _ => true,
@@ -159,25 +185,26 @@ fn number_at(list: &[u64], count: usize, at: usize, other: u64) -> u64 {
 fn formed(number: u64, command: Command, list: &[u64], count: usize) -> Asked {
     if count < fewest(command) {
         report_form(number, command);
-        return nothing();
+        return unread();
     }
     if most(command) < count {
         report_form(number, command);
-        return nothing();
+        return unread();
     }
     let room = list.len();
     let first = number_at(list, count, 0, 0);
     let second = number_at(list, count, 1, room as u64);
     let asked = Asked {
+        number,
         what: command,
         count,
         first,
         second,
     };
-    if allowed(number, asked, room) {
+    if allowed(asked, room) {
         return asked;
     }
-    nothing()
+    unread()
 }
 
 // A part of a line.
@@ -213,7 +240,7 @@ fn ask_words(number: u64, line: &[u8], first: usize, list: &mut [u64]) -> Asked
     let numbers = decimal::numbers_into(line, behind, list);
     let Numbers::Read(count) = numbers else {
         report_words(number, line, numbers);
-        return nothing();
+        return unread();
     };
     formed(number, command, list, count)
 }

@@ -1,5 +1,6 @@
 // What the account book's shell reads and says: the lines of a script, what each asks for, and answers in words. Nothing here has a book.
 mod asked;
+mod helped;
 mod judged;
 mod reading;
 mod refusals;
@@ -11,6 +12,7 @@ pub use asked::Asked;
 pub use asked::Command;
 pub use asked::ask;
 pub use asked::offered;
+pub use helped::help;
 pub use judged::free_shares;
 pub use judged::free_strays;
 pub use judged::good_start;
@@ -26,9 +28,12 @@ pub use reports::KEYS;
 pub use reports::LINE_BYTES;
 pub use reports::NUMBERS;
 pub use reports::WORK_BYTES;
+pub use reports::no_body;
+pub use reports::no_book;
 pub use said::appended;
 pub use said::body_made;
 pub use said::dropped;
+pub use said::ended;
 pub use said::keys_made;
 pub use said::listed;
 pub use said::loaded;

@@ -11,6 +11,8 @@ pub struct Reading {
     next: usize,
     end: usize,
     pub lines: u64,
+    // How many of them were too long, which was reported.
+    pub too_long: u64,
     // A line came that is to be done.
     pub has_line: bool,
     // The text is the rest of a line that was too long.
@@ -27,6 +29,7 @@ pub fn begin() -> Reading {
         next: 0,
         end: 0,
         lines: 0,
+        too_long: 0,
         has_line: false,
         skips: false,
         ended: false,
@@ -68,6 +71,7 @@ impl Reading {
     // What comes next is the rest of a line that was too long.
     fn skipping(mut self) -> Self {
         self.skips = true;
+        self.too_long = std::num::wrapping_add_u64(self.too_long, 1);
         self
     }
 }
@@ -86,10 +90,11 @@ pub fn line_of(text: &[u8], at: Reading) -> &[u8] {
 
 // Reports a line that is too long, once, and skips what was read of it.
 fn too_long(at: Reading) -> Reading {
-    if !at.skips {
-        let number = std::num::wrapping_add_u64(at.lines, 1);
-        reports::past(number, b"too many bytes", reports::LINE_BYTES);
+    if at.skips {
+        return at.holding(0);
     }
+    let number = std::num::wrapping_add_u64(at.lines, 1);
+    reports::past(number, b"too many bytes on a line", reports::LINE_BYTES);
     let after = at.skipping();
     after.holding(0)
 }

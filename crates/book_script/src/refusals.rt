@@ -6,7 +6,7 @@ fn of_book(number: error::Refusal) {
         1 => text::words(b"the book's shape breaks its limits"),
         2 => text::words(b"the key is beyond the heads"),
         3 => text::words(b"a load meets a key in use"),
-        31 => text::words(b"the key isn't sound"),
+        31 => text::words(b"the key isn't sound: it is unknown, never taken for empty"),
         _ => text::words(b"no call of a book answers this"),
     }
 }

@@ -2,10 +2,10 @@
 
 // The bytes of a line, with its end.
 pub const LINE_BYTES: usize = 16384;
-// The numbers on a line, the key among them, and the numbers that a read can list.
-pub const NUMBERS: usize = 4096;
+// The numbers on a line, the key among them, and the numbers that a read can list: more than the largest body has room for, a byte each.
+pub const NUMBERS: usize = 262144;
 // The keys of a book.
-pub const KEYS: usize = 4096;
+pub const KEYS: usize = 65536;
 // The bytes of a body.
 pub const BODY_BYTES: usize = 262144;
 // The work list of a check: a byte for each 16 bytes of the largest body.
@@ -29,6 +29,18 @@ pub fn past(number: u64, what: &[u8], most: usize) {
     text::words(what);
     text::named(b", the most here is ", most as u64);
     text::end();
+}
+
+// Reports a line that asks something of a book before there is one.
+pub fn no_book(number: u64) {
+    report(number);
+    text::words(b"no book yet: type body BYTES, then keys COUNT\n");
+}
+
+// Reports a line that asks for keys before there is a body.
+pub fn no_body(number: u64) {
+    report(number);
+    text::words(b"no body yet: type body BYTES first\n");
 }
 
 // Reports a word that isn't what was expected.

@@ -60,8 +60,8 @@ pub fn appended(to: ShHeadValue, rewritten: u64) {
     counted(rewritten, b" record rewritten\n", b" records rewritten\n");
 }
 
-// A list was read, and stands at the start of another.
-pub fn listed(list: &[u64], length: u64, pages: u64) {
+// A list with numbers was read, and stands at the start of another.
+fn listed_some(list: &[u64], length: u64, pages: u64) {
     text::words(b"read: ");
     numbers_and(length);
     counted(pages, b" page:", b" pages:");
@@ -71,8 +71,27 @@ pub fn listed(list: &[u64], length: u64, pages: u64) {
     text::end();
 }
 
+// A list was read, and stands at the start of another.
+pub fn listed(list: &[u64], length: u64, pages: u64) {
+    if length == 0 {
+        text::words(b"read: nothing is recorded\n");
+        return;
+    }
+    listed_some(list, length, pages);
+}
+
 // A list was dropped.
 pub fn dropped(length: u64) {
     text::words(b"dropped: ");
     counted(length, b" number\n", b" numbers\n");
+}
+
+// No more lines come: so many were refused, and so many not understood.
+pub fn ended(refused: u64, unread: u64) {
+    counted(refused, b" line refused, ", b" lines refused, ");
+    counted(
+        unread,
+        b" line not understood\n",
+        b" lines not understood\n",
+    );
 }

@@ -1,7 +1,8 @@
 // A shell for the account book: reads a script from standard input, a call a line, and writes each answer in words. `body BYTES` and then
 // `keys COUNT` make a fresh book; `load KEY NUMBER ...`, `append KEY NUMBER`, `read KEY` and `drop KEY` are its calls; `places` and `space`
-// show what it holds, and `check` tells whether it is a good start; `#` begins a comment. A line that can't be read is reported with its
-// number, and nothing is done for it.
+// show what it holds, and `check` tells whether it is a good start; `help` lists these lines, and `#` begins a comment. A line that can't be
+// read, or comes before there is a book, is reported with its number, and nothing is done for it. The last line of all tells how many lines
+// were refused, and how many not understood.
 mod calls;
 mod memory;
 
@@ -9,12 +10,51 @@ use book_script::Asked;
 use book_script::Command;
 use book_script::Reading;
 use book_space::State;
+use calls::Done;
 
-// The book of the script: how many bytes and keys were asked for, and the state. A book has no keys until they are asked for.
+// The book of the script: how many bytes and keys were asked for, and the state. A book has no keys until they are asked for. And how many
+// lines were refused and not understood, from the first line on.
 struct Book {
     size: usize,
     keys: usize,
     state: State,
+    refused: u64,
+    unread: u64,
+}
+
+impl Book {
+    // A line was not understood.
+    fn puzzled(mut self) -> Self {
+        self.unread = std::num::wrapping_add_u64(self.unread, 1);
+        self
+    }
+
+    // A call was done, or refused.
+    fn after(self, done: Done) -> Self {
+        let state = done.state;
+        let more = done.refused as u64;
+        Book {
+            size: self.size,
+            keys: self.keys,
+            state,
+            refused: std::num::wrapping_add_u64(self.refused, more),
+            unread: self.unread,
+        }
+    }
+
+    // A body of a size was asked for, which has no keys yet.
+    fn sized(mut self, size: u64) -> Self {
+        book_script::body_made(size);
+        self.size = size as usize;
+        self.keys = 0;
+        self
+    }
+
+    // So many keys were asked for.
+    fn with_keys(mut self, keys: usize) -> Self {
+        self.keys = keys;
+        self
+    }
 }
 
 // Before a script asks for a book.
@@ -24,51 +64,49 @@ fn none() -> Book {
         size: 0,
         keys: 0,
         state,
+        refused: 0,
+        unread: 0,
     }
 }
 
-// A body was asked for, which has no keys yet.
-fn sized(size: u64) -> Book {
-    book_script::body_made(size);
-    let state = memory::no_state();
-    Book {
-        size: size as usize,
-        keys: 0,
-        state,
-    }
-}
-
-// Keys are asked for, and the book is made fresh.
-fn keyed(keys: u64, body: &[u8], heads: &mut [u64], book: Book) -> Book {
+// Keys are asked for, and the book is made fresh, where it has a body.
+fn keyed(asked: Asked, body: &[u8], heads: &mut [u64], book: Book) -> Book {
     let size = book.size;
-    let count = keys as usize;
+    let count = asked.first as usize;
+    if size == 0 {
+        book_script::no_body(asked.number);
+        return book.puzzled();
+    }
     if heads.len() < count {
         return book;
     }
     if body.len() < size {
         return book;
     }
-    let state = calls::fresh(&body[0..size], &mut heads[0..count]);
-    Book {
-        size,
-        keys: count,
-        state,
-    }
+    let done = calls::fresh(&body[0..size], &mut heads[0..count]);
+    let keyed = book.with_keys(count);
+    keyed.after(done)
 }
 
-// Shows what a book holds: a key's list, places, or the space; or tells whether it is a good start.
-fn look(asked: Asked, list: &mut [u64], body: &[u8], heads: &[u64], state: State) {
+// Shows what a book holds: a key's list, places, or the space; or says whether it is a good start. Tells whether that was refused.
+fn look(asked: Asked, list: &mut [u64], body: &[u8], heads: &[u64], state: State) -> bool {
     let what = asked.what;
     match what {
         Command::Read => calls::read(body, heads, state, asked.first, list, asked.second),
-        Command::Places => book_script::places(heads),
+        Command::Places => {
+            book_script::places(heads);
+            false
+        }
         Command::Check => calls::check(body, heads, state),
-        _ => book_script::space(body, state),
+        _ => {
+            book_script::space(body, state);
+            false
+        }
     }
 }
 
 // Does what is asked for on the book's own bytes and heads.
-fn act(asked: Asked, list: &mut [u64], body: &mut [u8], heads: &mut [u64], state: State) -> State {
+fn act(asked: Asked, list: &mut [u64], body: &mut [u8], heads: &mut [u64], state: State) -> Done {
     let what = asked.what;
     match what {
         Command::Load => {
@@ -78,16 +116,20 @@ fn act(asked: Asked, list: &mut [u64], body: &mut [u8], heads: &mut [u64], state
         Command::Append => calls::append(body, heads, state, asked.first, asked.second),
         Command::Drop => calls::drop(body, heads, state, asked.first),
         _ => {
-            look(asked, list, body, heads, state);
-            state
+            let refused = look(asked, list, body, heads, state);
+            Done { state, refused }
         }
     }
 }
 
-// Does what is asked for on the book.
+// Does what is asked for on the book, where there is one.
 fn on_book(asked: Asked, list: &mut [u64], body: &mut [u8], heads: &mut [u64], book: Book) -> Book {
     let size = book.size;
     let keys = book.keys;
+    if keys == 0 {
+        book_script::no_book(asked.number);
+        return book.puzzled();
+    }
     if body.len() < size {
         return book;
     }
@@ -95,8 +137,8 @@ fn on_book(asked: Asked, list: &mut [u64], body: &mut [u8], heads: &mut [u64], b
         return book;
     }
     let before = book.state;
-    let state = act(asked, list, &mut body[0..size], &mut heads[0..keys], before);
-    Book { size, keys, state }
+    let done = act(asked, list, &mut body[0..size], &mut heads[0..keys], before);
+    book.after(done)
 }
 
 // Does what is asked for.
@@ -104,8 +146,13 @@ fn answer(asked: Asked, list: &mut [u64], body: &mut [u8], heads: &mut [u64], bo
     let what = asked.what;
     match what {
         Command::Nothing => book,
-        Command::Body => sized(asked.first),
-        Command::Keys => keyed(asked.first, body, heads, book),
+        Command::Unread => book.puzzled(),
+        Command::Help => {
+            book_script::help();
+            book
+        }
+        Command::Body => book.sized(asked.first),
+        Command::Keys => keyed(asked, body, heads, book),
         _ => on_book(asked, list, body, heads, book),
     }
 }
@@ -139,6 +186,12 @@ fn step(
     book
 }
 
+// The last line of all: how many lines were refused, and how many not understood, those that were too long among them.
+fn finish(at: Reading, book: Book) {
+    let unread = std::num::wrapping_add_u64(book.unread, at.too_long);
+    book_script::ended(book.refused, unread);
+}
+
 // Does a line after the other until no more text comes. A loop that is proved has to end, so its turns are counted, from a number that no
 // run uses up.
 fn run(text: &mut [u8], list: &mut [u64], body: &mut [u8], heads: &mut [u64]) {
@@ -149,6 +202,7 @@ fn run(text: &mut [u8], list: &mut [u64], body: &mut [u8], heads: &mut [u64]) {
         at = book_script::turn(text, at);
         book = step(at, text, list, body, heads, book);
         if at.ended {
+            finish(at, book);
             return;
         }
         turns -= 1;

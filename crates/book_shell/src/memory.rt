@@ -25,14 +25,14 @@ pub fn line_bytes() -> [u8; LINE_BYTES]
 
 // A list of numbers.
 pub fn numbers() -> [u64; NUMBERS]
-    ensures { λ r. ⌜ 4096 ≡ length r ⌝ }
+    ensures { λ r. ⌜ 262144 ≡ length r ⌝ }
 {
     [0; NUMBERS]
 }
 
 // The head words of the most keys.
 pub fn keys() -> [u64; KEYS]
-    ensures { λ r. ⌜ 4096 ≡ length r ⌝ }
+    ensures { λ r. ⌜ 65536 ≡ length r ⌝ }
 {
     [0; KEYS]
 }

@@ -27,6 +27,9 @@ turn-requires c κs = search needs
 step-requires : tie.Need-step-requires Inv-loop μ-loop
 step-requires c κs = search needs
 
+finish-requires : tie.Need-finish-requires Inv-loop μ-loop
+finish-requires c κs = search needs
+
 same-length : tie.Need-same-length Inv-loop μ-loop
 same-length c = search needs
 
@@ -77,6 +80,7 @@ run-spec =
     loop-holds
     turn-requires
     step-requires
+    finish-requires
     same-length
     same-length-2
     same-length-3

@@ -6,7 +6,7 @@ use Rattle.book_shell.proofs.memory.keys.Statement.{statement}
 use Rattle.book_shell.proofs.memory.keys.Tie as tie
 
 returns : tie.Need-returns
-returns c = sym (length-replicate {0} {A = ℕ} 4096 0)
+returns c = sym (length-replicate {0} {A = ℕ} 65536 0)
 
 pub keys-spec : {M : Type 1} → statement M
 keys-spec = tie.close (tie.spec returns)

@@ -6,7 +6,7 @@ use Rattle.book_shell.proofs.memory.numbers.Statement.{statement}
 use Rattle.book_shell.proofs.memory.numbers.Tie as tie
 
 returns : tie.Need-returns
-returns c = sym (length-replicate {0} {A = ℕ} 4096 0)
+returns c = sym (length-replicate {0} {A = ℕ} 262144 0)
 
 pub numbers-spec : {M : Type 1} → statement M
 numbers-spec = tie.close (tie.spec returns)
