@@ -372,7 +372,9 @@ uint32_t ouriscado_book_drop(
    Call it once, before the first other call, on a book that you didn't make with ouriscado_book_fresh in this
    process. A result of 0 says that the book was judged: it is good only where ground is OURISCADO_START_GOOD
    too. The work list needs body_len / OURISCADO_WORK_UNIT bytes; a longer one is taken as well, a shorter one
-   is refused with 34. The time it takes is that of reading the body once or twice.
+   is refused with 34. The time it takes is that of reading the body once or twice, and more where free lists
+   lead to and fro in it, each block of them a read elsewhere: 2^30 bytes that are all freed blocks of 16 took
+   23 s in random order, and 0.3 s in falling order.
 
    Of a last page whose total is 0 the total is unknown, which is sound: the node's own files have such pages.
 
