@@ -109,5 +109,5 @@ def missing_in_cell(cell):
 
 
 def is_sample(name):
-    """A name that stands for any, as CRATE/FILE, or that a command makes."""
-    return re.fullmatch(r"[A-Z]+(/[A-Z]+)*", name) or name.startswith(("target/", "audit/"))
+    """A name that stands for any, as CRATE/FILE, that a command makes, or a file's sum, which is no name."""
+    return re.fullmatch(r"[A-Z]+(/[A-Z]+)*|[0-9a-f]{64}", name) or name.startswith(("target/", "audit/"))

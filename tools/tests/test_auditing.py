@@ -89,6 +89,7 @@ class TestNames(unittest.TestCase):
         self.assertTrue(fits("pack8_…", "pack8_bytes"))
         self.assertFalse(fits("pack8_…", "unpack8"))
         self.assertTrue(is_sample("CRATE/FILE"))
+        self.assertTrue(is_sample("0123456789abcdef" * 4))
         self.assertFalse(is_sample("CRATE/file"))
 
 
