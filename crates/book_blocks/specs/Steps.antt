@@ -67,7 +67,7 @@ pub record PageGrowsIn (body : List ℕ) (last taken difference creates : ℕ) :
   pub grows : PageGrows (part body last pageSize) taken difference creates
 
 -- What a slab can be written from: a block of a body, and a list that rises and fits.
-pub record SlabIn (body : List ℕ) (off size : ℕ) (ns : List ℕ) : Type 0 where
+pub record NewSlabIn (body : List ℕ) (off size : ℕ) (ns : List ℕ) : Type 0 where
   pub inside : off + size ≤ length body
   pub fits : 2 + streamLen ns ≤ size
   pub few : length ns ≤ maxOffered

@@ -7,7 +7,7 @@ ghost use Rattle.compact.specs.Uleb128.{ulebLen};
 ghost use Rattle.scripthash_stream.specs.Stream.{Rising, streamLen, maxOffered};
 ghost use Rattle.scripthash_slabs.specs.Slab.{slabPayload};
 ghost use Rattle.book_blocks.specs.Blocks.{slabWith};
-ghost use Rattle.book_blocks.specs.Steps.{SlabIn, SlabGrowsIn};
+ghost use Rattle.book_blocks.specs.Steps.{NewSlabIn, SlabGrowsIn};
 
 // Writes the payload of a list that rises and fits to the start of a block: the stream goes into the part after the count. Whoever calls
 // has judged and measured the list, which isn't done again.
@@ -21,7 +21,7 @@ fn put_payload(block: &mut [u8], fks: &[u64])
 
 // Writes the payload of a list to the block of a size at an offset of a body. What stands behind the payload stays.
 pub fn put_slab(body: &mut [u8], off: usize, size: usize, fks: &[u64])
-    requires { ⌜ SlabIn (now body) off size (now fks) ⌝ }
+    requires { ⌜ NewSlabIn (now body) off size (now fks) ⌝ }
     ensures { λ _. ⌜ now (body .exit) ≡ overwrite (now (body .entry)) off (slabPayload (now (fks .entry))) ⌝ }
 {
     let end = off + size;

@@ -4,14 +4,14 @@ use Prim.Native.Nat.{ℕ, zero, suc, _+_, _%_, _≤_, _<_}
 use mathlib.Core.Bool.{Bool, true, false, cond}
 use mathlib.Core.List.{List, [], _∷_, _++_}
 use mathlib.Core.Logic.{_⊎_, inl, inr, ⊎-elim}
-use mathlib.Core.Path.{_≡_, refl, sym, ap, _∙_}
+use mathlib.Core.Path.{_≡_, refl, sym, _∙_}
 use native.Mathlib.Nat.{zero-add, le-refl}
 use native.Mathlib.Omega.{arith}
 use lib.Dec.{ltb}
 use lib.ListN.{length, getD}
 use borrow.Author.Tests.{ltb-true, ltb-false}
 use Rattle.buffer.proofs.LawsOrder.{lt-or-ge}
-use Rattle.scripthash_layout.specs.Sizes.{slabBytes, pageClass}
+use Rattle.scripthash_layout.specs.Sizes.{slabBytes}
 use Rattle.scripthash_free.specs.FreeList.{Block, Disjoint, Each, Within}
 use Rattle.scripthash_free.proofs.LawsBlock.{bytes-from-16, block-stands}
 use Rattle.scripthash_free.proofs.LawsGap.{each-map}

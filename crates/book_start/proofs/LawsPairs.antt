@@ -21,7 +21,7 @@ use Rattle.book_keys.proofs.LawsContent.{content-empty, content-inline, was-sla
 use Rattle.book_keys.proofs.LawsKeys.{Every, chain-known}
 use Rattle.book.specs.Book.{Book, wordOf, seen}
 use Rattle.error.proofs.LawsAnswer.{accepted-inj}
-use Rattle.book_start.specs.Start.{AllApart, Stands, blocksAt, blocksIn, heldBy, followedFrom, freedOf, freedBy, heldOf, listOf}
+use Rattle.book_start.specs.Start.{AllApart, Stands, blocksAt, blocksIn, heldBy, followedFrom, freedBy, heldOf, listOf}
 use Rattle.book_start.specs.Start.{GoodStart}
 use Rattle.book_start.proofs.LawsClaims.{Cross, disjoint-sym}
 

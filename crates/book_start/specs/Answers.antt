@@ -4,7 +4,6 @@ use Rattle.error.specs.Refusal.{Answer, accepted, refused}
 use Rattle.book_start.specs.Start.{Verdict, good, keyUnsound, keyShares, freeStrays, freeShares}
 use Rattle.book_start.specs.declared.judging.JudgeStart.{JudgeStart}
 use Rattle.book_start.specs.declared.judging.JudgeStart.the-variants.{Good, KeyUnsound, KeyShares, FreeStrays, FreeShares, Refused}
-use Rattle.error.specs.Refusal.{Answer, accepted, refused}
 use Rattle.book_start.specs.declared.answers.BookFresh.{BookFresh}
 use Rattle.book_start.specs.declared.answers.BookFresh.the-variants.{Made, Refused as NotMade}
 
