@@ -82,7 +82,7 @@ pub fn move_list(body: &mut [u8], state: State, fks: &[u64]) -> AfterPlace
         (spaceOf (now (body .exit)) (r .state)) (placeAnswer (r .answer)) ⌝ }
 {
     let bytes = compact_len(fks);
-    let class = book_rules::moves_to(fks.len() as u32, bytes);
+    let class = book_rules::moves_to(fks.len(), bytes);
     match class {
         SlabClass::Class(class) => place_in_slab(body, state, fks, class),
         SlabClass::Nothing => place_in_page(body, state, fks),

@@ -65,8 +65,8 @@ drop-told (NotDropped number) = refl
 pub after-flat : (b : Book) (cs : List SpelledCall) → afterSpelled b cs ≡ after b (callsIn cs)
 unfolding afterSpelled afterCalls callsIn doesSpelled does
 after-flat b [] = refl
-after-flat b (load key ns ∷ cs) =
-    ap (λ (x : Book). afterSpelled x cs) (retold-book loaded b (loads b key ns)) ∙ after-flat (bookAfter b (loads b key ns)) cs
+after-flat b (load fit key ns ∷ cs) =
+    ap (λ (x : Book). afterSpelled x cs) (retold-book loaded b (loads fit b key ns)) ∙ after-flat (bookAfter b (loads fit b key ns)) cs
 after-flat b (append key n ∷ cs) =
     ap (λ (x : Book). afterSpelled x cs) (retold-book appended b (appends b key n)) ∙ after-flat (bookAfter b (appends b key n)) cs
 after-flat b (read key room ∷ cs) = ap (λ (x : Book). afterSpelled x cs) (read-book b (reads b key room)) ∙ after-flat b cs
@@ -81,9 +81,9 @@ first a rest = a ∷ rest
 pub answers-flat : (b : Book) (cs : List SpelledCall) → answersSpelled b cs ≡ flat cs (answers b (callsIn cs))
 unfolding answersSpelled answersTo callsIn flat doesSpelled does asks
 answers-flat b [] = refl
-answers-flat b (load key ns ∷ cs) =
-    ap₂ first (retold-answer loaded (loads b key ns))
-    (ap (λ (x : Book). answersSpelled x cs) (retold-book loaded b (loads b key ns)) ∙ answers-flat (bookAfter b (loads b key ns)) cs)
+answers-flat b (load fit key ns ∷ cs) =
+    ap₂ first (retold-answer loaded (loads fit b key ns))
+    (ap (λ (x : Book). answersSpelled x cs) (retold-book loaded b (loads fit b key ns)) ∙ answers-flat (bookAfter b (loads fit b key ns)) cs)
 answers-flat b (append key n ∷ cs) =
     ap₂ first (retold-answer appended (appends b key n))
     (ap (λ (x : Book). answersSpelled x cs) (retold-book appended b (appends b key n)) ∙ answers-flat (bookAfter b (appends b key n)) cs)

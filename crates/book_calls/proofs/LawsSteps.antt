@@ -1,19 +1,19 @@
 -- The steps of reading the words of calls. Assumes nothing.
 use Prim.Native.Nat.{ℕ, _+_, _-_, _≤_, _<_}
-use mathlib.Core.Bool.{Bool, true, false, cond}
+use mathlib.Core.Bool.{Bool, true, false, cond, false≢true}
 use mathlib.Core.List.{List, [], _∷_}
 use mathlib.Core.Logic.{_⊎_, ⊎-elim}
 use mathlib.Core.Option.{Option, none, some}
 use mathlib.Core.Path.{_≡_, refl, sym, ap, _∙_}
 use native.Mathlib.Omega.{arith}
-use borrow.Author.Tests.{le-leb, lt-leb, eq-eqb, ne-eqb}
+use borrow.Author.Tests.{le-leb, lt-leb, eq-eqb, ne-eqb, eqb-true}
 use lib.Dec.{leb, eqb}
 use lib.ListN.{length, getD, take as firstOf, drop as behind, length-drop, drop-of-length-le}
 use lib.Seq.{drop-drop}
 use Rattle.buffer.proofs.LawsOrder.{lt-or-ge}
 use Rattle.book_words.specs.Spelled.{SpelledCall, load, append, read, drop}
 use Rattle.book_words.specs.Words.{Begins, begins, before, atEnd, readAll}
-use Rattle.book_words.specs.SpellCalls.{loadOf, callOf, callAt, callsOf, answerRoom, answersRoom}
+use Rattle.book_words.specs.SpellCalls.{isLoad, fitOf, loadOf, callOf, callAt, callsOf, answerRoom, answersRoom}
 use Rattle.book_words.proofs.LawsWords.{some-inj, none≢some}
 use Rattle.book_words.proofs.LawsCalls.{calls-none, calls-some, call-at}
 use Rattle.book_calls.specs.Steps.{isSome, NextIs, needOf, RoomIs}
@@ -46,29 +46,34 @@ unfolding NextIs
 was-somewhere calls at next none n = absurd n
 was-somewhere calls at next (some b) n = (b, refl, n .0, n .1, n .2)
 
+-- a kind that isn't a load's isn't the first
+pub not-first : (kind : ℕ) → isLoad kind ≡ false → kind ≡ 0 → ⊥
+unfolding isLoad
+not-first kind l e = false≢true (sym l ∙ rw e refl)
+
 -- The call of three words, by its kind.
 module _ (kind key third : ℕ) (rest : List ℕ) where
-  pub of-load : kind ≡ 0 → callOf kind key third rest ≡ loadOf key third rest
+  pub of-load : isLoad kind ≡ true → callOf kind key third rest ≡ loadOf (fitOf kind) key third rest
   unfolding callOf
-  of-load e = rw (eq-eqb kind 0 e)
+  of-load e = rw e
 
   pub of-append : kind ≡ 1 → callOf kind key third rest ≡ begins (append key third) rest
-  unfolding callOf
+  unfolding callOf isLoad
   of-append e = rw e
 
   pub of-read : kind ≡ 2 → callOf kind key third rest ≡ begins (read key third) rest
-  unfolding callOf
+  unfolding callOf isLoad
   of-read e = rw e
 
   pub of-drop : kind ≡ 3 → callOf kind key third rest ≡ cond (eqb third 0) (begins (drop key) rest) none
-  unfolding callOf
+  unfolding callOf isLoad
   of-drop e = rw e
 
-  pub of-other : 3 < kind → callOf kind key third rest ≡ none
+  pub of-other : isLoad kind ≡ false → 3 < kind → callOf kind key third rest ≡ none
   unfolding callOf
-  of-other h =
+  of-other l h =
       rw (
-        ne-eqb kind 0 (λ (e : kind ≡ 0). omega arith),
+        l,
         ne-eqb kind 1 (λ (e : kind ≡ 1). omega arith),
         ne-eqb kind 2 (λ (e : kind ≡ 2). omega arith),
         ne-eqb kind 3 (λ (e : kind ≡ 3). omega arith),
@@ -95,17 +100,17 @@ module _ (calls : List ℕ) (at : ℕ) (three : at + 3 ≤ length calls) where
   pub next-unspelled : callOf kind key third rest ≡ none → NextIs calls at (callAt (behind at calls)) Nowhere
   next-unspelled e = nowhere calls at (call-at calls at three ∙ e)
 
-  pub next-load-short : kind ≡ 0 → length calls - (at + 3) < third → NextIs calls at (callAt (behind at calls)) Nowhere
+  pub next-load-short : isLoad kind ≡ true → length calls - (at + 3) < third → NextIs calls at (callAt (behind at calls)) Nowhere
   next-load-short e l = next-unspelled (of-load kind key third rest e ∙ rw (lt-leb third (length rest) (omega (arith, words-left))))
 
-  pub next-load : kind ≡ 0 → third ≤ length calls - (at + 3) → NextIs calls at (callAt (behind at calls)) (At (at + 3 + third))
+  pub next-load : isLoad kind ≡ true → third ≤ length calls - (at + 3) → NextIs calls at (callAt (behind at calls)) (At (at + 3 + third))
   next-load e l =
-      somewhere calls at (at + 3 + third) (record { first = load key (firstOf third rest); rest = behind third rest })
+      somewhere calls at (at + 3 + third) (record { first = load (fitOf kind) key (firstOf third rest); rest = behind third rest })
       (call-at calls at three ∙ of-load kind key third rest e ∙ rw (le-leb third (length rest) (omega (arith, words-left))))
       (drop-drop third (at + 3) calls) (omega arith) (omega arith)
 
-  pub next-other : 3 < kind → NextIs calls at (callAt (behind at calls)) Nowhere
-  next-other h = next-unspelled (of-other kind key third rest h)
+  pub next-other : isLoad kind ≡ false → 3 < kind → NextIs calls at (callAt (behind at calls)) Nowhere
+  next-other l h = next-unspelled (of-other kind key third rest l h)
 
   pub next-drop-bad : kind ≡ 3 → (third ≡ 0 → ⊥) → NextIs calls at (callAt (behind at calls)) Nowhere
   next-drop-bad e n = next-unspelled (of-drop kind key third rest e ∙ rw (ne-eqb third 0 n))
@@ -115,11 +120,11 @@ module _ (calls : List ℕ) (at : ℕ) (three : at + 3 ≤ length calls) where
       somewhere calls at (at + 3) (record { first = drop key; rest = rest })
       (call-at calls at three ∙ of-drop kind key third rest e ∙ rw (eq-eqb third 0 z)) refl (omega arith) (omega arith)
 
-  pub next-plain : (kind ≡ 0 → ⊥) → kind ≤ 3 → (kind ≡ 3 → ⊥) → NextIs calls at (callAt (behind at calls)) (At (at + 3))
+  pub next-plain : isLoad kind ≡ false → kind ≤ 3 → (kind ≡ 3 → ⊥) → NextIs calls at (callAt (behind at calls)) (At (at + 3))
   next-plain n l m = ⊎-elim appends reads (lt-or-ge kind 2)
     where
       low : kind < 2 → kind ≡ 1
-      low h = ⊎-elim (λ (p : kind < 1). absurd (n (omega arith))) (λ (q : 1 ≤ kind). omega arith) (lt-or-ge kind 1)
+      low h = ⊎-elim (λ (p : kind < 1). absurd (not-first kind n (omega arith))) (λ (q : 1 ≤ kind). omega arith) (lt-or-ge kind 1)
 
       high : 2 ≤ kind → kind ≡ 2
       high h = ⊎-elim (λ (p : kind < 3). omega arith) (λ (q : 3 ≤ kind). absurd (m (omega arith))) (lt-or-ge kind 3)
@@ -141,25 +146,31 @@ pub only : (t : Bool) (x b : Begins SpelledCall) → cond t (some x) none ≡ so
 only true x b e = some-inj e
 only false x b e = absurd (none≢some e)
 
+-- the answer to a load may have three words
+load-needs : (k third : ℕ) → isLoad k ≡ true → needOf k third ≡ 3
+unfolding needOf isLoad
+load-needs k third e = go (eqb k 0) refl e
+  where
+    go : (t : Bool) → eqb k 0 ≡ t → cond t true (eqb k 4) ≡ true → needOf k third ≡ 3
+    go true z e = rw (eqb-true k 0 z)
+    go false z e = rw (eqb-true k 4 e)
+
 -- the words that the answer to the call at an index may have
 pub room-of : (k key third : ℕ) (rest : List ℕ) (b : Begins SpelledCall) → callOf k key third rest ≡ some b
     → answerRoom (b .first) ≡ needOf k third
 unfolding needOf answerRoom
-room-of k key third rest b e =
-    ⊎-elim (λ (h : k < 2). ⊎-elim (λ (p : k < 1). loads (omega arith)) (λ (q : 1 ≤ k). appends (omega arith)) (lt-or-ge k 1))
-    (λ (h : 2 ≤ k). ⊎-elim (λ (p : k < 3). reads (omega arith)) (λ (q : 3 ≤ k). drops (three q)) (lt-or-ge k 3))
-    (lt-or-ge k 2)
+room-of k key third rest b e = go (isLoad k) refl
   where
-    beyond : 4 ≤ k → ⊥
-    beyond h = none≢some (sym (of-other k key third rest (omega arith)) ∙ e)
+    beyond : isLoad k ≡ false → 4 ≤ k → ⊥
+    beyond l h = none≢some (sym (of-other k key third rest l (omega arith)) ∙ e)
 
-    three : 3 ≤ k → k ≡ 3
-    three h = ⊎-elim (λ (p : k < 4). omega arith) (λ (q : 4 ≤ k). absurd (beyond q)) (lt-or-ge k 4)
+    three : isLoad k ≡ false → 3 ≤ k → k ≡ 3
+    three l h = ⊎-elim (λ (p : k < 4). omega arith) (λ (q : 4 ≤ k). absurd (beyond l q)) (lt-or-ge k 4)
 
-    loads : k ≡ 0 → answerRoom (b .first) ≡ needOf k third
+    loads : isLoad k ≡ true → answerRoom (b .first) ≡ needOf k third
     loads z =
         ap (λ (x : Begins SpelledCall). answerRoom (x .first)) (sym (only (leb third (length rest)) _ b (sym (of-load k key third rest z) ∙ e)))
-        ∙ rw z
+        ∙ sym (load-needs k third z)
 
     appends : k ≡ 1 → answerRoom (b .first) ≡ needOf k third
     appends z = ap (λ (x : Begins SpelledCall). answerRoom (x .first)) (sym (some-inj (sym (of-append k key third rest z) ∙ e))) ∙ rw z
@@ -169,6 +180,13 @@ room-of k key third rest b e =
 
     drops : k ≡ 3 → answerRoom (b .first) ≡ needOf k third
     drops z = ap (λ (x : Begins SpelledCall). answerRoom (x .first)) (sym (only (eqb third 0) _ b (sym (of-drop k key third rest z) ∙ e))) ∙ rw z
+
+    go : (t : Bool) → isLoad k ≡ t → answerRoom (b .first) ≡ needOf k third
+    go true l = loads l
+    go false l =
+        ⊎-elim (λ (h : k < 2). ⊎-elim (λ (p : k < 1). absurd (not-first k l (omega arith))) (λ (q : 1 ≤ k). appends (omega arith)) (lt-or-ge k 1))
+        (λ (h : 2 ≤ k). ⊎-elim (λ (p : k < 3). reads (omega arith)) (λ (q : 3 ≤ k). drops (three l q)) (lt-or-ge k 3))
+        (lt-or-ge k 2)
 
 -- the room that is left, by the kind of the call
 module _ (k third left : ℕ) where

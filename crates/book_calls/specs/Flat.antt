@@ -17,7 +17,7 @@ use Rattle.book_words.specs.Spelled.{SpelledCall, load, append, read, drop, Spe
 
 -- What a spelled call does.
 unfoldable pub doesSpelled : Book → SpelledCall → Answer (Outcome SpelledTold)
-doesSpelled b (load key ns) = retold loaded (loads b key ns)
+doesSpelled b (load fit key ns) = retold loaded (loads fit b key ns)
 doesSpelled b (append key n) = retold appended (appends b key n)
 doesSpelled b (read key room) = answered (λ l. record { told = listed l; book = b }) (reads b key room)
 doesSpelled b (drop key) = retold dropped (drops b key)

@@ -17,10 +17,12 @@ use crate::answers::put_drop;
 use crate::answers::put_load;
 use crate::answers::put_read;
 use crate::words::APPEND;
-use crate::words::LOAD;
 use crate::words::NextCall;
 use crate::words::READ;
+use crate::words::fit_of;
+use crate::words::is_load;
 use crate::words::next_call;
+use book_rules::SlabFit;
 use book_space::State;
 
 // After a call, or some: how many words were written, and the state.
@@ -34,15 +36,16 @@ fn run_load(
     body: &mut [u8],
     heads: &mut [u64],
     state: State,
+    fit: SlabFit,
     key: u64,
     numbers: &[u64],
     out: &mut [u64],
 ) -> AfterCall
     requires { ⌜ 3 ≤ length (now out) ⌝ }
-    ensures { λ r. ⌜ Done (bookOf (now (body .entry)) (now (heads .entry)) state) (Calls.load key (now (numbers .entry))) (now (out .entry))
+    ensures { λ r. ⌜ Done (bookOf (now (body .entry)) (now (heads .entry)) state) (Calls.load fit key (now (numbers .entry))) (now (out .entry))
         (bookOf (now (body .exit)) (now (heads .exit)) (r .state)) (now (out .exit)) (r .len) ⌝ }
 {
-    let after = book_load::load(body, heads, state, key, numbers);
+    let after = book_load::load(body, heads, state, fit, key, numbers);
     let next = after.state;
     let answer = after.answer;
     let len = put_load(out, answer);
@@ -123,10 +126,11 @@ fn run_call(
     let kind = calls[at];
     let key = calls[at + 1];
     let third = calls[at + 2];
-    if kind == LOAD {
+    if is_load(kind) {
+        let fit = fit_of(kind);
         let from = at + 3;
         let end = from + third as usize;
-        return run_load(body, heads, state, key, &calls[from..end], out);
+        return run_load(body, heads, state, fit, key, &calls[from..end], out);
     }
     if kind == APPEND {
         return run_append(body, heads, state, key, third, out);

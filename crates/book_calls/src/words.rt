@@ -7,8 +7,9 @@ ghost use Prim.Native.Nat.{_≤_};
 ghost use lib.Dec.{leb};
 ghost use lib.ListN.{length, drop};
 ghost use Rattle.book_words.specs.Spelled.{SpelledCall};
-ghost use Rattle.book_words.specs.SpellCalls.{callAt, callsOf, answersRoom};
+ghost use Rattle.book_words.specs.SpellCalls.{isLoad, fitOf, callAt, callsOf, answersRoom};
 ghost use Rattle.book_calls.specs.Steps.{isSome, NextIs, needOf, RoomIs};
+use book_rules::SlabFit;
 
 // The kinds of calls, by the first word of each.
 pub const LOAD: u64 = 0;
@@ -18,6 +19,8 @@ pub const APPEND: u64 = 1;
 pub const READ: u64 = 2;
 
 pub const DROP: u64 = 3;
+
+pub const LOAD_TIGHT: u64 = 4;
 
 // Where the call behind one begins.
 pub enum NextCall {
@@ -33,6 +36,26 @@ pub enum RoomLeft {
     TooLittle,
 }
 
+// Whether a kind is that of a load, whose numbers stand behind its third word.
+pub fn is_load(kind: u64) -> bool
+    ensures { λ r. ⌜ r ≡ isLoad kind ⌝ }
+{
+    if kind == LOAD {
+        return true;
+    }
+    kind == LOAD_TIGHT
+}
+
+// The rule for the slab of a load of a kind.
+pub fn fit_of(kind: u64) -> SlabFit
+    ensures { λ r. ⌜ r ≡ fitOf kind ⌝ }
+{
+    if kind == LOAD {
+        return SlabFit::Spare;
+    }
+    SlabFit::Tight
+}
+
 // Where the call behind the one at an index begins.
 pub fn next_call(calls: &[u64], at: usize) -> NextCall
     requires { ⌜ at ≤ length (now calls) ⌝ }
@@ -44,7 +67,7 @@ pub fn next_call(calls: &[u64], at: usize) -> NextCall
     let kind = calls[at];
     let third = calls[at + 2];
     let from = at + 3;
-    if kind == LOAD {
+    if is_load(kind) {
         if ((calls.len() - from) as u64) < third {
             return NextCall::Nowhere;
         }

@@ -16,6 +16,7 @@ use Rattle.scripthash_cutting.specs.Cutting.{fitting, firstPart, greedyParts, r
 use Rattle.scripthash_fields.specs.Page.{field, setField, createsFieldOf, nextOff, deltaHeader, extentHeader, pageOf}
 use Rattle.scripthash_pages.specs.Entries.{streamPlace, pageScan, spotBehind, oneMore, withAppended}
 use Rattle.scripthash_free.specs.FreeList.{isBlock, pushed, popFree, largestUpTo, blockThen, carve, pushAll}
+use Rattle.book_rules.specs.declared.places.SlabFit.the-variants.{Spare}
 use Rattle.book_rules.specs.Outcomes.{Loaded, Appended, Listed, bookAfter, appendedTo, droppedOf, listing, loadedIn}
 use Rattle.book_statements.specs.Calls.{load, append, read, drop, Call, ask, change, Serves, Answers, done, asked, changed, answersTo, afterCalls}
 use Rattle.book_rules.specs.Offered.{offeredNumber, offeredList}
@@ -81,21 +82,21 @@ run-case = refl
 -- What is turned back.
 pub turned-back : (runs (fresh (bodyOf 4096) 1) (ask (read 0 0) ∷ [])
     ≡ asked (refused 1) done)
-    × (runs (fresh (bodyOf 8192) 1) (change (append 1 5) ∷ change (append 0 0) ∷ change (append 0 (2 ^ 63)) ∷ change (append 0 (2 ^ 62)) ∷ change (append 0 5) ∷ change (append 0 5) ∷ change (load 0 []) ∷ ask (read 0 0) ∷ change (drop 0) ∷ ask (read 0 0) ∷ [])
+    × (runs (fresh (bodyOf 8192) 1) (change (append 1 5) ∷ change (append 0 0) ∷ change (append 0 (2 ^ 63)) ∷ change (append 0 (2 ^ 62)) ∷ change (append 0 5) ∷ change (append 0 5) ∷ change (load Spare 0 []) ∷ ask (read 0 0) ∷ change (drop 0) ∷ ask (read 0 0) ∷ [])
     ≡ changed (refused 2) (changed (refused 12) (changed (refused 13) (changed (refused 14) (changed (at (Inline 5 1) 0) (changed (refused 32) (changed (refused 3) (asked (refused 34) (changed (accepted (droppedOf 1)) (asked (lists-as [] 0) done))))))))))
 unfolding computed
 turned-back = (refl, refl)
 
 -- A page of 4,072 bytes is full, so that the next number begins another. A drop frees the first page first, so that the last one is taken
 -- again, here by a list that moves out of its slab.
-pub full-page : runs (fresh (bodyOf 16384) 2) (change (load 0 (inARow 1 4072)) ∷ change (append 0 4073) ∷ change (append 0 4074) ∷ ask (read 0 4074) ∷ change (drop 0) ∷ change (load 1 (inARow 1 256)) ∷ change (append 1 257) ∷ ask (read 1 257) ∷ [])
+pub full-page : runs (fresh (bodyOf 16384) 2) (change (load Spare 0 (inARow 1 4072)) ∷ change (append 0 4073) ∷ change (append 0 4074) ∷ ask (read 0 4074) ∷ change (drop 0) ∷ change (load Spare 1 (inARow 1 256)) ∷ change (append 1 257) ∷ ask (read 1 257) ∷ [])
     ≡ changed (loads-in 1) (changed (at (Extent 8192) 0) (changed (at (Extent 8192) 0) (asked (lists-as (inARow 1 4074) 2) (changed (accepted (droppedOf 4074)) (changed (loads-in 0) (changed (at (Extent 8192) 256) (asked (lists-as (inARow 1 257) 1) done)))))))
 unfolding computed inARow
 full-page = refl
 
 -- A list of 4,073 goes to a run of two pages, behind the mark rounded up; the body is full then, but the gap before the run was carved.
 pub loaded-run : runs (fresh (bodyOf 16384) 3)
-    (change (append 0 1) ∷ change (append 0 2) ∷ change (load 1 (inARow 1 4073)) ∷ change (append 1 4074) ∷ change (load 2 (inARow 1 300)) ∷ change (load 2 (inARow 1 256)) ∷ ask (read 1 4074) ∷ [])
+    (change (append 0 1) ∷ change (append 0 2) ∷ change (load Spare 1 (inARow 1 4073)) ∷ change (append 1 4074) ∷ change (load Spare 2 (inARow 1 300)) ∷ change (load Spare 2 (inARow 1 256)) ∷ ask (read 1 4074) ∷ [])
     ≡ changed (at (Inline 1 1) 0) (changed (at (Slab 0 2 4096) 1) (changed (loads-in 2) (changed (at (Extent 12288) 0) (changed (refused 36) (changed (loads-in 0) (asked (lists-as (inARow 1 4074) 2) done))))))
 unfolding computed inARow
 loaded-run = refl
@@ -103,7 +104,7 @@ loaded-run = refl
 -- What damage gets: a slab whose stored count isn't its head's is no sound key, a free head that no block can have isn't popped, and there
 -- is no room behind a mark at the body's end. A number is judged before the key, and the key before its last number.
 pub damaged : (runs (book (bodyOf 8192) (slabWord 0 2 4096 ∷ []) 4112 (replicate 9 0))
-    (ask (read 0 5) ∷ change (append 0 9) ∷ change (drop 0) ∷ change (append 0 0) ∷ change (load 0 []) ∷ [])
+    (ask (read 0 5) ∷ change (append 0 9) ∷ change (drop 0) ∷ change (append 0 0) ∷ change (load Spare 0 []) ∷ [])
     ≡ asked (refused 31) (changed (refused 31) (changed (refused 31) (changed (refused 12) (changed (refused 3) done)))))
     × (runs (book (bodyOf 8192) (5 ∷ []) 4112 (4104 ∷ replicate 8 0)) (change (append 0 6) ∷ change (append 0 5) ∷ [])
     ≡ changed (refused 35) (changed (refused 32) done))

@@ -12,6 +12,7 @@ use Rattle.scripthash_cutting.specs.Cutting.{fitting, firstPart, greedyParts, r
 use Rattle.scripthash_fields.specs.Page.{field, setField, nextOff, deltaHeader, extentHeader, pageOf}
 use Rattle.scripthash_pages.specs.Entries.{streamPlace, pageScan, spotBehind, oneMore, withAppended}
 use Rattle.scripthash_free.specs.FreeList.{isBlock, pushed, popFree, largestUpTo, blockThen, carve, pushAll}
+use Rattle.book_rules.specs.declared.places.SlabFit.the-variants.{Spare}
 use Rattle.book_rules.specs.Outcomes.{bookAfter}
 use Rattle.book_statements.specs.Calls.{Change, load, append, drop, Call, change, afterCalls}
 use Rattle.book_rules.specs.Offered.{offeredNumber, offeredList}
@@ -65,17 +66,17 @@ run-writes = (refl, refl, refl, refl)
 
 -- A full page gets a page behind it, which then gets a number; a drop frees both.
 pub page-writes :
-    (writesAfter (fresh (bodyOf 16384) 1) (change (load 0 (inARow 1 4072)) ∷ []) (append 0 4073)
+    (writesAfter (fresh (bodyOf 16384) 1) (change (load Spare 0 (inARow 1 4072)) ∷ []) (append 0 4073)
     ≡ writesOf (region 8192 4096 ∷ region 4099 5 ∷ region 4116 4 ∷ []) (region 0 1 ∷ []) [] true)
-    × (writesAfter (fresh (bodyOf 16384) 1) (change (load 0 (inARow 1 4072)) ∷ change (append 0 4073) ∷ []) (append 0 4074)
+    × (writesAfter (fresh (bodyOf 16384) 1) (change (load Spare 0 (inARow 1 4072)) ∷ change (append 0 4073) ∷ []) (append 0 4074)
     ≡ writesOf (region 8193 2 ∷ region 8218 1 ∷ region 8212 4 ∷ []) (region 0 1 ∷ []) [] false)
-    × (writesAfter (fresh (bodyOf 16384) 1) (change (load 0 (inARow 1 4072)) ∷ change (append 0 4073) ∷ []) (drop 0)
+    × (writesAfter (fresh (bodyOf 16384) 1) (change (load Spare 0 (inARow 1 4072)) ∷ change (append 0 4073) ∷ []) (drop 0)
     ≡ writesOf (region 4096 8 ∷ region 8192 8 ∷ []) (region 0 1 ∷ []) (region 8 1 ∷ region 8 1 ∷ []) false)
 unfolding writesAfter inARow
 page-writes = (refl, refl, refl)
 
 -- A run of two pages behind a slab of 16 bytes: the gap's eight blocks are freed.
-pub gap-writes : writesAfter (fresh (bodyOf 16384) 2) (change (append 0 1) ∷ change (append 0 2) ∷ []) (load 1 (inARow 1 4073))
+pub gap-writes : writesAfter (fresh (bodyOf 16384) 2) (change (append 0 1) ∷ change (append 0 2) ∷ []) (load Spare 1 (inARow 1 4073))
     ≡ writesOf (region 4112 8 ∷ region 6160 8 ∷ region 7184 8 ∷ region 7696 8 ∷ region 7952 8 ∷ region 8080 8 ∷ region 8144 8 ∷ region 8176 8
     ∷ region 8192 8192 ∷ []) (region 1 1 ∷ [])
     (region 7 1 ∷ region 6 1 ∷ region 5 1 ∷ region 4 1 ∷ region 3 1 ∷ region 2 1 ∷ region 1 1 ∷ region 0 1 ∷ []) true

@@ -6,10 +6,11 @@ use native.Mathlib.Omega.{arith}
 use lib.ListN.{length}
 use Rattle.error.specs.Refusal.{accepted, refused, noRoom, keyUnsound}
 use Rattle.book.specs.Book.{Book, fresh}
+use Rattle.book_rules.specs.declared.places.SlabFit.the-variants.{Spare, Tight}
 use Rattle.book_statements.specs.Calls.{Enquiry, read, Change, load, append, drop, Call, ask, change, Said, Made, Serves, Answers, done, asked, changed}
 use Rattle.book_history.specs.Calls.{serves}
 use Rattle.book_history.specs.Hollow.{Hollow, always, emptyAnswer, readsEmpty, writesNothing, appendsNothing, writesFirst, firstOnly, pageMore}
-use Rattle.book_history.specs.Hollow.{rewrittenMore, invents}
+use Rattle.book_history.specs.Hollow.{rewrittenMore, invents, loadsAs, oneRule}
 use Rattle.book_history.proofs.Demand3.{demand-3}
 use Rattle.book_history.proofs.Examples.{computed, bodyOf}
 
@@ -17,7 +18,7 @@ use Rattle.book_history.proofs.Examples.{computed, bodyOf}
 
 -- A figure of what a change tells, and of what an enquiry does: pages, records rewritten, or a length.
 unfoldable madeFigure : (c : Change) → Made c → ℕ
-madeFigure (load key ns) told = told .pages
+madeFigure (load fit key ns) told = told .pages
 madeFigure (append key n) told = told .rewritten
 madeFigure (drop key) told = told .length
 
@@ -73,8 +74,19 @@ first-only = differs firstOnly (change (append 0 5) ∷ change (append 0 300) �
 -- Books with invented figures: two numbers are loaded into no page, and a first append rewrites nothing.
 pub pages-invented : Hollow (invents pageMore)
 unfolding computed pageMore figureAt madeFigure saidFigure
-pages-invented = differs (invents pageMore) (change (load 0 (5 ∷ 6 ∷ [])) ∷ []) 0 1 0 refl refl (λ e. omega arith)
+pages-invented = differs (invents pageMore) (change (load Spare 0 (5 ∷ 6 ∷ [])) ∷ []) 0 1 0 refl refl (λ e. omega arith)
 
 pub rewritten-invented : Hollow (invents rewrittenMore)
 unfolding computed rewrittenMore figureAt madeFigure saidFigure
 rewritten-invented = differs (invents rewrittenMore) (change (append 0 5) ∷ []) 0 1 0 refl refl (λ e. omega arith)
+
+-- Books with one rule for loads: with a spare slot the fifth number stays, and behind a tight load it moves four.
+pub always-tight : Hollow (oneRule Tight)
+unfolding computed loadsAs figureAt madeFigure saidFigure
+always-tight =
+    differs (oneRule Tight) (change (load Spare 0 (1 ∷ 2 ∷ 3 ∷ 4 ∷ [])) ∷ change (append 0 5) ∷ []) 1 4 0 refl refl (λ e. omega arith)
+
+pub always-spare : Hollow (oneRule Spare)
+unfolding computed loadsAs figureAt madeFigure saidFigure
+always-spare =
+    differs (oneRule Spare) (change (load Tight 0 (1 ∷ 2 ∷ 3 ∷ 4 ∷ [])) ∷ change (append 0 5) ∷ []) 1 0 4 refl refl (λ e. omega arith)

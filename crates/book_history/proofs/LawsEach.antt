@@ -12,7 +12,7 @@ use Rattle.book_history.proofs.LawsAppendPage.{append-pages}
 -- A load, an append and a drop.
 pub each-alike : EachAlike
 unfolding plainDoes does
-each-alike plain b (load key ns) g a = load-step plain b key ns g a
+each-alike plain b (load fit key ns) g a = load-step fit plain b key ns g a
 each-alike plain b (append key n) g a = append-step plain b key n g a (λ ps is. append-pages plain b key n ps g a is)
 each-alike plain b (drop key) g a = drop-step plain b key g a
 

@@ -30,6 +30,7 @@ use Rattle.scripthash_cutting.specs.Cutting.{pageRoom, lastPageRoom, cutting, j
 use Rattle.scripthash_cutting.proofs.LawsPages.{pages-allowed}
 use Rattle.scripthash_cutting.proofs.LawsRising.{rising-words, rising-left, rising-right}
 use Rattle.scripthash_free.specs.FreeList.{Block}
+use Rattle.book_rules.specs.declared.places.SlabFit.{SlabFit}
 use Rattle.book_statements.specs.Calls.{load}
 use Rattle.book_rules.specs.Outcomes.{loadedIn, Loaded}
 use Rattle.book_rules.specs.Offered.{offeredNumber, offeredList}
@@ -310,10 +311,10 @@ module _ (plain : PlainBook) (b : Book) (key : ℕ) (ns : List ℕ) (g : GoodPla
   whole = ap (λ (n : ℕ). n % 4096) (a .size) ∙ in-shape (plain .size) (length (plain .keys)) shape .paged
 
   -- a slab is taken and filled
-  load-slab : (class : ℕ) → loadsTo (length ns) (streamLen ns) ≡ some class
+  load-slab : (fit : SlabFit) (class : ℕ) → loadsTo fit (length ns) (streamLen ns) ≡ some class
       → Alike (andThen (plainLoadInto (plain .size) (some class) ns (plain .space)) loadedTo) (loadInto b key ns (some class))
   unfolding plainLoadInto loadInto headOf andThen
-  load-slab class is =
+  load-slab fit class is =
       taken-then (λ x y. Alike (andThen x loadedTo) y) (places plain) (inHandOf class) (anyHand (contentsOf plain)) (plain .size) _ _ _ _
       (λ number. refused-alike) go
       (subst (λ (n : ℕ). TakenAlike (places plain) (inHandOf class) (anyHand (contentsOf plain)) n (plainTake n class (plain .space))
@@ -321,7 +322,7 @@ module _ (plain : PlainBook) (b : Book) (key : ℕ) (ns : List ℕ) (g : GoodPla
       (take-agrees (plain .space) (b .space) (places plain) (contentsOf plain) class to-8 (g .space) whole (h .space)))
     where
       to-8 : class ≤ 8
-      to-8 = let (many, to-7, fits) = loads-to (length ns) (streamLen ns) is in omega arith
+      to-8 = let (many, to-7, fits) = loads-to fit (length ns) (streamLen ns) is in omega arith
 
       go : (t : PlainTaken) (u : Taken) → plainTake (plain .size) class (plain .space) ≡ accepted t → takes class (b .space) ≡ accepted u
           → u .off ≡ t .off
@@ -330,7 +331,7 @@ module _ (plain : PlainBook) (b : Book) (key : ℕ) (ns : List ℕ) (g : GoodPla
           → Alike (loadedTo (record { place = slab class (t .off) (written ns); space = t .space; rewritten = 0 }))
           (accepted (loading key (Slab class (length ns) (u .off)) 0 (filled u (slabPayload ns)) b))
       go t u took took' off long agrees =
-          let (many, to-7, fits) = loads-to (length ns) (streamLen ns) is in
+          let (many, to-7, fits) = loads-to fit (length ns) (streamLen ns) is in
           let short : length (slabPayload ns) ≤ slabBytes class = omega (arith, payload-long ns) in
           let good = good-taken (plain .size) class (plain .space) (places plain) to-8 took (g .space) in
           let c = anyHand (contentsOf plain) in
@@ -441,37 +442,37 @@ module _ (plain : PlainBook) (b : Book) (key : ℕ) (ns : List ℕ) (g : GoodPla
 -- ---- a load
 
 -- A list that rises is loaded alike onto an empty key.
-load-alike : (plain : PlainBook) (b : Book) (key : ℕ) (ns : List ℕ) → GoodPlain plain → Agrees plain b
+load-alike : (fit : SlabFit) (plain : PlainBook) (b : Book) (key : ℕ) (ns : List ℕ) → GoodPlain plain → Agrees plain b
     → outOfShape (plain .size) (length (plain .keys)) ≡ false
     → AgreesInside plain b → key < length (plain .keys) → keyOf key plain .place ≡ empty → Rising (2 ^ 62) 0 ns → length ns ≤ maxOffered
     → Alike
-    (andThen (loadPlace (plain .size) ns (plain .space))
+    (andThen (loadPlace fit (plain .size) ns (plain .space))
     (λ p. accepted (record {
       told = loadedIn (pagesOf (p .place));
       book =
           withKey key (keyIn ns (p .place) true) (p .space) plain;
     })))
-    (loadAt b key ns)
+    (loadAt fit b key ns)
 unfolding loadPlace loadAt andThen headOf lastFrom
-load-alike plain b key [] g a shape h l is rises few = told-alike refl (subst (λ (p : PlainBook). Agrees p b) (sym same) a)
+load-alike fit plain b key [] g a shape h l is rises few = told-alike refl (subst (λ (p : PlainBook). Agrees p b) (sym same) a)
   where
     same : withKey key emptyKey (plain .space) plain ≡ plain
     same =
         ap (λ (k : Key). record { size = plain .size; keys = set (plain .keys) key k; space = plain .space })
         (sym (empty-key (keyOf key plain) (g .keys key) is))
         ∙ ap (λ (ks : List Key). record { size = plain .size; keys = ks; space = plain .space }) (set-getD (plain .keys) key emptyKey)
-load-alike plain b key (n ∷ []) g a shape h l is rises few =
+load-alike fit plain b key (n ∷ []) g a shape h l is rises few =
     told-alike refl
     (agrees-placed plain key (n ∷ []) inline true (plain .space) l b (b .space) a shape refl
     (placed-stored plain key 1 inline (plain .space) (b .space) (contentsOf plain) (meanwhile-first plain key (λ block. Unit {0}))
     (λ x e. absurd (none-some e))
     (λ i x e. absurd (none-some e)) (h .space)))
-load-alike plain b key (n ∷ m ∷ ns) g a shape h l is rises few = go (loadsTo (length (n ∷ m ∷ ns)) (streamLen (n ∷ m ∷ ns))) refl
+load-alike fit plain b key (n ∷ m ∷ ns) g a shape h l is rises few = go (loadsTo fit (length (n ∷ m ∷ ns)) (streamLen (n ∷ m ∷ ns))) refl
   where
-    go : (to : Option ℕ) → loadsTo (length (n ∷ m ∷ ns)) (streamLen (n ∷ m ∷ ns)) ≡ to
+    go : (to : Option ℕ) → loadsTo fit (length (n ∷ m ∷ ns)) (streamLen (n ∷ m ∷ ns)) ≡ to
         → Alike (andThen (plainLoadInto (plain .size) to (n ∷ m ∷ ns) (plain .space))
         (loadedTo plain b key (n ∷ m ∷ ns) g a shape h l rises few)) (loadInto b key (n ∷ m ∷ ns) to)
-    go (some class) e = load-slab plain b key (n ∷ m ∷ ns) g a shape h l rises few class e
+    go (some class) e = load-slab plain b key (n ∷ m ∷ ns) g a shape h l rises few fit class e
     go none e =
         load-run plain b key (n ∷ m ∷ ns) g a shape h l rises few
         (some-parts n (m ∷ ns) (cutting (n ∷ m ∷ ns)) (cut-allowed (n ∷ m ∷ ns) rises .consecutive))
@@ -484,14 +485,14 @@ unused (slab class off kept) e = absurd (true≢false e)
 unused (pages ps) e = absurd (true≢false e)
 
 -- The two books answer a load alike.
-pub load-step : (plain : PlainBook) (b : Book) (key : ℕ) (ns : List ℕ) → GoodPlain plain → Agrees plain b
-    → Alike (plainDoes plain (load key ns)) (does b (load key ns))
+pub load-step : (fit : SlabFit) (plain : PlainBook) (b : Book) (key : ℕ) (ns : List ℕ) → GoodPlain plain → Agrees plain b
+    → Alike (plainDoes plain (load fit key ns)) (does b (load fit key ns))
 unfolding plainDoes does plainLoads loads
-load-step plain b key ns g a =
+load-step fit plain b key ns g a =
     alike-on-key plain b key _ _ g a
     (λ shape h l.
     alike-both _ _ _ _ _ (in-use-alike plain b key g shape h)
     (λ free. alike-both _ _ _ _ _ refl
     (λ many. alike-offered-list true 0 ns _ _
-    (λ rises. load-alike plain b key ns g a shape h l (unused (keyOf key plain .place) free) rises
+    (λ rises. load-alike fit plain b key ns g a shape h l (unused (keyOf key plain .place) free) rises
     (ltb-false maxOffered (length ns) many)))))

@@ -37,7 +37,7 @@ bytes-unshaped b c e = by-call c
     broken = ap (λ (t : Bool). t || markBad (length (b .space .body)) (b .space .mark)) e
 
     by-call : (c : Change) → does b c ≡ refused shapeBad
-    by-call (load key ns) = refuse-yes _ _ _ broken
+    by-call (load fit key ns) = refuse-yes _ _ _ broken
     by-call (append key n) = refuse-yes _ _ _ broken
     by-call (drop key) = refuse-yes _ _ _ broken
 

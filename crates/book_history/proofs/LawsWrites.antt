@@ -117,7 +117,7 @@ refused-nothing b c e = rw e
 -- An accepted change writes what it may only.
 pub accepted-only : (b : Book) (c : Change) {o : Outcome (Made c)} → does b c ≡ accepted o → Changes b (o .book) c
 unfolding does writes
-accepted-only b (load key ns) e = load-only b key ns e
+accepted-only b (load fit key ns) e = load-only fit b key ns e
 accepted-only b (append key n) e = append-only b key n e
 accepted-only b (drop key) e = drop-only b key e
 
@@ -141,9 +141,9 @@ outside-key k key other =
 -- A change may write no head word but its key's.
 words-named : (b : Book) (c : Change) (k : ℕ) → k ≢ keyOfChange c → Outside (writes b c .heads) k
 unfolding writes Outside
-words-named b (load key []) k other = tt
-words-named b (load key (n ∷ [])) k other = (outside-key k key other, tt)
-words-named b (load key (n ∷ m ∷ ns)) k other = (outside-key k key other, tt)
+words-named b (load fit key []) k other = tt
+words-named b (load fit key (n ∷ [])) k other = (outside-key k key other, tt)
+words-named b (load fit key (n ∷ m ∷ ns)) k other = (outside-key k key other, tt)
 words-named b (append key n) k other = (outside-key k key other, tt)
 words-named b (drop key) k other = (outside-key k key other, tt)
 

@@ -17,6 +17,7 @@ use Rattle.scripthash_slabs.specs.Slab.{slabPayload}
 use Rattle.scripthash_cutting.specs.Cutting.{cutting}
 use Rattle.scripthash_cutting.proofs.LawsPages.{pages-allowed}
 use Rattle.scripthash_cutting.proofs.LawsRising.{rising-words}
+use Rattle.book_rules.specs.declared.places.SlabFit.{SlabFit}
 use Rattle.book_statements.specs.Calls.{load}
 use Rattle.book_rules.specs.Places.{payloadLen, loadsTo}
 use Rattle.book_limits.specs.Limits.{pageAfter}
@@ -75,38 +76,38 @@ run-wrote ns s {t} i r e =
     })
 
 -- A list of rising numbers, by the class that it is given.
-into-only : (b : Book) (key : ℕ) (ns : List ℕ) (to : Option ℕ) {o : Outcome Loaded} → InShape (b .space) → Rising (2 ^ 62) 0 ns
-    → loadsTo (length ns) (streamLen ns) ≡ to → loadInto b key ns to ≡ accepted o
+into-only : (fit : SlabFit) (b : Book) (key : ℕ) (ns : List ℕ) (to : Option ℕ) {o : Outcome Loaded} → InShape (b .space) → Rising (2 ^ 62) 0 ns
+    → loadsTo fit (length ns) (streamLen ns) ≡ to → loadInto b key ns to ≡ accepted o
     → Differs (wordAnd key (loadWrites ns to (b .space))) b (o .book)
 unfolding loadInto loadWrites
-into-only b key ns (some class) i r is e =
-    let l = loads-to (length ns) (streamLen ns) is in
+into-only fit b key ns (some class) i r is e =
+    let l = loads-to fit (length ns) (streamLen ns) is in
     let w = went-on (takeBlock class (b .space)) _ e in
     subst (λ (o : Outcome Loaded). Differs (wordAnd key (filling class (payloadLen (streamLen ns)) (b .space))) b (o .book)) (accepted-inj (w .2))
     (differs-placed key (headWord (Slab class (length ns) (w .0 .off))) (filled (w .0) (slabPayload ns)) b
     (wrote-filled class (b .space) (omega (arith, l .1)) i (payloadLen (streamLen ns)) (slabPayload ns) (length-payload ns) (l .2) (w .1)))
-into-only b key ns none i r is e =
+into-only fit b key ns none i r is e =
     let w = went-on (takeRun (length (cutting ns)) (b .space)) _ e in
     subst (λ (o : Outcome Loaded). Differs (wordAnd key (loadWrites ns none (b .space))) b (o .book)) (accepted-inj (w .2))
     (differs-placed key _ _ b (run-wrote ns (b .space) i r (w .1)))
 
 -- A list of rising numbers.
-at-only : (b : Book) (key : ℕ) (ns : List ℕ) {o : Outcome Loaded} → InShape (b .space) → Rising (2 ^ 62) 0 ns → loadAt b key ns ≡ accepted o
-    → Changes b (o .book) (load key ns)
+at-only : (fit : SlabFit) (b : Book) (key : ℕ) (ns : List ℕ) {o : Outcome Loaded} → InShape (b .space) → Rising (2 ^ 62) 0 ns → loadAt fit b key ns ≡ accepted o
+    → Changes b (o .book) (load fit key ns)
 unfolding loadAt writes
-at-only b key [] i r e = subst (λ (o : Outcome Loaded). Differs (record { heads = []; space = nothing }) b (o .book)) (accepted-inj e)
+at-only fit b key [] i r e = subst (λ (o : Outcome Loaded). Differs (record { heads = []; space = nothing }) b (o .book)) (accepted-inj e)
     (differs-not (record { heads = []; space = nothing }) b)
-at-only b key (n ∷ []) i r e =
+at-only fit b key (n ∷ []) i r e =
     subst (λ (o : Outcome Loaded). Differs (wordAnd key nothing) b (o .book)) (accepted-inj e)
     (differs-placed {n = nothing} key (headWord (Inline n 1)) (b .space) b (wrote-same nothing (b .space)))
-at-only b key (n ∷ m ∷ ns) i r e = into-only b key (n ∷ m ∷ ns) (loadsTo (length (n ∷ m ∷ ns)) (streamLen (n ∷ m ∷ ns))) i r refl e
+at-only fit b key (n ∷ m ∷ ns) i r e = into-only fit b key (n ∷ m ∷ ns) (loadsTo fit (length (n ∷ m ∷ ns)) (streamLen (n ∷ m ∷ ns))) i r refl e
 
 -- A load.
-pub load-only : (b : Book) (key : ℕ) (ns : List ℕ) {o : Outcome Loaded} → loads b key ns ≡ accepted o → Changes b (o .book) (load key ns)
+pub load-only : (fit : SlabFit) (b : Book) (key : ℕ) (ns : List ℕ) {o : Outcome Loaded} → loads fit b key ns ≡ accepted o → Changes b (o .book) (load fit key ns)
 unfolding loads
-load-only b key ns e =
+load-only fit b key ns e =
     let k = on-key b key _ e in
     let used = passed _ _ _ (k .2) in
     let many = passed _ _ _ (used .1) in
-    let l = offered-all true 0 ns (loadAt b key ns) (many .1) in
-    at-only b key ns (k .0) (l .0) (l .1)
+    let l = offered-all true 0 ns (loadAt fit b key ns) (many .1) in
+    at-only fit b key ns (k .0) (l .0) (l .1)

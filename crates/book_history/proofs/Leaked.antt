@@ -15,7 +15,7 @@ use Rattle.plain_book.specs.Space.{stackOf}
 use Rattle.plain_book.specs.Key.{Key, emptyKey, Page, Place, empty, inline, slab, pages}
 use Rattle.plain_book.specs.Book.{Book as PlainBook, keyOf, after as plainAfter}
 use Rattle.plain_book.specs.Good.{GoodPlain}
-use Rattle.plain_book.specs.Filled.{bytesIn, bytesHeld, bytesAt, bytesFreed}
+use Rattle.plain_book.specs.Filled.{bytesIn, bytesHeld, bytesOnStack, bytesFreed}
 use Rattle.plain_book.proofs.LawsFilled.{filled-from}
 use Rattle.plain_book.proofs.LawsGood.{calls-good, shapes-kept}
 use Rattle.book_space.specs.Space.{Space}
@@ -67,8 +67,8 @@ keys-bytes (k ∷ ks) =
     omega arith
 
 -- Freed blocks of a class, and of all.
-freed-bytes : (class : ℕ) (os : List ℕ) → bytesTaken (blocksAt class os) ≡ bytesAt class os
-unfolding bytesTaken blocksAt bytesAt
+freed-bytes : (class : ℕ) (os : List ℕ) → bytesTaken (blocksAt class os) ≡ bytesOnStack class os
+unfolding bytesTaken blocksAt bytesOnStack
 freed-bytes class [] = refl
 freed-bytes class (o ∷ os) = let e = freed-bytes class os in omega arith
 
@@ -77,7 +77,7 @@ unfolding gather bytesTaken bytesFreed
 stacks-bytes k [] = refl
 stacks-bytes k (os ∷ st) =
     let first : k + 0 ≡ k = omega arith in
-    let one : bytesTaken (blocksAt (k + 0) os) ≡ bytesAt k os = rw first (freed-bytes k os) in
+    let one : bytesTaken (blocksAt (k + 0) os) ≡ bytesOnStack k os = rw first (freed-bytes k os) in
     let next : gather (length st) (λ i. blocksAt (k + 1 + i) (getD st i [])) ≡ gather (length st) (λ i. blocksAt (k + suc i) (getD st i []))
     = gather-same (length st) (λ i. blocksAt (k + 1 + i) (getD st i [])) (λ i. blocksAt (k + suc i) (getD st i []))
     (λ i. let same : k + 1 + i ≡ k + suc i = omega arith in rw same) in

@@ -14,7 +14,7 @@ asks b (read key room) = reads b key room
 
 -- What a change does.
 unfoldable pub does : Book → (c : Change) → Answer (Outcome (Made c))
-does b (load key ns) = loads b key ns
+does b (load fit key ns) = loads fit b key ns
 does b (append key n) = appends b key n
 does b (drop key) = drops b key
 

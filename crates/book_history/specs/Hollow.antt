@@ -7,6 +7,7 @@ use mathlib.Core.Logic.{_≢_}
 use lib.Dec.{eqb}
 use lib.ListN.{length}
 use Rattle.error.specs.Refusal.{Answer, accepted, refused, answered}
+use Rattle.book_rules.specs.declared.places.SlabFit.{SlabFit}
 use Rattle.book_rules.specs.Outcomes.{loadedIn, appendedTo, listing, retold}
 use Rattle.book_statements.specs.Calls.{Enquiry, read, Change, load, append, drop, Call, Said, Made, Serves, answersTo}
 use Rattle.plain_book.specs.Book.{fresh as plainFresh, answers as plainAnswers}
@@ -37,7 +38,7 @@ unwritten b a = answered (λ o. record { told = o .told; book = b }) a
 
 -- What changes do whose appends write nothing.
 unfoldable pub writesNothing : Book → (c : Change) → Answer (Outcome (Made c))
-writesNothing b (load key ns) = does b (load key ns)
+writesNothing b (load fit key ns) = does b (load fit key ns)
 writesNothing b (append key n) = unwritten b (does b (append key n))
 writesNothing b (drop key) = does b (drop key)
 
@@ -47,7 +48,7 @@ appendsNothing = record { asks = asks; does = writesNothing }
 
 -- What changes do that store only a key's first append.
 unfoldable pub writesFirst : Book → (c : Change) → Answer (Outcome (Made c))
-writesFirst b (load key ns) = does b (load key ns)
+writesFirst b (load fit key ns) = does b (load fit key ns)
 writesFirst b (append key n) = cond (eqb (wordOf key b) 0) (does b (append key n)) (unwritten b (does b (append key n)))
 writesFirst b (drop key) = does b (drop key)
 
@@ -57,16 +58,26 @@ firstOnly = record { asks = asks; does = writesFirst }
 
 -- What changes do whose loads tell a page too many.
 unfoldable pub pageMore : Book → (c : Change) → Answer (Outcome (Made c))
-pageMore b (load key ns) = retold (λ l. loadedIn (l .pages + 1)) (does b (load key ns))
+pageMore b (load fit key ns) = retold (λ l. loadedIn (l .pages + 1)) (does b (load fit key ns))
 pageMore b (append key n) = does b (append key n)
 pageMore b (drop key) = does b (drop key)
 
 -- What changes do whose appends tell a rewritten record too many.
 unfoldable pub rewrittenMore : Book → (c : Change) → Answer (Outcome (Made c))
-rewrittenMore b (load key ns) = does b (load key ns)
+rewrittenMore b (load fit key ns) = does b (load fit key ns)
 rewrittenMore b (append key n) = retold (λ a. appendedTo (a .place) (a .rewritten + 1)) (does b (append key n))
 rewrittenMore b (drop key) = does b (drop key)
 
 -- One that invents figures.
 abbrev pub invents : (Book → (c : Change) → Answer (Outcome (Made c))) → Serves Book
 invents changes = record { asks = asks; does = changes }
+
+-- What changes do whose loads all follow one rule for the slab.
+unfoldable pub loadsAs : SlabFit → Book → (c : Change) → Answer (Outcome (Made c))
+loadsAs fit b (load asked key ns) = does b (load fit key ns)
+loadsAs fit b (append key n) = does b (append key n)
+loadsAs fit b (drop key) = does b (drop key)
+
+-- One with a single rule for loads.
+abbrev pub oneRule : SlabFit → Serves Book
+oneRule fit = record { asks = asks; does = loadsAs fit }

@@ -146,10 +146,10 @@ wordAnd key n = record { heads = region key 1 ∷ []; space = n }
 
 -- What a change of a book may write.
 unfoldable pub writes : Book → Change → CallWrites
-writes b (load key []) = record { heads = []; space = nothing }
-writes b (load key (n ∷ [])) = wordAnd key nothing
-writes b (load key (n ∷ m ∷ ns)) =
-    let list = n ∷ m ∷ ns in wordAnd key (loadWrites list (loadsTo (length list) (streamLen list)) (b .space))
+writes b (load fit key []) = record { heads = []; space = nothing }
+writes b (load fit key (n ∷ [])) = wordAnd key nothing
+writes b (load fit key (n ∷ m ∷ ns)) =
+    let list = n ∷ m ∷ ns in wordAnd key (loadWrites list (loadsTo fit (length list) (streamLen list)) (b .space))
 writes b (append key n) = wordAnd key (valueOr (appendWrites n (b .space)) (unpackHead (wordOf key b)) nothing)
 writes b (drop key) = wordAnd key (valueOr (λ c. freeingAll (c .blocks)) (content (seen (b .space)) (wordOf key b)) nothing)
 

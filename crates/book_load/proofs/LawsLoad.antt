@@ -17,6 +17,7 @@ use Rattle.scripthash_slabs.specs.Slab.{slabPayload}
 use Rattle.scripthash_cutting.specs.Cutting.{pageRoom, cutting, chunkRanges}
 use Rattle.scripthash_cutting.proofs.LawsPages.{pages-at-most}
 use Rattle.scripthash_cutting.proofs.LawsRising.{rising-words}
+use Rattle.book_rules.specs.declared.places.SlabFit.{SlabFit}
 use Rattle.book_rules.specs.Outcomes.{bookAfter, loadedIn, Loaded}
 use Rattle.book_rules.specs.Offered.{offeredNumber, offeredList}
 use Rattle.book_rules.specs.Places.{loadsTo}
@@ -118,22 +119,22 @@ run-lies s after fks ranges count off i p e =
 -- ---- a list by its length
 
 -- A list loaded onto an empty key.
-module _ (b : Book) (key : ℕ) where
+module _ (fit : SlabFit) (b : Book) (key : ℕ) where
   -- None changes nothing.
-  pub load-none : (ns : List ℕ) → length ns ≡ 0 → loadAt b key ns ≡ accepted (record { told = loadedIn 0; book = b })
+  pub load-none : (ns : List ℕ) → length ns ≡ 0 → loadAt fit b key ns ≡ accepted (record { told = loadedIn 0; book = b })
   unfolding loadAt
   load-none [] h = refl
   load-none (n ∷ ns) h = absurd (omega arith)
 
   -- One goes into the head word.
-  pub load-one : (ns : List ℕ) → length ns ≡ 1 → loadAt b key ns ≡ accepted (loading key (Inline (getD ns 0 0) 1) 0 (b .space) b)
+  pub load-one : (ns : List ℕ) → length ns ≡ 1 → loadAt fit b key ns ≡ accepted (loading key (Inline (getD ns 0 0) 1) 0 (b .space) b)
   unfolding loadAt
   load-one [] h = absurd (omega arith)
   load-one (n ∷ []) h = refl
   load-one (n ∷ m ∷ ns) h = absurd (omega arith)
 
   -- More go where a load gives them a place.
-  pub load-more : (ns : List ℕ) → 2 ≤ length ns → loadAt b key ns ≡ loadInto b key ns (loadsTo (length ns) (streamLen ns))
+  pub load-more : (ns : List ℕ) → 2 ≤ length ns → loadAt fit b key ns ≡ loadInto b key ns (loadsTo fit (length ns) (streamLen ns))
   unfolding loadAt
   load-more [] h = absurd (omega arith)
   load-more (n ∷ []) h = absurd (omega arith)
@@ -154,46 +155,46 @@ module _ {A B : Type 0} where
       (refused-alike (leb (2 ^ 62) n) _ _ _ (refused-alike (leb n prev) _ _ _ (λ e. refused-all false n ns x after e)))) e
 
 -- A load of a list onto a key, by the tests in their order.
-module _ (b : Book) (key : ℕ) (ns : List ℕ) where
+module _ (fit : SlabFit) (b : Book) (key : ℕ) (ns : List ℕ) where
   -- A book out of shape.
-  pub loads-shape : shapeBroken (b .space) (length (b .heads)) ≡ true → loads b key ns ≡ refused shapeBad
+  pub loads-shape : shapeBroken (b .space) (length (b .heads)) ≡ true → loads fit b key ns ≡ refused shapeBad
   unfolding loads onKey
   loads-shape e = refuse-yes _ _ _ e
 
   module _ (good : shapeBroken (b .space) (length (b .heads)) ≡ false) where
     -- A key beyond the heads.
-    pub loads-beyond : length (b .heads) ≤ key → loads b key ns ≡ refused keyBeyond
+    pub loads-beyond : length (b .heads) ≤ key → loads fit b key ns ≡ refused keyBeyond
     unfolding loads onKey
     loads-beyond h = refuse-no _ _ _ good ∙ refuse-yes _ _ _ (le-leb (length (b .heads)) key h)
 
     module _ (known : key < length (b .heads)) where
       -- What comes after the key.
-      keyed : loads b key ns
+      keyed : loads fit b key ns
           ≡ refuseIf (not (eqb (wordOf key b) 0)) keyInUse
-          (refuseIf (ltb maxOffered (length ns)) tooManyOffered (offeredList true 0 ns (loadAt b key ns)))
+          (refuseIf (ltb maxOffered (length ns)) tooManyOffered (offeredList true 0 ns (loadAt fit b key ns)))
       unfolding loads onKey
       keyed = refuse-no _ _ _ good ∙ refuse-no _ _ _ (lt-leb (length (b .heads)) key known)
 
       -- A key in use.
-      pub loads-in-use : (wordOf key b ≡ 0 → ⊥) → loads b key ns ≡ refused keyInUse
+      pub loads-in-use : (wordOf key b ≡ 0 → ⊥) → loads fit b key ns ≡ refused keyInUse
       loads-in-use h = keyed ∙ refuse-yes _ _ _ (ap not (ne-eqb (wordOf key b) 0 h))
 
       module _ (empty : wordOf key b ≡ 0) where
         -- What comes after the key's word.
-        emptied : loads b key ns ≡ refuseIf (ltb maxOffered (length ns)) tooManyOffered (offeredList true 0 ns (loadAt b key ns))
+        emptied : loads fit b key ns ≡ refuseIf (ltb maxOffered (length ns)) tooManyOffered (offeredList true 0 ns (loadAt fit b key ns))
         emptied = keyed ∙ refuse-no _ _ _ (ap not (eq-eqb (wordOf key b) 0 empty))
 
         -- Too many numbers.
-        pub loads-too-many : maxOffered < length ns → loads b key ns ≡ refused tooManyOffered
+        pub loads-too-many : maxOffered < length ns → loads fit b key ns ≡ refused tooManyOffered
         loads-too-many h = emptied ∙ refuse-yes _ _ _ (lt-ltb maxOffered (length ns) h)
 
         module _ (few : length ns ≤ maxOffered) where
           -- A number that is turned back.
           pub loads-offered : {number : ℕ} → offeredList true 0 ns (accepted (streamLen ns)) ≡ refused number
-              → loads b key ns ≡ refused number
+              → loads fit b key ns ≡ refused number
           loads-offered e =
-              emptied ∙ refuse-no _ _ _ (le-ltb maxOffered (length ns) few) ∙ refused-all true 0 ns (streamLen ns) (loadAt b key ns) e
+              emptied ∙ refuse-no _ _ _ (le-ltb maxOffered (length ns) few) ∙ refused-all true 0 ns (streamLen ns) (loadAt fit b key ns) e
 
           -- A list that rises is loaded.
-          pub loads-on : Rising (2 ^ 62) 0 ns → loads b key ns ≡ loadAt b key ns
-          loads-on r = emptied ∙ refuse-no _ _ _ (le-ltb maxOffered (length ns) few) ∙ rising-all true 0 ns (loadAt b key ns) r
+          pub loads-on : Rising (2 ^ 62) 0 ns → loads fit b key ns ≡ loadAt fit b key ns
+          loads-on r = emptied ∙ refuse-no _ _ _ (le-ltb maxOffered (length ns) few) ∙ rising-all true 0 ns (loadAt fit b key ns) r

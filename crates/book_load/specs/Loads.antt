@@ -12,6 +12,7 @@ use Rattle.scripthash_layout.specs.declared.head.ShHeadValue.the-variants.{Inli
 use Rattle.scripthash_stream.specs.Stream.{maxOffered, streamLen}
 use Rattle.scripthash_slabs.specs.Slab.{slabPayload}
 use Rattle.scripthash_cutting.specs.Cutting.{cutting}
+use Rattle.book_rules.specs.declared.places.SlabFit.{SlabFit}
 use Rattle.book_rules.specs.Outcomes.{loadedIn, Loaded}
 use Rattle.book_rules.specs.Offered.{offeredList}
 use Rattle.book_rules.specs.Places.{loadsTo}
@@ -37,15 +38,15 @@ loadInto b key ns none =
     (λ t. accepted (loading key (Extent (lastOfRun (t .off) count)) count
     (space (writeRun (t .off) count (length ns) (t .space .body) (t .off) (cutting ns)) (t .space .mark) (t .space .free)) b))
 
--- A load of a list onto an empty key: none changes nothing, and one goes into the head word.
-unfoldable pub loadAt : Book → ℕ → List ℕ → Answer (Outcome Loaded)
-loadAt b key [] = accepted (record { told = loadedIn 0; book = b })
-loadAt b key (n ∷ []) = accepted (loading key (Inline n 1) 0 (b .space) b)
-loadAt b key (n ∷ m ∷ ns) = loadInto b key (n ∷ m ∷ ns) (loadsTo (length (n ∷ m ∷ ns)) (streamLen (n ∷ m ∷ ns)))
+-- A load of a list onto an empty key: none changes nothing, one goes into the head word, and more go where the rule gives them a place.
+unfoldable pub loadAt : SlabFit → Book → ℕ → List ℕ → Answer (Outcome Loaded)
+loadAt fit b key [] = accepted (record { told = loadedIn 0; book = b })
+loadAt fit b key (n ∷ []) = accepted (loading key (Inline n 1) 0 (b .space) b)
+loadAt fit b key (n ∷ m ∷ ns) = loadInto b key (n ∷ m ∷ ns) (loadsTo fit (length (n ∷ m ∷ ns)) (streamLen (n ∷ m ∷ ns)))
 
 -- A load of a list onto a key.
-unfoldable pub loads : Book → ℕ → List ℕ → Answer (Outcome Loaded)
-loads b key ns =
+unfoldable pub loads : SlabFit → Book → ℕ → List ℕ → Answer (Outcome Loaded)
+loads fit b key ns =
     onKey b key
     (refuseIf (not (eqb (wordOf key b) 0)) keyInUse
-    (refuseIf (ltb maxOffered (length ns)) tooManyOffered (offeredList true 0 ns (loadAt b key ns))))
+    (refuseIf (ltb maxOffered (length ns)) tooManyOffered (offeredList true 0 ns (loadAt fit b key ns))))

@@ -20,6 +20,7 @@ use crate::answers::BookLoad;
 use book::PlaceList;
 use book::place_in_slab;
 use book::put_head;
+use book_rules::SlabFit;
 use book_space::State;
 use book_space::TakeBlock;
 use error::Refusal;
@@ -140,16 +141,17 @@ fn load_list(
     body: &mut [u8],
     heads: &mut [u64],
     state: State,
+    fit: SlabFit,
     key: usize,
     fks: &[u64],
     bytes: usize,
 ) -> AfterLoad
     requires { ⌜ ToLoadList (bookOf (now body) (now heads) state) key (now fks) bytes ⌝ }
     ensures { λ r. ⌜ Does (loadInto (bookOf (now (body .entry)) (now (heads .entry)) state) key (now (fks .entry))
-        (loadsTo (length (now (fks .entry))) (streamLen (now (fks .entry))))) (bookOf (now (body .entry)) (now (heads .entry)) state)
+        (loadsTo fit (length (now (fks .entry))) (streamLen (now (fks .entry))))) (bookOf (now (body .entry)) (now (heads .entry)) state)
         (bookOf (now (body .exit)) (now (heads .exit)) (r .state)) (loadAnswer (r .answer)) ⌝ }
 {
-    let class = book_rules::loads_to(fks.len(), bytes);
+    let class = book_rules::loads_to(fit, fks.len(), bytes);
     match class {
         SlabClass::Class(class) => load_slab(body, heads, state, key, fks, class),
         SlabClass::Nothing => load_run(body, heads, state, key, fks),
@@ -161,12 +163,13 @@ fn load_judged(
     body: &mut [u8],
     heads: &mut [u64],
     state: State,
+    fit: SlabFit,
     key: usize,
     fks: &[u64],
     bytes: usize,
 ) -> AfterLoad
     requires { ⌜ ToLoadJudged (bookOf (now body) (now heads) state) key (now fks) bytes ⌝ }
-    ensures { λ r. ⌜ Does (loadAt (bookOf (now (body .entry)) (now (heads .entry)) state) key (now (fks .entry)))
+    ensures { λ r. ⌜ Does (loadAt fit (bookOf (now (body .entry)) (now (heads .entry)) state) key (now (fks .entry)))
         (bookOf (now (body .entry)) (now (heads .entry)) state) (bookOf (now (body .exit)) (now (heads .exit)) (r .state))
         (loadAnswer (r .answer)) ⌝ }
 {
@@ -180,16 +183,23 @@ fn load_judged(
         let entry = fks[0];
         return accept_load(heads, state, key, ShHeadValue::Inline { entry, used: 1 }, 0);
     }
-    load_list(body, heads, state, key, fks, bytes)
+    load_list(body, heads, state, fit, key, fks, bytes)
 }
 
-// Loads a list onto an empty key.
-pub fn load(body: &mut [u8], heads: &mut [u64], state: State, key: u64, fks: &[u64]) -> AfterLoad
+// Loads a list onto an empty key: its slab has a spare slot, or fits tight.
+pub fn load(
+    body: &mut [u8],
+    heads: &mut [u64],
+    state: State,
+    fit: SlabFit,
+    key: u64,
+    fks: &[u64],
+) -> AfterLoad
     ensures answer { λ r. ⌜ loadAnswer (r .answer)
-        ≡ answerOf (loads (bookOf (now (body .entry)) (now (heads .entry)) state) key (now (fks .entry))) ⌝ }
+        ≡ answerOf (loads fit (bookOf (now (body .entry)) (now (heads .entry)) state) key (now (fks .entry))) ⌝ }
     ensures book { λ r. ⌜ bookOf (now (body .exit)) (now (heads .exit)) (r .state)
         ≡ bookAfter (bookOf (now (body .entry)) (now (heads .entry)) state)
-        (loads (bookOf (now (body .entry)) (now (heads .entry)) state) key (now (fks .entry))) ⌝ }
+        (loads fit (bookOf (now (body .entry)) (now (heads .entry)) state) key (now (fks .entry))) ⌝ }
 {
     if book_space::shape_broken(body, heads.len(), state) {
         return refuse_load(state, error::SHAPE_BAD);
@@ -208,5 +218,5 @@ pub fn load(body: &mut [u8], heads: &mut [u64], state: State, key: u64, fks: &[u
     let StreamBytes::Bytes(bytes) = judged else {
         return refuse_load(state, judged.refusal());
     };
-    load_judged(body, heads, state, at, fks, bytes)
+    load_judged(body, heads, state, fit, at, fks, bytes)
 }

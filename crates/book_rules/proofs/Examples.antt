@@ -7,6 +7,7 @@ use mathlib.Core.Path.{_≡_, refl}
 use Rattle.error.specs.Refusal.{accepted, refuseIf, refusalOf}
 use Rattle.scripthash_slabs.specs.Class.{firstClass, classFor, classWithSlack}
 use Rattle.book_rules.specs.Offered.{offeredNumber, offeredList}
+use Rattle.book_rules.specs.declared.places.SlabFit.the-variants.{Spare, Tight}
 use Rattle.book_rules.specs.Places.{stays, larger, movesTo, loadsTo}
 
 -- A list moves to the larger of its slack class and its class by bytes: five numbers of a byte, four of 9 bytes, 256 and 257 numbers, 2,046
@@ -16,10 +17,18 @@ pub moves-at : (movesTo 5 5 ≡ some 1) × (movesTo 4 36 ≡ some 2) × (movesTo
 unfolding movesTo larger classWithSlack classFor firstClass
 moves-at = (refl, refl, refl, refl, refl, refl)
 
--- A load goes by bytes alone: 14 and 15 numbers of a byte, 256 and 257.
-pub loads-at : (loadsTo 14 14 ≡ some 0) × (loadsTo 15 15 ≡ some 1) × (loadsTo 256 256 ≡ some 5) × (loadsTo 257 257 ≡ none)
+-- A load with a spare slot goes by both classes: 3, 4, 14 and 15 numbers of a byte, four of 9 bytes, 255 to 257.
+pub loads-spare-at : (loadsTo Spare 3 3 ≡ some 0) × (loadsTo Spare 4 4 ≡ some 1) × (loadsTo Spare 14 14 ≡ some 2)
+    × (loadsTo Spare 15 15 ≡ some 2)
+    × (loadsTo Spare 4 36 ≡ some 2) × (loadsTo Spare 255 255 ≡ some 6) × (loadsTo Spare 256 256 ≡ some 6) × (loadsTo Spare 257 257 ≡ none)
+unfolding loadsTo movesTo larger classWithSlack classFor firstClass
+loads-spare-at = (refl, refl, refl, refl, refl, refl, refl, refl)
+
+-- A tight load goes by bytes alone: 14 and 15 numbers of a byte, 256 and 257.
+pub loads-tight-at : (loadsTo Tight 14 14 ≡ some 0) × (loadsTo Tight 15 15 ≡ some 1) × (loadsTo Tight 256 256 ≡ some 5)
+    × (loadsTo Tight 257 257 ≡ none)
 unfolding loadsTo classFor firstClass
-loads-at = (refl, refl, refl, refl)
+loads-tight-at = (refl, refl, refl, refl)
 
 -- Four numbers stay in a slab of class 0, five have no slots there, and 15 bytes don't fit.
 pub stays-at : (stays 0 4 14 ≡ true) × (stays 0 5 5 ≡ false) × (stays 0 4 15 ≡ false) × (stays 6 256 1022 ≡ true)

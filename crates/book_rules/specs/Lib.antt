@@ -1,3 +1,4 @@
 pub mod Outcomes
 pub mod Offered
 pub mod Places
+pub mod Steps

@@ -6,6 +6,8 @@ use mathlib.Core.Option.{Option, none, some}
 use lib.Dec.{leb}
 use Rattle.scripthash_layout.specs.Sizes.{slabBytes, slabSlots, maxSlabCount}
 use Rattle.scripthash_slabs.specs.Class.{classByBytes, classWithSlack}
+use Rattle.book_rules.specs.declared.places.SlabFit.{SlabFit}
+use Rattle.book_rules.specs.declared.places.SlabFit.the-variants.{Spare, Tight}
 
 -- The bytes of a slab's payload: two for the count, and the stream.
 abbrev pub payloadLen : ℕ → ℕ
@@ -25,6 +27,8 @@ larger (some c) (some d) = some (max c d)
 unfoldable pub movesTo : ℕ → ℕ → Option ℕ
 movesTo count bytes = larger (classWithSlack count) (classByBytes (payloadLen bytes))
 
--- The class of the slab that a load gives a list: by bytes; none where it goes to a run of pages.
-unfoldable pub loadsTo : ℕ → ℕ → Option ℕ
-loadsTo count bytes = cond (leb count maxSlabCount) (classByBytes (payloadLen bytes)) none
+-- The class of the slab that a load gives a list, none where it goes to a run of pages: with a spare slot the larger of the class by bytes
+-- and the slack class, as a move does; tight the class by bytes.
+unfoldable pub loadsTo : SlabFit → ℕ → ℕ → Option ℕ
+loadsTo Spare count bytes = movesTo count bytes
+loadsTo Tight count bytes = cond (leb count maxSlabCount) (classByBytes (payloadLen bytes)) none

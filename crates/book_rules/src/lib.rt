@@ -5,6 +5,7 @@ mod places;
 
 pub use offered::judge_list;
 pub use offered::judge_number;
+pub use places::SlabFit;
 pub use places::loads_to;
 pub use places::moves_to;
 pub use places::stays;

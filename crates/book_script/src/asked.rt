@@ -9,6 +9,7 @@ pub enum Command {
     Body,
     Keys,
     Load,
+    LoadTight,
     Append,
     Read,
     Drop,
@@ -82,6 +83,9 @@ fn command_of(word: &[u8]) -> Command {
     if check::same(word, b"load") {
         return Command::Load;
     }
+    if check::same(word, b"load-tight") {
+        return Command::LoadTight;
+    }
     if check::same(word, b"append") {
         return Command::Append;
     }
@@ -109,7 +113,7 @@ fn most(command: Command) -> usize {
     match command {
         Command::Places | Command::Space | Command::Check | Command::Help => 0,
         Command::Append | Command::Read => 2,
-        Command::Load => usize::MAX,
+        Command::Load | Command::LoadTight => usize::MAX,
         _ => 1,
     }
 }
@@ -123,7 +127,9 @@ fn form_of_book(command: Command) {
         Command::Space => text::words(b"space alone"),
         Command::Check => text::words(b"check alone"),
         Command::Help => text::words(b"help alone"),
-        _ => text::words(b"body, keys, load, append, read, drop, places, space, check or help"),
+        _ => text::words(
+            b"body, keys, load, load-tight, append, read, drop, places, space, check or help",
+        ),
     }
 }
 
@@ -131,6 +137,7 @@ fn form_of_book(command: Command) {
 fn form(command: Command) {
     match command {
         Command::Load => text::words(b"load KEY NUMBER ..."),
+        Command::LoadTight => text::words(b"load-tight KEY NUMBER ..."),
         Command::Append => text::words(b"append KEY NUMBER"),
         Command::Read => text::words(b"read KEY, or read KEY ROOM"),
         Command::Drop => text::words(b"drop KEY"),

@@ -24,7 +24,12 @@ fn of_changes() {
     text::words(
         b"append KEY NUMBER: records a number, from 1 to 2^62 - 1, above the last that is recorded\n",
     );
-    text::words(b"load KEY NUMBER ...: records rising numbers in an empty account\n");
+    text::words(
+        b"load KEY NUMBER ...: records rising numbers in an empty account, with a spare slot for the next\n",
+    );
+    text::words(
+        b"load-tight KEY NUMBER ...: the same in the smallest slab that holds them, for lists that are complete\n",
+    );
     text::words(b"drop KEY: empties an account\n");
 }
 

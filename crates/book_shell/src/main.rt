@@ -1,11 +1,12 @@
 // A shell for the account book: reads a script from standard input, a call a line, and writes each answer in words. `body BYTES` and then
-// `keys COUNT` make a fresh book; `load KEY NUMBER ...`, `append KEY NUMBER`, `read KEY` and `drop KEY` are its calls; `places` and `space`
-// show what it holds, and `check` tells whether it is a good start; `help` lists these lines, and `#` begins a comment. A line that can't be
-// read, or comes before there is a book, is reported with its number, and nothing is done for it. The last line of all tells how many lines
-// were refused, and how many not understood.
+// `keys COUNT` make a fresh book; `load KEY NUMBER ...`, `load-tight KEY NUMBER ...`, `append KEY NUMBER`, `read KEY` and `drop KEY` are its
+// calls; `places` and `space` show what it holds, and `check` tells whether it is a good start; `help` lists these lines, and `#` begins a
+// comment. A line that can't be read, or comes before there is a book, is reported with its number, and nothing is done for it. The last
+// line of all tells how many lines were refused, and how many not understood.
 mod calls;
 mod memory;
 
+use book_rules::SlabFit;
 use book_script::Asked;
 use book_script::Command;
 use book_script::Reading;
@@ -111,7 +112,11 @@ fn act(asked: Asked, list: &mut [u64], body: &mut [u8], heads: &mut [u64], state
     match what {
         Command::Load => {
             let numbers = book_script::offered(list, asked.count);
-            calls::load(body, heads, state, asked.first, numbers)
+            calls::load(body, heads, state, SlabFit::Spare, asked.first, numbers)
+        }
+        Command::LoadTight => {
+            let numbers = book_script::offered(list, asked.count);
+            calls::load(body, heads, state, SlabFit::Tight, asked.first, numbers)
         }
         Command::Append => calls::append(body, heads, state, asked.first, asked.second),
         Command::Drop => calls::drop(body, heads, state, asked.first),

@@ -3,6 +3,7 @@ use mathlib.Core.List.{List, [], _∷_}
 use mathlib.Core.Path.{_≡_, refl}
 use Rattle.error.specs.Refusal.{accepted, refused}
 use Rattle.scripthash_layout.specs.declared.head.ShHeadValue.the-variants.{Inline, Slab}
+use Rattle.book_rules.specs.declared.places.SlabFit.the-variants.{Spare}
 use Rattle.book_rules.specs.Outcomes.{loadedIn, appendedTo, listing, droppedOf}
 use Rattle.book_statements.specs.Calls.{read, load, append, drop, Call, ask, change, Answers, done, asked, changed}
 use Rattle.book_statements.specs.Recorded.{recordedBy, recordedAfter, recorded}
@@ -10,7 +11,7 @@ use Rattle.book_statements.specs.Recorded.{recordedBy, recordedAfter, re
 -- Some calls on keys 0 and 1, and answers that they may get.
 abbrev calls : List Call
 calls =
-    change (append 0 4) ∷ change (drop 0) ∷ change (load 0 (5 ∷ 9 ∷ [])) ∷ change (append 0 3) ∷ change (append 1 7) ∷ change (append 0 12)
+    change (append 0 4) ∷ change (drop 0) ∷ change (load Spare 0 (5 ∷ 9 ∷ [])) ∷ change (append 0 3) ∷ change (append 1 7) ∷ change (append 0 12)
     ∷ ask (read 0 3) ∷ []
 
 abbrev told : Answers calls

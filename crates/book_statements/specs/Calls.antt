@@ -3,15 +3,16 @@
 use Prim.Native.Nat.{ℕ}
 use mathlib.Core.List.{List, [], _∷_}
 use Rattle.error.specs.Refusal.{Answer}
+use Rattle.book_rules.specs.declared.places.SlabFit.{SlabFit}
 use Rattle.book_rules.specs.Outcomes.{Loaded, Appended, Listed, Dropped, OutcomeOf, bookAfter, answerOf}
 
 -- An enquiry, with its arguments: a read lends a list with room for some numbers.
 pub data Enquiry : Type 0 where
   read : ℕ → ℕ → Enquiry
 
--- A change, with its arguments.
+-- A change, with its arguments: a load has a rule for its slab, with a spare slot or tight.
 pub data Change : Type 0 where
-  load : ℕ → List ℕ → Change
+  load : SlabFit → ℕ → List ℕ → Change
   append : ℕ → ℕ → Change
   drop : ℕ → Change
 
@@ -22,7 +23,7 @@ pub data Call : Type 0 where
 
 -- The key of a change.
 abbrev pub keyOfChange : Change → ℕ
-keyOfChange (load key ns) = key
+keyOfChange (load fit key ns) = key
 keyOfChange (append key n) = key
 keyOfChange (drop key) = key
 
@@ -32,7 +33,7 @@ Said (read key room) = Listed
 
 -- What an accepted change tells.
 abbrev pub Made : Change → Type 0
-Made (load key ns) = Loaded
+Made (load fit key ns) = Loaded
 Made (append key n) = Appended
 Made (drop key) = Dropped
 

@@ -22,7 +22,7 @@ counted rewritten t =
 
 -- The tally of a key after what an accepted change told: an append counts, and a drop ends it.
 unfoldable pub talliedBy : (c : Change) → Made c → Tally → Tally
-talliedBy (load key ns) told t = t
+talliedBy (load fit key ns) told t = t
 talliedBy (append key n) told t = counted (told .rewritten) t
 talliedBy (drop key) told t = noMoves
 

@@ -8,7 +8,7 @@ use Rattle.book_statements.specs.Calls.{Change, load, append, drop, keyO
 
 -- What is recorded after an accepted change of the key: a load records its list, an append its number, and a drop ends the record.
 unfoldable pub recordedBy : Change → List ℕ → List ℕ
-recordedBy (load key ns) before = before ++ ns
+recordedBy (load fit key ns) before = before ++ ns
 recordedBy (append key n) before = before ++ (n ∷ [])
 recordedBy (drop key) before = []
 

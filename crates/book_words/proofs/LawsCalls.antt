@@ -12,9 +12,11 @@ use borrow.Author.Tests.{le-leb, eqb-true, leb-true}
 use lib.Dec.{leb, eqb}
 use lib.ListN.{length, getD, take as firstOf, drop as behind, length-append, length-drop, take-append-drop}
 use lib.Seq.{take-append-seam, drop-append-seam, length-take-le, drop-cons}
+use Rattle.book_rules.specs.declared.places.SlabFit.{SlabFit}
+use Rattle.book_rules.specs.declared.places.SlabFit.the-variants.{Spare, Tight}
 use Rattle.book_words.specs.Spelled.{SpelledCall, load, append, read, drop}
 use Rattle.book_words.specs.Words.{Begins, begins, word, before}
-use Rattle.book_words.specs.SpellCalls.{spellCall, spellCalls, loadOf, callOf, callAt, callsOf}
+use Rattle.book_words.specs.SpellCalls.{loadKind, isLoad, fitOf, spellCall, spellCalls, loadOf, callOf, callAt, callsOf}
 use Rattle.book_words.proofs.LawsWords.{some-inj, none≢some, AllGood, reads-all, spelled-all, reads-none, reads-some}
 
 -- ---- spelled, and read back
@@ -22,17 +24,28 @@ use Rattle.book_words.proofs.LawsWords.{some-inj, none≢some, AllGood,
 -- a call has words
 call-words : (c : SpelledCall) → 0 < length (spellCall c)
 unfolding spellCall
-call-words (load key ns) = suc-le-suc zero-le
+call-words (load fit key ns) = suc-le-suc zero-le
 call-words (append key n) = suc-le-suc zero-le
 call-words (read key room) = suc-le-suc zero-le
 call-words (drop key) = suc-le-suc zero-le
 
+-- the kind of a load is a load's, and tells its rule
+load-kind : (fit : SlabFit) → isLoad (loadKind fit) ≡ true
+unfolding isLoad loadKind
+load-kind Spare = refl
+load-kind Tight = refl
+
+fit-back : (fit : SlabFit) → fitOf (loadKind fit) ≡ fit
+unfolding fitOf loadKind
+fit-back Spare = refl
+fit-back Tight = refl
+
 -- a call reads back, whatever follows its words
 pub call-back : (c : SpelledCall) (rest : List ℕ) → callAt (spellCall c ++ rest) ≡ begins c rest
-unfolding spellCall callAt callOf word
-call-back (load key ns) rest =
+unfolding spellCall callAt callOf word isLoad
+call-back (load fit key ns) rest =
     let room : length ns ≤ length (ns ++ rest) = omega (arith, length-append ns rest) in
-    rw (le-leb (length ns) (length (ns ++ rest)) room, take-append-seam ns rest, drop-append-seam ns rest)
+    rw (load-kind fit, fit-back fit, le-leb (length ns) (length (ns ++ rest)) room, take-append-seam ns rest, drop-append-seam ns rest)
 call-back (append key n) rest = refl
 call-back (read key room) rest = refl
 call-back (drop key) rest = refl
@@ -56,15 +69,25 @@ branch : (t : Bool) (x y z : Option (Begins SpelledCall)) → cond t x y ≡ z �
 branch true x y z e = inl (refl, e)
 branch false x y z e = inr e
 
+-- a load's kind is that of its rule
+kind-was : (kind : ℕ) → isLoad kind ≡ true → loadKind (fitOf kind) ≡ kind
+unfolding isLoad fitOf loadKind
+kind-was kind e = go (eqb kind 0) refl e
+  where
+    go : (t : Bool) → eqb kind 0 ≡ t → cond t true (eqb kind 4) ≡ true → loadKind (cond t Spare Tight) ≡ kind
+    go true z e = sym (eqb-true kind 0 z)
+    go false z e = sym (eqb-true kind 4 e)
+
 -- the words of what was read
 abbrev words-of : Begins SpelledCall → List ℕ
 words-of b = spellCall (b .first) ++ b .rest
 
 -- a load's words
-load-was : (key count : ℕ) (rest : List ℕ) (b : Begins SpelledCall) → loadOf key count rest ≡ some b → words-of b ≡ 0 ∷ key ∷ count ∷ rest
+load-was : (fit : SlabFit) (key count : ℕ) (rest : List ℕ) (b : Begins SpelledCall) → loadOf fit key count rest ≡ some b
+    → words-of b ≡ loadKind fit ∷ key ∷ count ∷ rest
 unfolding spellCall
-load-was key count rest b e =
-    ⊎-elim (λ (w : (leb count (length rest) ≡ true) × (begins (load key (firstOf count rest)) (behind count rest) ≡ some b)).
+load-was fit key count rest b e =
+    ⊎-elim (λ (w : (leb count (length rest) ≡ true) × (begins (load fit key (firstOf count rest)) (behind count rest) ≡ some b)).
     let fits : length (firstOf count rest) ≡ count = length-take-le count rest (leb-true count (length rest) (w .0)) in
     ap words-of (sym (some-inj (w .1))) ∙ rw (fits, take-append-drop count rest))
     (λ (n : none ≡ some b). absurd (none≢some n))
@@ -77,7 +100,8 @@ call-was [] b e = absurd (none≢some e)
 call-was (kind ∷ []) b e = absurd (none≢some e)
 call-was (kind ∷ key ∷ []) b e = absurd (none≢some e)
 call-was (kind ∷ key ∷ third ∷ rest) b e =
-    ⊎-elim (λ (w : (eqb kind 0 ≡ true) × (loadOf key third rest ≡ some b)). load-was key third rest b (w .1) ∙ of-kind 0 (w .0))
+    ⊎-elim (λ (w : (isLoad kind ≡ true) × (loadOf (fitOf kind) key third rest ≡ some b)).
+    load-was (fitOf kind) key third rest b (w .1) ∙ ap (λ (n : ℕ). n ∷ key ∷ third ∷ rest) (kind-was kind (w .0)))
     (λ e1. ⊎-elim (λ (w : (eqb kind 1 ≡ true) × (begins (append key third) rest ≡ some b)). ap words-of (sym (some-inj (w .1)))
     ∙ of-kind 1 (w .0))
     (λ e2. ⊎-elim (λ (w : (eqb kind 2 ≡ true) × (begins (read key third) rest ≡ some b)). ap words-of (sym (some-inj (w .1)))
@@ -87,7 +111,7 @@ call-was (kind ∷ key ∷ third ∷ rest) b e =
     ap words-of (sym (some-inj (v .1))) ∙ ap (λ (n : ℕ). 3 ∷ key ∷ n ∷ rest) (sym (eqb-true third 0 (v .0))) ∙ of-kind 3 (w .0))
     (λ (n : none ≡ some b). absurd (none≢some n)) (branch (eqb third 0) _ none (some b) (w .1)))
     (λ (n : none ≡ some b). absurd (none≢some n)) (branch (eqb kind 3) _ _ _ e3)) (branch (eqb kind 2) _ _ _ e2))
-    (branch (eqb kind 1) _ _ _ e1)) (branch (eqb kind 0) _ _ _ e)
+    (branch (eqb kind 1) _ _ _ e1)) (branch (isLoad kind) _ _ _ e)
   where
     of-kind : (k : ℕ) → eqb kind k ≡ true → k ∷ key ∷ third ∷ rest ≡ kind ∷ key ∷ third ∷ rest
     of-kind k t = ap (λ (n : ℕ). n ∷ key ∷ third ∷ rest) (sym (eqb-true kind k t))

@@ -17,14 +17,32 @@ fn answer(a: u64, b: u64, number: u32) -> [u64; 9] {
     [a, b, 0, 0, 0, 0, 0, 0, number as u64]
 }
 
-// Loads the list of a line.
-fn load(s: &[u8], key: u64, body: &mut [u8], heads: &mut [u64], state: &mut [u64; 10]) -> [u64; 9] {
+// Loads the list of a line, with a spare slot or tight.
+fn load(
+    s: &[u8],
+    tight: bool,
+    key: u64,
+    body: &mut [u8],
+    heads: &mut [u64],
+    state: &mut [u64; 10],
+) -> [u64; 9] {
     let mut list = memory::list();
     let count = hex_fields::numbers(field(s, 2), &mut list);
     if memory::NUMBERS < count {
         return answer(0, 0, UNKNOWN);
     }
     let mut pages = BEFORE;
+    if tight {
+        let number = ouriscado::ouriscado_book_load_tight(
+            body,
+            heads,
+            state,
+            key,
+            &list[0..count],
+            &mut pages,
+        );
+        return answer(pages, 0, number);
+    }
     let number = ouriscado::ouriscado_book_load(
         body,
         heads,
@@ -118,7 +136,7 @@ fn drop(key: u64, body: &mut [u8], heads: &mut [u64], state: &mut [u64; 10]) -> 
     answer(length, 0, number)
 }
 
-// Makes the call of a line: fresh, load, append, read or drop, by the line's number.
+// Makes the call of a line: fresh, load, append, read, drop or tight load, by the line's number.
 fn call(
     s: &[u8],
     given: [u64; 4],
@@ -129,9 +147,10 @@ fn call(
     let kind = hex(part(s, 0, 2));
     match kind {
         0x30 => answer(0, 0, ouriscado::ouriscado_book_fresh(body, heads, state)),
-        0x31 => load(s, given[1], body, heads, state),
+        0x31 => load(s, false, given[1], body, heads, state),
         0x32 => append(given[1], given[2], body, heads, state),
         0x33 => read(s, given[1], given[2], body, heads, state),
+        0x37 => load(s, true, given[1], body, heads, state),
         _ => drop(given[1], body, heads, state),
     }
 }

@@ -14,13 +14,21 @@ const WRITTEN: u64 = 0x35;
 
 const BEGINS: u64 = 0x36;
 
+// Whether a line makes no call.
+fn makes_no_call(kind: u64) -> bool {
+    if kind == WRITTEN {
+        return true;
+    }
+    kind == BEGINS
+}
+
 // Replays a line on our book: makes its call, or writes what somebody else wrote.
 fn replay_ours(s: &[u8], body: &mut [u8; memory::BODY], words: &mut [u64; 32]) -> bool {
-    if hex(part(s, 0, 2)) < WRITTEN {
-        return calls::agrees(s, body, words);
+    if makes_no_call(hex(part(s, 0, 2))) {
+        changes::make(field(s, 5), body, words, memory::OURS);
+        return true;
     }
-    changes::make(field(s, 5), body, words, memory::OURS);
-    true
+    calls::agrees(s, body, words)
 }
 
 // Replays a line, and then compares our book with the one that is wanted.

@@ -19,6 +19,7 @@ pub use account_book::ouriscado_book_check;
 pub use account_book::ouriscado_book_drop;
 pub use account_book::ouriscado_book_fresh;
 pub use account_book::ouriscado_book_load;
+pub use account_book::ouriscado_book_load_tight;
 pub use account_book::ouriscado_book_read;
 pub use class::ouriscado_slab_class_for_n_fks;
 pub use class::ouriscado_slab_class_for_n_fks_with_slack;

@@ -12,6 +12,7 @@ use Rattle.scripthash_stream.specs.Stream.{lastFrom, streamLenFrom}
 use Rattle.scripthash_slabs.specs.Class.{firstClass, classFor, classWithSlack}
 use Rattle.scripthash_cutting.specs.Cutting.{fitting, firstPart, greedyParts, replaceLast}
 use Rattle.scripthash_free.specs.FreeList.{largestUpTo, blockThen, carve}
+use Rattle.book_rules.specs.declared.places.SlabFit.the-variants.{Spare, Tight}
 use Rattle.book_rules.specs.Outcomes.{Loaded, Appended, bookAfter, appendedTo, droppedOf, listing, loadedIn}
 use Rattle.book_statements.specs.Calls.{load, append, read, drop, Call, ask, change, done, asked, changed, answersTo}
 use Rattle.plain_book.specs.Space.{freedAll, takeMark, rounded, takeFresh, takeFrom, runAtMark}
@@ -47,23 +48,32 @@ run-case = refl
 -- What is turned back: the shape, a key beyond the heads, a key in use, and numbers that can't be offered.
 pub turned-back : (answers (fresh 4096 1) (ask (read 0 0) ∷ [])
     ≡ asked (refused 1) done)
-    × (answers (fresh 8192 1) (change (append 1 5) ∷ change (append 0 0) ∷ change (append 0 (2 ^ 63)) ∷ change (append 0 (2 ^ 62)) ∷ change (append 0 5) ∷ change (append 0 5) ∷ change (load 0 []) ∷ ask (read 0 0) ∷ [])
+    × (answers (fresh 8192 1) (change (append 1 5) ∷ change (append 0 0) ∷ change (append 0 (2 ^ 63)) ∷ change (append 0 (2 ^ 62)) ∷ change (append 0 5) ∷ change (append 0 5) ∷ change (load Spare 0 []) ∷ ask (read 0 0) ∷ [])
     ≡ changed (refused 2) (changed (refused 12) (changed (refused 13) (changed (refused 14) (changed (at (Inline 5 1) 0) (changed (refused 32) (changed (refused 3) (asked (refused 34) done))))))))
 unfolding refuseIf andThen headOf written longer appendPlace outOfShape onKey offeredNumber appends reads loads asks does bookAfter answered
     answersTo lastFrom
 turned-back = (refl, refl)
 
--- A list by bytes goes to a slab that has fewer slots than numbers, and moves with the next; a drop frees its block for another key.
-pub loaded-slab : answers (fresh 8192 2) (change (load 0 (inARow 1 14)) ∷ change (append 0 15) ∷ ask (read 0 15) ∷ change (drop 0) ∷ ask (read 0 0) ∷ change (load 1 (inARow 1 40)) ∷ [])
+-- A list that is loaded tight goes to a slab that has fewer slots than numbers, and moves with the next; a drop frees its block for another key.
+pub loaded-slab : answers (fresh 8192 2) (change (load Tight 0 (inARow 1 14)) ∷ change (append 0 15) ∷ ask (read 0 15) ∷ change (drop 0) ∷ ask (read 0 0) ∷ change (load Tight 1 (inARow 1 40)) ∷ [])
     ≡ changed (loads-in 0) (changed (at (Slab 2 15 4112) 14) (asked (accepted (listing (inARow 1 15) 0)) (changed (accepted (droppedOf 15)) (asked (accepted (listing [] 0)) (changed (loads-in 0) done)))))
 unfolding refuseIf andThen divided shortest ulebLen lastFrom streamLenFrom firstClass classFor classWithSlack takeMark takeFresh takeFrom
     headOf freedPlace stays larger movesTo loadsTo moved written longer appendPlace loadInto loadPlace outOfShape onKey offeredNumber
     offeredList loads appends reads drops asks does bookAfter answered answersTo inARow
 loaded-slab = refl
 
--- A load's class is by bytes: 15 numbers of a byte each need 17, and four of 9 bytes each need 38.
+-- A load with a spare slot and a tight one mixed: the first has room for the next number, the second moves with it.
+pub loaded-spare : answers (fresh 8192 2)
+    (change (load Spare 0 (inARow 1 14)) ∷ change (load Tight 1 (inARow 1 4)) ∷ change (append 0 15) ∷ change (append 1 5) ∷ [])
+    ≡ changed (loads-in 0) (changed (loads-in 0) (changed (at (Slab 2 15 4096) 0) (changed (at (Slab 1 5 4176) 4) done)))
+unfolding refuseIf andThen divided shortest ulebLen lastFrom streamLenFrom firstClass classFor classWithSlack takeMark takeFresh takeFrom
+    headOf freedPlace stays larger movesTo loadsTo moved written longer appendPlace loadInto loadPlace outOfShape onKey offeredNumber
+    offeredList loads appends reads drops asks does bookAfter answered answersTo inARow
+loaded-spare = refl
+
+-- A tight load's class is by bytes: 15 numbers of a byte each need 17, and four of 9 bytes each need 38.
 pub loaded-by-bytes : answers (fresh 8192 3)
-    (change (load 0 (inARow 1 15)) ∷ change (load 1 (2 ^ 56 ∷ 2 ^ 57 ∷ 2 ^ 58 ∷ 2 ^ 59 ∷ [])) ∷ change (append 2 5) ∷ change (append 2 6) ∷ [])
+    (change (load Tight 0 (inARow 1 15)) ∷ change (load Tight 1 (2 ^ 56 ∷ 2 ^ 57 ∷ 2 ^ 58 ∷ 2 ^ 59 ∷ [])) ∷ change (append 2 5) ∷ change (append 2 6) ∷ [])
     ≡ changed (loads-in 0) (changed (loads-in 0) (changed (at (Inline 5 1) 0) (changed (at (Slab 0 2 4192) 1) done)))
 unfolding refuseIf andThen divided shortest ulebLen lastFrom streamLenFrom firstClass classFor classWithSlack takeMark takeFresh takeFrom
     headOf freedPlace stays larger movesTo loadsTo moved written longer appendPlace loadInto loadPlace outOfShape onKey offeredNumber
@@ -71,7 +81,7 @@ unfolding refuseIf andThen divided shortest ulebLen lastFrom streamLenFrom first
 loaded-by-bytes = refl
 
 -- A list of 4,073 goes to a run of two pages, behind the mark rounded up; the body is full then, but the gap before the run was carved.
-pub loaded-run : answers (fresh 16384 3) (change (append 0 1) ∷ change (append 0 2) ∷ change (load 1 (inARow 1 4073)) ∷ change (append 1 4074) ∷ change (load 2 (inARow 1 300)) ∷ change (load 2 (inARow 1 256)) ∷ [])
+pub loaded-run : answers (fresh 16384 3) (change (append 0 1) ∷ change (append 0 2) ∷ change (load Spare 1 (inARow 1 4073)) ∷ change (append 1 4074) ∷ change (load Spare 2 (inARow 1 300)) ∷ change (load Spare 2 (inARow 1 256)) ∷ [])
     ≡ changed (at (Inline 1 1) 0) (changed (at (Slab 0 2 4096) 1) (changed (loads-in 2) (changed (at (Extent 12288) 0) (changed (refused 36) (changed (loads-in 0) done)))))
 unfolding refuseIf andThen divided shortest ulebLen lastFrom streamLenFrom firstClass classFor classWithSlack fitting firstPart greedyParts
     replaceLast largestUpTo blockThen carve freedAll takeMark rounded runAtMark takeFresh takeFrom lastPage headOf freedPages freedPlace stays
@@ -81,7 +91,7 @@ loaded-run = refl
 
 -- A page of 4,072 bytes is full, so that the next number begins another. A drop frees the first page first, so that the last one is taken
 -- again, here by a list that moves out of its slab.
-pub full-page : answers (fresh 16384 2) (change (load 0 (inARow 1 4072)) ∷ change (append 0 4073) ∷ ask (read 0 4073) ∷ change (drop 0) ∷ change (load 1 (inARow 1 256)) ∷ change (append 1 257) ∷ [])
+pub full-page : answers (fresh 16384 2) (change (load Spare 0 (inARow 1 4072)) ∷ change (append 0 4073) ∷ ask (read 0 4073) ∷ change (drop 0) ∷ change (load Spare 1 (inARow 1 256)) ∷ change (append 1 257) ∷ [])
     ≡ changed (loads-in 1) (changed (at (Extent 8192) 0) (asked (accepted (listing (inARow 1 4073) 2)) (changed (accepted (droppedOf 4073)) (changed (loads-in 0) (changed (at (Extent 8192) 256) done)))))
 unfolding refuseIf andThen divided shortest ulebLen lastFrom streamLenFrom firstClass classFor classWithSlack fitting firstPart greedyParts
     replaceLast largestUpTo blockThen carve freedAll takeMark rounded runAtMark takeFresh takeFrom lastPage headOf freedPages freedPlace stays
@@ -98,9 +108,9 @@ appendSteps n step (suc k) = change (append 0 n) ∷ appendSteps (n + step) step
 unfoldable pub tallyAfter : List Call → Tally
 tallyAfter cs = tallyOf 0 (answers (fresh 65536 1) cs) noMoves
 
--- The ceiling of 765 records is reached: 6 numbers that are loaded move at 7, 9, 17, 33, 65 and 129 for their slots, at 256 for their
+-- The ceiling of 765 records is reached: 6 numbers that are loaded tight move at 7, 9, 17, 33, 65 and 129 for their slots, at 256 for their
 -- bytes, and at 257 to a page.
-pub records-reached : tallyAfter (change (load 0 (inARow 1 6)) ∷ (appendSteps 7 1 122 ++ appendSteps (128 + 2 ^ 42) (2 ^ 42) 129))
+pub records-reached : tallyAfter (change (load Tight 0 (inARow 1 6)) ∷ (appendSteps 7 1 122 ++ appendSteps (128 + 2 ^ 42) (2 ^ 42) 129))
     ≡ record { moves = 8; rewritten = 765 }
 unfolding refuseIf andThen divided shortest ulebLen lastFrom streamLenFrom firstClass classFor classWithSlack fitting firstPart greedyParts
     replaceLast largestUpTo blockThen carve freedAll takeMark rounded runAtMark takeFresh takeFrom lastPage headOf freedPages freedPlace stays
@@ -119,6 +129,17 @@ unfolding refuseIf andThen divided shortest ulebLen lastFrom streamLenFrom first
     tallyOf
     tallyAfter
 moves-reached = refl
+
+-- Behind a load with a spare slot no more than 8 moves and 763 records were found: 1 and 2 are loaded, and appends go on as above.
+pub spare-reached : tallyAfter (change (load Spare 0 (inARow 1 2)) ∷ (appendSteps 3 1 144 ++ appendSteps (146 + 2 ^ 50) (2 ^ 50) 111))
+    ≡ record { moves = 8; rewritten = 763 }
+unfolding refuseIf andThen divided shortest ulebLen lastFrom streamLenFrom firstClass classFor classWithSlack fitting firstPart greedyParts
+    replaceLast largestUpTo blockThen carve freedAll takeMark rounded runAtMark takeFresh takeFrom lastPage headOf freedPages freedPlace stays
+    larger movesTo loadsTo moved joins beginPage appendPages written longer appendPlace runPages loadInto loadPlace outOfShape onKey
+    offeredNumber offeredList loads appends reads drops asks does bookAfter answered answersTo inARow appendSteps counted talliedBy tallied
+    tallyOf
+    tallyAfter
+spare-reached = refl
 
 -- A list found in padded forms, 13 bytes in a slab of 16: a third number fits, and a fourth moves it, where shortest forms would let it
 -- stay; its class is by shortest forms.

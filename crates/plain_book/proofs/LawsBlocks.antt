@@ -12,6 +12,7 @@ use Rattle.scripthash_layout.specs.Sizes.{pageClass, pageSize}
 use Rattle.scripthash_stream.specs.Stream.{streamLen}
 use Rattle.scripthash_cutting.specs.Cutting.{cutting, replaceLast}
 use Rattle.scripthash_free.specs.FreeList.{Block}
+use Rattle.book_rules.specs.declared.places.SlabFit.{SlabFit}
 use Rattle.book_rules.specs.Outcomes.{bookAfter}
 use Rattle.book_statements.specs.Calls.{Change, load, append, drop, Made, Call}
 use Rattle.plain_book.specs.Space.{Space, Taken, rounded, runAtMark}
@@ -71,17 +72,17 @@ module _ (end : ℕ) (s : Space) (at : ℕ → Place) (key : ℕ) (g : Good s at
       (good-page (freedPlace old (t .space)) (atKey key empty at) key (t .off) [] list (λ i x z. absurd (no-page i x z)) f)
   append-good held list n is (joined-page ps q) =
       good-kept s at none key (joinedTo n ps) (λ x h. absurd (none-some h)) (λ i x h. ap (pageIn i) is ∙ sym (joined-at i n ps) ∙ h) g
-  append-good held list n is (begun-page ps t got) =
+  append-good held list n is (begun-page ps t q got) =
       good-page (t .space) at key (t .off) ps (n ∷ []) (λ i x z. ap (pageIn i) is ∙ z) (good-taken end pageClass s at (omega arith) got g)
 
-  load-good : {ns : List ℕ} {p : Placed} → LoadDid end s ns p → Leaves at key p
+  load-good : {fit : SlabFit} {ns : List ℕ} {p : Placed} → LoadDid fit end s ns p → Leaves at key p
   unfolding runAtMark
   load-good loaded-none = good-kept s at none key empty (λ x h. absurd (none-some h)) (λ i x h. absurd (none-some h)) g
   load-good loaded-one = good-kept s at none key inline (λ x h. absurd (none-some h)) (λ i x h. absurd (none-some h)) g
-  load-good {ns} (loaded-slab c t two q got) =
-      let (few, class, fits) = loads-to (length ns) (streamLen ns) q in
+  load-good {fit} {ns} (loaded-slab c t two q got) =
+      let (few, class, fits) = loads-to fit (length ns) (streamLen ns) q in
       good-slab (t .space) at key c (t .off) (written ns) (good-taken end c s at (omega arith) got g)
-  load-good {ns} (loaded-run t two q got) =
+  load-good {fit} {ns} (loaded-run t two q got) =
       let is = took-mark end (length (cutting ns) * pageSize) (rounded s) got in
       subst (λ (v : Taken). Good (v .space) (atKey key (pages (runPages (v .off) (cutting ns))) at) none) (sym is)
       (good-run (rounded s) at key (cutting ns) (rounded-mark s) (good-rounded s at none g))
@@ -114,8 +115,8 @@ good-with b key new space l g =
 pub call-space : (b : Book) (c : Change) (a : Answer (Outcome (Made c))) → does b c ≡ a → GoodSpace b → GoodSpace (bookAfter b a)
 unfolding does bookAfter
 call-space b c (refused number) e g = g
-call-space b (load key ns) (accepted o) e g =
-    let (p, within, free, rises, got, is) = load-did b key ns e in
+call-space b (load fit key ns) (accepted o) e g =
+    let (p, within, free, rises, got, is) = load-did fit b key ns e in
     rw (ap (λ (x : Outcome _). x .book) is) (good-with b key (keyIn ns (p .place) true) (p .space) within
     (load-good (b .size) (b .space) (places b) key g got))
 call-space b (append key n) (accepted o) e g =

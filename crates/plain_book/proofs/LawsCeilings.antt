@@ -13,6 +13,7 @@ use Rattle.scripthash_layout.specs.Sizes.{pageSize}
 use Rattle.scripthash_stream.proofs.LawsStream.{rising-below}
 use Rattle.scripthash_cutting.specs.Cutting.{cutting, AllowedCutting}
 use Rattle.scripthash_cutting.proofs.LawsPages.{pages-optimal}
+use Rattle.book_rules.specs.declared.places.SlabFit.{SlabFit}
 use Rattle.book_rules.specs.Outcomes.{Loaded, bookAfter, answerOf}
 use Rattle.book_statements.specs.Calls.{Change, load, append, drop, Made, Call, ask, change, answersTo}
 use Rattle.plain_book.specs.Space.{Space}
@@ -44,9 +45,9 @@ longer-is n list class off kept f = longer-numbers n kept ∙ ap (λ (l : List �
 spent-kept : KeptByCalls (λ k t. SoundKey k × Spent (length (k .list)) (k .place) t)
 spent-kept =
     record {
-      loads = λ end k ns s p t (sound, h) f rises e.
+      loads = λ fit end k ns s p t (sound, h) f rises e.
           let (m, r) = unused (length (k .list)) (k .place) t f h in
-          (sound-kept .loads end k ns s p t sound f rises e, load-spent end s t m r e);
+          (sound-kept .loads fit end k ns s p t sound f rises e, load-spent end s t m r e);
       appends = λ end k n s p t (sound, h) rises low e. (
         sound-kept .appends end k n s p t sound rises low e,
         append-spent end (length (k .list)) (extended (k .list) n) n s t (length-append (k .list) (n ∷ []))
@@ -88,25 +89,25 @@ run-length off (p ∷ []) = refl
 run-length off (p ∷ q ∷ ps) = ap suc (run-length (off + pageSize) (q ∷ ps))
 
 -- The pages of a load: those of the cutting, or none.
-load-pages : (end : ℕ) (s : Space) {ns : List ℕ} {p : Placed} → LoadDid end s ns p → pagesOf (p .place) ≤ length (cutting ns)
+load-pages : {fit : SlabFit} (end : ℕ) (s : Space) {ns : List ℕ} {p : Placed} → LoadDid fit end s ns p → pagesOf (p .place) ≤ length (cutting ns)
 load-pages end s loaded-none = omega arith
 load-pages end s loaded-one = omega arith
 load-pages end s (loaded-slab c t two q got) = omega arith
 load-pages end s {ns} (loaded-run t two q got) = rw (run-length (t .off) (cutting ns)) (le-refl (length (cutting ns)))
 
 -- For every accepted load, every allowed cutting of its list has at least as many pages as the load reports.
-pub load-least : (b : Book) (key : ℕ) (ns : List ℕ) {o : Outcome Loaded} → loads b key ns ≡ accepted o
+pub load-least : (fit : SlabFit) (b : Book) (key : ℕ) (ns : List ℕ) {o : Outcome Loaded} → loads fit b key ns ≡ accepted o
     → (parts : List (List ℕ)) → AllowedCutting ns parts → o .told .pages ≤ length parts
-load-least b key ns e parts ok =
-    let (p, within, free, rises, got, is) = load-did b key ns e in
+load-least fit b key ns e parts ok =
+    let (p, within, free, rises, got, is) = load-did fit b key ns e in
     rw (ap (λ (x : Outcome Loaded). x .told .pages) is)
     (le-trans (load-pages (b .size) (b .space) got) (pages-optimal ns (rising-below (2 ^ 62) (2 ^ 63) 0 ns (omega arith) rises) parts ok))
 
 -- So it is with each load of a list of calls, on any book.
 fewest-pages : (b : Book) (c : Change) (a : Answer (Outcome (Made c))) → does b c ≡ a → FewestPages c (answerOf a)
 unfolding FewestPages does answered
-fewest-pages b (load key ns) (accepted o) e = load-least b key ns e
-fewest-pages b (load key ns) (refused number) e = tt
+fewest-pages b (load fit key ns) (accepted o) e = load-least fit b key ns e
+fewest-pages b (load fit key ns) (refused number) e = tt
 fewest-pages b (append key n) a e = tt
 fewest-pages b (drop key) a e = tt
 

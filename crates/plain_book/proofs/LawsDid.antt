@@ -12,6 +12,7 @@ use Rattle.error.proofs.LawsAnswer.{accepted-inj, went-on}
 use Rattle.scripthash_layout.specs.Sizes.{pageClass}
 use Rattle.scripthash_stream.specs.Stream.{streamLen}
 use Rattle.scripthash_cutting.specs.Cutting.{cutting}
+use Rattle.book_rules.specs.declared.places.SlabFit.{SlabFit}
 use Rattle.book_rules.specs.Places.{stays, movesTo, loadsTo}
 use Rattle.plain_book.specs.Space.{Space, takeBlock, takeRun}
 use Rattle.plain_book.specs.Key.{Place, empty, inline, slab, pages, longer, joins, joinedTo, Placed, placed, moved, beginPage}
@@ -20,20 +21,20 @@ use Rattle.plain_book.specs.Did.{LoadDid, loaded-none, loaded-one, loade
 use Rattle.plain_book.specs.Did.{moved-slab, moved-page, joined-page, begun-page}
 
 -- A load.
-pub load-cases : (end : ℕ) (ns : List ℕ) (s : Space) {p : Placed} → loadPlace end ns s ≡ accepted p → LoadDid end s ns p
+pub load-cases : (fit : SlabFit) (end : ℕ) (ns : List ℕ) (s : Space) {p : Placed} → loadPlace fit end ns s ≡ accepted p → LoadDid fit end s ns p
 unfolding loadPlace loadInto
-load-cases end [] s e = subst (LoadDid end s []) (accepted-inj e) loaded-none
-load-cases end (n ∷ []) s e = subst (LoadDid end s (n ∷ [])) (accepted-inj e) loaded-one
-load-cases end (n ∷ m ∷ ns) s {p} e = go (loadsTo (length (n ∷ m ∷ ns)) (streamLen (n ∷ m ∷ ns))) refl e
+load-cases fit end [] s e = subst (LoadDid fit end s []) (accepted-inj e) loaded-none
+load-cases fit end (n ∷ []) s e = subst (LoadDid fit end s (n ∷ [])) (accepted-inj e) loaded-one
+load-cases fit end (n ∷ m ∷ ns) s {p} e = go (loadsTo fit (length (n ∷ m ∷ ns)) (streamLen (n ∷ m ∷ ns))) refl e
   where
-    go : (o : Option ℕ) → loadsTo (length (n ∷ m ∷ ns)) (streamLen (n ∷ m ∷ ns)) ≡ o → loadInto end o (n ∷ m ∷ ns) s ≡ accepted p
-        → LoadDid end s (n ∷ m ∷ ns) p
+    go : (o : Option ℕ) → loadsTo fit (length (n ∷ m ∷ ns)) (streamLen (n ∷ m ∷ ns)) ≡ o → loadInto end o (n ∷ m ∷ ns) s ≡ accepted p
+        → LoadDid fit end s (n ∷ m ∷ ns) p
     go (some c) q e =
         let (t, got, is) = went-on (takeBlock end c s) _ e in
-        subst (LoadDid end s (n ∷ m ∷ ns)) (accepted-inj is) (loaded-slab c t (omega arith) q got)
+        subst (LoadDid fit end s (n ∷ m ∷ ns)) (accepted-inj is) (loaded-slab c t (omega arith) q got)
     go none q e =
         let (t, got, is) = went-on (takeRun end (length (cutting (n ∷ m ∷ ns))) s) _ e in
-        subst (LoadDid end s (n ∷ m ∷ ns)) (accepted-inj is) (loaded-run t (omega arith) q got)
+        subst (LoadDid fit end s (n ∷ m ∷ ns)) (accepted-inj is) (loaded-run t (omega arith) q got)
 
 module _ (end held : ℕ) (list : List ℕ) (n : ℕ) (s : Space) where
   -- A list that moves.
@@ -71,4 +72,4 @@ module _ (end held : ℕ) (list : List ℕ) (n : ℕ) (s : Space) where
       go true q e = subst (AppendDid end held list n s (pages ps)) (accepted-inj e) (joined-page ps q)
       go false q e =
           let (t, got, is) = went-on (takeBlock end pageClass s) _ e in
-          subst (AppendDid end held list n s (pages ps)) (accepted-inj is) (begun-page ps t got)
+          subst (AppendDid end held list n s (pages ps)) (accepted-inj is) (begun-page ps t q got)

@@ -14,6 +14,7 @@ use Rattle.scripthash_stream.specs.Stream.{streamLen}
 use Rattle.scripthash_cutting.specs.Cutting.{cutting, replaceLast}
 use Rattle.scripthash_free.specs.FreeList.{Block, Adjoin, Each, IsSlab, gapBlocks}
 use Rattle.scripthash_free.proofs.LawsGap.{gap-filled, gap-slabs}
+use Rattle.book_rules.specs.declared.places.SlabFit.{SlabFit}
 use Rattle.book_rules.specs.Outcomes.{bookAfter}
 use Rattle.book_statements.specs.Calls.{Change, load, append, drop, Made, Call}
 use Rattle.book_limits.specs.Limits.{pageAfter}
@@ -26,7 +27,7 @@ use Rattle.plain_book.specs.Book.{Book, fresh, Outcome, withKey, inUse, 
 use Rattle.plain_book.specs.Owners.{places}
 use Rattle.plain_book.specs.Sound.{Fits}
 use Rattle.plain_book.specs.Good.{GoodPlain}
-use Rattle.plain_book.specs.Filled.{bytesIn, bytesHeld, bytesAt, bytesFreed, Fills, Filled}
+use Rattle.plain_book.specs.Filled.{bytesIn, bytesHeld, bytesOnStack, bytesFreed, Fills, Filled}
 use Rattle.plain_book.specs.Did.{LoadDid, loaded-none, loaded-one, loaded-slab, loaded-run, AppendDid, began, stayed, moved-slab, moved-page, joined-page, begun-page}
 use Rattle.plain_book.proofs.LawsHistory.{load-did, append-did, drop-did}
 use Rattle.plain_book.proofs.LawsOwners.{withStack}
@@ -36,7 +37,7 @@ use Rattle.plain_book.proofs.LawsGood.{fresh-good, call-good}
 -- ---- one stack, and one key, changes
 
 stack-changed : (k c : ℕ) (st : List (List ℕ)) (class : ℕ) (os : List ℕ) → c ≡ k + class → class < length st
-    → bytesFreed k (set st class os) + bytesAt c (getD st class []) ≡ bytesFreed k st + bytesAt c os
+    → bytesFreed k (set st class os) + bytesOnStack c (getD st class []) ≡ bytesFreed k st + bytesOnStack c os
 unfolding bytesFreed
 stack-changed k c [] class os is l = absurd (omega arith)
 stack-changed k c (xs ∷ st) zero os is l =
@@ -63,11 +64,11 @@ pub record Full (s : Space) (others : ℕ) : Type 0 where
 
 -- A block that others had is freed.
 pub full-freed : (s : Space) (others class off : ℕ) → class ≤ 8 → Full s (slabBytes class + others) → Full (freed class off s) others
-unfolding bytesAt
+unfolding bytesOnStack
 full-freed s others class off c f =
     let n = f .nine in
-    let e : bytesFreed 0 (set (s .stacks) class (off ∷ stackOf class s)) + bytesAt class (stackOf class s)
-    ≡ bytesFreed 0 (s .stacks) + (slabBytes class + bytesAt class (stackOf class s))
+    let e : bytesFreed 0 (set (s .stacks) class (off ∷ stackOf class s)) + bytesOnStack class (stackOf class s)
+    ≡ bytesFreed 0 (s .stacks) + (slabBytes class + bytesOnStack class (stackOf class s))
     = stack-changed 0 class (s .stacks) class (off ∷ stackOf class s) (omega arith) (omega arith) in
     let was = f .fills in
     let done : 4096 + (bytesFreed 0 (set (s .stacks) class (off ∷ stackOf class s)) + others) ≡ s .mark = omega arith in
@@ -76,12 +77,12 @@ full-freed s others class off c f =
 -- The top of a stack is taken.
 pub full-popped : (s : Space) (others class o : ℕ) (os : List ℕ) → class ≤ 8 → stackOf class s ≡ o ∷ os → Full s others
     → Full (withStack class os s) (slabBytes class + others)
-unfolding bytesAt
+unfolding bytesOnStack
 full-popped s others class o os c is f =
     let n = f .nine in
-    let e : bytesFreed 0 (set (s .stacks) class os) + bytesAt class (stackOf class s) ≡ bytesFreed 0 (s .stacks) + bytesAt class os =
+    let e : bytesFreed 0 (set (s .stacks) class os) + bytesOnStack class (stackOf class s) ≡ bytesFreed 0 (s .stacks) + bytesOnStack class os =
     stack-changed 0 class (s .stacks) class os (omega arith) (omega arith) in
-    let high : bytesAt class (stackOf class s) ≡ slabBytes class + bytesAt class os = ap (bytesAt class) is in
+    let high : bytesOnStack class (stackOf class s) ≡ slabBytes class + bytesOnStack class os = ap (bytesOnStack class) is in
     let was = f .fills in
     let done : 4096 + (bytesFreed 0 (set (s .stacks) class os) + (slabBytes class + others)) ≡ s .mark = omega arith in
     record { nine = length-set (s .stacks) class os ∙ f .nine; aligned = f .aligned; fills = done }
@@ -216,17 +217,17 @@ full-append end held list n s others c (moved-page old t out q got) f =
     full-freed-place old (t .space) (pageSize + others) c (same-full (t .space) (omega arith) h)
 full-append end held list n s others c (joined-page ps q) f =
     same-full s (ap (λ (k : ℕ). k * pageSize + others) (sym (joined-many n ps))) f
-full-append end held list n s others c (begun-page ps t got) f =
+full-append end held list n s others c (begun-page ps t q got) f =
     let h = full-taken end pageClass s (length ps * pageSize + others) (omega arith) got f in
     let many = behind-many ps (record { off = t .off; room = 4072; part = written (n ∷ []) }) in
     same-full (t .space) (omega arith) h
 
-full-load : (end : ℕ) (s : Space) (others : ℕ) {ns : List ℕ} {p : Placed} → LoadDid end s ns p → Full s others → Leaves others p
+full-load : {fit : SlabFit} (end : ℕ) (s : Space) (others : ℕ) {ns : List ℕ} {p : Placed} → LoadDid fit end s ns p → Full s others → Leaves others p
 unfolding bytesIn
 full-load end s others loaded-none f = same-full s (omega arith) f
 full-load end s others loaded-one f = same-full s (omega arith) f
-full-load end s others {ns} (loaded-slab c t two q got) f =
-    let (few, class, fits) = loads-to (length ns) (streamLen ns) q in full-taken end c s others (omega arith) got f
+full-load {fit} end s others {ns} (loaded-slab c t two q got) f =
+    let (few, class, fits) = loads-to fit (length ns) (streamLen ns) q in full-taken end c s others (omega arith) got f
 full-load end s others {ns} (loaded-run t two q got) f =
     same-full (t .space) (ap (λ (k : ℕ). k * pageSize + others) (sym (run-many (t .off) (cutting ns))))
     (full-run end (length (cutting ns)) s others got f)
@@ -280,8 +281,8 @@ fits-classed list (pages ps) f = tt
 pub call-full : (lost : ℕ) (b : Book) (c : Change) (a : Answer (Outcome (Made c))) → does b c ≡ a → GoodPlain b → FullBook lost b → FullBook lost (bookAfter b a)
 unfolding does bookAfter
 call-full lost b c (refused number) e g f = f
-call-full lost b (load key ns) (accepted o) e g f =
-    let (p, within, free, rises, got, is) = load-did b key ns e in
+call-full lost b (load fit key ns) (accepted o) e g f =
+    let (p, within, free, rises, got, is) = load-did fit b key ns e in
     let (others, rest, held) = others-of lost b key within f in
     let unused = unused-none (places b key) free in
     rw (ap (λ (x : Outcome _). x .book) is)
@@ -314,7 +315,7 @@ none-held (suc n) = let e = none-held n in omega arith
 
 -- A fresh book is filled: it has no block, and the mark is where lists may begin.
 pub fresh-filled : (size heads : ℕ) → Filled 0 (fresh size heads)
-unfolding bytesFreed bytesAt
+unfolding bytesFreed bytesOnStack
 fresh-filled size heads = let e = none-held heads in rw e refl
 
 -- Nothing is leaked: after any list of calls on a fresh book the blocks of its keys and stacks take all bytes from 4,096 to the mark.

@@ -36,8 +36,8 @@ with-shape b key new space is = rw is (refl, length-set (b .keys) key _)
 shape-after : (b : Book) (c : Change) (a : Answer (Outcome (Made c))) → does b c ≡ a → SameShape b (bookAfter b a)
 unfolding does bookAfter
 shape-after b c (refused number) e = (refl, refl)
-shape-after b (load key ns) (accepted o) e =
-    let (p, within, free, rises, got, is) = load-did b key ns e in
+shape-after b (load fit key ns) (accepted o) e =
+    let (p, within, free, rises, got, is) = load-did fit b key ns e in
     with-shape b key _ _ (ap (λ (x : Outcome _). x .book) is)
 shape-after b (append key n) (accepted o) e =
     let (p, within, rises, low, got, is) = append-did b key n e in
@@ -58,7 +58,7 @@ shapes-kept b cs =
 -- A book out of shape turns every change back.
 pub unshaped : (b : Book) (c : Change) → outOfShape (b .size) (length (b .keys)) ≡ true → does b c ≡ refused shapeBad
 unfolding does loads appends drops onKey
-unshaped b (load key ns) e = refuse-yes _ _ _ e
+unshaped b (load fit key ns) e = refuse-yes _ _ _ e
 unshaped b (append key n) e = refuse-yes _ _ _ e
 unshaped b (drop key) e = refuse-yes _ _ _ e
 

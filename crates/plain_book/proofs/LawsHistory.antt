@@ -15,6 +15,7 @@ use Rattle.scripthash_stream.specs.Stream.{Rising, lastFrom}
 use Rattle.plain_book.specs.Space.{Space}
 use Rattle.plain_book.specs.Key.{Key, emptyKey, headOf, pagesOf, freedPlace, countedAfter, Placed, keyIn}
 use Rattle.plain_book.specs.Key.{appendPlace, loadPlace}
+use Rattle.book_rules.specs.declared.places.SlabFit.{SlabFit}
 use Rattle.book_rules.specs.Outcomes.{Loaded, Appended, Listed, Dropped, loadedIn, appendedTo, listing, droppedOf, bookAfter, answerOf}
 use Rattle.book_statements.specs.Calls.{Change, load, append, drop, keyOfChange, Made, Call, ask, change, afterCalls, answersTo}
 use Rattle.book_limits.specs.Limits.{outOfShape}
@@ -36,18 +37,18 @@ on-key b key after e =
 
 -- ---- what an accepted call did
 
-pub load-did : (b : Book) (key : ℕ) (ns : List ℕ) {o : Outcome Loaded} → loads b key ns ≡ accepted o
+pub load-did : (fit : SlabFit) (b : Book) (key : ℕ) (ns : List ℕ) {o : Outcome Loaded} → loads fit b key ns ≡ accepted o
     → (p : Placed) × (key < length (b .keys)) × (inUse (keyOf key b .place) ≡ false) × Rising (2 ^ 62) 0 ns
-    × LoadDid (b .size) (b .space) ns p
+    × LoadDid fit (b .size) (b .space) ns p
     × (o ≡ record { told = loadedIn (pagesOf (p .place)); book = withKey key (keyIn ns (p .place) true) (p .space) b })
 unfolding loads
-load-did b key ns e =
+load-did fit b key ns e =
     let (within, e1) = on-key b key _ e in
     let (free, e2) = passed _ _ _ e1 in
     let (few, e3) = passed _ _ _ e2 in
     let (rises, e4) = offered-all true 0 ns _ e3 in
-    let (p, got, is) = went-on (loadPlace (b .size) ns (b .space)) _ e4 in
-    (p, within, free, rises, load-cases (b .size) ns (b .space) got, sym (accepted-inj is))
+    let (p, got, is) = went-on (loadPlace fit (b .size) ns (b .space)) _ e4 in
+    (p, within, free, rises, load-cases fit (b .size) ns (b .space) got, sym (accepted-inj is))
 
 pub append-did : (b : Book) (key n : ℕ) {o : Outcome Appended} → appends b key n ≡ accepted o
     → (p : Placed) × (key < length (b .keys)) × (lastFrom 0 (keyOf key b .list) < n) × (n < 2 ^ 62)
@@ -105,9 +106,9 @@ key-with b own k l j = go (eqb j own) refl
 
 -- Something about a key and its tally that loads, appends and drops keep.
 pub record KeptByCalls (P : Key → Tally → Type 0) : Type 0 where
-  pub loads : (end : ℕ) (k : Key) (ns : List ℕ) (s : Space) (p : Placed) (t : Tally) → P k t → inUse (k .place) ≡ false
+  pub loads : (fit : SlabFit) (end : ℕ) (k : Key) (ns : List ℕ) (s : Space) (p : Placed) (t : Tally) → P k t → inUse (k .place) ≡ false
       → Rising (2 ^ 62) 0 ns
-      → LoadDid end s ns p → P (keyIn ns (p .place) true) t
+      → LoadDid fit end s ns p → P (keyIn ns (p .place) true) t
   pub appends : (end : ℕ) (k : Key) (n : ℕ) (s : Space) (p : Placed) (t : Tally) → P k t → lastFrom 0 (k .list) < n → n < 2 ^ 62
       → AppendDid end (length (k .list)) (extended (k .list) n) n s (k .place) p
       → P (keyIn (extended (k .list) n) (p .place) (countedAfter (k .place) (k .counted)))
@@ -125,14 +126,14 @@ module _ (P : Key → Tally → Type 0) (kept : KeptByCalls P) where
 
   call-changed : (b : Book) (c : Change) {o : Outcome (Made c)} → does b c ≡ accepted o → Changed b c o
   unfolding does talliedBy
-  call-changed b (load key ns) e =
-      let (p, within, free, rises, got, is) = load-did b key ns e in
+  call-changed b (load fit key ns) e =
+      let (p, within, free, rises, got, is) = load-did fit b key ns e in
       record {
         within = within;
         new = keyIn ns (p .place) true;
         space = p .space;
         book = ap (λ (x : Outcome Loaded). x .book) is;
-        keeps = λ t h. kept .loads (b .size) (keyOf key b) ns (b .space) p t h free rises got;
+        keeps = λ t h. kept .loads fit (b .size) (keyOf key b) ns (b .space) p t h free rises got;
       }
   call-changed b (append key n) e =
       let (p, within, rises, low, got, is) = append-did b key n e in

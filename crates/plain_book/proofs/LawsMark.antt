@@ -11,6 +11,7 @@ use Rattle.error.specs.Refusal.{Answer, accepted, refused}
 use Rattle.error.proofs.LawsAnswer.{accepted-inj, passed}
 use Rattle.scripthash_layout.specs.Sizes.{slabBytes, pageClass, pageSize}
 use Rattle.scripthash_cutting.specs.Cutting.{cutting}
+use Rattle.book_rules.specs.declared.places.SlabFit.{SlabFit}
 use Rattle.book_rules.specs.Outcomes.{bookAfter}
 use Rattle.book_statements.specs.Calls.{Change, load, append, drop, Made, Call}
 use Rattle.plain_book.specs.Space.{Space, stackOf, Taken, takeMark, rounded, takeFresh, takeFrom, takeBlock, runAtMark}
@@ -65,9 +66,9 @@ append-within end held list n s h (stayed class off kept q) = h
 append-within end held list n s h (moved-slab old c t out q got) = rw (place-mark old (t .space)) (taken-within end c s got h)
 append-within end held list n s h (moved-page old t out q got) = rw (place-mark old (t .space)) (taken-within end pageClass s got h)
 append-within end held list n s h (joined-page ps q) = h
-append-within end held list n s h (begun-page ps t got) = taken-within end pageClass s got h
+append-within end held list n s h (begun-page ps t q got) = taken-within end pageClass s got h
 
-load-within : (end : ℕ) (s : Space) {ns : List ℕ} {p : Placed} → s .mark ≤ end → LoadDid end s ns p → Within end p
+load-within : {fit : SlabFit} (end : ℕ) (s : Space) {ns : List ℕ} {p : Placed} → s .mark ≤ end → LoadDid fit end s ns p → Within end p
 unfolding runAtMark
 load-within end s h loaded-none = h
 load-within end s h loaded-one = h
@@ -81,8 +82,8 @@ Inside size b = (b .size ≡ size) × (b .space .mark ≤ size)
 pub call-inside : (size : ℕ) (b : Book) (c : Change) (a : Answer (Outcome (Made c))) → does b c ≡ a → Inside size b → Inside size (bookAfter b a)
 unfolding does bookAfter
 call-inside size b c (refused number) e h = h
-call-inside size b (load key ns) (accepted o) e (s, m) =
-    let (p, within, free, rises, got, is) = load-did b key ns e in
+call-inside size b (load fit key ns) (accepted o) e (s, m) =
+    let (p, within, free, rises, got, is) = load-did fit b key ns e in
     rw (ap (λ (x : Outcome _). x .book) is) (s, rw (← s) (load-within (b .size) (b .space) (rw s m) got))
 call-inside size b (append key n) (accepted o) e (s, m) =
     let (p, within, rises, low, got, is) = append-did b key n e in

@@ -11,6 +11,7 @@ use lib.ListN.{length}
 use borrow.Author.Tests.{ne-eqb}
 use Rattle.scripthash_layout.specs.Sizes.{slabSlots, maxSlabClass, maxSlabCount}
 use Rattle.scripthash_stream.specs.Stream.{streamLen}
+use Rattle.book_rules.specs.declared.places.SlabFit.{SlabFit}
 use Rattle.plain_book.specs.Space.{Space}
 use Rattle.book_rules.specs.Places.{stays, movesTo}
 use Rattle.plain_book.specs.Key.{Place, empty, inline, slab, pages, Kept, written, longer, Placed}
@@ -184,14 +185,14 @@ append-spent end held list n s t l same i (stayed d off kept q) = rw (counted-no
 append-spent end held list n s t l same h (moved-slab old c x out q got) = rw l (to-slab held list n old t l same h out c q)
 append-spent end held list n s t l same h (moved-page old x out q got) = to-pages held list n old t h out
 append-spent end held list n s t l same h (joined-page ps q) = rw (counted-none t) h
-append-spent end held list n s t l same h (begun-page ps x got) = rw (counted-none t) h
+append-spent end held list n s t l same h (begun-page ps x q got) = rw (counted-none t) h
 
 -- A load moves nothing, and its place allows that.
-pub load-spent : (end : ℕ) (s : Space) {ns : List ℕ} {p : Placed} (t : Tally) → t .moves ≡ 0 → t .rewritten ≡ 0 → LoadDid end s ns p
+pub load-spent : {fit : SlabFit} (end : ℕ) (s : Space) {ns : List ℕ} {p : Placed} (t : Tally) → t .moves ≡ 0 → t .rewritten ≡ 0 → LoadDid fit end s ns p
     → Spent (length ns) (p .place) t
 load-spent end s t m r loaded-none = (refl, m, r)
 load-spent end s t m r loaded-one = (refl, m, r)
-load-spent end s {ns} t m r (loaded-slab c x two q got) =
-    let (few, class, fits) = loads-to (length ns) (streamLen ns) q in
+load-spent {fit} end s {ns} t m r (loaded-slab c x two q got) =
+    let (few, class, fits) = loads-to fit (length ns) (streamLen ns) q in
     record { class = class; few = few; so-far = inl (m, r) }
 load-spent end s t m r (loaded-run x two q got) = (omega arith, omega arith)

@@ -59,8 +59,8 @@ call-recorded : (key : ℕ) (b : Book) (c : Change) (a : Answer (Outcome (Made c
     → keyOf key (bookAfter b a) .list ≡ recordedAfter key c (answerOf a) (keyOf key b .list)
 unfolding does bookAfter answered recordedAfter recordedBy
 call-recorded key b c (refused number) e s = refl
-call-recorded key b (load own ns) (accepted o) e s =
-    let (p, within, free, rises, got, is) = load-did b own ns e in
+call-recorded key b (load fit own ns) (accepted o) e s =
+    let (p, within, free, rises, got, is) = load-did fit b own ns e in
     list-with b own key (keyIn ns (p .place) true) _ (p .space) within (ap (λ (x : Outcome _). x .book) is)
     (λ (z : own ≡ key). rw (unused-holds (keyOf key b .list) (keyOf key b .place) (rw z at free) (s .fits)))
 call-recorded key b (append own n) (accepted o) e s =

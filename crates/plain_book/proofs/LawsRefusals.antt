@@ -9,6 +9,7 @@ use lib.ListN.{length}
 use Rattle.error.specs.Refusal.{Answer, accepted, refused, refuseIf, andThen, answered, shapeBad, keyBeyond, keyInUse, tooManyOffered}
 use Rattle.error.specs.Refusal.{offeredFirstZero, offeredBit63, offeredTooLarge, offeredNotRising, listTooShort, noRoom}
 use Rattle.scripthash_layout.specs.Sizes.{slabBytes, pageClass}
+use Rattle.book_rules.specs.declared.places.SlabFit.{SlabFit}
 use Rattle.book_rules.specs.Outcomes.{answerOf, bookAfter}
 use Rattle.book_statements.specs.Calls.{Enquiry, read, Change, load, append, drop, Call, ask, change, answersTo}
 use Rattle.book_rules.specs.Places.{stays}
@@ -82,11 +83,11 @@ unfolding loadInto
 into-plain end (some class) list s = by-part _ _ (from-plain end class _ s) (λ t. value _)
 into-plain end none list s = by-part _ _ (run-plain end _ s) (λ t. value _)
 
-load-plain : (end : ℕ) (list : List ℕ) (s : Space) → Plain (loadPlace end list s)
+load-plain : (fit : SlabFit) (end : ℕ) (list : List ℕ) (s : Space) → Plain (loadPlace fit end list s)
 unfolding loadPlace
-load-plain end [] s = value _
-load-plain end (n ∷ []) s = value _
-load-plain end (n ∷ m ∷ ns) s = into-plain end _ (n ∷ m ∷ ns) s
+load-plain fit end [] s = value _
+load-plain fit end (n ∷ []) s = value _
+load-plain fit end (n ∷ m ∷ ns) s = into-plain end _ (n ∷ m ∷ ns) s
 
 -- ---- what is offered
 
@@ -109,9 +110,9 @@ key-plain b key after p = by-test _ shapeBad _ refl (by-test _ keyBeyond _ refl 
 -- A change of any plain book is accepted, or refused with one of its numbers.
 pub change-refused : (b : Book) (c : Change) → RefusedBy plainRefusals (does b c)
 unfolding does loads appends drops isOneOf plainRefusals
-change-refused b (load key ns) =
+change-refused b (load fit key ns) =
     key-plain b key _ (by-test _ keyInUse _ refl (by-test _ tooManyOffered _ refl (list-plain true 0 ns _
-    (by-part _ _ (load-plain _ ns _) (λ p. value _)))))
+    (by-part _ _ (load-plain fit _ ns _) (λ p. value _)))))
 change-refused b (append key n) = key-plain b key _ (number-plain true _ n _ (by-part _ _ (append-plain _ _ _ n _ _) (λ p. value _)))
 change-refused b (drop key) = key-plain b key _ (value _)
 

@@ -14,6 +14,7 @@ use Rattle.scripthash_layout.specs.Sizes.{slabBytes, pageClass, pageSize}
 use Rattle.scripthash_layout.proofs.LawsSizes.{size-mono}
 use Rattle.scripthash_stream.specs.Stream.{streamLen}
 use Rattle.scripthash_cutting.specs.Cutting.{cutting}
+use Rattle.book_rules.specs.declared.places.SlabFit.{SlabFit}
 use Rattle.book_statements.specs.Calls.{Change, load, append, drop}
 use Rattle.book_limits.specs.Limits.{outOfShape, pageAfter}
 use Rattle.book_rules.specs.Places.{stays, movesTo, loadsTo}
@@ -78,16 +79,16 @@ append-accepts end held list n (slab class off kept) s h =
 append-accepts end held list n (pages ps) s h =
     by-choice (joins n ps) _ _ (_, refl) (then-accepts _ _ (from-accepts end pageClass _ s (omega arith) h))
 
-load-accepts : (end : ℕ) (list : List ℕ) (s : Space) → pageAfter (s .mark) + (1 + length (cutting list)) * pageSize ≤ end
-    → Accepts (loadPlace end list s)
+load-accepts : (fit : SlabFit) (end : ℕ) (list : List ℕ) (s : Space) → pageAfter (s .mark) + (1 + length (cutting list)) * pageSize ≤ end
+    → Accepts (loadPlace fit end list s)
 unfolding loadPlace loadInto
-load-accepts end [] s h = (_, refl)
-load-accepts end (n ∷ []) s h = (_, refl)
-load-accepts end (n ∷ m ∷ ns) s h = go (loadsTo (length (n ∷ m ∷ ns)) (streamLen (n ∷ m ∷ ns))) refl
+load-accepts fit end [] s h = (_, refl)
+load-accepts fit end (n ∷ []) s h = (_, refl)
+load-accepts fit end (n ∷ m ∷ ns) s h = go (loadsTo fit (length (n ∷ m ∷ ns)) (streamLen (n ∷ m ∷ ns))) refl
   where
-    go : (o : Option ℕ) → loadsTo (length (n ∷ m ∷ ns)) (streamLen (n ∷ m ∷ ns)) ≡ o → Accepts (loadInto end o (n ∷ m ∷ ns) s)
+    go : (o : Option ℕ) → loadsTo fit (length (n ∷ m ∷ ns)) (streamLen (n ∷ m ∷ ns)) ≡ o → Accepts (loadInto end o (n ∷ m ∷ ns) s)
     go (some c) q =
-        let (few, class, fits) = loads-to (length (n ∷ m ∷ ns)) (streamLen (n ∷ m ∷ ns)) q in
+        let (few, class, fits) = loads-to fit (length (n ∷ m ∷ ns)) (streamLen (n ∷ m ∷ ns)) q in
         then-accepts _ _ (from-accepts end c _ s (omega arith) (omega arith))
     go none q = then-accepts _ _ (run-accepts end (length (cutting (n ∷ m ∷ ns))) s (omega arith))
 
@@ -151,10 +152,10 @@ module _ (b : Book) (bytes n : ℕ) (shape : outOfShape (b .size + bytes) (lengt
   pub room-accepts : (c : Change) → pageAfter (b .space .mark) + pagesEnough c * pageSize ≤ b .size + bytes
       → does b c ≡ refused noRoom → Accepts (does (grown bytes n b) c)
   unfolding does loads appends drops
-  room-accepts (load key ns) h =
+  room-accepts (load fit key ns) h =
       rw (key-grown key)
       (key-grows key _ _ (if-grows _ _ _ _ (λ z. omega arith) (if-grows _ _ _ _ (λ z. omega arith) (list-grows true 0 ns _ _
-      (λ e. then-accepts _ _ (load-accepts (b .size + bytes) ns (b .space) h))))))
+      (λ e. then-accepts _ _ (load-accepts fit (b .size + bytes) ns (b .space) h))))))
   room-accepts (append key m) h =
       rw (key-grown key)
       (key-grows key _ _ (number-grows true _ m _ _ (λ e. then-accepts _ _ (append-accepts (b .size + bytes) _ _ m _ (b .space) (omega arith)))))

@@ -5,6 +5,7 @@ use mathlib.Core.List.{List, [], _∷_, _++_}
 use lib.ListN.{length}
 use Rattle.scripthash_layout.specs.Sizes.{pageSize}
 use Rattle.scripthash_cutting.specs.Cutting.{cutting, replaceLast}
+use Rattle.book_rules.specs.declared.places.SlabFit.{SlabFit}
 use Rattle.book_statements.specs.Calls.{Call}
 use Rattle.book_statements.specs.Moves.{noMoves}
 use Rattle.plain_book.specs.Space.{Space}
@@ -54,10 +55,10 @@ append-shortest end held list n s h (stayed class off kept q) = shortest-longer 
 append-shortest end held list n s h (moved-slab old c t out q got) = written-shortest list
 append-shortest end held list n s h (moved-page old t out q got) = one-shortest (t .off) list
 append-shortest end held list n s h (joined-page ps q) = join-shortest n ps h
-append-shortest end held list n s h (begun-page ps t got) = begin-shortest n (t .off) ps h
+append-shortest end held list n s h (begun-page ps t q got) = begin-shortest n (t .off) ps h
 
 -- A loaded list is written anew.
-load-shortest : (end : ℕ) (s : Space) {ns : List ℕ} {p : Placed} → LoadDid end s ns p → ShortestPlace (p .place)
+load-shortest : {fit : SlabFit} (end : ℕ) (s : Space) {ns : List ℕ} {p : Placed} → LoadDid fit end s ns p → ShortestPlace (p .place)
 unfolding ShortestPlace
 load-shortest end s loaded-none = tt
 load-shortest end s loaded-one = tt
@@ -71,7 +72,7 @@ shortest-kept : KeptByCalls (λ k t. ShortestPlace (k .place))
 unfolding ShortestPlace
 shortest-kept =
     record {
-      loads = λ end k ns s p t h f rises e. load-shortest end s e;
+      loads = λ fit end k ns s p t h f rises e. load-shortest end s e;
       appends = λ end k n s p t h rises low e. append-shortest end (length (k .list)) (extended (k .list) n) n s h e;
       drops = tt;
     }

@@ -15,6 +15,7 @@ use Rattle.scripthash_stream.proofs.LawsStream.{rising-append, rising-below}
 use Rattle.scripthash_cutting.specs.Cutting.{pageRoom, lastPageRoom, cutting, replaceLast, joined, Fit}
 use Rattle.scripthash_cutting.proofs.LawsPages.{pages-allowed}
 use Rattle.scripthash_cutting.proofs.LawsRising.{rising-words}
+use Rattle.book_rules.specs.declared.places.SlabFit.{SlabFit}
 use Rattle.plain_book.specs.Space.{Space}
 use Rattle.plain_book.specs.Key.{written, longer, Page, Place, empty, inline, slab, pages, emptyKey, lastPage, noPage}
 use Rattle.plain_book.specs.Key.{countedAfter, onePage, longerPage, joins, Placed}
@@ -134,7 +135,7 @@ append-fits end count ns n s r l f (moved-page old t out q got) =
 append-fits end count ns n s r l (is-held, fit) (joined-page ps q) =
     let room = leb-true (longer n (lastPage noPage ps .part) .bytes) (lastPage noPage ps .room) q in
     (join-held n ps fit ∙ ap (λ (l : List ℕ). l ++ (n ∷ [])) is-held, join-fits n noPage ps fit room)
-append-fits end count ns n s r l (is-held, fit) (begun-page ps t got) =
+append-fits end count ns n s r l (is-held, fit) (begun-page ps t q got) =
     let nine = len-below n 0 l in
     (begin-held n (t .off) ps ∙ ap (λ (l : List ℕ). l ++ (n ∷ [])) is-held, begin-fits n (t .off) ps fit (omega arith))
 
@@ -150,12 +151,12 @@ parts-some [] parts e two = absurd (omega arith)
 parts-some (n ∷ ns) parts e two = some-parts n ns parts e
 
 -- a load gives a list a place that it fits
-load-fits : (end : ℕ) (s : Space) {ns : List ℕ} {p : Placed} → Rising (2 ^ 62) 0 ns → LoadDid end s ns p → Fits ns (p .place)
+load-fits : {fit : SlabFit} (end : ℕ) (s : Space) {ns : List ℕ} {p : Placed} → Rising (2 ^ 62) 0 ns → LoadDid fit end s ns p → Fits ns (p .place)
 unfolding Fits written
 load-fits end s r loaded-none = refl
 load-fits end s r loaded-one = refl
-load-fits end s {ns} r (loaded-slab c t two q got) =
-    let (few, class, fits) = loads-to (length ns) (streamLen ns) q in
+load-fits {fit} end s {ns} r (loaded-slab c t two q got) =
+    let (few, class, fits) = loads-to fit (length ns) (streamLen ns) q in
     (refl, written-each ns, class, two, few, fits)
 load-fits end s {ns} r (loaded-run t two q got) =
     let ok = pages-allowed ns (rising-words 0 ns (rising-below (2 ^ 62) (2 ^ 63) 0 ns (omega arith) r)) in
@@ -185,7 +186,7 @@ known-append end count list n counted s (stayed class off kept q) = refl
 known-append end count list n counted s (moved-slab old c t out q got) = outgrown-counted list n old counted out
 known-append end count list n counted s (moved-page old t out q got) = tt
 known-append end count list n counted s (joined-page ps q) = tt
-known-append end count list n counted s (begun-page ps t got) = tt
+known-append end count list n counted s (begun-page ps t q got) = tt
 
 -- ---- every list of calls
 
@@ -198,7 +199,7 @@ empty-sound = record { rises = tt; fits = refl; known = refl }
 pub sound-kept : KeptByCalls (λ k t. SoundKey k)
 sound-kept =
     record {
-      loads = λ end k ns s p t h f rises e. record { rises = rises; fits = load-fits end s rises e; known = known-anywhere (p .place) };
+      loads = λ fit end k ns s p t h f rises e. record { rises = rises; fits = load-fits end s rises e; known = known-anywhere (p .place) };
       appends = λ end k n s p t h rises low e.
           record {
             rises = rises-snoc (2 ^ 62) (k .list) n (h .rises) rises low;

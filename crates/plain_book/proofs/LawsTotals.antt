@@ -34,7 +34,7 @@ counted-append (pages ps) counted h = h
 counted-kept : KeptByCalls (λ k t. k .counted ≡ true)
 counted-kept =
     record {
-      loads = λ end k ns s p t h f rises e. refl;
+      loads = λ fit end k ns s p t h f rises e. refl;
       appends = λ end k n s p t h rises low e. counted-append (k .place) (k .counted) h;
       drops = refl;
     }
@@ -93,8 +93,8 @@ uncounted-call : (key : ℕ) (b : Book) (c : Change) (a : Answer (Outcome (Made 
     → keyOf key (bookAfter b a) .counted ≡ false
 unfolding does bookAfter
 uncounted-call key b c (refused number) e s f ne = f
-uncounted-call key b (load own ns) (accepted o) e s f ne =
-    let (p, within, free, rises, got, is) = load-did b own ns e in
+uncounted-call key b (load fit own ns) (accepted o) e s f ne =
+    let (p, within, free, rises, got, is) = load-did fit b own ns e in
     uncounted-with b own key (keyIn ns (p .place) true) (p .space) within (ap (λ (x : Outcome _). x .book) is) f
     (λ (z : own ≡ key).
     absurd (false≢true (sym (rw z at free) ∙ uncounted-used (keyOf key b .place) (keyOf key b .counted) f (s .known))))

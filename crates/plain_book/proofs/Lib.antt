@@ -7,6 +7,7 @@ pub mod LawsSound
 pub mod LawsShortest
 pub mod LawsTotals
 pub mod LawsCeilings
+pub mod LawsSpare
 pub mod LawsApart
 pub mod LawsOwners
 pub mod LawsTaking

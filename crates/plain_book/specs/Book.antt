@@ -10,6 +10,7 @@ use Rattle.error.specs.Refusal.{shapeBad, keyBeyond, keyInUse, tooManyOffered}
 use Rattle.scripthash_layout.specs.Sizes.{pageClass}
 use Rattle.scripthash_layout.specs.Head.{payloadStart}
 use Rattle.scripthash_stream.specs.Stream.{maxOffered, lastFrom}
+use Rattle.book_rules.specs.declared.places.SlabFit.{SlabFit}
 use Rattle.book_rules.specs.Outcomes.{Loaded, Appended, Listed, Dropped, loadedIn, appendedTo, listing, droppedOf, OutcomeOf}
 use Rattle.book_statements.specs.Calls.{Enquiry, read, Change, load, append, drop, Call, change, Said, Made, Serves, Answers, afterCalls}
 use Rattle.book_statements.specs.Calls.{answersTo}
@@ -59,13 +60,13 @@ inUse (slab class off kept) = true
 inUse (pages ps) = true
 
 -- A load: onto an empty key.
-unfoldable pub loads : Book → ℕ → List ℕ → Answer (Outcome Loaded)
-loads b key ns =
+unfoldable pub loads : SlabFit → Book → ℕ → List ℕ → Answer (Outcome Loaded)
+loads fit b key ns =
     onKey b key
     (refuseIf (inUse (keyOf key b .place)) keyInUse
     (refuseIf (ltb maxOffered (length ns)) tooManyOffered
     (offeredList true 0 ns
-    (andThen (loadPlace (b .size) ns (b .space))
+    (andThen (loadPlace fit (b .size) ns (b .space))
     (λ p. accepted (record {
       told = loadedIn (pagesOf (p .place));
       book = withKey key (keyIn ns (p .place) true) (p .space) b;
@@ -109,7 +110,7 @@ asks b (read key room) = reads b key room
 
 -- What a change does.
 unfoldable pub does : Book → (c : Change) → Answer (Outcome (Made c))
-does b (load key ns) = loads b key ns
+does b (load fit key ns) = loads fit b key ns
 does b (append key n) = appends b key n
 does b (drop key) = drops b key
 

@@ -16,8 +16,8 @@ mostRewritten = 765
 
 -- An accepted load reports no more pages than any allowed cutting of its list has.
 unfoldable pub FewestPages : (c : Change) → Answer (Made c) → Type 0
-FewestPages (load key ns) (accepted l) = (parts : List (List ℕ)) → AllowedCutting ns parts → l .pages ≤ length parts
-FewestPages (load key ns) (refused number) = Unit {0}
+FewestPages (load fit key ns) (accepted l) = (parts : List (List ℕ)) → AllowedCutting ns parts → l .pages ≤ length parts
+FewestPages (load fit key ns) (refused number) = Unit {0}
 FewestPages (append key n) a = Unit {0}
 FewestPages (drop key) a = Unit {0}
 

@@ -9,21 +9,22 @@ use Rattle.error.specs.Refusal.{accepted}
 use Rattle.scripthash_layout.specs.Sizes.{pageClass}
 use Rattle.scripthash_stream.specs.Stream.{streamLen}
 use Rattle.scripthash_cutting.specs.Cutting.{cutting}
+use Rattle.book_rules.specs.declared.places.SlabFit.{SlabFit}
 use Rattle.book_rules.specs.Places.{stays, movesTo, loadsTo}
 use Rattle.plain_book.specs.Space.{Space, Taken, takeBlock, takeRun}
 use Rattle.plain_book.specs.Key.{Place, empty, inline, slab, pages, Page, Kept, written, longer, onePage, joins, joinedTo, begunAt}
 use Rattle.plain_book.specs.Key.{runPages, freedPlace, Placed, placed}
 
 -- What a load did.
-pub data LoadDid (end : ℕ) (s : Space) : List ℕ → Placed → Type 0 where
+pub data LoadDid (fit : SlabFit) (end : ℕ) (s : Space) : List ℕ → Placed → Type 0 where
   -- No number stands nowhere, and one in the head word.
-  loaded-none : LoadDid end s [] (placed empty s 0)
-  loaded-one : {n : ℕ} → LoadDid end s (n ∷ []) (placed inline s 0)
+  loaded-none : LoadDid fit end s [] (placed empty s 0)
+  loaded-one : {n : ℕ} → LoadDid fit end s (n ∷ []) (placed inline s 0)
   -- More are written to a taken slab, or to the pages of a taken run.
-  loaded-slab : {ns : List ℕ} (class : ℕ) (t : Taken) → 2 ≤ length ns → loadsTo (length ns) (streamLen ns) ≡ some class
-      → takeBlock end class s ≡ accepted t → LoadDid end s ns (placed (slab class (t .off) (written ns)) (t .space) 0)
-  loaded-run : {ns : List ℕ} (t : Taken) → 2 ≤ length ns → loadsTo (length ns) (streamLen ns) ≡ none
-      → takeRun end (length (cutting ns)) s ≡ accepted t → LoadDid end s ns (placed (pages (runPages (t .off) (cutting ns))) (t .space) 0)
+  loaded-slab : {ns : List ℕ} (class : ℕ) (t : Taken) → 2 ≤ length ns → loadsTo fit (length ns) (streamLen ns) ≡ some class
+      → takeBlock end class s ≡ accepted t → LoadDid fit end s ns (placed (slab class (t .off) (written ns)) (t .space) 0)
+  loaded-run : {ns : List ℕ} (t : Taken) → 2 ≤ length ns → loadsTo fit (length ns) (streamLen ns) ≡ none
+      → takeRun end (length (cutting ns)) s ≡ accepted t → LoadDid fit end s ns (placed (pages (runPages (t .off) (cutting ns))) (t .space) 0)
 
 -- A list with one number more can't stay where it stood: in the head word, or in a slab that it outgrew.
 abbrev pub Outgrown : List ℕ → ℕ → Place → Type 0
@@ -48,5 +49,5 @@ pub data AppendDid (end held : ℕ) (list : List ℕ) (n : ℕ) (s : Space) : Pl
       → AppendDid end held list n s old (placed (pages (onePage (t .off) list)) (freedPlace old (t .space)) held)
   -- The number joins the last page, or begins a taken one.
   joined-page : (ps : List Page) → joins n ps ≡ true → AppendDid end held list n s (pages ps) (placed (joinedTo n ps) s 0)
-  begun-page : (ps : List Page) (t : Taken) → takeBlock end pageClass s ≡ accepted t
+  begun-page : (ps : List Page) (t : Taken) → joins n ps ≡ false → takeBlock end pageClass s ≡ accepted t
       → AppendDid end held list n s (pages ps) (placed (begunAt (t .off) n ps) (t .space) 0)

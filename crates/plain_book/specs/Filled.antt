@@ -20,15 +20,15 @@ unfoldable pub bytesHeld : List Key → ℕ
 bytesHeld [] = 0
 bytesHeld (k ∷ ks) = bytesIn (k .place) + bytesHeld ks
 
--- The bytes of blocks of a class at offsets.
-unfoldable pub bytesAt : ℕ → List ℕ → ℕ
-bytesAt class [] = 0
-bytesAt class (o ∷ os) = slabBytes class + bytesAt class os
+-- The bytes of the blocks on the stack of a class.
+unfoldable pub bytesOnStack : ℕ → List ℕ → ℕ
+bytesOnStack class [] = 0
+bytesOnStack class (o ∷ os) = slabBytes class + bytesOnStack class os
 
 -- The bytes that stacks hold, of the classes from one on.
 unfoldable pub bytesFreed : ℕ → List (List ℕ) → ℕ
 bytesFreed class [] = 0
-bytesFreed class (os ∷ st) = bytesAt class os + bytesFreed (class + 1) st
+bytesFreed class (os ∷ st) = bytesOnStack class os + bytesFreed (class + 1) st
 
 -- What is freed, with so many bytes besides, fills a space up to the mark.
 abbrev pub Fills : Space → ℕ → Type 0

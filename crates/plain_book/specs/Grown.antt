@@ -13,6 +13,6 @@ grown bytes n b = record { size = b .size + bytes; keys = b .keys ++ replicate n
 
 -- How many pages behind the mark, rounded up, are enough for a change: one for an append, and one more than its list is cut into for a load.
 abbrev pub pagesEnough : Change → ℕ
-pagesEnough (load key ns) = 1 + length (cutting ns)
+pagesEnough (load fit key ns) = 1 + length (cutting ns)
 pagesEnough (append key n) = 1
 pagesEnough (drop key) = 0

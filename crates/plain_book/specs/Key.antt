@@ -12,6 +12,7 @@ use Rattle.scripthash_layout.specs.declared.head.ShHeadValue.{ShHeadValue}
 use Rattle.scripthash_layout.specs.declared.head.ShHeadValue.the-variants.{Empty, Inline, Slab, Extent}
 use Rattle.scripthash_stream.specs.Stream.{lastFrom, streamLen}
 use Rattle.scripthash_cutting.specs.Cutting.{pageRoom, lastPageRoom, cutting, replaceLast}
+use Rattle.book_rules.specs.declared.places.SlabFit.{SlabFit}
 use Rattle.book_rules.specs.Places.{stays, movesTo, loadsTo}
 use Rattle.plain_book.specs.Space.{Space, freed, takeBlock, takeRun}
 
@@ -184,8 +185,8 @@ loadInto end none list s =
     andThen (takeRun end (length (cutting list)) s)
     (λ t. accepted (placed (pages (runPages (t .off) (cutting list))) (t .space) 0))
 
--- Where a loaded list stands: none nowhere, one in the head word.
-unfoldable pub loadPlace : ℕ → List ℕ → Space → Answer Placed
-loadPlace end [] s = accepted (placed empty s 0)
-loadPlace end (n ∷ []) s = accepted (placed inline s 0)
-loadPlace end (n ∷ m ∷ ns) s = loadInto end (loadsTo (length (n ∷ m ∷ ns)) (streamLen (n ∷ m ∷ ns))) (n ∷ m ∷ ns) s
+-- Where a loaded list stands: none nowhere, one in the head word, more by the load's rule.
+unfoldable pub loadPlace : SlabFit → ℕ → List ℕ → Space → Answer Placed
+loadPlace fit end [] s = accepted (placed empty s 0)
+loadPlace fit end (n ∷ []) s = accepted (placed inline s 0)
+loadPlace fit end (n ∷ m ∷ ns) s = loadInto end (loadsTo fit (length (n ∷ m ∷ ns)) (streamLen (n ∷ m ∷ ns))) (n ∷ m ∷ ns) s

@@ -49,11 +49,10 @@ module _ (e : tie.After-enum-told) where
 compact-len-requires : tie.Need-compact-len-requires
 compact-len-requires c κs = search needs
 
-cast-moves-to : tie.Need-cast-moves-to
-cast-moves-to c = search needs
-
 moves-to-requires : tie.Need-moves-to-requires
-moves-to-requires c κs = omega (arith, c .compact-len .ensures, bytes (c .before .before .before))
+moves-to-requires c κs =
+    let start = c .before .before .before in
+    (omega (arith, start .pre .two), omega (arith, c .compact-len .ensures, bytes start))
 
 enum-known-class : tie.Need-enum-known-class
 enum-known-class c = search needs
@@ -90,7 +89,6 @@ move-list-spec =
     tie.close
     (tie.spec
     compact-len-requires
-    cast-moves-to
     moves-to-requires
     enum-known-class
     place-in-slab-requires

@@ -1,27 +1,35 @@
 -- `run_call` meets its contract: the call that the words spell is the one that is run. Assumes nothing.
 use Prim.Native.Nat.{_+_, _≤_}
-use mathlib.Core.Path.{_∙_}
+use mathlib.Core.Bool.{Bool, true, false}
+use mathlib.Core.Path.{_≡_, sym, _∙_}
 use native.Mathlib.Omega.{arith}
 use lib.ListN.{length, getD}
+use Rattle.book_words.specs.SpellCalls.{isLoad}
 use Rattle.book_calls.proofs.LawsRun.{re-done, here-is, here-load, here-append, here-read, here-drop, here-load-room}
 use Rattle.book_calls.proofs.LawsRun.{here-append-room, here-read-room, here-drop-room, here-part, read-done}
 use borrow.Author.Needs.{needs}
 use Rattle.book_calls.proofs.running.run_call.Statement.{statement}
 use Rattle.book_calls.proofs.running.run_call.Tie as tie
 
--- the three words of the call are read
-module _ (c : tie.After-shared-slice-known4) where
+-- the three words of the call are read, and it is known whether it is a load
+module _ (c : tie.After-is-load) where
   abbrev start : tie.Start
-  start = c .before .before .before .before .before .before .before
+  start = c .before .before .before .before .before .before .before .before
+
+  known : (t : Bool) → c .is-load .result ≡ t → isLoad (getD (start .args .calls .now) (start .args .at) 0) ≡ t
+  known t e = sym (c .is-load .ensures) ∙ e
 
 -- it is a load
 module _ (c : tie.Then1) where
   abbrev at-load : tie.Start
   at-load = start (c .before)
 
+  is-one : isLoad (getD (at-load .args .calls .now) (at-load .args .at) 0) ≡ true
+  is-one = known (c .before) true (c .if1 .taken)
+
   -- its numbers end within the words
   load-end : at-load .args .at + 3 + getD (at-load .args .calls .now) (at-load .args .at + 2) 0 ≤ length (at-load .args .calls .now)
-  load-end = here-load (at-load .pre) (c .if1 .taken) .0
+  load-end = here-load (at-load .pre) is-one .0
 
 -- it is an append
 module _ (c : tie.Then2) where
@@ -62,14 +70,20 @@ mul-third c = search needs
 shared-slice-read-third : tie.Need-shared-slice-read-third
 shared-slice-read-third c = search needs
 
+is-load-requires : tie.Need-is-load-requires
+is-load-requires c κs = search needs
+
+fit-of-requires : tie.Need-fit-of-requires
+fit-of-requires c κs = search needs
+
 add-from : tie.Need-add-from
 add-from c = search needs
 
 add-end : tie.Need-add-end
-add-end c = omega (arith, load-end c)
+add-end c = omega (arith, load-end (c .before))
 
 mul-run-load : tie.Need-mul-run-load
-mul-run-load c = search (needs, load-end (c .before .before))
+mul-run-load c = search (needs, load-end (c .before .before .before))
 
 sub-run-load : tie.Need-sub-run-load
 sub-run-load c = search needs
@@ -78,10 +92,10 @@ part-run-load-start : tie.Need-part-run-load-start
 part-run-load-start c = search needs
 
 part-run-load-end : tie.Need-part-run-load-end
-part-run-load-end c = search (needs, load-end (c .before .before))
+part-run-load-end c = search (needs, load-end (c .before .before .before))
 
 run-load-requires : tie.Need-run-load-requires
-run-load-requires c κs = let loads = c .before .before .before .before in here-load-room (at-load loads .pre) (loads .if1 .taken)
+run-load-requires c κs = let loads = c .before .before .before .before .before in here-load-room (at-load loads .pre) (is-one loads)
 
 same-length : tie.Need-same-length
 same-length c = search needs
@@ -95,9 +109,10 @@ same-length-3 c = search needs
 returns : tie.Need-returns
 returns c =
     let done = c .before .before .before .before .before .before in
-    let loads = done .before .before .before .before .before in
+    let fitted = done .before .before .before .before .before in
+    let loads = fitted .before in
     let h = at-load loads .pre in
-    λ b e. re-done (here-is h b e ∙ here-part h (loads .if1 .taken)) (done .run-load .ensures)
+    λ b e. re-done (here-is h b e ∙ here-part h _ (fitted .fit-of .ensures) (is-one loads)) (done .run-load .ensures)
 
 run-append-requires : tie.Need-run-append-requires
 run-append-requires c κs = let appends = c .before .before .before in here-append-room (at-append appends .pre) (appends .if2 .taken)
@@ -140,7 +155,7 @@ returns-3 c =
 run-drop-requires : tie.Need-run-drop-requires
 run-drop-requires c κs =
     let drops = c .before .before .before in
-    here-drop-room (at-drop drops .pre) (drops .before .before .if1 .left) (drops .before .if2 .left) (drops .if3 .left)
+    here-drop-room (at-drop drops .pre) (known (drops .before .before .before) false (drops .before .before .if1 .left)) (drops .before .if2 .left) (drops .if3 .left)
 
 same-length-10 : tie.Need-same-length-10
 same-length-10 c = search needs
@@ -156,7 +171,7 @@ returns-4 c =
     let done = c .before .before .before .before .before .before in
     let drops = done .before .before .before .before in
     let h = at-drop drops .pre in
-    let is = here-drop h (drops .before .before .if1 .left) (drops .before .if2 .left) (drops .if3 .left) in
+    let is = here-drop h (known (drops .before .before .before) false (drops .before .before .if1 .left)) (drops .before .if2 .left) (drops .if3 .left) in
     λ b e. re-done (here-is h b e ∙ is) (done .run-drop .ensures)
 
 pub run-call-spec : {M : Type 1} → statement M
@@ -171,6 +186,8 @@ run-call-spec =
     add-third
     mul-third
     shared-slice-read-third
+    is-load-requires
+    fit-of-requires
     add-from
     add-end
     mul-run-load

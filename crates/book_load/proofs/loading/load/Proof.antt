@@ -35,7 +35,7 @@ module _ (c : tie.Start) where
   list = c .args .fks .now
 
   abbrev load : Answer (Outcome Loaded)
-  load = loads book key list
+  load = loads (c .args .fit) book key list
 
 -- the book is in shape
 module _ (t : tie.Else1) where
@@ -90,7 +90,7 @@ returns c =
     let t = c .before .before in
     let s = t .before .before .before .before .before in
     let e = c .refuse-load .ensures (s .args .body .now) (s .args .heads .now) (load s)
-    (loads-shape (book s) (key s) (list s) (sym (t .shape-broken .ensures) ∙ c .before .if1 .taken)) in
+    (loads-shape (s .args .fit) (book s) (key s) (list s) (sym (t .shape-broken .ensures) ∙ c .before .if1 .taken)) in
     (e .told, e .left)
 
 refuse-load-requires-2 : tie.Need-refuse-load-requires-2
@@ -104,7 +104,7 @@ returns-2 c =
     let t = c .before .before in
     let s = start t in
     let e = c .refuse-load2 .ensures (s .args .body .now) (s .args .heads .now) (load s)
-    (loads-beyond (book s) (key s) (list s) (good t) (c .before .if2 .taken)) in
+    (loads-beyond (s .args .fit) (book s) (key s) (list s) (good t) (c .before .if2 .taken)) in
     (e .told, e .left)
 
 mul-if3 : tie.Need-mul-if3
@@ -124,7 +124,7 @@ returns-3 c =
     let t = c .before .before .before in
     let s = start (t .before) in
     let e = c .refuse-load3 .ensures (s .args .body .now) (s .args .heads .now) (load s)
-    (loads-in-use (book s) (key s) (list s) (good (t .before)) (known t) (c .before .if3 .taken)) in
+    (loads-in-use (s .args .fit) (book s) (key s) (list s) (good (t .before)) (known t) (c .before .if3 .taken)) in
     (e .told, e .left)
 
 refuse-load-requires-4 : tie.Need-refuse-load-requires-4
@@ -138,7 +138,7 @@ returns-4 c =
     let t = c .before .before in
     let s = start (shaped t) in
     let e = c .refuse-load4 .ensures (s .args .body .now) (s .args .heads .now) (load s)
-    (loads-too-many (book s) (key s) (list s) (good (shaped t)) (known (t .before .before)) (empty t) (c .before .if4 .taken)) in
+    (loads-too-many (s .args .fit) (book s) (key s) (list s) (good (shaped t)) (known (t .before .before)) (empty t) (c .before .if4 .taken)) in
     (e .told, e .left)
 
 judge-list-requires : tie.Need-judge-list-requires
@@ -167,7 +167,7 @@ returns-5 c =
     let s = begin t in
     let number = refused-as _ _ (ap bytesAnswer (told .enum-told .given .1)) (c .before .refusal .ensures) in
     let e = c .refuse-load5 .ensures (s .args .body .now) (s .args .heads .now) (load s)
-    (loads-offered (book s) (key s) (list s) (good (shaped (t .before))) (known (t .before .before .before)) (empty (t .before)) (few t)
+    (loads-offered (s .args .fit) (book s) (key s) (list s) (good (shaped (t .before))) (known (t .before .before .before)) (empty (t .before)) (few t)
     (sym (j .judge-list .ensures) ∙ number)) in
     (e .told, e .left)
 
@@ -196,7 +196,7 @@ returns-6 c =
     let t = listed k in
     let s = begin t in
     let e = p .load-judged .ensures in
-    rw (loads-on (book s) (key s) (list s) (good (shaped (t .before))) (known (t .before .before .before)) (empty (t .before)) (few t)
+    rw (loads-on (s .args .fit) (book s) (key s) (list s) (good (shaped (t .before))) (known (t .before .before .before)) (empty (t .before)) (few t)
     (judged k .0)) (e .told, e .left)
 
 pub load-spec : {M : Type 1} → statement M

@@ -20,7 +20,7 @@ module _ (c : tie.Start) where
   list = c .args .fks .now
 
 returns : tie.Need-returns
-returns c = let s = c .before .before .before .before in ends-same (book s) _ (load-none (book s) (s .args .key) (list s) (c .if1 .taken))
+returns c = let s = c .before .before .before .before in ends-same (book s) _ (load-none (s .args .fit) (book s) (s .args .key) (list s) (c .if1 .taken))
 
 shared-slice-read-entry : tie.Need-shared-slice-read-entry
 shared-slice-read-entry c = search needs
@@ -36,7 +36,7 @@ returns-2 c =
     let a = c .before .before in
     let one = a .before .before .before in
     let s = one .before .before .before .before .before in
-    does-same (sym (load-one (book s) (s .args .key) (list s) (one .if2 .taken)))
+    does-same (sym (load-one (s .args .fit) (book s) (s .args .key) (list s) (one .if2 .taken)))
     (a .accept-load .ensures (book s) (s .args .body .now) refl)
 
 load-list-requires : tie.Need-load-list-requires
@@ -61,7 +61,7 @@ returns-3 c =
     let p = c .before .before .before .before in
     let more = p .before .before .before in
     let s = more .before .before .before .before .before in
-    rw (load-more (book s) (s .args .key) (list s) (omega (arith, more .if2 .left, more .before .if1 .left))) (p .load-list .ensures)
+    rw (load-more (s .args .fit) (book s) (s .args .key) (list s) (omega (arith, more .if2 .left, more .before .if1 .left))) (p .load-list .ensures)
 
 pub load-judged-spec : {M : Type 1} → statement M
 load-judged-spec =

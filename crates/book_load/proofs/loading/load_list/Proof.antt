@@ -22,27 +22,27 @@ module _ (t : tie.After-loads-to) where
   abbrev list : List ℕ
   list = start .args .fks .now
 
-  chose : loadsTo (length list) (streamLen list) ≡ chosen (t .loads-to .result)
-  chose = sym (t .loads-to .ensures ∙ ap (loadsTo (length list)) (start .pre .bytes-are))
+  chose : loadsTo (start .args .fit) (length list) (streamLen list) ≡ chosen (t .loads-to .result)
+  chose = sym (t .loads-to .ensures ∙ ap (loadsTo (start .args .fit) (length list)) (start .pre .bytes-are))
 
 -- a slab of a class
 module _ (k : tie.After-known-told) where
   abbrev choosing : tie.After-loads-to
   choosing = k .before .before .before
 
-  to-slab : loadsTo (length (list choosing)) (streamLen (list choosing)) ≡ some (k .before .class .given .0 .0)
+  to-slab : loadsTo (start choosing .args .fit) (length (list choosing)) (streamLen (list choosing)) ≡ some (k .before .class .given .0 .0)
   to-slab = chose choosing ∙ ap chosen (k .before .class .given .1)
 
 -- a run
 module _ (e : tie.After-enum-told) where
-  to-run : loadsTo (length (list (e .before .before))) (streamLen (list (e .before .before))) ≡ none
+  to-run : loadsTo (start (e .before .before) .args .fit) (length (list (e .before .before))) (streamLen (list (e .before .before))) ≡ none
   to-run = chose (e .before .before) ∙ ap chosen (e .enum-told .given .1)
 
 loads-to-requires : tie.Need-loads-to-requires
 loads-to-requires c κs =
     let start = c .before .before .before in
     let pre = start .pre in
-    omega (arith, pre .bytes-are, pre .judged .few, stream-at-most 0 (start .args .fks .now) (pre .judged .rises))
+    (omega (arith, pre .two-fks), omega (arith, pre .bytes-are, pre .judged .few, stream-at-most 0 (start .args .fks .now) (pre .judged .rises)))
 
 enum-known-class : tie.Need-enum-known-class
 enum-known-class c = search needs
@@ -52,7 +52,7 @@ load-slab-requires c κs =
     let k = c .before .before in
     let t = choosing k in
     let pre = start t .pre in
-    let (few, low, fits) = loads-to (length (list t)) (streamLen (list t)) (to-slab k) in
+    let (few, low, fits) = loads-to (start t .args .fit) (length (list t)) (streamLen (list t)) (to-slab k) in
     record { to-load = pre .to-load; low = low; few = few; rises = pre .judged .rises; fits = fits }
 
 enum-told : tie.Need-enum-told

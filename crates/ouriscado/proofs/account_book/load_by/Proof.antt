@@ -1,4 +1,4 @@
--- `ouriscado_book_load` hands out what `load` answers, on the state that the words hold. Assumes nothing.
+-- `load_by` hands out what `load` answers, on the state that the words hold. Assumes nothing.
 use mathlib.Core.Path.{_∙_, ap}
 use Rattle.error.specs.Refusal.{refusalOf}
 use Rattle.error.proofs.LawsOut.{number-answered, value-same}
@@ -7,9 +7,9 @@ use Rattle.book_load.specs.Loads.{loads}
 use Rattle.ouriscado.specs.OutBook.{pagesLoaded}
 use Rattle.ouriscado.proofs.LawsBook.{does-words, kept-words}
 use borrow.Author.Needs.{needs}
-use Rattle.ouriscado.proofs.account_book.ouriscado_book_load.Statement.{statement}
+use Rattle.ouriscado.proofs.account_book.load_by.Statement.{statement}
 use Rattle.book_rules.specs.Outcomes.{Loaded}
-use Rattle.ouriscado.proofs.account_book.ouriscado_book_load.Tie as tie
+use Rattle.ouriscado.proofs.account_book.load_by.Tie as tie
 
 state-of-requires : tie.Need-state-of-requires
 state-of-requires c κs = search needs
@@ -36,7 +36,7 @@ returns c =
     let a = r .before .before .before .before .before .before .before .before .args in
     let e = r .load .ensures in
     let h = c .put-loaded .ensures in
-    let d = does-words (r .before .state-of .ensures) (λ (b : Book). loads b (a .key) (a .fks .now)) (p .put-state .ensures) (e .0)
+    let d = does-words (r .before .state-of .ensures) (λ (b : Book). loads (a .fit) b (a .key) (a .fks .now)) (p .put-state .ensures) (e .0)
     (e .1) in
     let number = h .0 ∙ ap refusalOf (d .told) ∙ number-answered (λ (o : Outcome Loaded). o .told) _ in (
       number,
@@ -49,8 +49,8 @@ returns c =
       ),
     )
 
-pub ouriscado-book-load-spec : {M : Type 1} → statement M
-ouriscado-book-load-spec =
+pub load-by-spec : {M : Type 1} → statement M
+load-by-spec =
     tie.close
     (tie.spec
     state-of-requires
