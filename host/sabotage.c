@@ -286,6 +286,38 @@ uint32_t ouriscado_book_check(const uint8_t *body, size_t n, const uint64_t *hea
     return number;
 }
 
+#elif SABOTAGE == 30
+/* 30 book: a load takes the class by bytes, as a tight one does */
+uint32_t ouriscado_book_load_tight(uint8_t *body, size_t n, uint64_t *heads, size_t keys, uint64_t *state, uint64_t key, const uint64_t *fks, size_t count, uint64_t *pages);
+uint32_t real_ouriscado_book_load(uint8_t *body, size_t n, uint64_t *heads, size_t keys, uint64_t *state, uint64_t key, const uint64_t *fks, size_t count, uint64_t *pages);
+uint32_t ouriscado_book_load(uint8_t *body, size_t n, uint64_t *heads, size_t keys, uint64_t *state, uint64_t key, const uint64_t *fks, size_t count, uint64_t *pages) {
+    return count < 257 ? ouriscado_book_load_tight(body, n, heads, keys, state, key, fks, count, pages) : real_ouriscado_book_load(body, n, heads, keys, state, key, fks, count, pages);
+}
+
+#elif SABOTAGE == 31
+/* 31 book: a tight load takes the class with a spare slot */
+uint32_t ouriscado_book_load(uint8_t *body, size_t n, uint64_t *heads, size_t keys, uint64_t *state, uint64_t key, const uint64_t *fks, size_t count, uint64_t *pages);
+uint32_t real_ouriscado_book_load_tight(uint8_t *body, size_t n, uint64_t *heads, size_t keys, uint64_t *state, uint64_t key, const uint64_t *fks, size_t count, uint64_t *pages);
+uint32_t ouriscado_book_load_tight(uint8_t *body, size_t n, uint64_t *heads, size_t keys, uint64_t *state, uint64_t key, const uint64_t *fks, size_t count, uint64_t *pages) {
+    return count < 257 ? ouriscado_book_load(body, n, heads, keys, state, key, fks, count, pages) : real_ouriscado_book_load_tight(body, n, heads, keys, state, key, fks, count, pages);
+}
+
+#elif SABOTAGE == 32
+/* 32 book: a load of 255 numbers has no spare slot */
+uint32_t ouriscado_book_load_tight(uint8_t *body, size_t n, uint64_t *heads, size_t keys, uint64_t *state, uint64_t key, const uint64_t *fks, size_t count, uint64_t *pages);
+uint32_t real_ouriscado_book_load(uint8_t *body, size_t n, uint64_t *heads, size_t keys, uint64_t *state, uint64_t key, const uint64_t *fks, size_t count, uint64_t *pages);
+uint32_t ouriscado_book_load(uint8_t *body, size_t n, uint64_t *heads, size_t keys, uint64_t *state, uint64_t key, const uint64_t *fks, size_t count, uint64_t *pages) {
+    return count == 255 ? ouriscado_book_load_tight(body, n, heads, keys, state, key, fks, count, pages) : real_ouriscado_book_load(body, n, heads, keys, state, key, fks, count, pages);
+}
+
+#elif SABOTAGE == 33
+/* 33 book: a tight load of a key in use is accepted where it has no numbers */
+uint32_t real_ouriscado_book_load_tight(uint8_t *body, size_t n, uint64_t *heads, size_t keys, uint64_t *state, uint64_t key, const uint64_t *fks, size_t count, uint64_t *pages);
+uint32_t ouriscado_book_load_tight(uint8_t *body, size_t n, uint64_t *heads, size_t keys, uint64_t *state, uint64_t key, const uint64_t *fks, size_t count, uint64_t *pages) {
+    uint32_t number = real_ouriscado_book_load_tight(body, n, heads, keys, state, key, fks, count, pages);
+    return number == 3 && count == 0 ? 0 : number;
+}
+
 #else
 #error "SABOTAGE names none"
 #endif

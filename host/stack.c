@@ -37,6 +37,7 @@ static bool flag;
 
 static void fresh(void) { CALL(ouriscado_book_fresh(BOOK)); }
 static void load(void) { CALL(ouriscado_book_load(BOOK, 1, list, count, &a)); }
+static void load_tight(void) { CALL(ouriscado_book_load_tight(BOOK, 1, list, count, &a)); }
 static void append(void) { CALL(ouriscado_book_append(BOOK, 0, list[count], &kind, &class_, &used, &place, &a)); }
 static void read_all(void) { CALL(ouriscado_book_read(BOOK, 0, out, MOST + 1, &a, &b)); }
 static void read_short(void) { CALL(ouriscado_book_read(BOOK, 0, out, count - 1, &a, &b)); }
@@ -66,6 +67,7 @@ static void pop(void) { CALL(ouriscado_pop_free_head(body, BODY, words, 2, BODY,
    is short, so that a slab is one that appends have left. */
 static void nothing(void) { }
 static void loaded(void) { ouriscado_book_load(BOOK, 0, list, count, &a); }
+static void loaded_tight(void) { ouriscado_book_load_tight(BOOK, 0, list, count, &a); }
 static void appended(void)
 {
     for (size_t i = 0; i < count; i++)
@@ -108,10 +110,17 @@ static const struct test TESTS[] = {
     { "book_load", "200 numbers, to a slab", 200, nothing, load, BOOK_CALL },
     { "book_load", "4,000 numbers, to pages", 4000, nothing, load, BOOK_CALL },
     { "book_load", "65,535 numbers, to pages", MOST, nothing, load, BOOK_CALL },
+    { "book_load_tight", "no number", 0, nothing, load_tight, BOOK_CALL },
+    { "book_load_tight", "1 number, inline", 1, nothing, load_tight, BOOK_CALL },
+    { "book_load_tight", "2 numbers, to a slab", 2, nothing, load_tight, BOOK_CALL },
+    { "book_load_tight", "200 numbers, to a slab", 200, nothing, load_tight, BOOK_CALL },
+    { "book_load_tight", "4,000 numbers, to pages", 4000, nothing, load_tight, BOOK_CALL },
+    { "book_load_tight", "65,535 numbers, to pages", MOST, nothing, load_tight, BOOK_CALL },
     { "book_append", "the first number, inline", 0, nothing, append, BOOK_CALL },
     { "book_append", "the 2nd number, to a slab", 1, appended, append, BOOK_CALL },
     { "book_append", "the 3rd number, stays in its slab", 2, appended, append, BOOK_CALL },
     { "book_append", "the 5th number, moves to another slab", 4, appended, append, BOOK_CALL },
+    { "book_append", "the 15th number, a tight slab moves", 14, loaded_tight, append, BOOK_CALL },
     { "book_append", "the 129th number, moves to another slab", 128, appended, append, BOOK_CALL },
     { "book_append", "the 250th number, stays in its slab", 249, appended, append, BOOK_CALL },
     { "book_append", "the 257th number, moves to a page", 256, appended, append, BOOK_CALL },

@@ -4,7 +4,7 @@ use crate::bench::{case, seen, Case};
 use crate::book_sys as sys;
 use crate::rng::Rng;
 use crate::second_book::space::State;
-use crate::second_book::SecondBook;
+use crate::second_book::{Fit, SecondBook};
 
 /// A book: body, head words, state.
 #[derive(Clone)]
@@ -29,14 +29,14 @@ impl Book {
     }
 
     fn load_theirs(&mut self, key: u64, fks: &[u64]) {
-        SecondBook::default().load(&mut self.body, &mut self.heads, &mut self.state, key, fks).expect("a load");
+        SecondBook::default().load(&mut self.body, &mut self.heads, &mut self.state, key, fks, Fit::Tight).expect("a load");
     }
 }
 
 /// A call, with what it is about.
 #[derive(Clone)]
 enum Call {
-    Load(u64, Vec<u64>),
+    Load(u64, Vec<u64>, Fit),
     Append(u64, u64),
     Read(u64),
     Drop(u64),
@@ -48,8 +48,11 @@ fn call_ours(b: &mut Book, call: &Call, list: &mut [u64]) -> u32 {
     let (mut a, mut c, mut kind, mut class, mut used) = (0, 0, 0, 0, 0);
     unsafe {
         match call {
-            Call::Load(key, fks) => {
+            Call::Load(key, fks, Fit::Spare) => {
                 sys::ouriscado_book_load(body, body_len, heads, heads_len, &mut b.state, *key, fks.as_ptr(), fks.len(), &mut a)
+            }
+            Call::Load(key, fks, Fit::Tight) => {
+                sys::ouriscado_book_load_tight(body, body_len, heads, heads_len, &mut b.state, *key, fks.as_ptr(), fks.len(), &mut a)
             }
             Call::Append(key, fk) => sys::ouriscado_book_append(
                 body,
@@ -76,7 +79,7 @@ fn call_ours(b: &mut Book, call: &Call, list: &mut [u64]) -> u32 {
 /// Makes a call of the second book, and tells its refusal's number.
 fn call_theirs(second: &mut SecondBook, b: &mut Book, call: &Call, list: &mut [u64]) -> u32 {
     let refused = match call {
-        Call::Load(key, fks) => second.load(&mut b.body, &mut b.heads, &mut b.state, *key, fks).map(seen),
+        Call::Load(key, fks, fit) => second.load(&mut b.body, &mut b.heads, &mut b.state, *key, fks, *fit).map(seen),
         Call::Append(key, fk) => second.append(&mut b.body, &mut b.heads, &mut b.state, *key, *fk).map(seen),
         Call::Read(key) => second.read(&b.body, &b.heads, &b.state, *key, list).map(seen),
         Call::Drop(key) => second.drop(&mut b.body, &mut b.heads, &mut b.state, *key).map(seen),
@@ -118,7 +121,7 @@ fn rising(rng: &mut Rng, count: usize, bound: u64) -> Vec<u64> {
         .collect()
 }
 
-/// A book of some keys with a list each, and what is appended to each: the numbers that follow.
+/// A book of some keys with a list each, loaded tight, and what is appended to each: the numbers that follow.
 fn with_lists(rng: &mut Rng, pages: usize, keys: u64, held: usize, more: usize, bound: u64) -> (Book, Vec<Call>) {
     let mut book = Book::fresh(pages, keys as usize);
     let mut calls = Vec::new();
@@ -149,12 +152,15 @@ fn appends(cases: &mut Vec<Case>) {
     cases.push(on_copies("64 appends to a chain that grows", book, calls));
 }
 
-/// Loads of some lengths.
+/// Loads of some lengths, with a spare slot and tight.
 fn loads(cases: &mut Vec<Case>) {
     let mut rng = Rng(72);
     for (count, keys, pages, bound) in [(2, 64, 4, 40_000), (30, 64, 8, 40_000), (256, 16, 16, 300), (65_535, 1, 64, 40)] {
-        let calls = (0..keys).map(|key| Call::Load(key, rising(&mut rng, count, bound))).collect();
-        cases.push(on_copies(&format!("load {count} onto each of {keys} keys"), Book::fresh(pages, keys as usize), calls));
+        let lists: Vec<Vec<u64>> = (0..keys).map(|_| rising(&mut rng, count, bound)).collect();
+        for (name, fit) in [("load", Fit::Spare), ("load tight", Fit::Tight)] {
+            let calls = lists.iter().enumerate().map(|(key, list)| Call::Load(key as u64, list.clone(), fit)).collect();
+            cases.push(on_copies(&format!("{name} {count} onto each of {keys} keys"), Book::fresh(pages, keys as usize), calls));
+        }
     }
 }
 

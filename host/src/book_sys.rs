@@ -14,6 +14,17 @@ extern "C" {
         fks_len: usize,
         pages: &mut u64,
     ) -> u32;
+    pub fn ouriscado_book_load_tight(
+        body: *mut u8,
+        body_len: usize,
+        heads: *mut u64,
+        heads_len: usize,
+        state: &mut State,
+        key: u64,
+        fks: *const u64,
+        fks_len: usize,
+        pages: &mut u64,
+    ) -> u32;
     pub fn ouriscado_book_append(
         body: *mut u8,
         body_len: usize,

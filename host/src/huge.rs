@@ -280,6 +280,11 @@ fn books_by_length(judge: &mut Judge) {
         let [pages, other] = &mut told;
         let ours = during(&Named("book_load"), || unsafe { book::ouriscado_book_load(at, b, words, h, &mut state, 0, words, 2, pages) });
         judge.same("book_load", (ours, &[*pages]), Err(1), state[0] == 4096);
+        *pages = BEFORE;
+        let ours = during(&Named("book_load_tight"), || unsafe {
+            book::ouriscado_book_load_tight(at, b, words, h, &mut state, 0, words, 2, pages)
+        });
+        judge.same("book_load_tight", (ours, &[*pages]), Err(1), state[0] == 4096);
         let (mut kind, mut class, mut used, mut place) = (1, 1, 1, BEFORE);
         let ours = during(&Named("book_append"), || unsafe {
             book::ouriscado_book_append(at, b, words, h, &mut state, 0, 5, &mut kind, &mut class, &mut used, &mut place, other)
@@ -305,6 +310,11 @@ fn books_and_lists(judge: &mut Judge) {
         book::ouriscado_book_load(at, 8192, heads.as_mut_ptr(), 2, &mut state, 0, list.first, list.len, &mut pages)
     });
     judge.same("book_load", (ours, &[pages]), Err(10), heads == [0, 7] && state[0] == 4096);
+    pages = BEFORE;
+    let ours = during(&Named("book_load_tight"), || unsafe {
+        book::ouriscado_book_load_tight(at, 8192, heads.as_mut_ptr(), 2, &mut state, 0, list.first, list.len, &mut pages)
+    });
+    judge.same("book_load_tight", (ours, &[pages]), Err(10), heads == [0, 7] && state[0] == 4096);
     let mut length = BEFORE;
     pages = BEFORE;
     let ours = during(&Named("book_read"), || unsafe {

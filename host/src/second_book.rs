@@ -18,6 +18,13 @@ const MOST_PAYLOAD: usize = 2048;
 /// Numbers in a book are below this.
 pub const LIMIT: u64 = 1 << 62;
 
+/// How a load's slab fits its list: with a slot for one number more, as a load does that says nothing else, or tight.
+#[derive(Clone, Copy, Debug, PartialEq, Eq)]
+pub enum Fit {
+    Spare,
+    Tight,
+}
+
 /// Why a call is turned back: a number of document 01, and for 31 on what ground.
 #[derive(Clone, Copy, Debug, PartialEq, Eq)]
 pub enum Refused {
@@ -119,7 +126,7 @@ fn rises(fk: u64, before: u64) -> Result<(), Refused> {
 }
 
 /// The bytes of a list's payload in a slab, in shortest forms.
-fn payload_len(fks: &[u64]) -> usize {
+pub fn payload_len(fks: &[u64]) -> usize {
     let before = std::iter::once(&0).chain(fks);
     2 + fks.iter().zip(before).map(|(fk, last)| uleb128_len(fk - last)).sum::<usize>()
 }
@@ -127,6 +134,17 @@ fn payload_len(fks: &[u64]) -> usize {
 /// Whether a list goes to pages: it has more than 256 numbers, or its payload more than 2,048 bytes.
 pub fn goes_to_pages(fks: &[u64]) -> bool {
     fks.len() > MOST_IN_SLAB || payload_len(fks) > MOST_PAYLOAD
+}
+
+/// The class of the smallest slab that has the bytes for a list, which doesn't go to pages.
+pub fn class_by_bytes(fks: &[u64]) -> u8 {
+    slab_class_for_packed_len(payload_len(fks)).expect("a class of so many bytes")
+}
+
+/// The class of the smallest slab that has those bytes and a slot for one number more; 256 numbers have the class of 256 slots.
+fn class_with_slot(fks: &[u64]) -> u8 {
+    let by_count = slab_class_for_n_fks_with_slack(fks.len() as u32).expect("a class of so many numbers");
+    by_count.max(class_by_bytes(fks))
 }
 
 /// The page of a body at an offset.
@@ -155,8 +173,8 @@ impl SecondBook {
         Ok(())
     }
 
-    /// Loads a list onto an empty key, and tells how many pages it takes.
-    pub fn load(&mut self, body: &mut [u8], heads: &mut [u64], state: &mut State, key: u64, fks: &[u64]) -> Result<u64, Refused> {
+    /// Loads a list onto an empty key, in a slab that fits it as asked, and tells how many pages it takes.
+    pub fn load(&mut self, body: &mut [u8], heads: &mut [u64], state: &mut State, key: u64, fks: &[u64], fit: Fit) -> Result<u64, Refused> {
         shape(body, heads, state, key)?;
         let head = &mut heads[key as usize];
         if *head != 0 {
@@ -185,7 +203,10 @@ impl SecondBook {
                 Ok(count)
             }
             _ => {
-                let class = slab_class_for_packed_len(payload_len(fks)).expect("a class of so many bytes");
+                let class = match fit {
+                    Fit::Spare => class_with_slot(fks),
+                    Fit::Tight => class_by_bytes(fks),
+                };
                 *head = word(&put_slab(body, state, class, fks)?);
                 Ok(0)
             }
@@ -236,9 +257,7 @@ impl SecondBook {
             put_only_page(body, off, &self.list);
             ShHeadValue::extent(off)
         } else {
-            let by_count = slab_class_for_n_fks_with_slack(self.list.len() as u32).expect("a class of so many numbers");
-            let by_bytes = slab_class_for_packed_len(payload_len(&self.list)).expect("a class of so many bytes");
-            put_slab(body, state, by_count.max(by_bytes), &self.list)?
+            put_slab(body, state, class_with_slot(&self.list), &self.list)?
         };
         if let Some((class, off)) = old {
             release(body, state, class, off);

@@ -2,6 +2,7 @@
 use crate::lent::Placing;
 use crate::lockstep::pair::{Call, Pair};
 use crate::lockstep::record::Record;
+use crate::second_book::Fit;
 
 /// A step of a history: a call, or a byte of the body or a word of the state that somebody else writes.
 enum Step {
@@ -18,7 +19,11 @@ struct Case {
 }
 
 fn load(key: u64, fks: Vec<u64>) -> Step {
-    Step::Call(Call::Load { key, fks })
+    Step::Call(Call::Load { key, fks, fit: Fit::Spare })
+}
+
+fn load_tight(key: u64, fks: Vec<u64>) -> Step {
+    Step::Call(Call::Load { key, fks, fit: Fit::Tight })
 }
 
 /// The numbers from 1 to one.
@@ -79,14 +84,42 @@ fn cases() -> Vec<Case> {
             .flatten()
             .collect(),
         },
+        // Of 14 numbers a slab with a spare slot takes one more, and a tight one moves; of 4 likewise; 256 take a page with the next either way.
+        Case {
+            body: 16_384,
+            heads: 6,
+            steps: [
+                vec![
+                    load(0, row(14)),
+                    load_tight(1, row(14)),
+                    load(2, row(4)),
+                    load_tight(3, row(4)),
+                    load(4, row(256)),
+                    load_tight(5, row(256)),
+                ],
+                append(0, &[15]),
+                append(1, &[15]),
+                append(2, &[5]),
+                append(3, &[5]),
+                append(4, &[257]),
+                append(5, &[257]),
+            ]
+            .into_iter()
+            .flatten()
+            .collect(),
+        },
         // What is turned back: a key beyond the heads, numbers that can't be offered, a key in use, a list too short.
         Case {
             body: 8192,
             heads: 3,
-            steps: [append(3, &[5]), append(0, &[0, 1 << 63, 1 << 62, 5, 5, 6]), vec![load(0, Vec::new()), load(0, vec![7]), read(0, 1)]]
-                .into_iter()
-                .flatten()
-                .collect(),
+            steps: [
+                append(3, &[5]),
+                append(0, &[0, 1 << 63, 1 << 62, 5, 5, 6]),
+                vec![load(0, Vec::new()), load_tight(0, vec![7]), read(0, 1)],
+            ]
+            .into_iter()
+            .flatten()
+            .collect(),
         },
         // A slab whose stored count isn't its head's is no sound key.
         Case {

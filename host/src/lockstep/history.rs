@@ -10,7 +10,7 @@ use crate::lockstep::starts::Start;
 use crate::lockstep::tally::{unknown_total, Before, Tally, DAMAGED_BOOK, FOREIGN_BOOK, FRESH_BOOK, USED_BOOK};
 use crate::rng::Rng;
 use crate::second_book::space::State;
-use crate::second_book::LIMIT;
+use crate::second_book::{Fit, LIMIT};
 
 /// How a history goes: the book's shape, how many calls, how long the runs of appends to one key are, of which lengths their differences are
 /// in bits, the shares of loads and drops in a hundred calls, the longest load, and in how many calls there is one damage, 0 for never.
@@ -231,7 +231,7 @@ impl<'a> History<'a> {
                     (self.when, self.due) = (FRESH_BOOK, true);
                     self.lasts.fill((0, 0));
                 }
-                Call::Load { key, fks } => self.lasts[*key as usize] = (fks.last().copied().unwrap_or(0), fks.len()),
+                Call::Load { key, fks, .. } => self.lasts[*key as usize] = (fks.last().copied().unwrap_or(0), fks.len()),
                 Call::Append { key, fk } => {
                     let last = &mut self.lasts[*key as usize];
                     *last = (*fk, last.1 + 1);
@@ -411,25 +411,31 @@ impl<'a> History<'a> {
         Call::Read { key: key as u64, room: self.rng.pick(&[n, n, n, n, n + 1, n + 9, n.saturating_sub(1), 0]) }
     }
 
+    /// How a load fits: with a spare slot or tight.
+    fn fit(&mut self) -> Fit {
+        self.rng.pick(&[Fit::Spare, Fit::Tight])
+    }
+
     /// A load onto an empty key: none, one, a slab of each class, or pages.
     fn load(&mut self) -> Call {
-        let key = self.empty_key() as u64;
+        let (key, fit) = (self.empty_key() as u64, self.fit());
         let (longest, even) = (self.plan.longest as u64, self.plan.even && self.rng.below(4) != 0);
         let len = match self.rng.below(13) {
             0 if longest > 4096 => {
                 let before = self.rng.below((self.plan.body as u64 / 4096).min(8));
                 let left = self.rng.pick(&[0, 0, 1, 2, 9, 20]);
-                return Call::Load { key, fks: lists::of_pages(&mut self.rng, before, left, if even { 1 } else { 3 }) };
+                return Call::Load { key, fks: lists::of_pages(&mut self.rng, before, left, if even { 1 } else { 3 }), fit };
             }
             1..5 if longest > 4096 => self.rng.below(longest) + 1,
             0..6 => self.rng.below(30),
             6 => self.rng.pick(&[0, 1, 254, 255, 256, 257]),
-            7..10 => self.rng.below(300),
-            10 => return Call::Load { key, fks: lists::of_payload(&mut self.rng) },
+            7..9 => self.rng.below(300),
+            9 => return Call::Load { key, fks: lists::of_slots(&mut self.rng, even), fit },
+            10 => return Call::Load { key, fks: lists::of_payload(&mut self.rng), fit },
             _ => self.rng.below(longest) + 1,
         };
         let len = if self.plan.even && !even { len.min(300) } else { len };
-        Call::Load { key, fks: lists::of_length(&mut self.rng, len, even) }
+        Call::Load { key, fks: lists::of_length(&mut self.rng, len, even), fit }
     }
 
     /// A call that is turned back for what it is given.
@@ -438,24 +444,24 @@ impl<'a> History<'a> {
         let (last, n) = self.lasts[key];
         let beyond = self.plan.keys as u64 + self.rng.pick(&[0, 1, 1 << 32, u64::MAX / 2]);
         let empty = self.empty_key() as u64;
-        let at = key as u64;
+        let (at, fit) = (key as u64, self.fit());
         match self.rng.below(9) {
             0 => Call::Append { key: at, fk: self.rng.pick(&[0, LIMIT, LIMIT - 1, 1 << 63, u64::MAX, last, last.saturating_sub(1)]) },
             1 => self.rng.pick_one(&[
-                Call::Load { key: beyond, fks: vec![5] },
+                Call::Load { key: beyond, fks: vec![5], fit },
                 Call::Append { key: beyond, fk: 5 },
                 Call::Read { key: beyond, room: 9 },
                 Call::Drop { key: beyond },
             ]),
-            2 => Call::Load { key: at, fks: vec![5, 6, 7] },
+            2 => Call::Load { key: at, fks: vec![5, 6, 7], fit },
             3 => {
                 let bad = self.rng.pick(&[0, LIMIT, 1 << 63, u64::MAX, 5, 4]);
                 let lists = [vec![bad], vec![5, bad], vec![1, 5, bad, 0], vec![0, 1 << 63], vec![bad, 5, 9]];
-                Call::Load { key: empty, fks: self.rng.pick_one(&lists) }
+                Call::Load { key: empty, fks: self.rng.pick_one(&lists), fit }
             }
             4 if self.rng.below(20) == 0 => {
                 let count = self.rng.pick(&[65_535, 65_536, 65_537]);
-                Call::Load { key: empty, fks: (1..=count).collect() }
+                Call::Load { key: empty, fks: (1..=count).collect(), fit }
             }
             5 if self.rng.below(4) == 0 => {
                 // A long list that doesn't rise at one place.
@@ -463,7 +469,7 @@ impl<'a> History<'a> {
                 let mut fks: Vec<u64> = (1..=len).collect();
                 let from = 1 + self.rng.below(len - 1) as usize;
                 fks[from] = self.rng.pick(&[from as u64, 0, 1, LIMIT, 1 << 63]);
-                Call::Load { key: empty, fks }
+                Call::Load { key: empty, fks, fit }
             }
             6 if self.rng.below(10) == 0 => Call::Fresh,
             _ => Call::Read { key: at, room: self.rng.pick(&[0, 1, n.saturating_sub(1), n / 2]) },

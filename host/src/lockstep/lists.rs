@@ -14,6 +14,12 @@ pub fn of_length(rng: &mut Rng, len: u64, even: bool) -> Vec<u64> {
     rising(rng, len as usize, &mut |r| r.bits(bits))
 }
 
+/// A list with just the numbers that a class of slabs has slots for, or one less or more.
+pub fn of_slots(rng: &mut Rng, even: bool) -> Vec<u64> {
+    let len = (4 << rng.below(7)) + rng.pick(&[-1i64, 0, 1]);
+    of_length(rng, len as u64, even)
+}
+
 /// A list for a slab whose payload has just the bytes of a class, some less or one more.
 pub fn of_payload(rng: &mut Rng) -> Vec<u64> {
     let stream = ((16usize << rng.below(8)) - 1 - rng.pick(&[0, 1, 1, 1, 2, 3, 10])).max(2);

@@ -5,7 +5,7 @@ use crate::judge::place_of;
 use crate::lent::{Area, Placing};
 use crate::second_book::space::State;
 use crate::second_book::start::Verdict;
-use crate::second_book::{Refused, SecondBook};
+use crate::second_book::{Fit, Refused, SecondBook};
 use crate::table::numbers_theirs;
 use std::fmt::{Debug, Formatter, Result as Written};
 
@@ -13,24 +13,25 @@ use std::fmt::{Debug, Formatter, Result as Written};
 #[derive(Clone)]
 pub enum Call {
     Fresh,
-    Load { key: u64, fks: Vec<u64> },
+    Load { key: u64, fks: Vec<u64>, fit: Fit },
     Append { key: u64, fk: u64 },
     Read { key: u64, room: usize },
     Drop { key: u64 },
 }
 
 /// The kinds of calls, by name.
-pub const KINDS: [&str; 5] = ["fresh", "load", "append", "read", "drop"];
+pub const KINDS: [&str; 6] = ["fresh", "load", "append", "read", "drop", "tight load"];
 
 impl Call {
     /// The place of a call's kind among the names.
     pub fn kind(&self) -> usize {
         match self {
             Call::Fresh => 0,
-            Call::Load { .. } => 1,
+            Call::Load { fit: Fit::Spare, .. } => 1,
             Call::Append { .. } => 2,
             Call::Read { .. } => 3,
             Call::Drop { .. } => 4,
+            Call::Load { fit: Fit::Tight, .. } => 5,
         }
     }
 
@@ -47,8 +48,10 @@ impl Debug for Call {
     fn fmt(&self, f: &mut Formatter) -> Written {
         match self {
             Call::Fresh => write!(f, "fresh"),
-            Call::Load { key, fks } if fks.len() > 8 => write!(f, "load onto key {key} of {} numbers from {}", fks.len(), fks[0]),
-            Call::Load { key, fks } => write!(f, "load onto key {key} of {fks:?}"),
+            Call::Load { key, fks, .. } if fks.len() > 8 => {
+                write!(f, "{} onto key {key} of {} numbers from {}", KINDS[self.kind()], fks.len(), fks[0])
+            }
+            Call::Load { key, fks, .. } => write!(f, "{} onto key {key} of {fks:?}", KINDS[self.kind()]),
             Call::Append { key, fk } => write!(f, "append to key {key} of {fk}"),
             Call::Read { key, room } => write!(f, "read of key {key} into {room}"),
             Call::Drop { key } => write!(f, "drop of key {key}"),
@@ -252,8 +255,12 @@ impl Pair {
         let list = ours.list.place::<u64>(lent, null);
         let (refusal, sizes): (u32, &[usize]) = match *call {
             Call::Fresh => (unsafe { sys::ouriscado_book_fresh(body, body_len, heads, heads_len, state) }, &[]),
-            Call::Load { key, .. } => {
-                (unsafe { sys::ouriscado_book_load(body, body_len, heads, heads_len, state, key, list, lent, ours.out(0)) }, &[8])
+            Call::Load { key, fit, .. } => {
+                let load = match fit {
+                    Fit::Spare => sys::ouriscado_book_load,
+                    Fit::Tight => sys::ouriscado_book_load_tight,
+                };
+                (unsafe { load(body, body_len, heads, heads_len, state, key, list, lent, ours.out(0)) }, &[8])
             }
             Call::Append { key, fk } => {
                 let (kind, class, used, place, rewritten) = (ours.out(0), ours.out(1), ours.out(2), ours.out(3), ours.out(4));
@@ -275,7 +282,7 @@ impl Pair {
         let (body, heads, state) = (&mut self.body[..body_len], &mut self.heads[..heads_len], &mut self.state);
         let told = match call {
             Call::Fresh => self.second.fresh(body, heads, state).map(|()| [0; 5]),
-            Call::Load { key, fks } => self.second.load(body, heads, state, *key, fks).map(|pages| [pages, 0, 0, 0, 0]),
+            Call::Load { key, fks, fit } => self.second.load(body, heads, state, *key, fks, *fit).map(|pages| [pages, 0, 0, 0, 0]),
             Call::Append { key, fk } => self.second.append(body, heads, state, *key, *fk).map(|a| {
                 let [kind, class, used, place] = numbers_theirs(&a.place);
                 [kind, class, used, place, a.rewritten]

@@ -1,9 +1,9 @@
 //! Histories as lines, for the program `histories`: what each call was given and answered, and what it changed. host/README.md has the format.
-use crate::lockstep::pair::{Answer, Call, Pair};
+use crate::lockstep::pair::{Answer, Call, Pair, KINDS};
 use std::fmt::Write;
 
-/// The number of the first kind of call; a line that says what somebody else wrote, and one that begins a history.
-const FIRST: usize = 0x30;
+/// The numbers of the kinds of calls; a line that says what somebody else wrote, and one that begins a history.
+const CALLS: [usize; KINDS.len()] = [0x30, 0x31, 0x32, 0x33, 0x34, 0x37];
 const WRITTEN: usize = 0x35;
 const BEGIN: usize = 0x36;
 
@@ -62,11 +62,11 @@ impl Record {
 
     /// A call on so much of body and heads.
     pub fn call(&mut self, call: &Call, body: usize, heads: usize, answer: &Answer, pair: &Pair) {
-        let mut out = format!("{:02x}{:02x}{body:04x}|{heads:x} ", FIRST + call.kind(), answer.refusal);
+        let mut out = format!("{:02x}{:02x}{body:04x}|{heads:x} ", CALLS[call.kind()], answer.refusal);
         self.longest = self.longest.max(pair.list.len());
         let (given, offered, told): (&[u64], &[u64], usize) = match call {
             Call::Fresh => (&[], &[], 0),
-            Call::Load { key, fks } => (&[*key], fks, 1),
+            Call::Load { key, fks, .. } => (&[*key], fks, 1),
             Call::Append { key, fk } => (&[*key, *fk], &[], 5),
             Call::Read { key, room } => (&[*key, *room as u64], &[], 2),
             Call::Drop { key } => (&[*key], &[], 1),
@@ -109,8 +109,9 @@ impl Record {
 mod tests {
     use crate::lent::Placing;
     use crate::lockstep::pair::{Call, Pair};
-    use crate::lockstep::record::{MOST_BODY, MOST_WORDS};
+    use crate::lockstep::record::{BEGIN, MOST_BODY, MOST_WORDS, WRITTEN};
     use crate::lockstep::{written, TESTED};
+    use crate::second_book::Fit;
 
     fn hex(text: &str) -> u64 {
         u64::from_str_radix(text, 16).unwrap()
@@ -151,10 +152,11 @@ mod tests {
     fn call_of(function: u64, given: &[u64], offered: &str) -> Call {
         match function {
             0x30 => Call::Fresh,
-            0x31 => Call::Load { key: given[0], fks: list(offered) },
+            0x31 => Call::Load { key: given[0], fks: list(offered), fit: Fit::Spare },
             0x32 => Call::Append { key: given[0], fk: given[1] },
             0x33 => Call::Read { key: given[0], room: given[1] as usize },
-            _ => Call::Drop { key: given[0] },
+            0x34 => Call::Drop { key: given[0] },
+            _ => Call::Load { key: given[0], fks: list(offered), fit: Fit::Tight },
         }
     }
 
@@ -169,7 +171,7 @@ mod tests {
             let (function, refusal, len) = (hex(&line[..2]), hex(&line[2..4]), hex(&line[4..8]) as usize);
             let given = numbers(fields[1]);
             change(fields[5], &mut body, &mut words);
-            if function >= 0x35 {
+            if [WRITTEN, BEGIN].contains(&(function as usize)) {
                 pair.begin(body.clone(), words[10..].to_vec(), words[..10].try_into().unwrap(), Placing::End);
                 continue;
             }

@@ -6,17 +6,29 @@ use crate::lockstep::starts::{Foreign, FOREIGN};
 use crate::second_book::keys::{Ground, GROUNDS};
 use crate::second_book::space::{State, PAGE};
 use crate::second_book::start::{Verdict, FAULTS};
-use crate::second_book::{goes_to_pages, Refused};
+use crate::second_book::{class_by_bytes, goes_to_pages, payload_len, Refused};
 use oracle::scripthash_layout::{unpack8, ShHeadValue};
 use oracle::scripthash_pages as pages;
 use std::collections::{BTreeMap, BTreeSet};
 
 /// The refusals that each kind of call can give, and 0 for accepted.
-const REFUSALS: [&[u32]; 5] =
-    [&[0, 1], &[0, 1, 2, 3, 10, 12, 13, 14, 32, 35, 36], &[0, 1, 2, 12, 13, 14, 31, 32, 35, 36], &[0, 1, 2, 31, 34], &[0, 1, 2, 31]];
+const REFUSALS: [&[u32]; KINDS.len()] =
+    [&[0, 1], OF_LOADS, &[0, 1, 2, 12, 13, 14, 31, 32, 35, 36], &[0, 1, 2, 31, 34], &[0, 1, 2, 31], OF_LOADS];
+const OF_LOADS: &[u32] = &[0, 1, 2, 3, 10, 12, 13, 14, 32, 35, 36];
+
+/// The two kinds of loads, and the classes of slabs that each takes by the class of a list's bytes: with a spare slot up to two more, since a
+/// number has a byte or more where a slot has four, and 256 slots are those of class 6.
+const FITS: [(usize, [&[usize]; 8]); 2] = [
+    (1, [&[0, 1, 2], &[1, 2, 3], &[2, 3, 4], &[3, 4, 5], &[4, 5, 6], &[5, 6], &[6], &[7]]),
+    (5, [&[0], &[1], &[2], &[3], &[4], &[5], &[6], &[7]]),
+];
+
+/// The counts and the bytes of payloads on both sides of where the class of a load changes.
+const COUNTS: [usize; 16] = [2, 3, 4, 7, 8, 15, 16, 31, 32, 63, 64, 127, 128, 255, 256, 257];
+const PAYLOADS: [usize; 16] = [16, 17, 32, 33, 64, 65, 128, 129, 256, 257, 512, 513, 1024, 1025, 2048, 2049];
 
 /// The moves that lists can make: from inline (0) or a class (1 to 8), to classes and pages (8). Two numbers have at most 20 bytes of payload.
-/// A slab that was loaded by its bytes has up to 16 numbers for every 4 slots, so that it goes up by one class or two; with padded forms it
+/// A slab that was loaded tight has up to 16 numbers for every 4 slots, so that it goes up by one class or two; with padded forms it
 /// may stay in its class or go down by one. More than 256 numbers, or 2,048 bytes, come from classes 5 to 7 alone.
 const MOVES: [&[usize]; 9] =
     [&[0, 1], &[0, 1, 2], &[1, 2, 3], &[1, 2, 3, 4], &[2, 3, 4, 5], &[3, 4, 5, 6], &[4, 5, 6, 8], &[5, 6, 7, 8], &[6, 7, 8]];
@@ -70,7 +82,7 @@ fn chain_name(pages: u64) -> String {
 /// Counts of what was met.
 #[derive(Default)]
 pub struct Tally {
-    refusals: [BTreeMap<u32, u64>; 5],
+    refusals: [BTreeMap<u32, u64>; KINDS.len()],
     grounds: BTreeMap<(Ground, &'static str), u64>,
     moves: [[u64; 9]; 9],
     stays: [u64; 9],
@@ -81,6 +93,10 @@ pub struct Tally {
     grown: u64,
     read: BTreeMap<String, u64>,
     loaded: BTreeMap<String, u64>,
+    /// Loads by their kind: to slabs by the class of their bytes and the class taken, by counts, and by payloads.
+    fitted: BTreeMap<(usize, usize, usize), u64>,
+    counts: BTreeMap<(usize, usize), u64>,
+    payloads: BTreeMap<(usize, usize), u64>,
     full: BTreeMap<&'static str, u64>,
     unknown: BTreeMap<&'static str, u64>,
     pub damages: BTreeMap<&'static str, u64>,
@@ -134,7 +150,10 @@ impl Tally {
             *self.unknown.entry(Tally::uncounted(call, before, answer)).or_default() += 1;
         }
         match call {
-            Call::Load { key, .. } => self.loaded(answer.told[0], before, pair.heads[*key as usize]),
+            Call::Load { key, fks, .. } => {
+                self.loaded(answer.told[0], before, pair.heads[*key as usize]);
+                self.fitted(kind, fks, pair.heads[*key as usize]);
+            }
             Call::Append { .. } => self.appended(before, answer),
             Call::Read { .. } if answer.told[1] > 0 => *self.read.entry(chain_name(answer.told[1])).or_default() += 1,
             Call::Drop { .. } => self.dropped(before, pair),
@@ -198,6 +217,17 @@ impl Tally {
                 *self.loaded.entry(chain_name(pages)).or_default() += 1;
             }
             _ => {}
+        }
+    }
+
+    /// Counts how a load of a kind fits its list.
+    fn fitted(&mut self, kind: usize, fks: &[u64], word: u64) {
+        *self.counts.entry((kind, fks.len())).or_default() += 1;
+        if fks.len() <= *COUNTS.last().expect("a count") {
+            *self.payloads.entry((kind, payload_len(fks))).or_default() += 1;
+        }
+        if let Ok(ShHeadValue::Slab { class, .. }) = unpack8(word) {
+            *self.fitted.entry((kind, class_by_bytes(fks) as usize, class as usize)).or_default() += 1;
         }
     }
 
@@ -266,6 +296,19 @@ impl Tally {
         out
     }
 
+    /// Loads at the bounds of classes, that must be met, with how often each was.
+    fn load_kinds(&self) -> Vec<(String, u64)> {
+        let mut out = Vec::new();
+        for (kind, _) in FITS {
+            let name = KINDS[kind];
+            out.extend(COUNTS.map(|n| (format!("{name} of {n} numbers"), self.counts.get(&(kind, n)).copied().unwrap_or(0))));
+            out.extend(
+                PAYLOADS.map(|n| (format!("{name} of a payload of {n} bytes"), self.payloads.get(&(kind, n)).copied().unwrap_or(0))),
+            );
+        }
+        out
+    }
+
     /// How often each kind of call met a ground.
     fn of_ground<'a>(&'a self, ground: &'a str) -> impl Iterator<Item = (&'static str, u64)> + 'a {
         self.grounds.iter().filter(move |((g, _), _)| *g == ground).map(|((_, kind), n)| (*kind, *n))
@@ -285,6 +328,12 @@ impl Tally {
         }
         for (from, to) in MOVES.iter().enumerate() {
             to.iter().for_each(|&to| out.push((format!("moves from {} to {}", from_name(from), class_name(to)), self.moves[from][to])));
+        }
+        for (kind, by_bytes, to) in FITS.iter().flat_map(|(kind, taken)| taken.iter().enumerate().map(move |(by, to)| (*kind, by, to))) {
+            for &to in *to {
+                let n = self.fitted.get(&(kind, by_bytes, to)).copied().unwrap_or(0);
+                out.push((format!("{} of the bytes of class {by_bytes} to class {to}", KINDS[kind]), n));
+            }
         }
         for class in 0..9 {
             let name = class_name(class);
@@ -317,6 +366,7 @@ impl Tally {
     /// Prints how often each was met, and tells how many that must be weren't.
     pub fn print(&self) -> u64 {
         let mut kinds = self.kinds();
+        kinds.extend(self.load_kinds());
         kinds.extend(self.start_kinds());
         for (name, n) in &kinds {
             let by: Vec<String> = self.of_ground(name.trim_start_matches("31: ")).map(|(kind, n)| format!("{kind} {n}")).collect();

@@ -142,6 +142,7 @@ impl SecondBook {
 #[cfg(test)]
 mod tests {
     use super::*;
+    use crate::second_book::Fit;
 
     /// A book that is judged.
     struct Judged(SecondBook, Vec<u8>, Vec<u64>, State);
@@ -152,7 +153,7 @@ mod tests {
             let mut b = Judged(SecondBook::default(), vec![0xa5; 16_384], vec![0; 3], [0; 10]);
             b.0.fresh(&b.1, &mut b.2, &mut b.3).unwrap();
             for key in 0..3 {
-                b.0.load(&mut b.1, &mut b.2, &mut b.3, key, &[5, 6 + key]).unwrap();
+                b.0.load(&mut b.1, &mut b.2, &mut b.3, key, &[5, 6 + key], Fit::Spare).unwrap();
             }
             b.0.drop(&mut b.1, &mut b.2, &mut b.3, 2).unwrap();
             b
@@ -179,7 +180,7 @@ mod tests {
         let mut b = Judged::new();
         assert_eq!((b.3[0], b.3[1]), (4144, 4128));
         assert_eq!(b.verdict(), (0, 0, None));
-        b.0.load(&mut b.1, &mut b.2, &mut b.3, 2, &(1..=300).collect::<Vec<u64>>()).unwrap();
+        b.0.load(&mut b.1, &mut b.2, &mut b.3, 2, &(1..=300).collect::<Vec<u64>>(), Fit::Spare).unwrap();
         assert_eq!(b.verdict(), (0, 0, None));
         b.0.drop(&mut b.1, &mut b.2, &mut b.3, 2).unwrap();
         assert_eq!(b.verdict(), (0, 0, None));
@@ -199,7 +200,7 @@ mod tests {
         b.2[0] = 0;
         assert_eq!((b.lost(), b.verdict()), (3, (0, 0, None)));
         b = Judged::new();
-        b.0.load(&mut b.1, &mut b.2, &mut b.3, 2, &(1..=300).collect::<Vec<u64>>()).unwrap();
+        b.0.load(&mut b.1, &mut b.2, &mut b.3, 2, &(1..=300).collect::<Vec<u64>>(), Fit::Spare).unwrap();
         assert_eq!(b.lost(), 0);
         b.2[2] = 0; // a page
         assert_eq!(b.lost(), 256);

@@ -1,6 +1,7 @@
 //! Document 01's run case on the second book, and what it says of loads, chains and refusals.
 use super::*;
 use crate::table::numbers_theirs;
+use oracle::scripthash_layout::unpack8;
 
 /// A fresh book.
 struct Book {
@@ -19,7 +20,23 @@ impl Book {
     }
 
     fn load(&mut self, key: u64, fks: &[u64]) -> Result<u64, u32> {
-        self.book.load(&mut self.body, &mut self.heads, &mut self.state, key, fks).map_err(Refused::number)
+        self.load_fit(key, fks, Fit::Spare)
+    }
+
+    fn load_tight(&mut self, key: u64, fks: &[u64]) -> Result<u64, u32> {
+        self.load_fit(key, fks, Fit::Tight)
+    }
+
+    fn load_fit(&mut self, key: u64, fks: &[u64], fit: Fit) -> Result<u64, u32> {
+        self.book.load(&mut self.body, &mut self.heads, &mut self.state, key, fks, fit).map_err(Refused::number)
+    }
+
+    /// The class of a key in a slab.
+    fn class(&self, key: usize) -> Option<u8> {
+        match unpack8(self.heads[key]) {
+            Ok(ShHeadValue::Slab { class, .. }) => Some(class),
+            _ => None,
+        }
     }
 
     /// The four numbers of the new place, and the records rewritten.
@@ -87,18 +104,76 @@ fn a_list_moves_from_slab_to_slab_to_page() {
     assert_eq!(moves, wanted);
 }
 
+/// Of 14 numbers of a byte each the tight slab is full, and moves; one with a spare slot stays.
+#[test]
+fn a_load_has_a_spare_slot_or_fits_tight() {
+    let fourteen: Vec<u64> = (1..=14).collect();
+    let mut b = Book::new(8192, 2);
+    assert_eq!((b.load(0, &fourteen), b.load_tight(1, &fourteen)), (Ok(0), Ok(0)));
+    assert_eq!((b.class(0), b.class(1)), (Some(2), Some(0)));
+    assert_eq!(b.append(0, 15), Ok(([2, 2, 15, 4096], 0)));
+    assert_eq!(b.append(1, 15), Ok(([2, 2, 15, 4176], 14)));
+}
+
+/// Classes of loads at the counts where a class with a spare slot ends, of numbers of a byte each: 256 have no slot more, and 257 go to a page.
+#[test]
+fn classes_of_loads() {
+    for (count, spare, tight) in [
+        (1, None, None),
+        (2, Some(0), Some(0)),
+        (3, Some(0), Some(0)),
+        (4, Some(1), Some(0)),
+        (7, Some(1), Some(0)),
+        (8, Some(2), Some(0)),
+        (14, Some(2), Some(0)),
+        (15, Some(2), Some(1)),
+        (16, Some(3), Some(1)),
+        (30, Some(3), Some(1)),
+        (31, Some(3), Some(2)),
+        (32, Some(4), Some(2)),
+        (127, Some(5), Some(4)),
+        (128, Some(6), Some(4)),
+        (255, Some(6), Some(5)),
+        (256, Some(6), Some(5)),
+        (257, None, None),
+    ] {
+        let fks: Vec<u64> = (1..=count).collect();
+        let mut b = Book::new(16_384, 2);
+        let pages = u64::from(count > 256);
+        assert_eq!((b.load(0, &fks), b.load_tight(1, &fks)), (Ok(pages), Ok(pages)), "{count}");
+        assert_eq!((b.class(0), b.class(1)), (spare, tight), "{count}");
+    }
+}
+
+/// Where the bytes ask for the larger class both loads take it; a payload of 2,049 bytes goes to a page.
+#[test]
+fn classes_of_wide_loads() {
+    let wide = |count: u64, len: u32| (1..=count).map(|k| k << (7 * (len - 1))).collect::<Vec<u64>>();
+    for (count, len, class) in [(2, 7, Some(0)), (2, 8, Some(1)), (255, 8, Some(7)), (256, 8, None)] {
+        let fks = wide(count, len);
+        let mut b = Book::new(16_384, 2);
+        let pages = u64::from(class.is_none());
+        assert_eq!((b.load(0, &fks), b.load_tight(1, &fks)), (Ok(pages), Ok(pages)), "{count} of {len}");
+        assert_eq!((b.class(0), b.class(1)), (class, class), "{count} of {len}");
+    }
+}
+
 #[test]
 fn refusals_come_in_order() {
+    for fit in [Fit::Spare, Fit::Tight] {
+        let mut b = Book::new(8192, 1);
+        assert_eq!(b.load_fit(1, &[0], fit), Err(2));
+        assert_eq!(b.load_fit(0, &vec![0; 65_536], fit), Err(10));
+        assert_eq!(b.load_fit(0, &[5, 3, 1 << 63], fit), Err(32));
+        assert_eq!(b.load_fit(0, &[5, 1 << 62, 0], fit), Err(14));
+        assert_eq!(b.load_fit(0, &[5, 1 << 63], fit), Err(13));
+        assert_eq!(b.load_fit(0, &[0, 5], fit), Err(12));
+        assert_eq!(b.load_fit(0, &(1..=4089).collect::<Vec<u64>>(), fit), Err(36));
+        assert_eq!(b.load_fit(0, &[5, 6], fit), Ok(0));
+        assert_eq!(b.load_fit(0, &[], fit), Err(3));
+    }
     let mut b = Book::new(8192, 1);
-    assert_eq!(b.load(1, &[0]), Err(2));
-    assert_eq!(b.load(0, &vec![0; 65_536]), Err(10));
-    assert_eq!(b.load(0, &[5, 3, 1 << 63]), Err(32));
-    assert_eq!(b.load(0, &[5, 1 << 62, 0]), Err(14));
-    assert_eq!(b.load(0, &[5, 1 << 63]), Err(13));
-    assert_eq!(b.load(0, &[0, 5]), Err(12));
-    assert_eq!(b.load(0, &(1..=4089).collect::<Vec<u64>>()), Err(36));
     assert_eq!(b.load(0, &[5, 6]), Ok(0));
-    assert_eq!(b.load(0, &[]), Err(3));
     assert_eq!(b.append(0, 0), Err(12));
     assert_eq!(b.append(0, 6), Err(32));
     b.body[4096] = 3;
