@@ -29,28 +29,31 @@
    words of 0 behind them, within the limits (this is proved). So a call that was refused for lack of room
    (OURISCADO_NO_ROOM) is made again with the longer body and the same state.
 
-   There are six calls:
+   There are seven calls:
 
-       ouriscado_book_fresh     makes a book in which nothing is recorded
-       ouriscado_book_load      records a whole list for an account that has none
-       ouriscado_book_append    records one more number for an account
-       ouriscado_book_read      gives an account's list
-       ouriscado_book_drop      takes an account's list out of the book
-       ouriscado_book_check     tells whether a body, heads and state from elsewhere are a good book to go on with
+       ouriscado_book_fresh         makes a book in which nothing is recorded
+       ouriscado_book_load          records a whole list for an account that has none, with a spare slot for
+                                    the next number
+       ouriscado_book_load_tight    the same, in the smallest slab: for a list that is complete
+       ouriscado_book_append        records one more number for an account
+       ouriscado_book_read          gives an account's list
+       ouriscado_book_drop          takes an account's list out of the book
+       ouriscado_book_check         tells whether a body, heads and state from elsewhere are a good book to go
+                                    on with
 
    A whole program is in examples/c/shop.c of the repository, and installed beside NOTICE.
 
    WHAT IS PROVED
 
-   Take a book that ouriscado_book_fresh made and any loads, appends, reads and drops on it after that, with
-   any arguments, refused ones included, where each call gets body, heads and state as the one before it left
-   them, and nobody else writes them; checks may stand between, since they write nothing of a book. Then each
-   read gives exactly the numbers that were recorded for its key since that key was last dropped, or is
-   refused with 1, 2 or 34; so a read that is accepted with length 0 says that nothing is recorded. Each call
-   ends on every input, reads and writes only what it is lent, and checks for itself that the book is sound as
-   far as it looks at it. Not proved: the toolchain, with its checker and the compiler's back end, and the
-   linker; and your side of the boundary, that pointers and lengths are what you say, and that nothing
-   interrupts a call.
+   Take a book that ouriscado_book_fresh made and any loads, tight or not, appends, reads and drops on it after
+   that, with any arguments, refused ones included, where each call gets body, heads and state as the one
+   before it left them, and nobody else writes them; checks may stand between, since they write nothing of a
+   book. Then each read gives exactly the numbers that were recorded for its key since that key was last
+   dropped, or is refused with 1, 2 or 34; so a read that is accepted with length 0 says that nothing is
+   recorded. Each call ends on every input, reads and writes only what it is lent, and checks for itself that
+   the book is sound as far as it looks at it. Not proved: the toolchain, with its checker and the compiler's
+   back end, and the linker; and your side of the boundary, that pointers and lengths are what you say, and
+   that nothing interrupts a call.
 
    A book may also come from elsewhere, as from a file, written by this library or by other software of the
    same format. Where ouriscado_book_check tells that it is a good start, the same holds of any calls from
@@ -275,8 +278,10 @@ uint32_t ouriscado_book_fresh(
     uint64_t state[OURISCADO_STATE_WORDS]);
 
 /* Loads a list of record numbers onto an empty key; keys count from 0. The numbers rise strictly, from 1 to
-   2^62 - 1, and there are 65,535 at most; with none, nothing changes. Hands out pages: how many pages of
-   4,096 bytes hold the list, 0 where it needs none. Refuses 1 to 3, 10, 12 to 14, 32, 35, 36.
+   2^62 - 1, and there are 65,535 at most; with none, nothing changes. A list of 2 to 255 that goes to a slab
+   has a slot for one number more there, so that the next append moves it only where its bytes don't fit.
+   Hands out pages: how many pages of 4,096 bytes hold the list, 0 where it needs none. Refuses 1 to 3, 10, 12
+   to 14, 32, 35, 36.
 
    This is how to fill a book from another one or from an archive: a loaded list stands in the fewest pages
    that can hold it. A load of a longer list is a load of its first OURISCADO_MOST_LOADED numbers, and appends
@@ -287,6 +292,22 @@ uint32_t ouriscado_book_fresh(
    OURISCADO_OFFERED_TOO_LARGE (14), OURISCADO_OFFERED_NOT_RISING (32), OURISCADO_FREE_HEAD_BAD (35),
    OURISCADO_NO_ROOM (36). */
 uint32_t ouriscado_book_load(
+    uint8_t *body, size_t body_len, uint64_t *heads, size_t heads_len, uint64_t state[OURISCADO_STATE_WORDS],
+    uint64_t key, const uint64_t *fks, size_t fks_len, uint64_t *pages);
+
+/* Loads a list of record numbers onto an empty key as ouriscado_book_load does, but tight: into the smallest
+   slab that holds its bytes, for lists that nothing is appended to. Hands out pages as that does. Refuses 1
+   to 3, 10, 12 to 14, 32, 35, 36.
+
+   Lists of one number and those that go to pages stand as after the other load. The two may be mixed in one
+   book; a list that was loaded tight may be appended to as any other, and moves where its slab has no slot
+   left for the number, or too few bytes.
+
+   Refusals: OURISCADO_SHAPE_BAD (1), OURISCADO_KEY_BEYOND (2), OURISCADO_KEY_IN_USE (3),
+   OURISCADO_TOO_MANY_OFFERED (10), OURISCADO_OFFERED_FIRST_ZERO (12), OURISCADO_OFFERED_BIT_63 (13),
+   OURISCADO_OFFERED_TOO_LARGE (14), OURISCADO_OFFERED_NOT_RISING (32), OURISCADO_FREE_HEAD_BAD (35),
+   OURISCADO_NO_ROOM (36). */
+uint32_t ouriscado_book_load_tight(
     uint8_t *body, size_t body_len, uint64_t *heads, size_t heads_len, uint64_t state[OURISCADO_STATE_WORDS],
     uint64_t key, const uint64_t *fks, size_t fks_len, uint64_t *pages);
 

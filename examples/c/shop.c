@@ -13,7 +13,7 @@
 #include <string.h>
 #include <unistd.h>
 
-enum { BODY_BYTES = 65536, ACCOUNTS = 4, BAKERY = 0, FLORIST = 1, KIOSK = 2 };
+enum { BODY_BYTES = 65536, ACCOUNTS = 4, BAKERY = 0, FLORIST = 1, KIOSK = 2, TAILOR = 3 };
 static const char *const NAMES[ACCOUNTS] = { "bakery", "florist", "kiosk", "tailor" };
 
 /* A book is these three, which belong together. */
@@ -187,7 +187,7 @@ static int go_on(const struct book *b)
 int main(int argc, char **argv)
 {
     static struct book today, later;
-    uint64_t month[300], pages;
+    uint64_t month[300], year[14], pages;
     if (argc != 2)
         stop("usage: shop FILE");
 
@@ -199,6 +199,12 @@ int main(int argc, char **argv)
     if (ouriscado_book_load(today.body, BODY_BYTES, today.heads, ACCOUNTS, today.state, BAKERY, month, 300, &pages) != OURISCADO_ACCEPTED)
         stop("the month can't be loaded");
     printf("loaded for the bakery: 300, pages %" PRIu64 "\n", pages);
+    /* The tailor has closed: no deposit will follow, so that the list needs no spare slot. */
+    for (size_t i = 0; i < 14; i++)
+        year[i] = 10 * i + 5;
+    if (ouriscado_book_load_tight(today.body, BODY_BYTES, today.heads, ACCOUNTS, today.state, TAILOR, year, 14, &pages) != OURISCADO_ACCEPTED)
+        stop("the year can't be loaded");
+    printf("loaded tight for the tailor, who has closed: 14, pages %" PRIu64 "\n", pages);
 
     deposit(&today, FLORIST, 3005);
     deposit(&today, BAKERY, 3006);

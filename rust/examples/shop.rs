@@ -14,6 +14,7 @@ const NAMES: [&str; 4] = ["bakery", "florist", "kiosk", "tailor"];
 const BAKERY: usize = 0;
 const FLORIST: usize = 1;
 const KIOSK: usize = 2;
+const TAILOR: usize = 3;
 
 type ShopBook = Book<Vec<u8>, Vec<u64>>;
 /// Body, head words and state: a book, where they belong together.
@@ -130,6 +131,9 @@ fn main() -> Result<(), Box<dyn Error>> {
     let mut today = Book::fresh(vec![0; BODY_BYTES], vec![0; NAMES.len()])?;
     let month: Vec<u64> = (1..=300).map(|i| 10 * i).collect();
     println!("loaded for the bakery: 300, pages {}", today.load(BAKERY as u64, &month)?);
+    // The tailor has closed: no deposit will follow, so that the list needs no spare slot.
+    let year: Vec<u64> = (0..14).map(|i| 10 * i + 5).collect();
+    println!("loaded tight for the tailor, who has closed: 14, pages {}", today.load_tight(TAILOR as u64, &year)?);
 
     for (account, record) in [(FLORIST, 3005), (BAKERY, 3006), (FLORIST, 3010), (FLORIST, 3012), (FLORIST, 3012)] {
         deposit(&mut today, account, record);

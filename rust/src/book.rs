@@ -353,6 +353,9 @@ impl<B: AsRef<[u8]> + AsMut<[u8]>, H: AsRef<[u64]> + AsMut<[u64]>> Book<B, H> {
     /// Records a whole list for an account that has none, and tells how many pages it takes, 0 where it needs none. A list without numbers
     /// changes nothing.
     ///
+    /// A list of 2 to 255 numbers that goes to a slab has a spare slot there, so that the next append moves it only where its bytes don't fit.
+    /// [`Book::load_tight`] leaves no such slot.
+    ///
     /// # Errors
     ///
     /// [`Refusal::ShapeBad`]; [`Refusal::KeyBeyond`]; [`Refusal::KeyInUse`] where the account has a list; [`Refusal::TooManyOffered`] above
@@ -363,6 +366,31 @@ impl<B: AsRef<[u8]> + AsMut<[u8]>, H: AsRef<[u64]> + AsMut<[u64]>> Book<B, H> {
     pub fn load(&mut self, key: u64, numbers: &[u64]) -> Result<u64, Refusal> {
         let mut pages = 0;
         let number = sys::book_load(self.body.as_mut(), self.heads.as_mut(), &mut self.state.0, key, numbers, &mut pages);
+        answer(number, pages)
+    }
+
+    /// Records a whole list as [`Book::load`] does, but tight: in the smallest slab that holds its bytes. This is for lists that nothing more is
+    /// appended to, as those of a closed year; the two loads may be mixed in one book.
+    ///
+    /// ```
+    /// use ouriscado::{Book, Place, Refusal};
+    ///
+    /// let mut book = Book::fresh(vec![0; 8192], vec![0; 2])?;
+    /// book.load(0, &[1, 2, 3, 4])?; // in a slab of 32 bytes, which has 8 slots
+    /// book.load_tight(1, &[1, 2, 3, 4])?; // in one of 16 bytes, which has 4
+    /// assert_eq!(book.place(0)?, Place::Slab { class: 1, used: 4, offset: 4096 });
+    /// assert_eq!(book.place(1)?, Place::Slab { class: 0, used: 4, offset: 4128 });
+    /// assert_eq!(book.append(0, 5)?.rewritten, 0);
+    /// assert_eq!(book.append(1, 5)?.rewritten, 4); // it moved
+    /// # Ok::<(), Refusal>(())
+    /// ```
+    ///
+    /// # Errors
+    ///
+    /// Those of [`Book::load`]; [`Refusal::FreeHeadBad`] and [`Refusal::NoRoom`] are of the class that the tight slab has.
+    pub fn load_tight(&mut self, key: u64, numbers: &[u64]) -> Result<u64, Refusal> {
+        let mut pages = 0;
+        let number = sys::book_load_tight(self.body.as_mut(), self.heads.as_mut(), &mut self.state.0, key, numbers, &mut pages);
         answer(number, pages)
     }
 

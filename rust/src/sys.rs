@@ -13,9 +13,23 @@ pub mod raw {
         /// freed block of each of nine sizes. What they held before doesn't matter. Refuses 1.
         pub fn ouriscado_book_fresh(body: *const u8, body_len: usize, heads: *mut u64, heads_len: usize, state: &mut [u64; 10]) -> u32;
         /// Loads a list of record numbers onto an empty key; keys count from 0. The numbers rise strictly, from 1 to 2^62 - 1, and there
-        /// are 65,535 at most; with none, nothing changes. Hands out pages: how many pages of 4,096 bytes hold the list, 0 where it needs
-        /// none. Refuses 1 to 3, 10, 12 to 14, 32, 35, 36.
+        /// are 65,535 at most; with none, nothing changes. A list of 2 to 255 that goes to a slab has a slot for one number more there, so
+        /// that the next append moves it only where its bytes don't fit. Hands out pages: how many pages of 4,096 bytes hold the list, 0
+        /// where it needs none. Refuses 1 to 3, 10, 12 to 14, 32, 35, 36.
         pub fn ouriscado_book_load(
+            body: *mut u8,
+            body_len: usize,
+            heads: *mut u64,
+            heads_len: usize,
+            state: &mut [u64; 10],
+            key: u64,
+            fks: *const u64,
+            fks_len: usize,
+            pages: &mut u64,
+        ) -> u32;
+        /// Loads a list of record numbers onto an empty key as ouriscado_book_load does, but tight: into the smallest slab that holds its
+        /// bytes, for lists that nothing is appended to. Hands out pages as that does. Refuses 1 to 3, 10, 12 to 14, 32, 35, 36.
+        pub fn ouriscado_book_load_tight(
             body: *mut u8,
             body_len: usize,
             heads: *mut u64,
@@ -266,13 +280,34 @@ pub fn book_fresh(body: &[u8], heads: &mut [u64], state: &mut [u64; 10]) -> u32 
 }
 
 /// Loads a list of record numbers onto an empty key; keys count from 0. The numbers rise strictly, from 1 to 2^62 - 1, and there are 65,535
-/// at most; with none, nothing changes. Hands out pages: how many pages of 4,096 bytes hold the list, 0 where it needs none. Refuses 1 to
-/// 3, 10, 12 to 14, 32, 35, 36.
+/// at most; with none, nothing changes. A list of 2 to 255 that goes to a slab has a slot for one number more there, so that the next
+/// append moves it only where its bytes don't fit. Hands out pages: how many pages of 4,096 bytes hold the list, 0 where it needs none.
+/// Refuses 1 to 3, 10, 12 to 14, 32, 35, 36.
 #[inline]
 #[must_use]
 pub fn book_load(body: &mut [u8], heads: &mut [u64], state: &mut [u64; 10], key: u64, fks: &[u64], pages: &mut u64) -> u32 {
     unsafe {
         raw::ouriscado_book_load(body.as_mut_ptr(), body.len(), heads.as_mut_ptr(), heads.len(), state, key, fks.as_ptr(), fks.len(), pages)
+    }
+}
+
+/// Loads a list of record numbers onto an empty key as ouriscado_book_load does, but tight: into the smallest slab that holds its bytes,
+/// for lists that nothing is appended to. Hands out pages as that does. Refuses 1 to 3, 10, 12 to 14, 32, 35, 36.
+#[inline]
+#[must_use]
+pub fn book_load_tight(body: &mut [u8], heads: &mut [u64], state: &mut [u64; 10], key: u64, fks: &[u64], pages: &mut u64) -> u32 {
+    unsafe {
+        raw::ouriscado_book_load_tight(
+            body.as_mut_ptr(),
+            body.len(),
+            heads.as_mut_ptr(),
+            heads.len(),
+            state,
+            key,
+            fks.as_ptr(),
+            fks.len(),
+            pages,
+        )
     }
 }
 

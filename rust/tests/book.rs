@@ -84,18 +84,49 @@ fn limits_of_lists() {
     assert!(body.chunks(PAGE_BYTES).any(|page| page[..3] == [1, 0xf8, 0x0f]), "no page with {MOST_IN_PAGE} numbers");
 }
 
+/// A loaded list of 14 numbers of a byte each takes one more where it is, and one that was loaded tight moves.
+#[test]
+fn a_loaded_list_has_a_spare_slot() {
+    let mut book = book(2, 2);
+    assert_eq!((book.load(0, &numbers(14)), book.load_tight(1, &numbers(14))), (Ok(0), Ok(0)));
+    assert_eq!(book.place(0), Ok(Place::Slab { class: 2, used: 14, offset: 4096 }));
+    assert_eq!(book.place(1), Ok(Place::Slab { class: 0, used: 14, offset: 4160 }));
+    assert_eq!(book.append(0, 15), Ok(Appended { place: Place::Slab { class: 2, used: 15, offset: 4096 }, rewritten: 0 }));
+    assert_eq!(book.append(1, 15), Ok(Appended { place: Place::Slab { class: 2, used: 15, offset: 4176 }, rewritten: 14 }));
+    assert_eq!((book.read(0), book.read(1)), (Ok(numbers(15)), Ok(numbers(15))));
+}
+
+/// At the most numbers of a slab there is no slot more, and one number or pages are the same by both loads.
+#[test]
+fn both_loads_at_the_limits() {
+    for (count, pages) in [(0, 0), (1, 0), (256, 0), (257, 1), (4_073, 2)] {
+        let (mut spare, mut tight) = (book(4, 1), book(4, 1));
+        assert_eq!((spare.load(0, &numbers(count)), tight.load_tight(0, &numbers(count))), (Ok(pages), Ok(pages)), "{count}");
+        assert_eq!((spare.read(0), tight.read(0)), (Ok(numbers(count)), Ok(numbers(count))), "{count}");
+        match (spare.place(0).unwrap(), tight.place(0).unwrap()) {
+            (Place::Slab { class: of_spare, .. }, Place::Slab { class: of_tight, .. }) => {
+                assert_eq!((of_spare, of_tight), (6, 5), "{count}")
+            }
+            _ => assert!(spare == tight, "{count}"),
+        }
+    }
+}
+
 #[test]
 fn refused_loads_and_appends() {
     let mut book = book(2, 2);
     book.append(0, 9).unwrap();
     let before = book.clone();
-    assert_eq!(book.load(2, &[1]), Err(Refusal::KeyBeyond));
-    assert_eq!(book.load(0, &[]), Err(Refusal::KeyInUse));
-    assert_eq!(book.load(1, &[0]), Err(Refusal::OfferedFirstZero));
-    assert_eq!(book.load(1, &[5, 1 << 63]), Err(Refusal::OfferedBit63));
-    assert_eq!(book.load(1, &[5, 1 << 62]), Err(Refusal::OfferedTooLarge));
-    assert_eq!(book.load(1, &[5, 5]), Err(Refusal::OfferedNotRising));
-    assert_eq!(book.load(1, &numbers(5_000)), Err(Refusal::NoRoom));
+    for load in [Book::load, Book::load_tight] {
+        assert_eq!(load(&mut book, 2, &[1]), Err(Refusal::KeyBeyond));
+        assert_eq!(load(&mut book, 0, &[]), Err(Refusal::KeyInUse));
+        assert_eq!(load(&mut book, 1, &[0]), Err(Refusal::OfferedFirstZero));
+        assert_eq!(load(&mut book, 1, &[5, 1 << 63]), Err(Refusal::OfferedBit63));
+        assert_eq!(load(&mut book, 1, &[5, 1 << 62]), Err(Refusal::OfferedTooLarge));
+        assert_eq!(load(&mut book, 1, &[5, 5]), Err(Refusal::OfferedNotRising));
+        assert_eq!(load(&mut book, 1, &numbers(MOST_LOADED as u64 + 1)), Err(Refusal::TooManyOffered));
+        assert_eq!(load(&mut book, 1, &numbers(5_000)), Err(Refusal::NoRoom));
+    }
     assert_eq!(book.append(2, 1), Err(Refusal::KeyBeyond));
     assert_eq!(book.append(0, 0), Err(Refusal::OfferedFirstZero));
     assert_eq!(book.append(0, 1 << 63), Err(Refusal::OfferedBit63));

@@ -56,7 +56,8 @@ fn reads_are_what_was_recorded() {
             1..=3 => {
                 let len = [0, 1, 5, 90, 256, 257, 3_000, 9_000][random.below(8) as usize];
                 let loaded = random.list(len);
-                book.load(key, &loaded).map(|_| *list = loaded)
+                let load = [Book::load, Book::load_tight][random.below(2) as usize];
+                load(&mut book, key, &loaded).map(|_| *list = loaded)
             }
             4 => Err(book.append(key, before.1).unwrap_err()),
             _ => {
