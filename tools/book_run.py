@@ -7,6 +7,9 @@ import sys
 from plain_book import Book, Refused
 
 
+LOAD, APPEND, READ, DROP, LOAD_TIGHT = range(5)
+
+
 class Unspelled(Exception):
     """Words that spell no calls."""
 
@@ -15,20 +18,21 @@ def calls_of(words):
     """The calls that some words spell: kind, key, a third word, and a load's numbers."""
     calls = []
     while words:
-        if len(words) < 3 or words[0] > 3 or words[0] == 3 and words[2] != 0:
+        if len(words) < 3 or words[0] > LOAD_TIGHT or words[0] == DROP and words[2] != 0:
             raise Unspelled
         kind, key, third, words = *words[:3], words[3:]
-        if kind == 0 and third > len(words):
+        loads = kind in (LOAD, LOAD_TIGHT)
+        if loads and third > len(words):
             raise Unspelled
-        count = third if kind == 0 else 0
-        calls.append((kind, key, words[:count] if kind == 0 else third))
+        count = third if loads else 0
+        calls.append((kind, key, words[:count] if loads else third))
         words = words[count:]
     return calls
 
 
 def room(call):
     """The most words that the answer to a call has."""
-    return (3, 7, 4 + call[2] if call[0] == 2 else 0, 3)[call[0]]
+    return {APPEND: lambda: 7, READ: lambda: 4 + call[2]}.get(call[0], lambda: 3)()
 
 
 def place(book, key):
@@ -42,15 +46,15 @@ def place(book, key):
 
 def answer(book, kind, key, third):
     try:
-        if kind == 0:
-            return [0, 0, book.load(key, third)]
-        if kind == 1:
+        if kind in (LOAD, LOAD_TIGHT):
+            return [0, LOAD, book.load(key, third, kind == LOAD_TIGHT)]
+        if kind == APPEND:
             rewritten = book.append(key, third)
-            return [0, 1, rewritten] + place(book, key)
-        if kind == 2:
+            return [0, APPEND, rewritten] + place(book, key)
+        if kind == READ:
             ns, pages = book.read(key, third)
-            return [0, 2, pages, len(ns)] + ns
-        return [0, 3, book.drop(key)]
+            return [0, READ, pages, len(ns)] + ns
+        return [0, DROP, book.drop(key)]
     except Refused as number:
         return [number.args[0]]
 

@@ -17,6 +17,7 @@ FORMS = {
     "body": "body BYTES",
     "keys": "keys COUNT",
     "load": "load KEY NUMBER ...",
+    "load-tight": "load-tight KEY NUMBER ...",
     "append": "append KEY NUMBER",
     "read": "read KEY, or read KEY ROOM",
     "drop": "drop KEY",
@@ -29,7 +30,8 @@ HELP = [
     f"body BYTES: the size of a book, in whole pages of 4096 bytes, from 8192 to {BODY_BYTES}",
     f"keys COUNT: makes a fresh book of so many accounts, which are the keys 0, 1, ...; from 1 to {KEYS}",
     "append KEY NUMBER: records a number, from 1 to 2^62 - 1, above the last that is recorded",
-    "load KEY NUMBER ...: records rising numbers in an empty account",
+    "load KEY NUMBER ...: records rising numbers in an empty account, with a spare slot for the next",
+    "load-tight KEY NUMBER ...: the same in the smallest slab that holds them, for lists that are complete",
     "drop KEY: empties an account",
     "read KEY, or read KEY ROOM: shows an account's numbers, where there is room for all of them",
     "places: shows where each account stands",
@@ -104,9 +106,12 @@ class Shell:
             raise Refused(1)
         return f"{counted(count, 'key')} over {counted(self.book.size, 'byte')}: a fresh book"
 
-    def load(self, key, *ns):
-        pages = self.book.load(key, list(ns))
+    def load(self, key, *ns, tight=False):
+        pages = self.book.load(key, list(ns), tight)
         return f"loaded: {counted(len(ns), 'number')}, {counted(pages, 'page')}"
+
+    def load_tight(self, key, *ns):
+        return self.load(key, *ns, tight=True)
 
     def append(self, key, n):
         rewritten = self.book.append(key, n)
@@ -149,16 +154,16 @@ def answer(shell, words):
     """The lines of the answer to a line."""
     ns = numbers(words[1:])
     if words[0] not in FORMS:
-        raise Unread("expected body, keys, load, append, read, drop, places, space, check or help")
+        raise Unread("expected body, keys, load, load-tight, append, read, drop, places, space, check or help")
     alone = dict.fromkeys(("places", "space", "check", "help"), (0, 0))
-    least, most = {"load": (1, NUMBERS), "append": (2, 2), "read": (1, 2), **alone}.get(words[0], (1, 1))
+    least, most = {"load": (1, NUMBERS), "load-tight": (1, NUMBERS), "append": (2, 2), "read": (1, 2), **alone}.get(words[0], (1, 1))
     if not least <= len(ns) <= most:
         raise Unread(f"expected {FORMS[words[0]]}")
     if words[0] == "read" and len(ns) == 2:
         limited(ns[1], NUMBERS, "too much room")
     if words[0] not in ("body", "keys", "help") and not shell.book.lists:
         raise Unread("no book yet: type body BYTES, then keys COUNT")
-    told = getattr(shell, words[0])(*ns)
+    told = getattr(shell, words[0].replace("-", "_"))(*ns)
     return told if isinstance(told, list) else [told]
 
 

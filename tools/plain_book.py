@@ -27,6 +27,19 @@ def with_slack(n):
     return spare if spare is not None else class_for(n, 4, 2, 256)
 
 
+def moves_to(ns):
+    """The class of the slab that a list moves to, none where it goes to a page."""
+    slack, tight = with_slack(len(ns)), by_bytes(2 + stream_len(ns))
+    return None if slack is None or tight is None else max(slack, tight)
+
+
+def loads_to(ns, tight):
+    """The class of the slab that a list is loaded to, none where it goes to pages: tight by its bytes, else that of a move."""
+    if not tight:
+        return moves_to(ns)
+    return by_bytes(2 + stream_len(ns)) if len(ns) <= 256 else None
+
+
 def cut(ns, room):
     parts = []
     for n in ns:
@@ -118,18 +131,17 @@ class Book:
                 pages.append([self.take(8), PAGE - 24, [n]])
             place = ("pages", pages)
         elif place[0] == "inline" or not (len(new) <= min(256, 4 * 2 ** place[1]) and 2 + stream_len(new) <= 16 * 2 ** place[1]):
-            slack, tight = with_slack(len(new)), by_bytes(2 + stream_len(new))
-            rewritten = len(old)
-            if slack is None or tight is None:
+            to, rewritten = moves_to(new), len(old)
+            if to is None:
                 moved = ("pages", [[self.take(8), PAGE - 24, new]])
             else:
-                moved = ("slab", max(slack, tight), self.take(max(slack, tight)))
+                moved = ("slab", to, self.take(to))
             self.free(place)
             place = moved
         self.lists[key], self.places[key] = new, place
         return rewritten
 
-    def load(self, key, ns):
+    def load(self, key, ns, tight=False):
         self.on(key)
         if self.places[key][0] != "empty":
             raise Refused(3)
@@ -138,15 +150,18 @@ class Book:
         self.judge(ns, 0)
         pages, place = 0, ("inline",) if len(ns) == 1 else ("empty",)
         if len(ns) > 1:
-            tight = by_bytes(2 + stream_len(ns)) if len(ns) <= 256 else None
-            if tight is not None:
-                place = ("slab", tight, self.take(tight))
+            to = loads_to(ns, tight)
+            if to is not None:
+                place = ("slab", to, self.take(to))
             else:
                 parts = cutting(ns)
                 pages, off = len(parts), self.run(len(parts))
                 place = ("pages", [[off + i * PAGE, PAGE - (24 if i == pages - 1 else 8), p] for i, p in enumerate(parts)])
         self.lists[key], self.places[key] = list(ns), place
         return pages
+
+    def load_tight(self, key, ns):
+        return self.load(key, ns, tight=True)
 
     def read(self, key, room):
         self.on(key)

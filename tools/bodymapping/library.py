@@ -102,9 +102,9 @@ class Book:
     def mark(self):
         return self.state[0]
 
-    def load(self, key, numbers):
+    def load(self, key, numbers, tight=False):
         pages = c_uint64()
-        self.library.call("book_load", *self.lent_body(), *self.lent_heads(), self.state, c_uint64(key), lent(c_uint64, numbers), c_size_t(len(numbers)), byref(pages))
+        self.library.call("book_load_tight" if tight else "book_load", *self.lent_body(), *self.lent_heads(), self.state, c_uint64(key), lent(c_uint64, numbers), c_size_t(len(numbers)), byref(pages))
         return pages.value
 
     def append(self, key, number):

@@ -4,7 +4,7 @@ import sys
 import unittest
 
 from paths import ROOT
-from plain_book import Book, Refused, by_bytes, cutting, form_len, stream_len, with_slack
+from plain_book import Book, Refused, by_bytes, cutting, form_len, loads_to, stream_len, with_slack
 
 
 def ones(count, first=1):
@@ -45,11 +45,33 @@ class TestPlainBook(unittest.TestCase):
         self.assertEqual(self.book.places[0][0], "pages")
         self.assertEqual(sum(moves), 509)
 
-    def test_a_loaded_list_moves_with_slack(self):
-        self.book.load(0, ones(31))
+    def test_a_tight_list_moves_with_slack(self):
+        self.book.load_tight(0, ones(31))
         self.assertEqual(self.book.places[0], ("slab", 2, 4096))
         self.assertEqual(self.book.append(0, 32), 31)
         self.assertEqual(self.book.places[0], ("slab", 4, 4160))
+
+    def test_a_loaded_list_has_a_spare_slot(self):
+        for count in (2, 3, 4, 7, 14, 31, 127, 255):
+            book = Book(65536, 1)
+            book.load(0, ones(count))
+            self.assertEqual((book.append(0, count + 1), len(book.lists[0])), (0, count + 1))
+        self.book.load(0, ones(256))
+        self.assertEqual(self.book.append(0, 257), 256)
+
+    def test_classes_of_loads(self):
+        counts = (2, 3, 4, 7, 8, 14, 15, 31, 32, 127, 128, 254, 255, 256, 257)
+        self.assertEqual([loads_to(ones(n), False) for n in counts], [0, 0, 1, 1, 2, 2, 2, 3, 4, 5, 6, 6, 6, 6, None])
+        self.assertEqual([loads_to(ones(n), True) for n in counts], [0, 0, 0, 0, 0, 0, 1, 2, 2, 4, 4, 4, 5, 5, None])
+        for n, step, to in ((2, 2**42, 0), (2, 2**49, 1), (255, 2**49, 7), (256, 2**49, None)):
+            wide = [step * k for k in ones(n)]
+            self.assertEqual((loads_to(wide, False), loads_to(wide, True)), (to, to))
+
+    def test_loads_of_one_number_and_of_pages_are_the_same(self):
+        for ns in ([], [5], ones(257), ones(5000)):
+            spare, tight = Book(65536, 1), Book(65536, 1)
+            self.assertEqual(spare.load(0, ns), tight.load_tight(0, ns))
+            self.assertEqual((spare.places, spare.mark, spare.stacks), (tight.places, tight.mark, tight.stacks))
 
     def test_load_of_pages(self):
         self.assertEqual(self.book.load(2, ones(4089)), 2)
@@ -80,6 +102,8 @@ class TestPlainBook(unittest.TestCase):
         self.book.append(0, 5)
         for number, call, *words in (
             (2, self.book.read, 4, 9), (3, self.book.load, 0, [6]), (10, self.book.load, 1, ones(65536)),
+            (2, self.book.load_tight, 4, [6]), (3, self.book.load_tight, 0, [6]), (10, self.book.load_tight, 1, ones(65536)),
+            (12, self.book.load_tight, 1, [0, 5]), (32, self.book.load_tight, 1, [5, 5]), (36, self.book.load_tight, 1, ones(65535)),
             (12, self.book.append, 1, 0), (12, self.book.load, 1, [0, 5]), (13, self.book.append, 0, 2**63), (14, self.book.append, 0, 2**62),
             (32, self.book.append, 0, 5), (32, self.book.load, 1, [5, 5]), (34, self.book.read, 0, 0), (36, self.book.load, 1, ones(65535)),
         ):
