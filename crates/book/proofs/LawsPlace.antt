@@ -52,7 +52,7 @@ module _ (s after : Space) (a : Answer Taken) {tells : Answer ℕ} (takes : Take
   pub took-none : {number : ℕ} → tells ≡ refused number → (a ≡ refused number) × (after ≡ s)
   took-none e = let is = was-refused (λ (t : Taken). t .off) a (sym (takes .told) ∙ e) in (is, takes .left ∙ after-refused s a is)
 
--- A block lies within the body of a space, behind its first 4,096 bytes; the body is at most 2^30 bytes.
+-- A block lies within the body of a space, behind its first 4,096 bytes; the body is at most 2^41 bytes.
 pub record Lies (class off : ℕ) (s : Space) : Type 0 where
   pub begins : 4096 ≤ off
   pub ends : off + slabBytes class ≤ length (s .body)

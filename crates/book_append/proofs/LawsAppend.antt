@@ -32,7 +32,7 @@ use Rattle.book_rules.proofs.LawsOffered.{rising-on, refused-on}
 use Rattle.book_rules.specs.Outcomes.{Appended}
 use Rattle.book_space.specs.Space.{Space, space, takeBlock, release, shapeBroken}
 use Rattle.book_space.proofs.LawsTake.{release-none}
-use Rattle.book_keys.specs.Keys.{soundly, pageAt, slabScan, linkScan, lastAt, createsGood, Last, Tail, tailAt, ground}
+use Rattle.book_keys.specs.Keys.{soundly, pageAt, slabScan, linkScan, lastAt, Last, Tail, tailAt, ground}
 use Rattle.book_keys.specs.Steps.{TailEndOf, tailEndOf}
 use Rattle.book_keys.proofs.LawsSound.{soundly-yes, soundly-no, was-sound, was-unsound, was-sure}
 use Rattle.book_keys.proofs.LawsSlab.{slab-sound}
@@ -131,23 +131,20 @@ module _ (body : List ℕ) (mark : ℕ) (free : List ℕ) where
       let (m, is) = was-unsound _ (was-refused tailEndOf _ (sym e ∙ t)) in
       (m, sym (tail-free last) ∙ is)
 
--- What is known of a sound last page: where it stands, that it is version 2, that it counts few numbers, that its stream ends within it,
--- and that creates can be one more.
+-- What is known of a sound last page: where it stands, that it is version 2, that it counts few numbers, and that its stream ends within it.
 pub record SoundTail (s : Space) (last : ℕ) (t : Tail) : Type 0 where
   pub stands : isBlock pageClass last (s .mark) ≡ true
   pub names : namesExtent (pageAt (seen s) last) ≡ true
   pub few : countOf (pageAt (seen s) last) ≤ pageSize
   pub taken-fits : 24 + t .scan .taken ≤ pageSize
-  pub creates-low : t .last .creates + 1 < 2 ^ 32
 
 -- That is known of one that passed its tests.
 pub tail-sound : (s : Space) (last : ℕ) (t : Tail) → tailAt (seen s) last ≡ accepted t → SoundTail s last t
-unfolding tailAt lastAt linkScan createsGood
+unfolding tailAt lastAt linkScan
 tail-sound s last t e =
     let page = pageAt (seen s) last in
     let (h, header, e1) = went-on (lastAt (seen s) last) _ e in
-    let (good, e2) = was-sure (createsGood (h .creates)) _ e1 in
-    let (c, linked, e3) = went-on (linkScan (seen s) 0 last) _ e2 in
+    let (c, linked, e3) = went-on (linkScan (seen s) 0 last) _ e1 in
     let same = accepted-inj e3 in
     let (stands, e4) = was-sure (isBlock pageClass last (s .mark)) _ header in
     let (tests, e5) = was-sure (namesExtent page && isLastLink (linkOf page)) _ e4 in
@@ -157,14 +154,11 @@ tail-sound s last t e =
     let known = page-read page read scans in
     let (goes, e8) = was-sure _ _ e7 in
     let same-scan : read ≡ t .scan = accepted-inj e8 ∙ ap (λ (x : Tail). x .scan) same in
-    let same-last : h ≡ t .last = ap (λ (x : Tail). x .last) same in
-    let low = ltb-true (h .creates) (2 ^ 32 - 1) good in
     record {
       stands = stands;
       names = names;
       few = known .count-fits;
       taken-fits = omega (arith, known .taken-fits, extent-start page names, ap (λ (x : Scan). x .taken) same-scan);
-      creates-low = omega (arith, low, ap (λ (x : Last). x .creates) same-last);
     }
 
 -- ---- moving

@@ -133,9 +133,9 @@ module _ (page : List ℕ) (n creates : ℕ) (s : Scan) (w : Spot) (scans : page
       ∙ ap littleEndian (appended-header page n w roomy o k behind (omega (arith, extent-start page names)))
 
   -- a last page with a number more
-  pub page-more : creates + 1 < 2 ^ 32 → MoreReads page (pageWith page w creates) (withLast 0 s n) creates
+  pub page-more : MoreReads page (pageWith page w creates) (withLast 0 s n) creates
   unfolding pageWith roomy
-  page-more small =
+  page-more =
       let inside : 20 + 4 ≤ length grown = omega (arith, grown-long) in
       let after-names : namesExtent (pageWith page w creates) ≡ true =
       names-kept grown 20 4 (totalWith creates) (omega arith) inside ∙ grown-names in
@@ -147,16 +147,16 @@ module _ (page : List ℕ) (n creates : ℕ) (s : Scan) (w : Spot) (scans : page
         link = header 3 5 (omega arith) (omega arith);
         base = header 8 8 (omega arith) (omega arith);
         extents = header 16 4 (omega arith) (omega arith);
-        counts = field-set grown 20 4 (totalWith creates) inside (total-fits creates small);
+        counts = field-set grown 20 4 (totalWith creates) inside (total-fits creates);
         room = ap (λ (b : Bool). pageSize - cond b 24 8) (after-names ∙ sym names);
       }
 
 -- so a key's last page stays one
 pub last-more : {page : List ℕ} {s : Scan} {first creates : ℕ} → LastReads page s first creates → (n : ℕ) (w : Spot) → lastOf s < n
     → n < 2 ^ 63
-    → spotBehind page n s ≡ some w → creates + 1 < 2 ^ 32 → LastReads (pageWith page w creates) (withLast 0 s n) first (totalWith creates)
-last-more {page} {s} {first} {creates} r n w above below spot small =
-    let m = page-more page n creates s w (r .scans) (r .names) above below spot small in
+    → spotBehind page n s ≡ some w → LastReads (pageWith page w creates) (withLast 0 s n) first (totalWith creates)
+last-more {page} {s} {first} {creates} r n w above below spot =
+    let m = page-more page n creates s w (r .scans) (r .names) above below spot in
     let after = pageWith page w creates in
     record {
       long = m .long;

@@ -11,6 +11,7 @@ use Rattle.scripthash_layout.specs.Sizes.{pageSize}
 use Rattle.scripthash_stream.specs.Stream.{stream}
 use Rattle.scripthash_fields.specs.Page.{setField, linkTo, deltaHeader, extentHeader, pageOf}
 use Rattle.scripthash_pages.specs.Entries.{Spot, withAppended}
+use Rattle.book_limits.specs.Limits.{totalTold}
 
 -- A slab that had some numbers in some bytes, with one more behind them: the count and the new form are written.
 unfoldable pub slabWith : List ℕ → ℕ → ℕ → ℕ → List ℕ
@@ -21,9 +22,9 @@ slabWith block used taken difference = overwrite (overwrite block 0 (bytesOf 2 (
 abbrev pub lastPageOf : ℕ → ℕ → ℕ → ℕ → List ℕ → List ℕ
 lastPageOf first base extents creates ns = pageOf (extentHeader (length ns) (linkTo true first) base extents creates) (stream ns)
 
--- A total with one number more: one that was never counted, 0, stays unknown.
+-- A total with one number more: one that was never counted, 0, stays unknown, and one that creates can't tell becomes so.
 unfoldable pub totalWith : ℕ → ℕ
-totalWith creates = cond (eqb creates 0) 0 (creates + 1)
+totalWith creates = cond (eqb creates 0) 0 (totalTold (creates + 1))
 
 -- A last page with a number appended: creates is one more, or stays unknown.
 unfoldable pub pageWith : List ℕ → Spot → ℕ → List ℕ

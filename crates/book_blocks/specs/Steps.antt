@@ -49,22 +49,21 @@ pub record LinkedPageIn (body : List ℕ) (off : ℕ) (ns : List ℕ) (next : �
   pub inside : off + pageSize ≤ length body
   pub linked : LinkedPage ns next
 
--- A page with an extent that can get one number more: its count can rise, the number's form fits, and creates can be one more.
-pub record PageGrows (page : List ℕ) (taken difference creates : ℕ) : Type 0 where
+-- A page with an extent that can get one number more: its count can rise, and the number's form fits.
+pub record PageGrows (page : List ℕ) (taken difference : ℕ) : Type 0 where
   pub version-is : versionOf page ≡ 2
   pub few : countOf page < maxOffered
   pub fits : 24 + taken + ulebLen difference ≤ pageSize
-  pub creates-low : creates + 1 < 2 ^ 32
 
 -- A lent page that can get one number more.
-pub record PageGrowsLent (page : List ℕ) (taken difference creates : ℕ) : Type 0 where
+pub record PageGrowsLent (page : List ℕ) (taken difference : ℕ) : Type 0 where
   pub long : length page ≡ pageSize
-  pub grows : PageGrows page taken difference creates
+  pub grows : PageGrows page taken difference
 
 -- A page of a body that can get one number more.
-pub record PageGrowsIn (body : List ℕ) (last taken difference creates : ℕ) : Type 0 where
+pub record PageGrowsIn (body : List ℕ) (last taken difference : ℕ) : Type 0 where
   pub inside : last + pageSize ≤ length body
-  pub grows : PageGrows (part body last pageSize) taken difference creates
+  pub grows : PageGrows (part body last pageSize) taken difference
 
 -- What a slab can be written from: a block of a body, and a list that rises and fits.
 pub record NewSlabIn (body : List ℕ) (off size : ℕ) (ns : List ℕ) : Type 0 where

@@ -50,12 +50,14 @@ pub fn put_page_to(body: &mut [u8], off: usize, fks: &[u64], next: u64)
     scripthash_pages::sh_page_pack_fks(&mut body[off..end], fks, next);
 }
 
-// A total with one number more: one that was never counted, 0, stays unknown.
+// A total with one number more: one that was never counted, 0, stays unknown, and one that creates can't tell becomes so.
 pub fn total_with(creates: u32) -> u32
-    requires { ⌜ creates + 1 < 2 ^ 32 ⌝ }
     ensures { λ r. ⌜ r ≡ totalWith creates ⌝ }
 {
     if creates == 0 {
+        return 0;
+    }
+    if creates == u32::MAX {
         return 0;
     }
     creates + 1
@@ -64,7 +66,7 @@ pub fn total_with(creates: u32) -> u32
 // Counts one number more in a page that names an extent, and writes its form behind the bytes that its stream takes, and creates, one more
 // or unknown.
 fn append_last(page: &mut [u8], taken: usize, difference: u64, creates: u32)
-    requires { ⌜ PageGrowsLent (now page) taken difference creates ⌝ }
+    requires { ⌜ PageGrowsLent (now page) taken difference ⌝ }
     ensures { λ _. ⌜ now (page .exit)
         ≡ pageWith (now (page .entry)) (record { at = streamOff (now (page .entry)) + taken; difference = difference }) creates ⌝ }
 {
@@ -76,7 +78,7 @@ fn append_last(page: &mut [u8], taken: usize, difference: u64, creates: u32)
 
 // Appends a number, by its difference, to a key's last page in a body: only the count, the new form and creates are written.
 pub fn grow_page(body: &mut [u8], last: usize, taken: usize, difference: u64, creates: u32)
-    requires { ⌜ PageGrowsIn (now body) last taken difference creates ⌝ }
+    requires { ⌜ PageGrowsIn (now body) last taken difference ⌝ }
     ensures { λ _. ⌜ now (body .exit) ≡ overwrite (now (body .entry)) last
         (pageWith (part (now (body .entry)) last pageSize) (record {
           at = streamOff (part (now (body .entry)) last pageSize) + taken;

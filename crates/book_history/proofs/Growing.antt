@@ -15,14 +15,14 @@ use Rattle.scripthash_layout.specs.Sizes.{slabBytes, pageSize}
 use Rattle.scripthash_free.proofs.LawsBlock.{block-stands}
 use Rattle.book_rules.specs.Outcomes.{answerOf}
 use Rattle.book_statements.specs.Calls.{Change, Call, change, Made, Answers, done, changed, answersTo}
-use Rattle.book_limits.specs.Limits.{outOfShape, pageAfter}
+use Rattle.book_limits.specs.Limits.{outOfShape, pageAfter, slabsEnd}
 use Rattle.book_limits.proofs.LawsLimits.{in-shape}
 use Rattle.plain_book.specs.Key.{Key, emptyKey, totalOf}
 use Rattle.plain_book.specs.Book.{Book as PlainBook, Outcome, keyOf, does, after as plainAfter, answers as plainAnswers}
 use Rattle.plain_book.specs.Sound.{SoundKey}
 use Rattle.plain_book.specs.Good.{Good, GoodPlain}
 use Rattle.plain_book.specs.Grown.{grown as grownPlain, pagesEnough}
-use Rattle.plain_book.proofs.LawsRoom.{empty-behind, room-accepts}
+use Rattle.plain_book.proofs.LawsRoom.{empty-behind, room-accepts, good-roomy}
 use Rattle.book_keys.specs.Keys.{Content}
 use Rattle.book.specs.Book.{Book}
 use Rattle.book_history.specs.Calls.{after, answers}
@@ -141,15 +141,19 @@ module _ (b : Book) (bytes : List ℕ) (n : ℕ) (g : GoodStart b)
       (grown-agrees (plainOf b) b bytes n (start-good b g) (start-agrees b g) (start-shape b g) plain-shape)
       (grown-shape (plainOf b) b bytes n (start-good b g) (start-agrees b g) (start-shape b g) plain-shape)
 
-  -- A change that is refused with 36 is accepted by the grown book, if its body goes on far enough behind the mark.
-  pub grown-accepts : (c : Change) → pageAfter (b .space .mark) + pagesEnough c * pageSize ≤ length (b .space .body) + length bytes
+  -- A change that is refused with 36 is accepted by the grown book, if its body goes on far enough behind the mark, and slabs may be taken
+  -- there.
+  pub grown-accepts : (c : Change) → pageAfter (b .space .mark) + pageSize ≤ slabsEnd
+      → pageAfter (b .space .mark) + pageSize ≤ length (b .space .body) + length bytes
+      → pageAfter (b .space .mark) + pagesEnough c * pageSize ≤ length (b .space .body) + length bytes
       → answers b (change c ∷ []) ≡ changed (refused noRoom) done
       → (told : Made c) × (answers (grown bytes n b) (change c ∷ []) ≡ changed (accepted told) done)
   unfolding answersTo plainOf answered
-  grown-accepts c enough e =
+  grown-accepts c low page enough e =
       let was : answerOf (does (plainOf b) c) ≡ refused noRoom = ap (first c) (sym (demand-3-from b (change c ∷ []) g .0) ∙ e) in
       let out = grown-shape (plainOf b) b bytes n (start-good b g) (start-agrees b g) (start-shape b g) plain-shape in
-      let (o, did) = room-accepts (plainOf b) (length bytes) n out c enough (was-refused _ _ was) in
+      let roomy = good-roomy (length (b .space .body) + length bytes) (plainOf b) (start-good b g) page low in
+      let (o, did) = room-accepts (plainOf b) (length bytes) n out c roomy enough (was-refused _ _ was) in
       (o .told, grown-answers (change c ∷ []) .0 ∙ ap (λ (a : Answer (Outcome (Made c))). changed (answerOf a) done) did)
     where
       first : (c : Change) → Answers (change c ∷ []) → Answer (Made c)

@@ -33,7 +33,7 @@ use Rattle.plain_book.specs.Good.{Good, GoodPlain}
 use Rattle.plain_book.proofs.LawsOwners.{some-inj, none-some, kindOf, depthOf, atKey, key-slab, key-page}
 use Rattle.plain_book.proofs.LawsTaking.{good-taken}
 use Rattle.plain_book.proofs.LawsBlocks.{joined-at}
-use Rattle.plain_book.proofs.LawsChain.{chain, mark-most, list-few}
+use Rattle.plain_book.proofs.LawsChain.{chain, mark-most}
 use Rattle.plain_book.proofs.LawsTotals.{total-most}
 use Rattle.book_space.specs.Space.{Space, space, Taken, takeBlock as takes}
 use Rattle.book_keys.specs.Keys.{goodExtent, Tail}
@@ -214,11 +214,11 @@ chain-written plain inside s held key total ps qs ys is one g long mine others a
 -- A last page with a number more is a whole page, reads so, and is the last of one number more.
 more-reads : (p : Page) (page : List ℕ) (first creates n : ℕ) (w : Spot) → PageReads p page → LastReads first creates page
     → lastFrom 0 (p .part .numbers) < n
-    → n < 2 ^ 62 → creates + 1 < 2 ^ 32 → spotBehind page n (scanOf (p .part)) ≡ some w → let after = pageWith page w creates in
+    → n < 2 ^ 62 → spotBehind page n (scanOf (p .part)) ≡ some w → let after = pageWith page w creates in
     (length after ≡ pageSize) × (PageReads (longerPage n p) after × LastReads first (totalWith creates) after)
 unfolding longer goodExtent
-more-reads p page first creates n w r l above low few spot =
-    let m = page-more page n creates (scanOf (p .part)) w (r .reads) (l .extent) above (omega arith) spot few in (
+more-reads p page first creates n w r l above low spot =
+    let m = page-more page n creates (scanOf (p .part)) w (r .reads) (l .extent) above (omega arith) spot in (
       m .long,
       (
         record { reads = m .scans; room = m .room ∙ r .room },
@@ -284,15 +284,12 @@ module _ (plain : PlainBook) (b : Book) (g : GoodPlain plain) (a : Agrees plain 
   abbrev tail : Tail
   tail = record { scan = scanOf (lastPage noPage ps .part); last = record { first = firstPageOff ps; creates = total } }
 
-  -- there is a page, and the list is one number longer, which fits creates
+  -- there is a page, and the list is one number longer
   one : 0 < length ps
   one = some-pages ps (chain key ps g is .fit)
 
   more-long : length more ≡ length list + 1
   more-long = length-append list (n ∷ [])
-
-  few : total + 1 < 2 ^ 32
-  few = omega (arith, total-most (keyOf key plain), list-few key g (mark-most g shape))
 
   -- the total with the number
   total-is : (place : Place) → totalOf (record { list = more; place = place; counted = keyOf key plain .counted }) ≡ totalWith total
@@ -329,7 +326,7 @@ module _ (plain : PlainBook) (b : Book) (g : GoodPlain plain) (a : Agrees plain 
       (length ys ≡ pageSize) × (PageReads (longerPage n (lastPage noPage ps)) ys × LastReads (firstPageOff ps) (totalWith total) ys)
   joined-reads w spot =
       let (r, l) = last-known (plain .space) (b .space) none (a .inside shape .space) in
-      more-reads (lastPage noPage ps) (pageBytes (seen (b .space)) last) (firstPageOff ps) total n w r l above small few spot
+      more-reads (lastPage noPage ps) (pageBytes (seen (b .space)) last) (firstPageOff ps) total n w r l above small spot
 
   -- The number joins the last page: the spaces agree.
   joined-agrees : (w : Spot) → spotBehind (pageBytes (seen (b .space)) last) n (tail .scan) ≡ some w
@@ -450,7 +447,7 @@ module _ (plain : PlainBook) (b : Book) (g : GoodPlain plain) (a : Agrees plain 
           last-written (inside .mark) off (firstPageOff ps) off 1 (totalWith total) (n ∷ []) high
           (good .apart .stands (pageOf key 0) (record { class = pageClass; off = firstPageOff ps })
           (ap (pageIn 0) is ∙ first-page-at ps one))
-          stands (omega arith) (omega arith) (total-fits total few)
+          stands (omega arith) (omega arith) (total-fits total)
           (one-rises n positive small) (one-fits n small)
 
       whole : length ys ≤ slabBytes pageClass

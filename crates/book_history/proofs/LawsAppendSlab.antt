@@ -10,6 +10,8 @@ use native.Mathlib.Omega.{arith}
 use lib.Dec.{leb}
 use lib.ListN.{length, length-append}
 use borrow.Author.Tests.{eq-eqb, leb-false, lt-leb}
+use Rattle.plain_book.proofs.LawsTotals.{total-exact}
+use Rattle.scripthash_pages.proofs.LawsAppended.{count-least}
 use Rattle.error.specs.Refusal.{Answer, refuseIf, andThen, offeredNotRising}
 use Rattle.error.proofs.LawsAnswer.{refuse-no, then-yes}
 use Rattle.buffer.specs.Bytes.{overwrite}
@@ -22,13 +24,13 @@ use Rattle.scripthash_stream.specs.Stream.{Rising, lastFrom, streamLen}
 use Rattle.scripthash_slabs.specs.Slab.{slabPayload}
 use Rattle.scripthash_cutting.specs.Cutting.{lastPageRoom}
 use Rattle.scripthash_free.specs.FreeList.{Block, isBlock}
-use Rattle.book_limits.specs.Limits.{outOfShape, mostBody}
+use Rattle.book_limits.specs.Limits.{outOfShape, mostBody, totalTold}
 use Rattle.book_rules.specs.Places.{stays, movesTo}
 use Rattle.book_limits.proofs.LawsLimits.{in-shape}
 use Rattle.book_rules.proofs.LawsRules.{stays-holds, moves-to}
 use Rattle.book_rules.specs.Outcomes.{Appended}
 use Rattle.plain_book.specs.Space.{Taken as PlainTaken}
-use Rattle.plain_book.specs.Key.{Kept, written, longer, Page, Place, empty, inline, slab, pages, lastPage, headOf, freedPlace, countedAfter}
+use Rattle.plain_book.specs.Key.{Kept, written, longer, Page, Place, empty, inline, slab, pages, lastPage, headOf, freedPlace, countedAfter, keyIn}
 use Rattle.plain_book.specs.Key.{onePage, Placed, moved, appendPlace}
 use Rattle.plain_book.specs.Book.{Book as PlainBook, Outcome as PlainOutcome, keyOf, extended, appends as plainAppends}
 use Rattle.plain_book.specs.Sound.{Fits}
@@ -37,7 +39,7 @@ use Rattle.plain_book.specs.Good.{Good, GoodPlain}
 use Rattle.plain_book.proofs.LawsOwners.{some-inj, none-some, kindOf, depthOf, atKey, key-slab, key-page}
 use Rattle.plain_book.proofs.LawsTaking.{good-taken}
 use Rattle.plain_book.proofs.LawsSound.{rises-snoc, moved-small}
-use Rattle.plain_book.proofs.LawsChain.{mark-most, list-few}
+use Rattle.plain_book.proofs.LawsChain.{mark-most}
 use Rattle.book_space.specs.Space.{space, Taken, release}
 use Rattle.book_keys.specs.Keys.{blockAt}
 use Rattle.book_blocks.specs.Blocks.{lastPageOf, slabWith}
@@ -126,7 +128,7 @@ module _ (plain : PlainBook) (b : Book) (key n : ℕ) (g : GoodPlain plain) (a :
   page-reads t u same good most rises fits =
       let stands : isBlock pageClass (u .off) (t .space .mark) ≡ true =
       rw same (good .apart .stands hand (record { class = pageClass; off = t .off }) refl) in
-      let few = list-few key g (mark-most g shape) in
+      let few = count-least 0 grown in
       let (long, (p, l)) = last-written (t .space .mark) (t .off) (u .off) (u .off) 1 (length grown) grown most stands stands (omega arith)
       (omega arith)
       (omega (arith, one-more)) rises fits in (
@@ -150,10 +152,10 @@ module _ (plain : PlainBook) (b : Book) (key n : ℕ) (g : GoodPlain plain) (a :
       (λ t u took took' same long agrees.
       let good = good-taken (plain .size) class (plain .space) (places plain) (omega (arith, m .slab)) took (g .space) in
       let k = moved-space old class t u (slabPayload grown) payload is same long good agrees in
-      append-ends plain b key grown (slab class (t .off) (written grown)) true (length grown) (Slab class (length grown) (u .off))
+      append-ends plain b key grown (slab class (t .off) (written grown)) true (totalTold (length grown)) (Slab class (length grown) (u .off))
       (length list) (freedPlace old (t .space))
       (release (blocksOf old) (filled u (slabPayload grown))) a shape low (ap (Slab class (length grown)) (sym same)) refl (k .size)
-      (placed-slab plain key (length grown) (freedPlace old (t .space)) (release (blocksOf old) (filled u (slabPayload grown)))
+      (placed-slab plain key (totalTold (length grown)) (freedPlace old (t .space)) (release (blocksOf old) (filled u (slabPayload grown)))
       (atKey key empty (places plain)) class (t .off) (written grown)
       (withHand (Filled class (slabPayload grown)) (placedContents plain key 0 empty))
       (meanwhile-placed plain key 0 empty (Filled class (slabPayload grown)))
@@ -169,7 +171,7 @@ module _ (plain : PlainBook) (b : Book) (key n : ℕ) (g : GoodPlain plain) (a :
       let k = moved-space old pageClass t u (onlyPage u) (omega (arith, full)) is same long good agrees in
       append-ends plain b key grown (pages (onePage (t .off) grown)) true (length grown) (Extent (u .off)) (length list)
       (freedPlace old (t .space)) (release (blocksOf old) (filled u (onlyPage u))) a shape low
-      (ap Extent (sym same)) refl (k .size)
+      (ap Extent (sym same)) (total-exact (keyIn grown (pages (onePage (t .off) grown)) true) refl (omega (arith, count-least 0 grown))) (k .size)
       (placed-one plain key (length grown) (freedPlace old (t .space)) (release (blocksOf old) (filled u (onlyPage u)))
       (atKey key empty (places plain))
       (record { off = t .off; room = lastPageRoom; part = written grown })
@@ -211,7 +213,7 @@ module _ (plain : PlainBook) (b : Book) (key n : ℕ) (g : GoodPlain plain) (a :
     fits-page : streamLen grown ≤ lastPageRoom
     unfolding Fits
     fits-page =
-        let (same, each, c, two, few, bytes) : Fits list (slab class off kept) = subst (Fits list) is (g .keys key .fits) in
+        let (same, each, c, two, few, bytes, below) : Fits list (slab class off kept) = subst (Fits list) is (g .keys key .fits) in
         moved-small list n (g .keys key .rises) small few
 
     -- it is the key's
@@ -258,23 +260,23 @@ module _ (plain : PlainBook) (b : Book) (key n : ℕ) (g : GoodPlain plain) (a :
       -- The spaces agree once it is written.
       stay-space : AgreesSpace (plain .space) (space (overwrite (b .space .body) off after) (b .space .mark) (b .space .free))
           (atKey key (slab class off (longer n kept)) (places plain)) none
-          (placedContents plain key (length grown) (slab class off (longer n kept)))
+          (placedContents plain key (totalTold (length grown)) (slab class off (longer n kept)))
       unfolding has
       stay-space =
           agrees-written (plain .space) (b .space) (places plain) (atKey key (slab class off (longer n kept)) (places plain)) none none
           (contentsOf plain)
-          (placedContents plain key (length grown) (slab class off (longer n kept))) (slabOf key) y after (g .space) mine after-long to
+          (placedContents plain key (totalTold (length grown)) (slab class off (longer n kept))) (slabOf key) y after (g .space) mine after-long to
           (h .space)
         where
-          others : OthersKept key (contentsOf plain) (placedContents plain key (length grown) (slab class off (longer n kept)))
-          others = others-kept plain key (places plain) (contentsOf plain) (meanwhile-first plain key (λ block. Unit {0})) (length grown)
+          others : OthersKept key (contentsOf plain) (placedContents plain key (totalTold (length grown)) (slab class off (longer n kept)))
+          others = others-kept plain key (places plain) (contentsOf plain) (meanwhile-first plain key (λ block. Unit {0})) (totalTold (length grown))
               (slab class off (longer n kept))
 
           to : (v : Owner) (x : Block) → has (plain .space) (atKey key (slab class off (longer n kept)) (places plain)) none v ≡ some x
-              → ((x ≡ y) × BlockReads (plain .space) (placedContents plain key (length grown) (slab class off (longer n kept))) v after)
+              → ((x ≡ y) × BlockReads (plain .space) (placedContents plain key (totalTold (length grown)) (slab class off (longer n kept))) v after)
               ⊎ ((u : Owner) × (u ≢ slabOf key) × (has (plain .space) (places plain) none u ≡ some x)
               × ((block : List ℕ) → BlockReads (plain .space) (contentsOf plain) u block
-              → BlockReads (plain .space) (placedContents plain key (length grown) (slab class off (longer n kept))) v block))
+              → BlockReads (plain .space) (placedContents plain key (totalTold (length grown)) (slab class off (longer n kept))) v block))
           to hand x e = absurd (none-some e)
           to (stack k d) x e = inr (stack k d, λ q. (let z = ap kindOf q in omega arith), e, λ block r. r)
           to (slabOf j) x e =
@@ -295,7 +297,7 @@ module _ (plain : PlainBook) (b : Book) (key n : ℕ) (g : GoodPlain plain) (a :
     slab-alike =
         alike-cond-then _ _ _ _ leaves _ _ (ap (λ (m : ℕ). stays class m (longer n kept .bytes)) (sym numbers-more))
         (λ e.
-        append-ends plain b key grown (slab class off (longer n kept)) true (length grown) (Slab class (length (kept .numbers) + 1) off) 0
+        append-ends plain b key grown (slab class off (longer n kept)) true (totalTold (length grown)) (Slab class (length (kept .numbers) + 1) off) 0
         (plain .space)
         (space (overwrite (b .space .body) off after) (b .space .mark) (b .space .free)) a shape low
         (ap (λ (m : ℕ). Slab class m off) (sym numbers-more)) refl
@@ -313,9 +315,9 @@ module _ (plain : PlainBook) (b : Book) (key n : ℕ) (g : GoodPlain plain) (a :
   place-alike empty is other some' =
       let none' : [] ≡ list = none-listed list (subst (Fits list) is (g .keys key .fits)) in
       rw (refuse-no _ offeredNotRising _ (ap (λ (l : List ℕ). leb n (lastFrom 0 l)) (sym none') ∙ lt-leb n 0 some'))
-      (append-ends plain b key grown inline true (length grown) (Inline n 1) 0 (plain .space) (b .space) a shape low
+      (append-ends plain b key grown inline true (totalTold (length grown)) (Inline n 1) 0 (plain .space) (b .space) a shape low
       (ap (λ (l : List ℕ). Inline (lastFrom 0 (l ++ (n ∷ []))) 1) (sym none')) refl refl
-      (placed-bare plain key (length grown) (plain .space) (b .space) (places plain) inline (contentsOf plain) refl (λ i. refl)
+      (placed-bare plain key (totalTold (length grown)) (plain .space) (b .space) (places plain) inline (contentsOf plain) refl (λ i. refl)
       (meanwhile-first plain key (λ block. Unit {0})) (h .space)))
   place-alike inline is other some' =
       let one : length list ≡ 1 = subst (Fits list) is (g .keys key .fits) in

@@ -9,7 +9,7 @@ use mathlib.Core.Path.{_≡_, refl, sym, ap, subst, _∙_}
 use native.Mathlib.Omega.{arith}
 use lib.Dec.{leb, eqb}
 use lib.ListN.{length, length-append}
-use borrow.Author.Tests.{eqb-true, eqb-false, lt-ltb, le-leb, eq-eqb, ne-eqb}
+use borrow.Author.Tests.{eqb-true, eqb-false, lt-ltb, le-leb, eq-eqb, ne-eqb, leb-false, lt-leb}
 use Rattle.error.specs.Refusal.{Answer, accepted, refuseIf, andThen, keyUnsound, offeredNotRising}
 use Rattle.error.proofs.LawsAnswer.{refuse-no, then-yes}
 use Rattle.scripthash_layout.specs.Sizes.{maxSlabClass, maxSlabCount, pageClass, pageSize}
@@ -21,7 +21,7 @@ use Rattle.scripthash_cutting.specs.Cutting.{lastPageRoom}
 use Rattle.scripthash_free.specs.FreeList.{Block, isBlock}
 use Rattle.scripthash_free.proofs.LawsBlock.{block-stands}
 use Rattle.book_rules.specs.Outcomes.{appendedTo, Appended}
-use Rattle.book_limits.specs.Limits.{outOfShape, mostBody}
+use Rattle.book_limits.specs.Limits.{outOfShape, mostBody, mostCounted, totalTold}
 use Rattle.plain_book.specs.Space.{Space as PlainSpace}
 use Rattle.plain_book.specs.Key.{Kept, written, Page, Place, empty, inline, slab, pages, lastPage, noPage, totalOf, headOf, pagesOf, countedAfter, keyIn}
 use Rattle.plain_book.specs.Key.{Placed, appendPlace}
@@ -32,11 +32,11 @@ use Rattle.plain_book.specs.Owners.{pageOf, slabOf, slabAt, pageNo, pageIn, has
 use Rattle.plain_book.specs.Good.{GoodPlain}
 use Rattle.plain_book.proofs.LawsHeads.{head-told}
 use Rattle.plain_book.proofs.LawsOwners.{depthOf, atKey}
-use Rattle.plain_book.proofs.LawsChain.{pages-few, mark-most, list-few, last-any, part-rises, chain}
+use Rattle.plain_book.proofs.LawsChain.{pages-few, mark-most, last-any, part-rises, chain}
 use Rattle.plain_book.proofs.LawsTotals.{total-most}
 use Rattle.book_space.specs.Space.{Space}
 use Rattle.book_keys.specs.Keys.{soundly, sure, goOn, goodExtent, blockAt, slabScan, linkScan, lastAt, pageThen, walk, totalGood, chainAt}
-use Rattle.book_keys.specs.Keys.{pageBlocks, contentAt, content, createsGood, tailAt}
+use Rattle.book_keys.specs.Keys.{pageBlocks, contentAt, content, tailAt}
 use Rattle.book_keys.specs.Keys.{pageAt as pageBytes}
 use Rattle.book_blocks.specs.Blocks.{lastPageOf, totalWith}
 use Rattle.book_blocks.proofs.LawsTotals.{total-unknown, total-known}
@@ -179,10 +179,10 @@ last-rises prev page (p ∷ q ∷ ps) (f, fs) (some', rises, rest) = last-rises 
 
 -- ---- totals
 
--- A last page that tells the length of the list, or that it was never counted, is as it may be.
-total-good : (counted : Bool) (n : ℕ) → totalGood (cond counted n 0) n ≡ true
+-- A last page that tells the length of the list, as it can be told, or that it was never counted, is as it may be.
+total-good : (counted : Bool) (n : ℕ) → totalGood (cond counted (totalTold n) 0) n ≡ true
 unfolding totalGood
-total-good true n = rw (eq-eqb n n refl) (go (eqb n 0))
+total-good true n = rw (eq-eqb (totalTold n) (totalTold n) refl) (go (eqb (totalTold n) 0))
   where
     go : (t : Bool) → t || true ≡ true
     go true = refl
@@ -190,8 +190,15 @@ total-good true n = rw (eq-eqb n n refl) (go (eqb n 0))
 total-good false n = refl
 
 -- A total that is told is that of the longer list once a number is appended, and one that isn't stays unknown.
-pub total-more : (counted : Bool) (more held : ℕ) → more ≡ held + 1 → 0 < held → cond counted more 0 ≡ totalWith (cond counted held 0)
-total-more true more held is some' = is ∙ sym (total-known held (λ (z : held ≡ 0). omega arith))
+pub total-more : (counted : Bool) (more held : ℕ) → more ≡ held + 1 → 0 < held
+    → cond counted (totalTold more) 0 ≡ totalWith (cond counted (totalTold held) 0)
+total-more true more held is some' = go (leb held mostCounted) refl
+  where
+    go : (t : Bool) → leb held mostCounted ≡ t → totalTold more ≡ totalWith (cond t held 0)
+    go true e = ap totalTold is ∙ sym (total-known held (λ (z : held ≡ 0). omega arith))
+    go false e =
+        let past = leb-false held mostCounted e in
+        ap (λ (t : Bool). cond t more 0) (lt-leb more mostCounted (omega arith)) ∙ sym (total-unknown 0 refl)
 total-more false more held is some' = sym (total-unknown 0 refl)
 
 -- ---- a key
@@ -225,7 +232,7 @@ module _ (plain : PlainBook) (b : Book) (g : GoodPlain plain) (shape : outOfShap
       → slabScan (seen (b .space)) class (length (keyOf key plain .list)) off ≡ accepted (scanOf kept)
   unfolding has Fits
   slab-read class off kept is =
-      let (same, shortest, c, two, few, bytes) = rw is at (g .keys key .fits) in
+      let (same, shortest, c, two, few, bytes, below) = rw is at (g .keys key .fits) in
       rw (← same)
       (slab-scans (b .space) class off kept c (rw (h .space .mark)
       (g .space .apart .stands (slabOf key) (record { class = class; off = off }) (ap slabAt is)))
@@ -294,7 +301,7 @@ module _ (plain : PlainBook) (b : Book) (g : GoodPlain plain) (shape : outOfShap
         last =
             record { first = firstPageOff ps; creates = totalOf (keyOf key plain) };
       })
-  unfolding tailAt createsGood
+  unfolding tailAt
   tail-agrees ps is =
       let c = chain key ps g is in
       let one = some-pages ps (c .fit) in
@@ -303,8 +310,6 @@ module _ (plain : PlainBook) (b : Book) (g : GoodPlain plain) (shape : outOfShap
       let r = last-reads (firstPageOff ps) (totalOf (keyOf key plain)) (length ps - 1) noPage ps _ (omega arith) (k .reads) .0 in
       soundly-yes _
       (then-yes _ _ (last-told ps is)
-      ∙ sure-yes _ _
-      (lt-ltb (totalOf (keyOf key plain)) (2 ^ 32 - 1) (omega (arith, total-most (keyOf key plain), list-few key g (mark-most g shape))))
       ∙ then-yes _ _ (link-scans (b .space) 0 (lastPage noPage ps .off) (lastPage noPage ps) (k .block) r
       (last-rises 0 noPage ps (c .fit) (c .rises)) (fit .0)))
 

@@ -10,7 +10,7 @@ use native.Mathlib.Omega.{arith}
 use lib.Dec.{eqb}
 use lib.ListN.{length, set, length-append}
 use lib.Seq.{set-getD}
-use borrow.Author.Tests.{leb-false, ltb-false, eq-eqb, ne-eqb}
+use borrow.Author.Tests.{leb-false, ltb-false, eq-eqb, ne-eqb, le-leb}
 use Rattle.error.specs.Refusal.{Answer, accepted, andThen}
 use Rattle.error.proofs.LawsAnswer.{accepted-inj}
 use Rattle.buffer.specs.Bytes.{part, overwrite}
@@ -34,7 +34,7 @@ use Rattle.book_rules.specs.declared.places.SlabFit.{SlabFit}
 use Rattle.book_statements.specs.Calls.{load}
 use Rattle.book_rules.specs.Outcomes.{loadedIn, Loaded}
 use Rattle.book_rules.specs.Offered.{offeredNumber, offeredList}
-use Rattle.book_limits.specs.Limits.{outOfShape, mostBody}
+use Rattle.book_limits.specs.Limits.{outOfShape, mostBody, mostCounted, totalTold}
 use Rattle.book_rules.specs.Places.{loadsTo}
 use Rattle.book_limits.proofs.LawsLimits.{in-shape}
 use Rattle.book_rules.proofs.LawsRules.{loads-to}
@@ -337,7 +337,7 @@ module _ (plain : PlainBook) (b : Book) (key : ℕ) (ns : List ℕ) (g : GoodPla
           let c = anyHand (contentsOf plain) in
           let bytes = fill-long (t .space) (u .space) (places plain) class (t .off) c (slabPayload ns) short good agrees in
           let placed =
-          placed-slab plain key (length ns) (t .space) _ (places plain) class (t .off) (written ns) _
+          placed-slab plain key (totalTold (length ns)) (t .space) _ (places plain) class (t .off) (written ns) _
           (meanwhile-first plain key (Filled class (slabPayload ns)))
           (λ block f. payload-reads class ns block rises few f)
           (fill-agrees (t .space) (u .space) (places plain) class (t .off) c (slabPayload ns) short good agrees) in
@@ -426,6 +426,7 @@ module _ (plain : PlainBook) (b : Book) (key : ℕ) (ns : List ℕ) (g : GoodPla
           → Alike (loadedTo (placedAt (record { off = start; space = beyond }))) (written-at u)
       placed u off long agrees =
           let ok = cut-allowed ns rises in
+          let exact : totalTold (length ns) ≡ length ns = rw (le-leb (length ns) mostCounted (omega arith)) refl in
           let (bytes, run) =
           run-placed beyond (u .space) start parts some' (ok .consecutive) (ok .fit) (rounded-mark (plain .space)) (good .from)
           (le-refl (beyond .mark)) apart agrees in
@@ -437,7 +438,8 @@ module _ (plain : PlainBook) (b : Book) (key : ℕ) (ns : List ℕ) (g : GoodPla
           (space (writeRun start (length parts) (length ns) (u .space .body) start parts) (u .space .mark) (u .space .free)) b)))
           (run-last start noPage parts some')
           (told-alike (ap (λ (n : ℕ). loadedIn n) (run-length start parts))
-          (agrees-placed plain key ns (pages (runPages start parts)) true beyond l b _ a shape (bytes ∙ long ∙ sym (a .size)) run)))
+          (agrees-placed plain key ns (pages (runPages start parts)) true beyond l b _ a shape (bytes ∙ long ∙ sym (a .size))
+          (rw exact run))))
 
 -- ---- a load
 

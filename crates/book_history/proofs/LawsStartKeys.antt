@@ -10,6 +10,7 @@ use native.Mathlib.Omega.{arith}
 use lib.Dec.{eqb}
 use lib.ListN.{length, drop}
 use borrow.Author.Tests.{eqb-true, eq-eqb}
+use Rattle.book_limits.specs.Limits.{slabsEnd, totalTold}
 use Rattle.error.specs.Refusal.{accepted}
 use Rattle.error.proofs.LawsAnswer.{accepted-inj}
 use Rattle.scripthash_layout.specs.Sizes.{pageSize}
@@ -33,7 +34,7 @@ use Rattle.book_keys.specs.Keys.{pageAt as pageBytes}
 use Rattle.book_keys.proofs.LawsSlab.{slab-sound}
 use Rattle.book_keys.proofs.LawsPages.{last-sound}
 use Rattle.book_keys.proofs.LawsChain.{chain-sound}
-use Rattle.book_keys.proofs.LawsContent.{was-slab, was-pages, was-content, slab-from-two}
+use Rattle.book_keys.proofs.LawsContent.{was-slab, was-pages, was-content, slab-from-two, slab-below}
 use Rattle.book_history.specs.Agrees.{firstPageOff, SlabReads, LastReads, SlabIn, PageIn}
 use Rattle.book_history.specs.PlainOf.{keptBy, pageFrom, pagesFrom, placeFrom, countedFrom, listFrom, keyFrom}
 use Rattle.book_history.proofs.LawsWords.{inline-told}
@@ -80,10 +81,10 @@ module _ (s : Space) where
       }
 
   -- A key in a slab.
-  slab-read : (class used off : ℕ) (c : Scan) → slabScan (seen s) class used off ≡ accepted c → 2 ≤ used
+  slab-read : (class used off : ℕ) (c : Scan) → slabScan (seen s) class used off ≡ accepted c → 2 ≤ used → off < slabsEnd
       → KeyRead s (keyAt (Slab class used off) (c .numbers)) (Slab class used off) (record { class = class; off = off } ∷ [])
   unfolding placeFrom countedFrom Fits headOf keptBy blockNo
-  slab-read class used off c is two =
+  slab-read class used off c is two low =
       let k = slab-sound (seen s) class used off c is in
       let n = k .counted in
       let few = k .used-to-256 in
@@ -93,7 +94,7 @@ module _ (s : Space) where
       let kept : Kept = keptAs (c .numbers) (c .taken) in
       let reads : SlabReads kept (blockAt (seen s) class off) =
       record { used = k .stored ∙ sym n; reads = k .payload .into (length (c .numbers)) (le-refl (length (c .numbers))) } in
-      let fit : Fits (c .numbers) (slab class off kept) = (refl, omega arith, k .class-to-7, omega arith, omega arith, omega arith) in
+      let fit : Fits (c .numbers) (slab class off kept) = (refl, omega arith, k .class-to-7, omega arith, omega arith, omega arith, low) in
       rw is
       (record {
         sound = record { rises = k .rising; fits = fit; known = refl };
@@ -110,17 +111,17 @@ module _ (s : Space) where
   pages-blocks (suc i) (o ∷ os) = pages-blocks i os
 
   -- A total that creates tells: 0 is unknown.
-  total-told : (creates n : ℕ) → totalGood creates n ≡ true → creates ≡ cond (not (eqb creates 0)) n 0
+  total-told : (creates n : ℕ) → totalGood creates n ≡ true → creates ≡ cond (not (eqb creates 0)) (totalTold n) 0
   unfolding totalGood
   total-told creates n e = go (eqb creates 0) refl e
     where
-      go : (t : Bool) → eqb creates 0 ≡ t → t || eqb creates n ≡ true → creates ≡ cond (not t) n 0
+      go : (t : Bool) → eqb creates 0 ≡ t → t || eqb creates (totalTold n) ≡ true → creates ≡ cond (not t) (totalTold n) 0
       go true z f = eqb-true creates 0 z
-      go false z f = eqb-true creates n f
+      go false z f = eqb-true creates (totalTold n) f
 
   -- The header of a key's last page.
   last-reads : (last : ℕ) (h : Last) (n : ℕ) → lastAt (seen s) last ≡ accepted h → totalGood (h .creates) n ≡ true
-      → LastReads (h .first) (cond (not (eqb (createsFieldOf (pageBytes (seen s) last)) 0)) n 0) (pageBytes (seen s) last)
+      → LastReads (h .first) (cond (not (eqb (createsFieldOf (pageBytes (seen s) last)) 0)) (totalTold n) 0) (pageBytes (seen s) last)
   unfolding goodExtent
   last-reads last h n is creates =
       let k = last-sound (seen s) last h is in
@@ -140,7 +141,7 @@ module _ (s : Space) where
   pages-key last c is =
       let k = chain-sound (seen s) last c is in
       let first = k .header .first in
-      let total = cond (not (eqb (createsFieldOf (pageBytes (seen s) last)) 0)) (length (c .numbers)) 0 in
+      let total = cond (not (eqb (createsFieldOf (pageBytes (seen s) last)) 0)) (totalTold (length (c .numbers))) 0 in
       let (os, offs) = walk-offs (s .mark / pageSize) s last 0 first c (k .walks) in
       let header = last-reads last (k .header) (length (c .numbers)) (k .header-is) (k .creates) in
       let p = pages-read (s .mark / pageSize) s first total last header 0 first c (k .walks) in
@@ -163,7 +164,7 @@ module _ (s : Space) where
       rw (← accepted-inj e) (inline-read entry used one some' low)
   place-read word (Slab class used off) c told e =
       let (got, is, same) = was-slab (seen s) class used off c e in
-      rw (← same) (slab-read class used off got is (slab-from-two word class used off told))
+      rw (← same) (slab-read class used off got is (slab-from-two word class used off told) (slab-below word class used off told))
   place-read word (Extent last) c told e =
       let (got, is, same) = was-pages (seen s) last c e in
       rw (← same) (pages-key last got is)

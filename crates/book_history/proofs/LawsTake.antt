@@ -1,6 +1,6 @@
 -- Taking in both spaces: a freed block, a block at the mark, the gap before a page carved, and a run of pages. Assumes nothing.
 use Prim.Native.Nat.{ℕ, _+_, _-_, _*_, _%_, _≤_, _<_, min}
-use mathlib.Core.Bool.{Bool, true, false, cond}
+use mathlib.Core.Bool.{Bool, true, false, cond, not, _&&_, false≢true}
 use mathlib.Core.List.{List, [], _∷_}
 use mathlib.Core.Logic.{⊎-elim, _≢_}
 use mathlib.Core.Option.{Option, none, some}
@@ -9,19 +9,20 @@ use native.Mathlib.Omega.{arith}
 use lib.Dec.{ltb, eqb}
 use lib.ListN.{length, getD, set, length-set, drop}
 use lib.Seq.{take-take}
-use borrow.Author.Tests.{ltb-false}
-use Rattle.error.specs.Refusal.{Answer, accepted, refused, refuseIf, andThen, noRoom}
-use Rattle.error.proofs.LawsAnswer.{then-yes}
+use borrow.Author.Tests.{ltb-false, ltb-true}
+use Rattle.error.specs.Refusal.{Answer, accepted, refused, refuseIf, andThen, freeHeadBad, noRoom}
+use Rattle.error.proofs.LawsAnswer.{then-yes, then-no}
 use Rattle.buffer.specs.Bytes.{part}
 use Rattle.buffer.specs.LittleEndian.{littleEndian}
 use Rattle.scripthash_layout.specs.Sizes.{slabBytes, pageClass, pageSize}
 use Rattle.scripthash_free.specs.FreeList.{Block, isBlock, Adjoin, Each, IsSlab, gapBlocks, nextOf, pushed, pushAll}
-use Rattle.scripthash_free.proofs.LawsBlock.{bytes-from-16, block-stands, slab-stands}
+use Rattle.scripthash_free.proofs.LawsBlock.{bytes-from-16, block-stands, stands-block, no-block, slab-stands}
 use Rattle.scripthash_free.proofs.LawsGap.{gap-filled, gap-slabs, adjoin-rises}
-use Rattle.scripthash_free.proofs.LawsFree.{pop-none, pop-yes}
-use Rattle.book_limits.specs.Limits.{pageAfter}
+use Rattle.scripthash_free.proofs.LawsFree.{pop-none, pop-yes, pop-no}
+use Rattle.book_limits.specs.Limits.{slabsEnd, pageAfter, gapEnd, popEnd, pastSlabs}
+use Rattle.book_limits.proofs.LawsLimits.{gap-end}
 use Rattle.plain_book.specs.Space.{Space as PlainSpace, Taken as PlainTaken, stackOf, freed, freedAll, runAtMark as plainRunAtMark}
-use Rattle.plain_book.specs.Space.{takeMark as plainTakeMark, rounded as plainRounded, takeRun as plainTakeRun, takeFresh as plainTakeFresh}
+use Rattle.plain_book.specs.Space.{takeMark as plainTakeMark, takeSlab as plainTakeSlab, rounded as plainRounded, takeRun as plainTakeRun, takeFresh as plainTakeFresh}
 use Rattle.plain_book.specs.Space.{takeFrom, takeBlock as plainTake}
 use Rattle.plain_book.specs.Key.{Place}
 use Rattle.plain_book.specs.Owners.{Owner, hand, stack, slabOf, pageOf, atDepth, has}
@@ -29,7 +30,7 @@ use Rattle.plain_book.specs.Good.{Good}
 use Rattle.plain_book.proofs.LawsOwners.{none-some, kindOf, deep-none, top-is, under-top, withStack, stack-same, stack-other, changed-has}
 use Rattle.plain_book.proofs.LawsOwners.{good-marked}
 use Rattle.plain_book.proofs.LawsTaking.{good-carved-one, freed-stacks}
-use Rattle.book_space.specs.Space.{Space, space, listsOf, Taken, takeMark, rounded, takeRun, takeFresh, takePopped, takeBlock as takes, runAtMark}
+use Rattle.book_space.specs.Space.{Space, space, listsOf, Taken, takeMark, takeSlab, rounded, takeRun, takeFresh, takePopped, takeBlock as takes, runAtMark}
 use Rattle.book_space.specs.Space.{release}
 use Rattle.book_history.specs.Agrees.{top, under, Contents, BlockReads, Stored, AgreesSpace}
 use Rattle.book_history.proofs.LawsFrame.{stored-same}
@@ -132,22 +133,52 @@ module _ (plain : PlainSpace) (s : Space) (at : ℕ → Place) (c : Contents) (c
   head-is : getD (s .free) class 0 ≡ o
   head-is = a .tops class ∙ ap top is
 
-  head-good : isBlock class (getD (s .free) class 0) (min (s .mark) (length (s .body))) ≡ true
-  head-good =
-      let low : plain .mark ≡ min (s .mark) (length (s .body)) = omega (arith, a .mark, a .within) in
-      rw (head-is, ← low) (top-stands plain at none class o os g is)
+  -- it stands below the mark, and where it doesn't end past the end of slabs, below the end of what is popped
+  top-good : isBlock class o (plain .mark) ≡ true
+  top-good = top-stands plain at none class o os g is
+
+  pop-end : (page : Bool) → eqb class pageClass ≡ page → not page && ltb slabsEnd (o + slabBytes class) ≡ false
+      → isBlock class o (min (cond page (s .mark) (min (s .mark) slabsEnd)) (length (s .body))) ≡ true
+  pop-end true e low =
+      let b = block-stands class o (plain .mark) top-good in
+      stands-block class o _ (record { class-to-8 = b .class-to-8; aligned = b .aligned; begins = b .begins; ends = omega (arith, b .ends, a .mark, a .within) })
+  pop-end false e low =
+      let b = block-stands class o (plain .mark) top-good in
+      let ends = ltb-false slabsEnd (o + slabBytes class) low in
+      stands-block class o _ (record { class-to-8 = b .class-to-8; aligned = b .aligned; begins = b .begins; ends = omega (arith, b .ends, a .mark, a .within) })
+
+  pop-past : (page : Bool) → eqb class pageClass ≡ page → not page && ltb slabsEnd (o + slabBytes class) ≡ true
+      → isBlock class o (min (cond page (s .mark) (min (s .mark) slabsEnd)) (length (s .body))) ≡ false
+  pop-past true e past = absurd (false≢true past)
+  pop-past false e past =
+      let far = ltb-true slabsEnd (o + slabBytes class) past in
+      no-block class o _ (λ t. omega (arith, t .ends, far))
+
+  head-good : pastSlabs class o ≡ false → isBlock class (getD (s .free) class 0) (min (popEnd class (s .mark)) (length (s .body))) ≡ true
+  unfolding pastSlabs popEnd
+  head-good low = rw head-is (pop-end (eqb class pageClass) refl low)
+
+  head-past : pastSlabs class o ≡ true → isBlock class (getD (s .free) class 0) (min (popEnd class (s .mark)) (length (s .body))) ≡ false
+  unfolding pastSlabs popEnd
+  head-past past = rw head-is (pop-past (eqb class pageClass) refl past)
 
   head-some : getD (s .free) class 0 ≢ 0
-  head-some z = omega (arith, block-stands class (getD (s .free) class 0) (min (s .mark) (length (s .body))) head-good .begins)
+  head-some z = omega (arith, block-stands class o (plain .mark) top-good .begins, head-is)
 
   abbrev poppedAt : ℕ → Taken
   poppedAt off = record { off = off; space = space (s .body) (s .mark) (set (s .free) class (nextOf (s .body) off)) }
 
-  take-pops : takes class s ≡ accepted (poppedAt o)
+  take-past : pastSlabs class o ≡ true → takes class s ≡ refused freeHeadBad
+  unfolding takes
+  take-past past =
+      then-no _ (λ p. takePopped class s (p .block) (p .heads))
+      (pop-no class (popEnd class (s .mark)) (listsOf s) to-8 head-some (head-past past))
+
+  take-pops : pastSlabs class o ≡ false → takes class s ≡ accepted (poppedAt o)
   unfolding takes takePopped
-  take-pops =
+  take-pops low =
       let at-head : takes class s ≡ accepted (poppedAt (getD (s .free) class 0)) =
-      then-yes _ (λ p. takePopped class s (p .block) (p .heads)) (pop-yes class (s .mark) (listsOf s) to-8 head-some head-good) in
+      then-yes _ (λ p. takePopped class s (p .block) (p .heads)) (pop-yes class (popEnd class (s .mark)) (listsOf s) to-8 head-some (head-good low)) in
       at-head ∙ ap (λ (off : ℕ). accepted (poppedAt off)) head-is
 
 -- ---- at the mark
@@ -259,6 +290,20 @@ carved-one plain s at c b is to-7 fits g a = (agrees, release-long (b .class) (b
         rest (slabOf k) x n h = (slabOf k, (λ q. (let z = ap kindOf q in omega arith)), h, λ b r. r)
         rest (pageOf k i) x n h = (pageOf k i, (λ q. (let z = ap kindOf q in omega arith)), h, λ b r. r)
 
+-- A slab's bytes are taken at the mark.
+slab-agrees : (plain : PlainSpace) (s : Space) (at : ℕ → Place) (c : Contents) (long bytes : ℕ) → length (s .body) ≡ long
+    → AgreesSpace plain s at none c
+    → TakenAlike at (λ off. none) c long (plainTakeSlab long bytes plain) (takeSlab bytes s)
+unfolding plainTakeSlab takeSlab refuseIf
+slab-agrees plain s at c long bytes is a =
+    subst (λ (m : ℕ). TakenAlike at (λ off. none) c long (cond (ltb slabsEnd (plain .mark + bytes)) (refused noRoom) (plainTakeMark long bytes plain))
+    (cond (ltb slabsEnd (m + bytes)) (refused noRoom) (takeMark bytes s))) (sym (a .mark)) (go (ltb slabsEnd (plain .mark + bytes)))
+  where
+    go : (t : Bool) → TakenAlike at (λ off. none) c long
+        (cond t (refused noRoom) (plainTakeMark long bytes plain)) (cond t (refused noRoom) (takeMark bytes s))
+    go true = refused-taken
+    go false = mark-agrees plain s at c long bytes is a
+
 -- Blocks side by side from the mark on go onto their stacks, and the mark passes them.
 carved : (bs : List Block) (plain : PlainSpace) (s : Space) (at : ℕ → Place) (c : Contents) (end : ℕ) → Adjoin (plain .mark) bs end
     → Each (IsSlab end) bs
@@ -287,14 +332,18 @@ pub rounded-agrees : (plain : PlainSpace) (s : Space) (at : ℕ → Place) (c : 
     → AgreesSpace (plainRounded plain) (rounded s) at none c × (length (rounded s .body) ≡ length (s .body))
 unfolding plainRounded rounded
 rounded-agrees plain s at c g whole a =
-    let up : plain .mark ≤ pageAfter (plain .mark) = omega arith in
-    let gap : (pageAfter (plain .mark) - plain .mark) % 16 ≡ 0 = omega (arith, g .aligned) in
-    rw (a .mark)
-    (carved (gapBlocks (plain .mark) (pageAfter (plain .mark))) plain s at c (pageAfter (plain .mark))
-    (gap-filled (plain .mark) (pageAfter (plain .mark)) up gap)
-    (gap-slabs (plain .mark) (pageAfter (plain .mark)) (pageAfter (plain .mark)) up
-    (record { aligned = g .aligned; begins = g .from; ends = omega arith }))
-    (omega (arith, a .within)) g a)
+    let end = gapEnd (plain .mark) in
+    let to = gap-end (plain .mark) (g .aligned) in
+    let (all, long) = carved (gapBlocks (plain .mark) end) plain s at c end
+    (gap-filled (plain .mark) end (to .from) (to .whole))
+    (gap-slabs (plain .mark) end end (to .from) (record { aligned = g .aligned; begins = g .from; ends = omega arith }))
+    (omega (arith, a .within, to .within)) g a in
+    let rest : end + (pageAfter (plain .mark) - end) ≡ pageAfter (plain .mark) = omega (arith, to .within) in
+    rw (a .mark) (
+      rw rest at (passed-agrees (freedTo end (gapBlocks (plain .mark) end) plain) (pushedTo end (gapBlocks (plain .mark) end) s) at none c
+          (pageAfter (plain .mark) - end) (rw long (omega (arith, a .within, to .within))) all),
+      long,
+    )
 
 -- ---- takes
 
@@ -313,18 +362,23 @@ pub take-agrees : (plain : PlainSpace) (s : Space) (at : ℕ → Place) (c : Con
     → length (s .body) % 4096 ≡ 0
     → AgreesSpace plain s at none c
     → TakenAlike at (inHandOf class) (anyHand c) (length (s .body)) (plainTake (length (s .body)) class plain) (takes class s)
-unfolding takes takeFrom takePopped plainTakeFresh takeFresh
+unfolding takes takeFrom takePopped plainTakeFresh takeFresh refuseIf
 take-agrees plain s at c class to-8 g whole a = from-stack (stackOf class plain) refl
   where
     fresh : (t : Bool) → TakenAlike at (inHandOf class) (anyHand c) (length (s .body))
-        (cond t (plainTakeRun (length (s .body)) 1 plain) (plainTakeMark (length (s .body)) (slabBytes class) plain))
-        (cond t (takeRun 1 s) (takeMark (slabBytes class) s))
+        (cond t (plainTakeRun (length (s .body)) 1 plain) (plainTakeSlab (length (s .body)) (slabBytes class) plain))
+        (cond t (takeRun 1 s) (takeSlab (slabBytes class) s))
     fresh true = hand-alike at c class (length (s .body)) _ _ (run-agrees plain s at c 1 g whole a)
-    fresh false = hand-alike at c class (length (s .body)) _ _ (mark-agrees plain s at c (length (s .body)) (slabBytes class) refl a)
+    fresh false = hand-alike at c class (length (s .body)) _ _ (slab-agrees plain s at c (length (s .body)) (slabBytes class) refl a)
 
     from-stack : (os : List ℕ) → stackOf class plain ≡ os
         → TakenAlike at (inHandOf class) (anyHand c) (length (s .body)) (takeFrom (length (s .body)) class os plain) (takes class s)
     from-stack [] e = rw (then-yes _ (λ p. takePopped class s (p .block) (p .heads))
-        (pop-none class (s .mark) (listsOf s) to-8 (a .tops class ∙ ap top e))) (fresh (eqb class pageClass))
-    from-stack (o ∷ os) e =
-        rw (take-pops plain s at c class o os to-8 g a e) (taken-alike refl refl (popped-agrees plain s at c class o os to-8 g a e))
+        (pop-none class (popEnd class (s .mark)) (listsOf s) to-8 (a .tops class ∙ ap top e))) (fresh (eqb class pageClass))
+    from-stack (o ∷ os) e = go (pastSlabs class o) refl
+      where
+        go : (t : Bool) → pastSlabs class o ≡ t → TakenAlike at (inHandOf class) (anyHand c) (length (s .body))
+            (takeFrom (length (s .body)) class (o ∷ os) plain) (takes class s)
+        go true p = rw (take-past plain s at c class o os to-8 g a e p, p) refused-taken
+        go false p =
+            rw (take-pops plain s at c class o os to-8 g a e p, p) (taken-alike refl refl (popped-agrees plain s at c class o os to-8 g a e))

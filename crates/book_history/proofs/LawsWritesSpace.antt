@@ -8,6 +8,7 @@ use native.Mathlib.Omega.{arith}
 use borrow.Author.Tests.{le-ltb}
 use lib.Dec.{eqb}
 use lib.ListN.{length, getD}
+use Rattle.book_limits.proofs.LawsLimits.{gap-end}
 use Rattle.error.specs.Refusal.{accepted, andThen}
 use Rattle.error.proofs.LawsAnswer.{accepted-inj, passed, went-on, neither}
 use Rattle.buffer.specs.Bytes.{part, overwrite}
@@ -19,8 +20,8 @@ use Rattle.scripthash_free.proofs.LawsBlock.{bytes-from-16, block-stands}
 use Rattle.scripthash_free.proofs.LawsGap.{each-map, gap-filled, adjoin-within}
 use Rattle.scripthash_free.proofs.LawsFreeList.{length-pushed}
 use Rattle.scripthash_cutting.specs.Cutting.{pageRoom, lastPageRoom, Fit}
-use Rattle.book_limits.specs.Limits.{pageAfter}
-use Rattle.book_space.specs.Space.{Space, space, listsOf, InShape, Taken, takeMark, rounded, takeRun, takeFresh, takePopped, takeBlock, runAtMark}
+use Rattle.book_limits.specs.Limits.{pageAfter, gapEnd}
+use Rattle.book_space.specs.Space.{Space, space, listsOf, InShape, Taken, takeMark, rounded, takeRun, takeFresh, takePopped, takeBlock, runAtMark, takeSlab}
 use Rattle.book_space.specs.Space.{release}
 use Rattle.book_space.proofs.LawsTake.{take-took}
 use Rattle.book_blocks.specs.Blocks.{lastPageOf, pageTo, writeRun}
@@ -144,23 +145,25 @@ wrote-mark bytes s e =
 pub wrote-run : (pages : ℕ) (s : Space) {t : Taken} → InShape s → takeRun pages s ≡ accepted t → Wrote (takingPages s) s (t .space)
 unfolding runAtMark takeMark rounded takingPages
 wrote-run pages s i e =
-    let to = pageAfter (s .mark) in
+    let to = gapEnd (s .mark) in
+    let ends = gap-end (s .mark) (i .aligned) in
     let size = length (s .body) in
-    let gap = adjoin-within (s .mark) (gapBlocks (s .mark) to) to (gap-filled (s .mark) to (omega arith) (omega arith)) in
+    let gap = adjoin-within (s .mark) (gapBlocks (s .mark) to) to (gap-filled (s .mark) to (ends .from) (ends .whole)) in
     let carved = wrote-pushed size (s .mark) (gapBlocks (s .mark) to) (listsOf s)
-    (each-map (Within (s .mark) to) (λ x. x .off + 8 ≤ size) (λ x h. omega (arith, bytes-from-16 (x .class), h .1)) (gapBlocks (s .mark) to)
-    gap) refl in
+    (each-map (Within (s .mark) to) (λ x. x .off + 8 ≤ size) (λ x h. omega (arith, bytes-from-16 (x .class), h .1, ends .within, i .within, i .paged))
+    (gapBlocks (s .mark) to) gap) refl in
     let r = rounded s in
     subst (λ (t : Taken). Wrote (takingPages s) s (t .space)) (accepted-inj (passed _ _ _ e .1))
-    (wrote-then carved (wrote-rises (r .body) (r .free) (s .mark) (to + pages * pageSize) (omega arith)))
+    (wrote-then carved (wrote-rises (r .body) (r .free) (s .mark) (pageAfter (s .mark) + pages * pageSize) (omega arith)))
 
 -- A block of a class 0 to 8, taken from a space in shape.
 module _ (class : ℕ) (s : Space) (small : class ≤ pageClass) (i : InShape s) where
   -- A fresh one.
-  fresh-wrote : (page : Bool) {t : Taken} → cond page (takeRun 1 s) (takeMark (slabBytes class) s) ≡ accepted t
+  fresh-wrote : (page : Bool) {t : Taken} → cond page (takeRun 1 s) (takeSlab (slabBytes class) s) ≡ accepted t
       → Wrote (cond page (takingPages s) theMark) s (t .space)
+  unfolding takeSlab
   fresh-wrote true e = wrote-run 1 s i e
-  fresh-wrote false e = wrote-mark (slabBytes class) s e
+  fresh-wrote false e = wrote-mark (slabBytes class) s (passed _ _ _ e .1)
 
   -- A block, by whether the class's free head is 0.
   took-wrote : (none-there : Bool) {t : Taken} → eqb (getD (s .free) class 0) 0 ≡ none-there → takeBlock class s ≡ accepted t

@@ -6,6 +6,7 @@ use mathlib.Core.Path.{_≡_, sym, ap, subst, _∙_}
 use native.Mathlib.Omega.{arith}
 use lib.ListN.{length, set}
 use lib.Seq.{getD-set-same, set-getD}
+use Rattle.book_keys.proofs.LawsContent.{slab-below}
 use Rattle.error.specs.Refusal.{accepted, valueOr}
 use Rattle.error.proofs.LawsAnswer.{accepted-inj, passed, went-on}
 use Rattle.compact.specs.Uleb128.{ulebLen}
@@ -66,9 +67,7 @@ slab-word b key n class used off c {o} word is scanned stay e =
     let same : g .0 ≡ c = accepted-inj (sym (was-sound _ (g .1)) ∙ scanned) in
     let did : appendSlab b key n class off c ≡ accepted o =
     subst (λ (x : Scan). appendSlab b key n class off x ≡ accepted o) same (passed _ _ _ (g .2) .1) in
-    let ends = block-stands class off (b .space .mark) (known .stands) .ends in
-    let within = w .0 .within in
-    let most = w .0 .most in
+    let below = slab-below (wordOf key b) class used off is in
     let packs : (k : ℕ) → headWord (Slab class k off) ≡ slabWord class k off =
     λ k. word-of (Slab class k off) (pack-slab class k off (omega (arith, known .class-to-7)) (omega arith)) in (
       sym (word-is b key n place word is e) ∙ packs used,

@@ -7,6 +7,7 @@ use mathlib.Core.Path.{_≡_, refl, sym, ap, _∙_}
 use native.Mathlib.Nat.{zero-add}
 use native.Mathlib.Omega.{arith}
 use lib.ListN.{length, getD, set, length-replicate}
+use mathlib.Core.Logic.{inl}
 use Rattle.scripthash_layout.specs.Sizes.{pageSize}
 use Rattle.scripthash_free.specs.FreeList.{Block}
 use Rattle.book_statements.specs.Calls.{Call}
@@ -15,7 +16,7 @@ use Rattle.plain_book.specs.Space.{stackOf}
 use Rattle.plain_book.specs.Key.{Key, emptyKey, Page, Place, empty, inline, slab, pages}
 use Rattle.plain_book.specs.Book.{Book as PlainBook, keyOf, after as plainAfter}
 use Rattle.plain_book.specs.Good.{GoodPlain}
-use Rattle.plain_book.specs.Filled.{bytesIn, bytesHeld, bytesOnStack, bytesFreed}
+use Rattle.plain_book.specs.Filled.{bytesIn, bytesHeld, bytesOnStack, bytesFreed, MarkWhole}
 use Rattle.plain_book.proofs.LawsFilled.{filled-from}
 use Rattle.plain_book.proofs.LawsGood.{calls-good, shapes-kept}
 use Rattle.book_space.specs.Space.{Space}
@@ -120,10 +121,10 @@ pub from-4096 : (b : Book) → GoodStart b → 4096 ≤ b .space .mark
 unfolding plainOf
 from-4096 b g = start-good b g .space .from
 
--- Calls on a good start change nothing in how many bytes belong to nobody.
-pub lost-kept : (b : Book) (cs : List Call) → GoodStart b → lostIn (after b cs) ≡ lostIn b
+-- Calls on a good start whose mark leaves none to be skipped change nothing in how many bytes belong to nobody.
+pub lost-kept : (b : Book) (cs : List Call) → GoodStart b → MarkWhole (b .space .mark) → lostIn (after b cs) ≡ lostIn b
 unfolding lostIn plainOf
-lost-kept b cs g =
+lost-kept b cs g whole =
     let plain = plainOf b in
     let good = start-good b g in
     let agrees = start-agrees b g in
@@ -138,7 +139,7 @@ lost-kept b cs g =
     let sum : 4096 + (bytesFreed 0 (plainAfter (plainOf b) cs .space .stacks)
     + (bytesHeld (plainAfter (plainOf b) cs .keys) + (b .space .mark - (4096 + bytesTaken (allBlocks b)))))
     ≡ plainAfter (plainOf b) cs .space .mark
-    = filled-from (b .space .mark - (4096 + bytesTaken (allBlocks b))) (plainOf b) cs (start-good b g) (omega arith) in
+    = filled-from (b .space .mark - (4096 + bytesTaken (allBlocks b))) (plainOf b) cs (start-good b g) whole (omega arith) in
     omega arith
 
 -- A fresh book has no block, and its mark is where lists may begin.
@@ -155,7 +156,7 @@ module _ (body : List ℕ) (heads : ℕ) (cs : List Call) where
       go true e =
           let out : outOfShape (length body) (length (fresh body heads .heads)) ≡ true = rw (length-replicate {A = ℕ} heads 0) e in
           ap lostIn (bytes-still (fresh body heads) cs out) ∙ fresh-lost body heads
-      go false e = lost-kept (fresh body heads) cs (fresh-start body heads e) ∙ fresh-lost body heads
+      go false e = lost-kept (fresh body heads) cs (fresh-start body heads e) (inl (omega arith)) ∙ fresh-lost body heads
 
   -- and each is one of a block that a key holds or that a free list names.
   pub nothing-leaked : outOfShape (length body) heads ≡ false → Covered (after (fresh body heads) cs)

@@ -11,6 +11,7 @@ use borrow.Author.Tests.{eqb-true, eqb-false}
 use lib.Dec.{eqb}
 use lib.ListN.{length, getD, set, length-set}
 use lib.Seq.{getD-set-same, getD-set-other}
+use Rattle.plain_book.specs.Filled.{MarkWhole}
 use Rattle.error.specs.Refusal.{accepted}
 use Rattle.scripthash_layout.specs.Sizes.{pageClass}
 use Rattle.scripthash_layout.specs.Head.{unpackHead}
@@ -51,12 +52,12 @@ body-kept b cs g =
     books-agree each-alike (plainOf b) b cs (start-good b g) (start-agrees b g) .size ∙ size ∙ sym (start-agrees b g .size)
 
 -- After any calls on a good start the check tells what it told before them.
-pub check-kept : (b : Book) (cs : List Call) (room : ℕ) → GoodStart b → length (b .space .body) / 16 ≤ room
+pub check-kept : (b : Book) (cs : List Call) (room : ℕ) → GoodStart b → MarkWhole (b .space .mark) → length (b .space .body) / 16 ≤ room
     → judges (after b cs) room ≡ judges b room
-check-kept b cs room g long =
+check-kept b cs room g whole long =
     let later = start-kept b cs g in
     let enough : length (after b cs .space .body) / 16 ≤ room = rw (body-kept b cs g) long in
-    start-judges (after b cs) (later .nine) room enough later ∙ ap (λ (n : ℕ). accepted (good (n / 16))) (lost-kept b cs g)
+    start-judges (after b cs) (later .nine) room enough later ∙ ap (λ (n : ℕ). accepted (good (n / 16))) (lost-kept b cs g whole)
     ∙ sym (start-judges b (g .nine) room long g)
 
 -- After any calls on a fresh book in shape it tells a good start, and that nothing belongs to nobody.

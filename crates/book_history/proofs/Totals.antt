@@ -12,14 +12,14 @@ use Rattle.scripthash_layout.specs.Head.{unpackHead}
 use Rattle.scripthash_layout.specs.declared.head.ShHeadValue.the-variants.{Extent}
 use Rattle.scripthash_fields.specs.Page.{createsFieldOf}
 use Rattle.book_statements.specs.Calls.{Call}
-use Rattle.book_limits.specs.Limits.{outOfShape}
+use Rattle.book_limits.specs.Limits.{outOfShape, totalTold}
 use Rattle.plain_book.specs.Key.{Key, Place, empty, inline, slab, pages, lastPage, noPage, totalOf, headOf}
 use Rattle.plain_book.specs.Book.{Book as PlainBook, fresh as plainFresh, after as plainAfter, keyOf, NeverDropped}
 use Rattle.plain_book.specs.Good.{GoodPlain}
 use Rattle.plain_book.proofs.LawsHistory.{fresh-key}
 use Rattle.plain_book.proofs.LawsGood.{fresh-good, calls-good, shapes-kept}
 use Rattle.plain_book.proofs.LawsChain.{chain}
-use Rattle.plain_book.proofs.LawsTotals.{counted-from, total-exact, uncounted-from}
+use Rattle.plain_book.proofs.LawsTotals.{counted-from, total-counted, uncounted-from}
 use Rattle.book_keys.specs.Keys.{pageAt}
 use Rattle.book.specs.Book.{Book, fresh, wordOf, seen}
 use Rattle.book_history.specs.Calls.{after}
@@ -63,10 +63,10 @@ module _ (plain : PlainBook) (b : Book) (cs : List Call) (g : GoodPlain plain) (
       let out : outOfShape (plainAfter plain cs .size) (length (plainAfter plain cs .keys)) ≡ false = rw (size, keys) shape in
       told (plainAfter plain cs) (after b cs) (calls-good cs g) out (books-agree each-alike plain b cs g a .inside out) key last word
 
-  -- A total that was told is exact after any calls: the length of the list that the key then reads as.
+  -- A total that was told is exact after any calls: the length of the list that the key then reads as, or 0 where creates can't tell it.
   pub total-kept : keyOf key plain .counted ≡ true
-      → createsFieldOf (pageAt (seen (after b cs .space)) last) ≡ length (keyOf key (plainAfter plain cs) .list)
-  total-kept counted = tells ∙ total-exact (keyOf key (plainAfter plain cs)) (counted-from plain key cs counted)
+      → createsFieldOf (pageAt (seen (after b cs .space)) last) ≡ totalTold (length (keyOf key (plainAfter plain cs) .list))
+  total-kept counted = tells ∙ total-counted (keyOf key (plainAfter plain cs)) (counted-from plain key cs counted)
 
   -- One that was never counted is unknown after any calls without a drop of the key.
   pub unknown-kept : keyOf key plain .counted ≡ false → NeverDropped key cs → createsFieldOf (pageAt (seen (after b cs .space)) last) ≡ 0
@@ -76,7 +76,7 @@ module _ (plain : PlainBook) (b : Book) (cs : List Call) (g : GoodPlain plain) (
 module _ (b : Book) (cs : List Call) (g : GoodStart b) (key last : ℕ)
     (word : unpackHead (wordOf key (after b cs)) ≡ accepted (Extent last)) where
   pub total-from : keyOf key (plainOf b) .counted ≡ true
-      → createsFieldOf (pageAt (seen (after b cs .space)) last) ≡ length (keyOf key (plainAfter (plainOf b) cs) .list)
+      → createsFieldOf (pageAt (seen (after b cs .space)) last) ≡ totalTold (length (keyOf key (plainAfter (plainOf b) cs) .list))
   total-from counted = total-kept (plainOf b) b cs (start-good b g) (start-agrees b g) (start-shape b g) key last word counted
 
   pub unknown-from : keyOf key (plainOf b) .counted ≡ false → NeverDropped key cs
@@ -84,12 +84,12 @@ module _ (b : Book) (cs : List Call) (g : GoodStart b) (key last : ℕ)
   unknown-from counted never =
       unknown-kept (plainOf b) b cs (start-good b g) (start-agrees b g) (start-shape b g) key last word counted never
 
--- After any calls on a fresh book, in shape, every total is exact.
+-- After any calls on a fresh book, in shape, every total is exact, or 0 where creates can't tell it.
 pub total-fresh-book : (body : List ℕ) (heads : ℕ) (cs : List Call)
     → outOfShape (length body) (length (plainFresh (length body) heads .keys)) ≡ false → (key last : ℕ)
     → unpackHead (wordOf key (after (fresh body heads) cs)) ≡ accepted (Extent last)
     → createsFieldOf (pageAt (seen (after (fresh body heads) cs .space)) last)
-    ≡ length (keyOf key (plainAfter (plainFresh (length body) heads) cs) .list)
+    ≡ totalTold (length (keyOf key (plainAfter (plainFresh (length body) heads) cs) .list))
 total-fresh-book body heads cs shape key last word =
     total-kept (plainFresh (length body) heads) (fresh body heads) cs (fresh-good (length body) heads) (fresh-agrees body heads)
     shape key last word

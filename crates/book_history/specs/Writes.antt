@@ -20,7 +20,7 @@ use Rattle.scripthash_pages.specs.Entries.{lastOf, Spot, spotBehind}
 use Rattle.scripthash_free.specs.FreeList.{Block, gapBlocks}
 use Rattle.book_statements.specs.Calls.{Change, load, append, drop}
 use Rattle.book_rules.specs.Places.{payloadLen, stays, movesTo, loadsTo}
-use Rattle.book_limits.specs.Limits.{pageAfter}
+use Rattle.book_limits.specs.Limits.{pageAfter, gapEnd}
 use Rattle.book_space.specs.Space.{Space, takeBlock}
 use Rattle.book_keys.specs.Keys.{pageAt, slabScan, tailAt, content}
 use Rattle.book.specs.Book.{Book, wordOf, seen}
@@ -85,7 +85,7 @@ freeingAll (x ∷ xs) = both (freeing x) (freeingAll xs)
 
 -- A page or a run taken at the mark: the blocks of the gap before it are freed, and the mark rises.
 unfoldable pub takingPages : Space → SpaceWrites
-takingPages s = both (freeingAll (gapBlocks (s .mark) (pageAfter (s .mark)))) theMark
+takingPages s = both (freeingAll (gapBlocks (s .mark) (gapEnd (s .mark)))) theMark
 
 -- A block taken: the free head of its class where that isn't 0; otherwise the mark, and for a page the gap before it.
 unfoldable pub taking : ℕ → Space → SpaceWrites

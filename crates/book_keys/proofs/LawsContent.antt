@@ -1,5 +1,5 @@
 -- What a key holds, by its place. Assumes nothing.
-use Prim.Native.Nat.{ℕ, zero, suc, _≤_}
+use Prim.Native.Nat.{_<_, ℕ, zero, suc, _≤_}
 use mathlib.Core.Bool.{Bool, true, false, cond}
 use mathlib.Core.List.{[], _∷_}
 use mathlib.Core.Logic.{_⊎_, inl, inr, ⊎-elim}
@@ -14,6 +14,7 @@ use Rattle.scripthash_layout.specs.Head.{modeOf, payloadOf, offsetOf, usedOf, c
 use Rattle.scripthash_layout.specs.declared.head.ShHeadValue.{ShHeadValue}
 use Rattle.scripthash_layout.specs.declared.head.ShHeadValue.the-variants.{Empty, Inline, Slab, Extent}
 use Rattle.scripthash_stream.specs.Stream.{Scan}
+use Rattle.book_limits.specs.Limits.{slabsEnd}
 use Rattle.book_keys.specs.Keys.{soundly, slabScan, Chain, chainAt, Content, pageBlocks, contentAt, content, Ground}
 use Rattle.book_keys.proofs.LawsSound.{soundly-no, was-sound}
 
@@ -89,10 +90,10 @@ no-slab-place v class used off w e =
     let z : _≡_ {A = ℕ} 0 1 = ⊎-elim (λ a. cc) (λ b. ⊎-elim (λ d. let f = d .1 in cc) (λ d. let f = d .1 in cc) b) w in
     omega arith
 
--- a word that tells a slab tells two numbers or more
-pub slab-from-two : (w class used off : ℕ) → unpackHead w ≡ accepted (Slab class used off) → 2 ≤ used
+-- a word that tells a slab tells two numbers or more, and an offset below the end of slabs
+slab-told : (w class used off : ℕ) → unpackHead w ≡ accepted (Slab class used off) → (2 ≤ used) × (off < slabsEnd)
 unfolding unpackHead refuseIf
-slab-from-two w class used off e = by-mode (modeOf w) refl
+slab-told w class used off e = by-mode (modeOf w) refl
   where
     inline : (b : Bool) → accepted (cond b Empty (Inline w 1)) ≡ accepted (Slab class used off) → ⊥
     inline true f = no-slab-place Empty class used off (inl refl) (accepted-inj f)
@@ -103,13 +104,14 @@ slab-from-two w class used off e = by-mode (modeOf w) refl
         (accepted-inj (passed (eqb (payloadOf w) 0) _ _ f .1))
 
     stored : refuseIf (leb (usedOf w) 1) slabUsedTooSmall (accepted (Slab (classOf w) (usedOf w) (offsetOf w)))
-        ≡ accepted (Slab class used off) → 2 ≤ used
+        ≡ accepted (Slab class used off) → (2 ≤ used) × (off < slabsEnd)
     stored f =
         let p = passed (leb (usedOf w) 1) _ _ f in
         let same : usedOf w ≡ used = let g = p .1 in cc in
-        omega (arith, leb-false (usedOf w) 1 (p .0))
+        let at : offsetOf w ≡ off = let g = p .1 in cc in
+        (omega (arith, leb-false (usedOf w) 1 (p .0)), omega arith)
 
-    by-mode : (mode : ℕ) → modeOf w ≡ mode → 2 ≤ used
+    by-mode : (mode : ℕ) → modeOf w ≡ mode → (2 ≤ used) × (off < slabsEnd)
     by-mode zero m = absurd (inline (eqb w 0) (rw m at e))
     by-mode (suc zero) m = stored (rw m at e)
     by-mode (suc (suc zero)) m = absurd (refused≢accepted (rw m at e))
@@ -118,3 +120,9 @@ slab-from-two w class used off e = by-mode (modeOf w) refl
         let not-1 = ne-eqb (modeOf w) 1 (λ (z : modeOf w ≡ 1). omega arith) in
         let not-2 = ne-eqb (modeOf w) 2 (λ (z : modeOf w ≡ 2). omega arith) in
         absurd (pages (rw (not-0, not-1, not-2) at e))
+
+pub slab-from-two : (w class used off : ℕ) → unpackHead w ≡ accepted (Slab class used off) → 2 ≤ used
+slab-from-two w class used off e = slab-told w class used off e .0
+
+pub slab-below : (w class used off : ℕ) → unpackHead w ≡ accepted (Slab class used off) → off < slabsEnd
+slab-below w class used off e = slab-told w class used off e .1

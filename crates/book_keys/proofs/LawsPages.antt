@@ -24,7 +24,7 @@ use Rattle.scripthash_pages.specs.Entries.{pageScan, pageEntries}
 use Rattle.scripthash_pages.proofs.LawsEntries.{place-accepted, scan-placed}
 use Rattle.scripthash_free.specs.FreeList.{isBlock}
 use Rattle.scripthash_free.proofs.LawsBlock.{both, block-stands}
-use Rattle.book_keys.specs.Keys.{sure, goOn, goodExtent, createsGood, pageAt, linkScan, Last, lastAt, Tail, tailAt, Ground}
+use Rattle.book_keys.specs.Keys.{sure, goOn, goodExtent, pageAt, linkScan, Last, lastAt, Tail, tailAt, Ground}
 use Rattle.book_keys.specs.Steps.{soundLast, linkRead, lastOfPage, lastRead, tailRead, pageInto}
 use Rattle.book_keys.proofs.LawsSound.{sure-yes, sure-no, was-sure, goes-on, Going, going, lastSound, first-by-last}
 
@@ -155,27 +155,12 @@ module _ (page : List ℕ) where
   tail-no e = then-no (lastRead page) _ e
 
   module _ (h : Last) (is : lastRead page ≡ accepted h) where
-    -- creates that can't be
-    pub tail-creates : createsGood (h .creates) ≡ false → tailRead page ≡ refused keyUnsound
-    unfolding tailRead
-    tail-creates e = then-yes (lastRead page) _ is ∙ sure-no (createsGood (h .creates)) _ e
-
     -- and else the stream decides
-    pub tail-by-last : createsGood (h .creates) ≡ true
-        → tailRead page ≡ andThen (lastSound (pageScan page)) (λ c. accepted (record { scan = c; last = h }))
+    pub tail-by-last : tailRead page ≡ andThen (lastSound (pageScan page)) (λ c. accepted (record { scan = c; last = h }))
     unfolding tailRead
-    tail-by-last e =
-        then-yes (lastRead page) _ is ∙ sure-yes (createsGood (h .creates)) _ e
+    tail-by-last =
+        then-yes (lastRead page) _ is
         ∙ ap (λ (a : Answer Scan). andThen a (λ c. accepted (record { scan = c; last = h }))) (link-by-last page)
-
--- creates too large, and creates that an append takes
-pub creates-large : (n : ℕ) → 2 ^ 32 - 1 ≤ n → createsGood n ≡ false
-unfolding createsGood
-creates-large n h = le-ltb n (2 ^ 32 - 1) h
-
-pub creates-fine : (n : ℕ) → n < 2 ^ 32 - 1 → createsGood n ≡ true
-unfolding createsGood
-creates-fine n h = lt-ltb n (2 ^ 32 - 1) h
 
 -- ---- where pages stand
 
@@ -269,20 +254,17 @@ last-sound s off h e =
 -- What is known of a key's last page as an append looks at it.
 pub record SoundTail (s : Ground) (off : ℕ) (t : Tail) : Type 0 where
   pub header : SoundLast s off (t .last)
-  pub creates-below : t .last .creates < 2 ^ 32 - 1
   pub link : SoundLink s 0 off (t .scan)
 
 pub tail-sound : (s : Ground) (off : ℕ) (t : Tail) → tailAt s off ≡ accepted t → SoundTail s off t
-unfolding tailAt createsGood
+unfolding tailAt
 tail-sound s off t e =
     let head = went-on (lastAt s off) _ e in
-    let made = was-sure (createsGood (head .0 .creates)) _ (head .2) in
-    let read = went-on (linkScan s 0 off) _ (made .1) in
+    let read = went-on (linkScan s 0 off) _ (head .2) in
     let same : record { scan = read .0; last = head .0 } ≡ t = accepted-inj (read .2) in
     let last-is : head .0 ≡ t .last = ap (λ (x : Tail). x .last) same in
     let scan-is : read .0 ≡ t .scan = ap (λ (x : Tail). x .scan) same in
     record {
       header = last-sound s off (t .last) (head .1 ∙ ap accepted last-is);
-      creates-below = rw last-is at (ltb-true (head .0 .creates) (2 ^ 32 - 1) (made .0));
       link = link-sound s 0 off (t .scan) (read .1 ∙ ap accepted scan-is);
     }

@@ -14,6 +14,7 @@ use Rattle.scripthash_stream.specs.Stream.{Scan, lastFrom}
 use Rattle.scripthash_slabs.specs.Slab.{slabUsed, decodeSlab}
 use Rattle.scripthash_fields.specs.Page.{linkOf, extentBaseOf, extentCountOf, createsFieldOf, namesExtent, isLastLink, linkOffset, onExtent}
 use Rattle.scripthash_pages.specs.Entries.{pageScan}
+use Rattle.book_limits.specs.Limits.{totalTold}
 use Rattle.scripthash_free.specs.FreeList.{Block, isBlock}
 
 -- The ground of keys: a body's bytes, and the mark below which blocks lie.
@@ -98,9 +99,9 @@ walk (suc k) s last prev off =
     (sure (not (isLastLink (linkOf (pageAt s off))))
     (andThen (walk k s last (lastFrom prev (c .numbers)) (linkOffset (linkOf (pageAt s off)))) (λ rest. accepted (pageThen off c rest)))))
 
--- The last page's creates tells the length of the list, or 0, which says that it was never counted.
+-- The last page's creates tells the length of the list, or 0, which says that it was never counted, or that it is more than creates can tell.
 unfoldable pub totalGood : ℕ → ℕ → Bool
-totalGood creates n = eqb creates 0 || eqb creates n
+totalGood creates n = eqb creates 0 || eqb creates (totalTold n)
 
 -- The chain of a key whose last page is at an offset: from the first page that the last one names, no more than mark / 4,096 pages, and the
 -- last page's creates is the length of the list, or unknown.
@@ -138,10 +139,6 @@ content s word = soundly (andThen (unpackHead word) (contentAt s))
 
 -- ---- an append's look at a key
 
--- Creates as an append takes it: 0, unknown, to 2^32 - 2.
-unfoldable pub createsGood : ℕ → Bool
-createsGood creates = ltb creates (2 ^ 32 - 1)
-
 -- What an append is told of a key's last page: its stream, and its header.
 pub record Tail : Type 0 where
   pub scan : Scan
@@ -150,5 +147,4 @@ pub record Tail : Type 0 where
 -- The last page of a key as an append looks at it: not at where its first offset leads.
 unfoldable pub tailAt : Ground → ℕ → Answer Tail
 tailAt s last =
-    andThen (lastAt s last)
-    (λ h. sure (createsGood (h .creates)) (andThen (linkScan s 0 last) (λ c. accepted (record { scan = c; last = h }))))
+    andThen (lastAt s last) (λ h. andThen (linkScan s 0 last) (λ c. accepted (record { scan = c; last = h })))

@@ -15,7 +15,7 @@ use Rattle.scripthash_fields.specs.Page.{linkOf, createsFieldOf, namesExtent, i
 use Rattle.scripthash_pages.specs.EntryAnswers.{PageRead}
 use Rattle.scripthash_pages.specs.Entries.{pageScan, pageEntries, pageReadOf}
 use Rattle.scripthash_free.specs.FreeList.{isBlock}
-use Rattle.book_keys.specs.Keys.{sure, goOn, goodExtent, pageAt, createsGood, Last, Chain, Content, Tail, Ground}
+use Rattle.book_keys.specs.Keys.{sure, goOn, goodExtent, pageAt, Last, Chain, Content, Tail, Ground}
 use Prim.Native.Nat.{ℕ, _+_, _^_, _≤_, _<_}
 use mathlib.Core.Bool.{false}
 use lib.ListN.{length}
@@ -50,8 +50,7 @@ lastRead page = sure (namesExtent page && isLastLink (linkOf page)) (andThen (go
 -- The last page of a key as an append looks at it, from its bytes.
 unfoldable pub tailRead : List ℕ → Answer Tail
 tailRead page =
-    andThen (lastRead page)
-    (λ h. sure (createsGood (h .creates)) (andThen (linkRead 0 page) (λ c. accepted (record { scan = c; last = h }))))
+    andThen (lastRead page) (λ h. andThen (linkRead 0 page) (λ c. accepted (record { scan = c; last = h })))
 
 -- ---- what is told of them
 

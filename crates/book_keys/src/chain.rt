@@ -139,9 +139,6 @@ fn read_tail(page: &[u8]) -> TailEnd
     let LastPage::Header { first, creates } = header else {
         return TailEnd::Refused(error::KEY_UNSOUND);
     };
-    if 0xffff_ffff <= creates {
-        return TailEnd::Refused(error::KEY_UNSOUND);
-    }
     let got = sh_page_stream_tail(page);
     let ScanStream::Scanned { taken, last } = got else {
         return TailEnd::Refused(error::KEY_UNSOUND);

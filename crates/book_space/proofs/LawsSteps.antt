@@ -11,7 +11,8 @@ use Rattle.error.proofs.LawsAnswer.{refuse-yes, refuse-no, then-yes, then-no, a
 use Rattle.scripthash_layout.specs.Sizes.{slabBytes, pageClass}
 use Rattle.scripthash_free.specs.FreeList.{Lists, Pop, isBlock, pushFree, popFree, pushAll, listsAfter, headsAfter}
 use Rattle.scripthash_free.proofs.LawsFree.{after-accepted, heads-accepted, push-yes}
-use Rattle.book_space.specs.Space.{Space, space, listsOf, withLists, Taken, takeMark, takeRun, takeFresh, takePopped, takeBlock}
+use Rattle.book_limits.specs.Limits.{slabsEnd, popEnd}
+use Rattle.book_space.specs.Space.{takeSlab, Space, space, listsOf, withLists, Taken, takeMark, takeRun, takeFresh, takePopped, takeBlock}
 use Rattle.book_space.specs.Space.{spaceAfter, release}
 use Rattle.book_space.specs.Steps.{Takes}
 
@@ -53,8 +54,17 @@ pub fresh-page : (s : Space) → takeFresh pageClass s ≡ takeRun 1 s
 unfolding takeFresh
 fresh-page s = refl
 
+-- A slab that fits below the end of slabs is taken at the mark, and another is refused.
+pub slab-low : (bytes : ℕ) (s : Space) → s .mark + bytes ≤ slabsEnd → takeSlab bytes s ≡ takeMark bytes s
+unfolding takeSlab
+slab-low bytes s h = refuse-no _ _ _ (le-ltb slabsEnd (s .mark + bytes) h)
+
+pub slab-high : (bytes : ℕ) (s : Space) → slabsEnd < s .mark + bytes → takeSlab bytes s ≡ refused noRoom
+unfolding takeSlab
+slab-high bytes s h = refuse-yes _ _ _ (lt-ltb slabsEnd (s .mark + bytes) h)
+
 -- A fresh slab is taken at the mark.
-pub fresh-slab : (class : ℕ) (s : Space) → (class ≡ pageClass → ⊥) → takeFresh class s ≡ takeMark (slabBytes class) s
+pub fresh-slab : (class : ℕ) (s : Space) → (class ≡ pageClass → ⊥) → takeFresh class s ≡ takeSlab (slabBytes class) s
 unfolding takeFresh
 fresh-slab class s other = rw (ne-eqb class pageClass other)
 
@@ -62,7 +72,7 @@ fresh-slab class s other = rw (ne-eqb class pageClass other)
 module _ (class : ℕ) (s : Space) where
   -- What the pop answers.
   abbrev popping : Answer Pop
-  popping = popFree class (s .mark) (listsOf s)
+  popping = popFree class (popEnd class (s .mark)) (listsOf s)
 
   -- What comes after the pop.
   abbrev going : Pop → Answer Taken

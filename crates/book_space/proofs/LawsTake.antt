@@ -18,8 +18,9 @@ use Rattle.scripthash_free.specs.FreeList.{Lists, Block, Pop, isBlock, isGap, g
 use Rattle.scripthash_free.proofs.LawsBlock.{block-stands, stands-block, slab-stands, lies-gap}
 use Rattle.scripthash_free.proofs.LawsFree.{after-accepted, carve-yes}
 use Rattle.scripthash_free.proofs.LawsGap.{gap-filled, adjoin-within, each-map}
-use Rattle.book_limits.specs.Limits.{pageAfter}
-use Rattle.book_space.specs.Space.{Space, space, listsOf, InShape, Taken, takeMark, rounded, takeRun, takeFresh, takePopped, runAtMark}
+use Rattle.book_limits.specs.Limits.{slabsEnd, pageAfter, gapEnd, popEnd}
+use Rattle.book_limits.proofs.LawsLimits.{GapTo, gap-end, pop-below}
+use Rattle.book_space.specs.Space.{Space, space, listsOf, InShape, Taken, takeMark, takeSlab, rounded, takeRun, takeFresh, takePopped, runAtMark}
 use Rattle.book_space.specs.Space.{takeBlock, release}
 use Rattle.book_space.proofs.LawsLists.{heads-stay, size-stays, outside-stays, stands-further, Popped, popped}
 use Rattle.book_space.proofs.LawsSteps.{mark-yes, mark-no, fresh-page, fresh-slab}
@@ -61,29 +62,36 @@ module _ (s : Space) (i : InShape s) where
   pub gap-ends : pageAfter (s .mark) ≤ length (s .body)
   gap-ends = omega arith
 
+  -- So does what is carved of it.
+  to : GapTo (s .mark) (gapEnd (s .mark))
+  to = gap-end (s .mark) (i .aligned)
+
+  gap-below : gapEnd (s .mark) ≤ length (s .body)
+  gap-below = omega (arith, to .within, gap-ends)
+
   -- It can be carved.
-  pub gap-carves : isGap (s .mark) (pageAfter (s .mark)) (length (s .body)) ≡ true
-  gap-carves = lies-gap (s .mark) (pageAfter (s .mark)) (length (s .body))
-      (record { aligned = i .aligned; begins = i .begins; ends = gap-ends })
+  pub gap-carves : isGap (s .mark) (gapEnd (s .mark)) (length (s .body)) ≡ true
+  gap-carves = lies-gap (s .mark) (gapEnd (s .mark)) (length (s .body))
+      (record { aligned = i .aligned; begins = i .begins; ends = gap-below })
 
   -- Its blocks lie in it.
-  gap-within : Each (Within (s .mark) (pageAfter (s .mark))) (gapBlocks (s .mark) (pageAfter (s .mark)))
+  gap-within : Each (Within (s .mark) (gapEnd (s .mark))) (gapBlocks (s .mark) (gapEnd (s .mark)))
   gap-within =
-      adjoin-within (s .mark) (gapBlocks (s .mark) (pageAfter (s .mark))) (pageAfter (s .mark))
-      (gap-filled (s .mark) (pageAfter (s .mark)) (omega arith) (omega arith))
+      adjoin-within (s .mark) (gapBlocks (s .mark) (gapEnd (s .mark))) (gapEnd (s .mark))
+      (gap-filled (s .mark) (gapEnd (s .mark)) (to .from) (to .whole))
 
   -- Rounding the mark up keeps the space.
   pub rounded-kept : Kept s (rounded s)
   unfolding rounded
   rounded-kept =
-      let bs = gapBlocks (s .mark) (pageAfter (s .mark)) in
-      let size = size-stays (s .mark) (pageAfter (s .mark)) bs (listsOf s) gap-within gap-ends in
+      let bs = gapBlocks (s .mark) (gapEnd (s .mark)) in
+      let size = size-stays (s .mark) (gapEnd (s .mark)) bs (listsOf s) gap-within gap-below in
       record {
         shape = shape-stays s (rounded s) i size (omega arith) (omega arith) (omega (arith, gap-ends));
         size = size;
         heads = heads-stay bs (listsOf s);
         rises = omega arith;
-        below = λ o n h. outside-stays (s .mark) (pageAfter (s .mark)) bs (listsOf s) gap-within gap-ends o n (inl h);
+        below = λ o n h. outside-stays (s .mark) (gapEnd (s .mark)) bs (listsOf s) gap-within gap-below o n (inl h);
       }
 
 -- The mark after rounding.
@@ -94,14 +102,14 @@ rounded-mark s = refl
 -- A run of pages at the mark of a space in shape, rounded up.
 module _ (pages : ℕ) (s : Space) (i : InShape s) where
   -- One that fits is taken, with the free lists after carving the gap.
-  pub run-yes : (l : Lists) → l ≡ listsAfter (carveGap (s .mark) (pageAfter (s .mark)) (listsOf s)) (listsOf s)
+  pub run-yes : (l : Lists) → l ≡ listsAfter (carveGap (s .mark) (gapEnd (s .mark)) (listsOf s)) (listsOf s)
       → pageAfter (s .mark) + pages * pageSize ≤ length (s .body)
       → takeRun pages s ≡ accepted
       (record { off = pageAfter (s .mark); space = space (l .body) (pageAfter (s .mark) + pages * pageSize) (l .heads) })
   unfolding runAtMark rounded
   run-yes l e h =
       let r = rounded-kept s i in
-      let carved = e ∙ after-accepted _ (listsOf s) (carve-yes (s .mark) (pageAfter (s .mark)) (listsOf s) (gap-carves s i)) in
+      let carved = e ∙ after-accepted _ (listsOf s) (carve-yes (s .mark) (gapEnd (s .mark)) (listsOf s) (gap-carves s i)) in
       rw carved (mark-yes (pages * pageSize) (rounded s) (omega (arith, r .size)))
 
   -- One that would pass the body's end is refused.
@@ -166,8 +174,10 @@ pub record Took (class : ℕ) (s : Space) (t : Taken) : Type 0 where
 -- A block of a class taken from a space in shape.
 module _ (class : ℕ) (s : Space) (small : class ≤ pageClass) (i : InShape s) where
   -- A fresh slab.
-  slab-took : {t : Taken} → class < pageClass → takeMark (slabBytes class) s ≡ accepted t → Took class s t
-  slab-took less e =
+  slab-took : {t : Taken} → class < pageClass → takeSlab (slabBytes class) s ≡ accepted t → Took class s t
+  unfolding takeSlab
+  slab-took less e' =
+      let e = passed _ _ _ e' .1 in
       let m = mark-taken (slabBytes class) s e in
       record {
         kept = mark-kept (slabBytes class) s i (omega arith) e;
@@ -193,7 +203,7 @@ module _ (class : ℕ) (s : Space) (small : class ≤ pageClass) (i : InShape s)
       (eq-or-lt-of-le small)
 
   -- A block after a pop.
-  popped-took : {t : Taken} (p : Pop) → Popped class (s .mark) (listsOf s) p → (o : Option ℕ) → p .block ≡ o
+  popped-took : {t : Taken} (p : Pop) → Popped class (popEnd class (s .mark)) (listsOf s) p → (o : Option ℕ) → p .block ≡ o
       → takePopped class s o (p .heads) ≡ accepted t → Took class s t
   unfolding takePopped
   popped-took p q none b e = fresh-took e
@@ -208,15 +218,15 @@ module _ (class : ℕ) (s : Space) (small : class ≤ pageClass) (i : InShape s)
           rises = omega arith;
           below = λ o n h. refl;
         };
-        stands = stands-further class off (min (s .mark) (length (s .body))) (s .mark) (omega arith) (q .block off b);
+        stands = stands-further class off (min (popEnd class (s .mark)) (length (s .body))) (s .mark) (omega (arith, pop-below class (s .mark))) (q .block off b);
       })
 
   -- A block.
   pub take-took : {t : Taken} → takeBlock class s ≡ accepted t → Took class s t
   unfolding takeBlock
   take-took e =
-      let w = went-on (popFree class (s .mark) (listsOf s)) (λ (p : Pop). takePopped class s (p .block) (p .heads)) e in
-      popped-took (w .0) (popped class (s .mark) (listsOf s) (w .1)) (w .0 .block) refl (w .2)
+      let w = went-on (popFree class (popEnd class (s .mark)) (listsOf s)) (λ (p : Pop). takePopped class s (p .block) (p .heads)) e in
+      popped-took (w .0) (popped class (popEnd class (s .mark)) (listsOf s) (w .1)) (w .0 .block) refl (w .2)
 
 -- ---- giving back
 

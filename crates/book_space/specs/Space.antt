@@ -11,7 +11,7 @@ use Rattle.error.specs.Refusal.{Answer, accepted, refused, refuseIf, andThen, n
 use Rattle.scripthash_layout.specs.Sizes.{slabBytes, pageClass, pageSize}
 use Rattle.scripthash_layout.specs.Head.{payloadStart}
 use Rattle.scripthash_free.specs.FreeList.{Lists, lists, Block, pushAll, gapBlocks, popFree}
-use Rattle.book_limits.specs.Limits.{leastBody, mostBody, outOfShape, pageAfter}
+use Rattle.book_limits.specs.Limits.{leastBody, mostBody, slabsEnd, outOfShape, pageAfter, gapEnd, popEnd}
 
 -- The body's bytes, the mark, and the nine free heads.
 pub record Space : Type 0 where
@@ -39,7 +39,7 @@ markBad size mark = not (eqb (mark % 16) 0) || (ltb mark payloadStart || ltb siz
 unfoldable pub shapeBroken : Space → ℕ → Bool
 shapeBroken s heads = outOfShape (length (s .body)) heads || markBad (length (s .body)) (s .mark)
 
--- A space in shape: its body is whole pages, from two to 2^30 bytes, and its mark is a multiple of 16 between 4,096 and the body's end.
+-- A space in shape: its body is whole pages, from two to 2^41 bytes, and its mark is a multiple of 16 between 4,096 and the body's end.
 pub record InShape (s : Space) : Type 0 where
   pub paged : length (s .body) % pageSize ≡ 0
   pub least : leastBody ≤ length (s .body)
@@ -61,10 +61,10 @@ takeMark bytes s =
     refuseIf (ltb (length (s .body)) (s .mark + bytes)) noRoom
     (accepted (record { off = s .mark; space = space (s .body) (s .mark + bytes) (s .free) }))
 
--- The mark rounded up to a page, and the blocks of the gap pushed onto their free lists.
+-- The mark rounded up to a page, and the blocks of the gap, save past the end of slabs, pushed onto their free lists.
 unfoldable pub rounded : Space → Space
 rounded s =
-    let l = pushAll (gapBlocks (s .mark) (pageAfter (s .mark))) (listsOf s) in space (l .body) (pageAfter (s .mark)) (l .heads)
+    let l = pushAll (gapBlocks (s .mark) (gapEnd (s .mark))) (listsOf s) in space (l .body) (pageAfter (s .mark)) (l .heads)
 
 -- A run of pages taken at the mark, rounded up.
 unfoldable pub runAtMark : ℕ → Space → Answer Taken
@@ -74,18 +74,22 @@ runAtMark pages s = takeMark (pages * pageSize) (rounded s)
 abbrev pub takeRun : ℕ → Space → Answer Taken
 takeRun pages s = runAtMark pages s
 
+-- A slab of so many bytes taken at the mark: refused where it would pass the end of slabs, or the body's.
+unfoldable pub takeSlab : ℕ → Space → Answer Taken
+takeSlab bytes s = refuseIf (ltb slabsEnd (s .mark + bytes)) noRoom (takeMark bytes s)
+
 -- A block of a class taken where none of it is freed: a page is a run of one.
 unfoldable pub takeFresh : ℕ → Space → Answer Taken
-takeFresh class s = cond (eqb class pageClass) (runAtMark 1 s) (takeMark (slabBytes class) s)
+takeFresh class s = cond (eqb class pageClass) (runAtMark 1 s) (takeSlab (slabBytes class) s)
 
 -- A block of a class taken after a pop: the block that was popped, or else a fresh one.
 unfoldable pub takePopped : ℕ → Space → Option ℕ → List ℕ → Answer Taken
 takePopped class s none free = takeFresh class s
 takePopped class s (some off) free = accepted (record { off = off; space = space (s .body) (s .mark) free })
 
--- A block of a class taken: popped where the free head isn't 0, or else from the mark.
+-- A block of a class taken: popped where the free head isn't 0, a slab up to the end of slabs alone, or else from the mark.
 unfoldable pub takeBlock : ℕ → Space → Answer Taken
-takeBlock class s = andThen (popFree class (s .mark) (listsOf s)) (λ p. takePopped class s (p .block) (p .heads))
+takeBlock class s = andThen (popFree class (popEnd class (s .mark)) (listsOf s)) (λ p. takePopped class s (p .block) (p .heads))
 
 -- The space after a take, or as it was where the take is refused.
 unfoldable pub spaceAfter : Space → Answer Taken → Space

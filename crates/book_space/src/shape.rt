@@ -10,7 +10,7 @@ use scripthash_layout::SH_PREFIX_PAGE;
 // The least length of a body.
 const LEAST_BODY: usize = 8192;
 // The greatest length of a body.
-const MOST_BODY: usize = 1073741824;
+const MOST_BODY: usize = 2199023255552;
 // The most heads, one for each key.
 const MOST_HEADS: usize = 65536;
 

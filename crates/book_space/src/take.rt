@@ -2,7 +2,8 @@
 ghost use mathlib.Core.Path.{_≡_};
 ghost use Rattle.error.specs.Refusal.{refusalOf};
 ghost use Rattle.scripthash_layout.specs.Sizes.{maxSlabClass, pageClass, slabBytes};
-ghost use Rattle.book_space.specs.Space.{takeMark, takeRun, takeBlock};
+ghost use Rattle.book_limits.specs.Limits.{pageAfter, gapEnd, popEnd};
+ghost use Rattle.book_space.specs.Space.{takeSlab, takeRun, takeBlock};
 ghost use Rattle.book_space.specs.Answers.{spaceOf, takeAnswer};
 ghost use Rattle.book_space.specs.Steps.{ToTake, Takes};
 use crate::State;
@@ -35,6 +36,33 @@ impl TakeBlock {
     }
 }
 
+// The end of slabs: a slab's head has 40 bits for its offset.
+const SLABS_END: u64 = 1 << 40;
+
+// Where the gap from the mark to a page ends that is carved: past the end of slabs it is empty.
+fn gap_end(mark: u64, from: u64) -> u64
+    requires { ⌜ from ≡ pageAfter mark ⌝ }
+    ensures { λ r. ⌜ r ≡ gapEnd mark ⌝ }
+{
+    if from <= SLABS_END {
+        return from;
+    }
+    mark
+}
+
+// The end up to which a freed block of a class may lie that is popped.
+fn pop_end(class: u8, mark: u64) -> u64
+    ensures { λ r. ⌜ r ≡ popEnd class mark ⌝ }
+{
+    if class == SH_PAGE_SLAB_CLASS {
+        return mark;
+    }
+    if mark < SLABS_END {
+        return mark;
+    }
+    SLABS_END
+}
+
 // Takes a run of pages at the mark, rounded up to a page; the blocks of the gap are pushed onto their free lists. Nothing is written
 // where the run would pass the body's end.
 pub fn take_run(body: &mut [u8], state: State, pages: u64) -> AfterTake
@@ -52,7 +80,8 @@ pub fn take_run(body: &mut [u8], state: State, pages: u64) -> AfterTake
         };
     }
     let mut free = state.free;
-    scripthash_free::carve_lent(body, &mut free, mark, from);
+    let to = gap_end(mark, from);
+    scripthash_free::carve_lent(body, &mut free, mark, to);
     AfterTake {
         answer: TakeBlock::At(from),
         state: State { mark: end, free },
@@ -62,11 +91,17 @@ pub fn take_run(body: &mut [u8], state: State, pages: u64) -> AfterTake
 // Takes a slab of a class 0 to 7 at the mark.
 fn take_slab(body: &[u8], state: State, class: u8) -> AfterTake
     requires { ⌜ ToTake (spaceOf (now body) state) class maxSlabClass ⌝ }
-    ensures { λ r. ⌜ Takes (takeMark (slabBytes class) (spaceOf (now (body .entry)) state)) (spaceOf (now (body .entry)) state)
+    ensures { λ r. ⌜ Takes (takeSlab (slabBytes class) (spaceOf (now (body .entry)) state)) (spaceOf (now (body .entry)) state)
         (spaceOf (now (body .entry)) (r .state)) (takeAnswer (r .answer)) ⌝ }
 {
     let mark = state.mark;
     let end = mark + scripthash_layout::slab_bytes(class);
+    if SLABS_END < end {
+        return AfterTake {
+            answer: TakeBlock::Refused(error::NO_ROOM),
+            state,
+        };
+    }
     if (body.len() as u64) < end {
         return AfterTake {
             answer: TakeBlock::Refused(error::NO_ROOM),
@@ -88,7 +123,7 @@ pub fn take_block(body: &mut [u8], state: State, class: u8) -> AfterTake
 {
     let mark = state.mark;
     let mut free = state.free;
-    let popped = scripthash_free::pop_lent(body, &mut free, class, mark);
+    let popped = scripthash_free::pop_lent(body, &mut free, class, pop_end(class, mark));
     match popped {
         PopFree::Block(off) => AfterTake {
             answer: TakeBlock::At(off),

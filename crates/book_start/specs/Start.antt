@@ -20,7 +20,7 @@ unfoldable pub AllApart : List Block → Type 0
 AllApart [] = Unit {0}
 AllApart (x ∷ xs) = Each (Disjoint x) xs × AllApart xs
 
--- A block that 35 would pass: it is aligned, and lies between 4,096 and the mark.
+-- A block that can stand: it is aligned, and lies between 4,096 and the mark. A slab past the end of slabs can, but can't be taken.
 abbrev pub Stands : ℕ → Block → Type 0
 Stands mark x = isBlock (x .class) (x .off) mark ≡ true
 
@@ -90,7 +90,7 @@ pub record GoodStart (b : Book) : Type 0 where
   pub sound : (key : ℕ) → key < length (b .heads) → (c : Content) × (content (seen (b .space)) (wordOf key b) ≡ accepted c)
   -- Every free list ends.
   pub ends : (class : ℕ) → class ≤ pageClass → IsFreeList (b .space .body) (getD (b .space .free) class 0) (freedOf (b .space) class)
-  -- Every free list holds only blocks that 35 would pass.
+  -- Every free list holds only blocks that can stand below the mark.
   pub stand : (class : ℕ) → class ≤ pageClass → Each (Stands (b .space .mark)) (blocksAt class (freedOf (b .space) class))
   -- No two blocks, held or free, share a byte.
   pub apart : AllApart (blocksOf b)
@@ -106,7 +106,7 @@ pub data Verdict : Type 0 where
   keyUnsound : ℕ → Verdict
   -- A block of the key shares a byte with one claimed before.
   keyShares : ℕ → Verdict
-  -- A block of the class's free list is one that 35 would turn back.
+  -- A block of the class's free list can't stand where it is named.
   freeStrays : ℕ → Verdict
   -- A block of the class's free list shares a byte with one claimed before; a list that doesn't end comes to such a block.
   freeShares : ℕ → Verdict
@@ -139,7 +139,7 @@ unfoldable pub claimContent : List Block → Answer Content → Claim
 claimContent before (accepted c) = claimAll before (c .blocks)
 claimContent before (refused number) = unfit
 
--- The blocks of a free list, claimed from an offset on: each must be one that 35 would pass. Of more blocks than there is room for, one
+-- The blocks of a free list, claimed from an offset on: each must be one that can stand. Of more blocks than there is room for, one
 -- shares a byte.
 unfoldable pub claimFreed : ℕ → Space → ℕ → List Block → ℕ → Claim
 claimFreed zero s class before off = cond (eqb off 0) (claimed before) shared

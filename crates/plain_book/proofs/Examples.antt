@@ -15,13 +15,13 @@ use Rattle.scripthash_free.specs.FreeList.{largestUpTo, blockThen, carve}
 use Rattle.book_rules.specs.declared.places.SlabFit.the-variants.{Spare, Tight}
 use Rattle.book_rules.specs.Outcomes.{Loaded, Appended, bookAfter, appendedTo, droppedOf, listing, loadedIn}
 use Rattle.book_statements.specs.Calls.{load, append, read, drop, Call, ask, change, done, asked, changed, answersTo}
-use Rattle.plain_book.specs.Space.{freedAll, takeMark, rounded, takeFresh, takeFrom, runAtMark}
+use Rattle.plain_book.specs.Space.{freedAll, takeMark, takeSlab, rounded, takeFresh, takeFrom, runAtMark}
 use Rattle.book_rules.specs.Places.{stays, larger, movesTo, loadsTo}
 use Rattle.plain_book.specs.Key.{Key, slab, written, longer, lastPage, headOf, freedPages, freedPlace, moved, joins, beginPage, keptAs, keyIn}
 use Rattle.plain_book.specs.Key.{appendPages, appendPlace, runPages, loadInto, loadPlace}
 use Rattle.book_statements.specs.Moves.{Tally, noMoves, counted, talliedBy, tallied, tallyOf}
 use Rattle.book_rules.specs.Offered.{offeredNumber, offeredList}
-use Rattle.book_limits.specs.Limits.{outOfShape}
+use Rattle.book_limits.specs.Limits.{outOfShape, pastSlabs}
 use Rattle.plain_book.specs.Book.{fresh, onKey, loads, appends, reads, drops, does, answers, asks}
 
 -- An append that is accepted: the key's new place, and the records rewritten.
@@ -40,7 +40,7 @@ inARow n (suc k) = n ∷ inARow (n + 1) k
 -- 5, 300, 301, 302, 303 to key 0 move at 300 and at 303; 9, 10 to key 1 take the block that was freed.
 pub run-case : answers (fresh 8192 2) (change (append 0 5) ∷ change (append 0 300) ∷ change (append 0 301) ∷ change (append 0 302) ∷ change (append 0 303) ∷ change (append 1 9) ∷ change (append 1 10) ∷ [])
     ≡ changed (at (Inline 5 1) 0) (changed (at (Slab 0 2 4096) 1) (changed (at (Slab 0 3 4096) 0) (changed (at (Slab 0 4 4096) 0) (changed (at (Slab 1 5 4112) 4) (changed (at (Inline 9 1) 0) (changed (at (Slab 0 2 4096) 1) done))))))
-unfolding refuseIf andThen divided shortest ulebLen lastFrom streamLenFrom firstClass classFor classWithSlack takeMark takeFresh takeFrom
+unfolding refuseIf andThen divided shortest ulebLen lastFrom streamLenFrom firstClass classFor classWithSlack takeMark takeSlab pastSlabs takeFresh takeFrom
     headOf freedPlace stays larger movesTo moved written longer appendPlace outOfShape onKey offeredNumber appends does bookAfter answered
     answersTo
 run-case = refl
@@ -57,7 +57,7 @@ turned-back = (refl, refl)
 -- A list that is loaded tight goes to a slab that has fewer slots than numbers, and moves with the next; a drop frees its block for another key.
 pub loaded-slab : answers (fresh 8192 2) (change (load Tight 0 (inARow 1 14)) ∷ change (append 0 15) ∷ ask (read 0 15) ∷ change (drop 0) ∷ ask (read 0 0) ∷ change (load Tight 1 (inARow 1 40)) ∷ [])
     ≡ changed (loads-in 0) (changed (at (Slab 2 15 4112) 14) (asked (accepted (listing (inARow 1 15) 0)) (changed (accepted (droppedOf 15)) (asked (accepted (listing [] 0)) (changed (loads-in 0) done)))))
-unfolding refuseIf andThen divided shortest ulebLen lastFrom streamLenFrom firstClass classFor classWithSlack takeMark takeFresh takeFrom
+unfolding refuseIf andThen divided shortest ulebLen lastFrom streamLenFrom firstClass classFor classWithSlack takeMark takeSlab pastSlabs takeFresh takeFrom
     headOf freedPlace stays larger movesTo loadsTo moved written longer appendPlace loadInto loadPlace outOfShape onKey offeredNumber
     offeredList loads appends reads drops asks does bookAfter answered answersTo inARow
 loaded-slab = refl
@@ -66,7 +66,7 @@ loaded-slab = refl
 pub loaded-spare : answers (fresh 8192 2)
     (change (load Spare 0 (inARow 1 14)) ∷ change (load Tight 1 (inARow 1 4)) ∷ change (append 0 15) ∷ change (append 1 5) ∷ [])
     ≡ changed (loads-in 0) (changed (loads-in 0) (changed (at (Slab 2 15 4096) 0) (changed (at (Slab 1 5 4176) 4) done)))
-unfolding refuseIf andThen divided shortest ulebLen lastFrom streamLenFrom firstClass classFor classWithSlack takeMark takeFresh takeFrom
+unfolding refuseIf andThen divided shortest ulebLen lastFrom streamLenFrom firstClass classFor classWithSlack takeMark takeSlab pastSlabs takeFresh takeFrom
     headOf freedPlace stays larger movesTo loadsTo moved written longer appendPlace loadInto loadPlace outOfShape onKey offeredNumber
     offeredList loads appends reads drops asks does bookAfter answered answersTo inARow
 loaded-spare = refl
@@ -75,7 +75,7 @@ loaded-spare = refl
 pub loaded-by-bytes : answers (fresh 8192 3)
     (change (load Tight 0 (inARow 1 15)) ∷ change (load Tight 1 (2 ^ 56 ∷ 2 ^ 57 ∷ 2 ^ 58 ∷ 2 ^ 59 ∷ [])) ∷ change (append 2 5) ∷ change (append 2 6) ∷ [])
     ≡ changed (loads-in 0) (changed (loads-in 0) (changed (at (Inline 5 1) 0) (changed (at (Slab 0 2 4192) 1) done)))
-unfolding refuseIf andThen divided shortest ulebLen lastFrom streamLenFrom firstClass classFor classWithSlack takeMark takeFresh takeFrom
+unfolding refuseIf andThen divided shortest ulebLen lastFrom streamLenFrom firstClass classFor classWithSlack takeMark takeSlab pastSlabs takeFresh takeFrom
     headOf freedPlace stays larger movesTo loadsTo moved written longer appendPlace loadInto loadPlace outOfShape onKey offeredNumber
     offeredList loads appends reads drops asks does bookAfter answered answersTo inARow
 loaded-by-bytes = refl
@@ -84,7 +84,7 @@ loaded-by-bytes = refl
 pub loaded-run : answers (fresh 16384 3) (change (append 0 1) ∷ change (append 0 2) ∷ change (load Spare 1 (inARow 1 4073)) ∷ change (append 1 4074) ∷ change (load Spare 2 (inARow 1 300)) ∷ change (load Spare 2 (inARow 1 256)) ∷ [])
     ≡ changed (at (Inline 1 1) 0) (changed (at (Slab 0 2 4096) 1) (changed (loads-in 2) (changed (at (Extent 12288) 0) (changed (refused 36) (changed (loads-in 0) done)))))
 unfolding refuseIf andThen divided shortest ulebLen lastFrom streamLenFrom firstClass classFor classWithSlack fitting firstPart greedyParts
-    replaceLast largestUpTo blockThen carve freedAll takeMark rounded runAtMark takeFresh takeFrom lastPage headOf freedPages freedPlace stays
+    replaceLast largestUpTo blockThen carve freedAll takeMark takeSlab pastSlabs rounded runAtMark takeFresh takeFrom lastPage headOf freedPages freedPlace stays
     larger movesTo loadsTo moved joins beginPage appendPages written longer appendPlace runPages loadInto loadPlace outOfShape onKey
     offeredNumber offeredList loads appends reads drops asks does bookAfter answered answersTo inARow
 loaded-run = refl
@@ -94,7 +94,7 @@ loaded-run = refl
 pub full-page : answers (fresh 16384 2) (change (load Spare 0 (inARow 1 4072)) ∷ change (append 0 4073) ∷ ask (read 0 4073) ∷ change (drop 0) ∷ change (load Spare 1 (inARow 1 256)) ∷ change (append 1 257) ∷ [])
     ≡ changed (loads-in 1) (changed (at (Extent 8192) 0) (asked (accepted (listing (inARow 1 4073) 2)) (changed (accepted (droppedOf 4073)) (changed (loads-in 0) (changed (at (Extent 8192) 256) done)))))
 unfolding refuseIf andThen divided shortest ulebLen lastFrom streamLenFrom firstClass classFor classWithSlack fitting firstPart greedyParts
-    replaceLast largestUpTo blockThen carve freedAll takeMark rounded runAtMark takeFresh takeFrom lastPage headOf freedPages freedPlace stays
+    replaceLast largestUpTo blockThen carve freedAll takeMark takeSlab pastSlabs rounded runAtMark takeFresh takeFrom lastPage headOf freedPages freedPlace stays
     larger movesTo loadsTo moved joins beginPage appendPages written longer appendPlace runPages loadInto loadPlace outOfShape onKey
     offeredNumber offeredList loads appends reads drops asks does bookAfter answered answersTo inARow
 full-page = refl
@@ -113,7 +113,7 @@ tallyAfter cs = tallyOf 0 (answers (fresh 65536 1) cs) noMoves
 pub records-reached : tallyAfter (change (load Tight 0 (inARow 1 6)) ∷ (appendSteps 7 1 122 ++ appendSteps (128 + 2 ^ 42) (2 ^ 42) 129))
     ≡ record { moves = 8; rewritten = 765 }
 unfolding refuseIf andThen divided shortest ulebLen lastFrom streamLenFrom firstClass classFor classWithSlack fitting firstPart greedyParts
-    replaceLast largestUpTo blockThen carve freedAll takeMark rounded runAtMark takeFresh takeFrom lastPage headOf freedPages freedPlace stays
+    replaceLast largestUpTo blockThen carve freedAll takeMark takeSlab pastSlabs rounded runAtMark takeFresh takeFrom lastPage headOf freedPages freedPlace stays
     larger movesTo loadsTo moved joins beginPage appendPages written longer appendPlace runPages loadInto loadPlace outOfShape onKey
     offeredNumber offeredList loads appends reads drops asks does bookAfter answered answersTo inARow appendSteps counted talliedBy tallied
     tallyOf
@@ -123,7 +123,7 @@ records-reached = refl
 -- The ceiling of 9 moves is reached: 1 to 146 are appended, and 111 more in steps of 2^50.
 pub moves-reached : tallyAfter (appendSteps 1 1 146 ++ appendSteps (146 + 2 ^ 50) (2 ^ 50) 111) ≡ record { moves = 9; rewritten = 764 }
 unfolding refuseIf andThen divided shortest ulebLen lastFrom streamLenFrom firstClass classFor classWithSlack fitting firstPart greedyParts
-    replaceLast largestUpTo blockThen carve freedAll takeMark rounded runAtMark takeFresh takeFrom lastPage headOf freedPages freedPlace stays
+    replaceLast largestUpTo blockThen carve freedAll takeMark takeSlab pastSlabs rounded runAtMark takeFresh takeFrom lastPage headOf freedPages freedPlace stays
     larger movesTo loadsTo moved joins beginPage appendPages written longer appendPlace runPages loadInto loadPlace outOfShape onKey
     offeredNumber offeredList loads appends reads drops asks does bookAfter answered answersTo inARow appendSteps counted talliedBy tallied
     tallyOf
@@ -134,7 +134,7 @@ moves-reached = refl
 pub spare-reached : tallyAfter (change (load Spare 0 (inARow 1 2)) ∷ (appendSteps 3 1 144 ++ appendSteps (146 + 2 ^ 50) (2 ^ 50) 111))
     ≡ record { moves = 8; rewritten = 763 }
 unfolding refuseIf andThen divided shortest ulebLen lastFrom streamLenFrom firstClass classFor classWithSlack fitting firstPart greedyParts
-    replaceLast largestUpTo blockThen carve freedAll takeMark rounded runAtMark takeFresh takeFrom lastPage headOf freedPages freedPlace stays
+    replaceLast largestUpTo blockThen carve freedAll takeMark takeSlab pastSlabs rounded runAtMark takeFresh takeFrom lastPage headOf freedPages freedPlace stays
     larger movesTo loadsTo moved joins beginPage appendPages written longer appendPlace runPages loadInto loadPlace outOfShape onKey
     offeredNumber offeredList loads appends reads drops asks does bookAfter answered answersTo inARow appendSteps counted talliedBy tallied
     tallyOf
@@ -148,7 +148,7 @@ pub padded :
     answers (record { size = 8192; keys = found ∷ []; space = record { mark = 4112; stacks = replicate 9 [] } })
     (change (append 0 7) ∷ change (append 0 8) ∷ ask (read 0 4) ∷ [])
     ≡ changed (at (Slab 0 3 4096) 0) (changed (at (Slab 1 4 4112) 3) (asked (accepted (listing (5 ∷ 6 ∷ 7 ∷ 8 ∷ []) 0)) done))
-unfolding refuseIf andThen divided shortest ulebLen lastFrom streamLenFrom firstClass classFor classWithSlack takeMark takeFresh takeFrom
+unfolding refuseIf andThen divided shortest ulebLen lastFrom streamLenFrom firstClass classFor classWithSlack takeMark takeSlab pastSlabs takeFresh takeFrom
     headOf freedPlace stays larger movesTo moved written longer appendPlace outOfShape onKey offeredNumber appends reads asks does bookAfter
     answered answersTo
 padded = refl

@@ -48,6 +48,15 @@ module _ (f g : Owner → Option Block) where
             (to v x e);
       }
 
+  -- The mark rises.
+  pub apart-raised : (mark higher : ℕ) → mark ≤ higher → ((w : Owner) (x : Block) → g w ≡ some x → f w ≡ some x) → Apart mark f
+      → Apart higher g
+  apart-raised mark higher h to p =
+      record {
+        stands = λ w x e. raised mark higher x h (p .stands w x (to w x e));
+        apart = λ v w x y n e e'. p .apart v w x y n (to v x e) (to w y e');
+      }
+
   -- Owners are named anew, each by another name.
   pub apart-renamed : (mark : ℕ) (old new : Owner → Owner) → ((w : Owner) → new (old w) ≡ w)
       → ((w : Owner) (x : Block) → g w ≡ some x → f (old w) ≡ some x)

@@ -61,7 +61,7 @@ start-spent : (list : List ℕ) (place : Place) → Fits list place → Spent (l
 unfolding Fits
 start-spent list empty f = (f, refl, refl)
 start-spent list inline f = (f, refl, refl)
-start-spent list (slab class off kept) (same, each, c, two, few, bytes) = record { class = c; few = few; so-far = inl (refl, refl) }
+start-spent list (slab class off kept) (same, each, c, two, few, bytes, low) = record { class = c; few = few; so-far = inl (refl, refl) }
 start-spent list (pages ps) f = (omega arith, omega arith)
 
 -- Take any book with a sound key and any list of calls: from the start or the last drop the key is moved no more than 9 times, and has no

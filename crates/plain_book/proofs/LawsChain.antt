@@ -96,7 +96,7 @@ pages-few {b} key ps g is = few-below (b .space .mark / 4096) (length ps) (λ i.
             (g .space .apart .apart (pageOf key i) (pageOf key j) _ _ (λ (z : pageOf key i ≡ pageOf key j). eqb-false i j q (ap depthOf z))
             (mine i l) (mine j k)))
 
--- The mark of a good book in shape is at most 2^30.
+-- The mark of a good book in shape is at most 2^41.
 pub mark-most : {b : Book} → GoodPlain b → outOfShape (b .size) (length (b .keys)) ≡ false → b .space .mark ≤ mostBody
 mark-most {b} g shape = omega (arith, g .within shape, in-shape (b .size) (length (b .keys)) shape .most)
 
@@ -121,18 +121,6 @@ unfolding Fits
 pages-count {b} key ps g is =
     let (same, fit) = rw is at (g .keys key .fits) in
     rw (← same) (held-count ps fit)
-
--- A list in a good book whose mark is at most 2^30 has fewer than 2^32 - 1 numbers.
-pub list-few : {b : Book} (key : ℕ) → GoodPlain b → b .space .mark ≤ mostBody → length (keyOf key b .list) < 2 ^ 32 - 1
-unfolding Fits
-list-few {b} key g low = go (keyOf key b .place) refl
-  where
-    go : (place : Place) → keyOf key b .place ≡ place → length (keyOf key b .list) < 2 ^ 32 - 1
-    go empty is = let f : length (keyOf key b .list) ≡ 0 = rw is at (g .keys key .fits) in omega arith
-    go inline is = let f : length (keyOf key b .list) ≡ 1 = rw is at (g .keys key .fits) in omega arith
-    go (slab class off kept) is = let f : Fits (keyOf key b .list) (slab class off kept) = rw is at (g .keys key .fits) in
-        omega (arith, f .4)
-    go (pages ps) is = omega (arith, pages-few key ps g is, pages-count key ps g is)
 
 -- ---- how the numbers rise
 

@@ -3,12 +3,14 @@
 use Prim.Native.Nat.{ℕ, zero, suc, _+_, _-_, _*_, _%_, _≤_, _<_}
 use mathlib.Core.Bool.{Bool, true, false, cond, false≢true}
 use mathlib.Core.List.{List, [], _∷_, _++_}
+use mathlib.Core.Logic.{inl, ⊎-elim}
 use mathlib.Core.Path.{_≡_, refl, sym, ap, subst, _∙_}
 use native.Mathlib.Omega.{arith}
-use lib.Dec.{eqb}
+use lib.Dec.{eqb, leb}
 use lib.ListN.{length, getD, set, replicate, length-set}
-use borrow.Author.Tests.{eqb-true}
+use borrow.Author.Tests.{eqb-true, leb-false}
 use Rattle.error.specs.Refusal.{Answer, accepted, refused}
+use Rattle.error.proofs.LawsAnswer.{passed}
 use Rattle.scripthash_layout.specs.Sizes.{slabBytes, pageClass, pageSize}
 use Rattle.scripthash_stream.specs.Stream.{streamLen}
 use Rattle.scripthash_cutting.specs.Cutting.{cutting, replaceLast}
@@ -17,22 +19,23 @@ use Rattle.scripthash_free.proofs.LawsGap.{gap-filled, gap-slabs}
 use Rattle.book_rules.specs.declared.places.SlabFit.{SlabFit}
 use Rattle.book_rules.specs.Outcomes.{bookAfter}
 use Rattle.book_statements.specs.Calls.{Change, load, append, drop, Made, Call}
-use Rattle.book_limits.specs.Limits.{pageAfter}
+use Rattle.book_limits.specs.Limits.{slabsEnd, pageAfter}
 use Rattle.book_rules.proofs.LawsRules.{moves-to, loads-to}
 use Rattle.book_statements.proofs.LawsCalls.{calls-keep}
-use Rattle.plain_book.specs.Space.{Space, stackOf, freed, freedAll, Taken, takeMark, rounded, takeRun, takeFresh, takeFrom, takeBlock, runAtMark}
+use Rattle.plain_book.specs.Space.{Space, stackOf, freed, freedAll, Taken, takeMark, takeSlab, rounded, takeRun, takeFresh, takeFrom, takeBlock, runAtMark}
 use Rattle.plain_book.specs.Key.{Key, emptyKey, Page, Place, empty, inline, slab, pages, freedPages, freedPlace, Placed, written, keyIn}
 use Rattle.plain_book.specs.Key.{longerPage, runPages}
 use Rattle.plain_book.specs.Book.{Book, fresh, Outcome, withKey, inUse, does, after, serves}
 use Rattle.plain_book.specs.Owners.{places}
 use Rattle.plain_book.specs.Sound.{Fits}
 use Rattle.plain_book.specs.Good.{GoodPlain}
-use Rattle.plain_book.specs.Filled.{bytesIn, bytesHeld, bytesOnStack, bytesFreed, Fills, Filled}
+use Rattle.plain_book.specs.Filled.{bytesIn, bytesHeld, bytesOnStack, bytesFreed, Fills, Filled, MarkWhole}
 use Rattle.plain_book.specs.Did.{LoadDid, loaded-none, loaded-one, loaded-slab, loaded-run, AppendDid, began, stayed, moved-slab, moved-page, joined-page, begun-page}
 use Rattle.plain_book.proofs.LawsHistory.{load-did, append-did, drop-did}
 use Rattle.plain_book.proofs.LawsOwners.{withStack}
 use Rattle.plain_book.proofs.LawsTaking.{took-stack, took-mark, freed-stacks}
 use Rattle.plain_book.proofs.LawsGood.{fresh-good, call-good}
+use Rattle.plain_book.proofs.LawsMark.{call-whole}
 
 -- ---- one stack, and one key, changes
 
@@ -110,39 +113,57 @@ full-carved (b ∷ bs) s others end (is, a) (b7, e) f =
     (freed-stacks bs (s .mark + slabBytes (b .class)) (s .mark) (freed (b .class) (b .off) s .stacks))
     all
 
--- The mark rounded up to a page.
-pub full-rounded : (s : Space) (others : ℕ) → Full s others → Full (rounded s) others
+-- The mark rounded up to a page, where no bytes are skipped.
+pub full-rounded : (s : Space) (others : ℕ) → MarkWhole (s .mark) → Full s others → Full (rounded s) others
 unfolding rounded
-full-rounded s others f =
-    let a = f .aligned in
-    let was = f .fills in
-    let up : s .mark ≤ pageAfter (s .mark) = omega arith in
-    let gap : (pageAfter (s .mark) - s .mark) % 16 ≡ 0 = omega arith in
-    full-carved (gapBlocks (s .mark) (pageAfter (s .mark))) s others (pageAfter (s .mark))
-    (gap-filled (s .mark) (pageAfter (s .mark)) up gap)
-    (gap-slabs (s .mark) (pageAfter (s .mark)) (pageAfter (s .mark)) up
-    (record { aligned = a; begins = omega arith; ends = omega arith }))
-    f
+full-rounded s others whole f = go (leb (pageAfter (s .mark)) slabsEnd) refl
+  where
+    a : s .mark % 16 ≡ 0
+    a = f .aligned
+
+    from : 4096 ≤ s .mark
+    from = let was = f .fills in omega arith
+
+    -- past the end of slabs the mark is at a page
+    at-page : slabsEnd < pageAfter (s .mark) → s .mark ≡ pageAfter (s .mark)
+    at-page past = ⊎-elim (λ (low : s .mark ≤ slabsEnd). absurd (omega arith)) (λ (paged : s .mark % pageSize ≡ 0). omega arith) whole
+
+    go : (low : Bool) → leb (pageAfter (s .mark)) slabsEnd ≡ low
+        → Full (record { mark = pageAfter (s .mark); stacks = freedAll (gapBlocks (s .mark) (cond low (pageAfter (s .mark)) (s .mark))) s .stacks })
+        others
+    go true e =
+        full-carved (gapBlocks (s .mark) (pageAfter (s .mark))) s others (pageAfter (s .mark))
+        (gap-filled (s .mark) (pageAfter (s .mark)) (omega arith) (omega arith))
+        (gap-slabs (s .mark) (pageAfter (s .mark)) (pageAfter (s .mark)) (omega arith)
+        (record { aligned = a; begins = from; ends = omega arith }))
+        f
+    go false e =
+        let none-skipped : s .mark ≡ pageAfter (s .mark) = at-page (leb-false (pageAfter (s .mark)) slabsEnd e) in
+        let carved = full-carved (gapBlocks (s .mark) (s .mark)) s others (s .mark)
+        (gap-filled (s .mark) (s .mark) (omega arith) (omega arith))
+        (gap-slabs (s .mark) (s .mark) (s .mark) (omega arith) (record { aligned = a; begins = from; ends = omega arith }))
+        f in
+        subst (λ (m : ℕ). Full (record { mark = m; stacks = freedAll (gapBlocks (s .mark) (s .mark)) s .stacks }) others) none-skipped carved
 
 -- A run of pages is taken.
-pub full-run : (end n : ℕ) (s : Space) (others : ℕ) {t : Taken} → takeRun end n s ≡ accepted t → Full s others
+pub full-run : (end n : ℕ) (s : Space) (others : ℕ) {t : Taken} → MarkWhole (s .mark) → takeRun end n s ≡ accepted t → Full s others
     → Full (t .space) (n * pageSize + others)
 unfolding runAtMark
-full-run end n s others e f =
+full-run end n s others w e f =
     subst (λ (v : Taken). Full (v .space) (n * pageSize + others)) (sym (took-mark end (n * pageSize) (rounded s) e))
-    (full-marked (rounded s) others (n * pageSize) (omega arith) (full-rounded s others f))
+    (full-marked (rounded s) others (n * pageSize) (omega arith) (full-rounded s others w f))
 
 -- A block of a class is taken.
-pub full-taken : (end class : ℕ) (s : Space) (others : ℕ) {t : Taken} → class ≤ 8 → takeBlock end class s ≡ accepted t → Full s others
+pub full-taken : (end class : ℕ) (s : Space) (others : ℕ) {t : Taken} → MarkWhole (s .mark) → class ≤ 8 → takeBlock end class s ≡ accepted t → Full s others
     → Full (t .space) (slabBytes class + others)
-unfolding takeFrom takeFresh
-full-taken end class s others {t} c e f = from-stack (stackOf class s) refl e
+unfolding takeFrom takeFresh takeSlab
+full-taken end class s others {t} w c e f = from-stack (stackOf class s) refl e
   where
-    fresh-block : (b : Bool) → eqb class pageClass ≡ b → cond b (takeRun end 1 s) (takeMark end (slabBytes class) s) ≡ accepted t
+    fresh-block : (b : Bool) → eqb class pageClass ≡ b → cond b (takeRun end 1 s) (takeSlab end (slabBytes class) s) ≡ accepted t
         → Full (t .space) (slabBytes class + others)
-    fresh-block true q e = subst (λ (k : ℕ). Full (t .space) (slabBytes k + others)) (sym (eqb-true class pageClass q)) (full-run end 1 s others e f)
+    fresh-block true q e = subst (λ (k : ℕ). Full (t .space) (slabBytes k + others)) (sym (eqb-true class pageClass q)) (full-run end 1 s others w e f)
     fresh-block false q e =
-        subst (λ (v : Taken). Full (v .space) (slabBytes class + others)) (sym (took-mark end (slabBytes class) s e))
+        subst (λ (v : Taken). Full (v .space) (slabBytes class + others)) (sym (took-mark end (slabBytes class) s (passed _ _ _ e .1)))
         (full-marked s others (slabBytes class) (omega arith) f)
 
     from-stack : (os : List ℕ) → stackOf class s ≡ os → takeFrom end class os s ≡ accepted t → Full (t .space) (slabBytes class + others)
@@ -203,34 +224,35 @@ run-many off [] = refl
 run-many off (p ∷ []) = refl
 run-many off (p ∷ q ∷ ps) = ap suc (run-many (off + pageSize) (q ∷ ps))
 
-full-append : (end held : ℕ) (list : List ℕ) (n : ℕ) (s : Space) (others : ℕ) {old : Place} {p : Placed} → Classed old
+full-append : (end held : ℕ) (list : List ℕ) (n : ℕ) (s : Space) (others : ℕ) {old : Place} {p : Placed} → MarkWhole (s .mark) → Classed old
     → AppendDid end held list n s old p → Full s (bytesIn old + others) → Leaves others p
 unfolding bytesIn
-full-append end held list n s others c began f = f
-full-append end held list n s others c (stayed class off kept q) f = f
-full-append end held list n s others c (moved-slab old class t out q got) f =
+full-append end held list n s others w c began f = f
+full-append end held list n s others w c (stayed class off kept q) f = f
+full-append end held list n s others w c (moved-slab old class t out q got) f =
     let m = moves-to (length list) (streamLen list) q in
-    let h = full-taken end class s (bytesIn old + others) (omega (arith, m .slab)) got f in
+    let h = full-taken end class s (bytesIn old + others) w (omega (arith, m .slab)) got f in
     full-freed-place old (t .space) (slabBytes class + others) c (same-full (t .space) (omega arith) h)
-full-append end held list n s others c (moved-page old t out q got) f =
-    let h = full-taken end pageClass s (bytesIn old + others) (omega arith) got f in
+full-append end held list n s others w c (moved-page old t out q got) f =
+    let h = full-taken end pageClass s (bytesIn old + others) w (omega arith) got f in
     full-freed-place old (t .space) (pageSize + others) c (same-full (t .space) (omega arith) h)
-full-append end held list n s others c (joined-page ps q) f =
+full-append end held list n s others w c (joined-page ps q) f =
     same-full s (ap (λ (k : ℕ). k * pageSize + others) (sym (joined-many n ps))) f
-full-append end held list n s others c (begun-page ps t q got) f =
-    let h = full-taken end pageClass s (length ps * pageSize + others) (omega arith) got f in
+full-append end held list n s others w c (begun-page ps t q got) f =
+    let h = full-taken end pageClass s (length ps * pageSize + others) w (omega arith) got f in
     let many = behind-many ps (record { off = t .off; room = 4072; part = written (n ∷ []) }) in
     same-full (t .space) (omega arith) h
 
-full-load : {fit : SlabFit} (end : ℕ) (s : Space) (others : ℕ) {ns : List ℕ} {p : Placed} → LoadDid fit end s ns p → Full s others → Leaves others p
+full-load : {fit : SlabFit} (end : ℕ) (s : Space) (others : ℕ) {ns : List ℕ} {p : Placed} → MarkWhole (s .mark)
+    → LoadDid fit end s ns p → Full s others → Leaves others p
 unfolding bytesIn
-full-load end s others loaded-none f = same-full s (omega arith) f
-full-load end s others loaded-one f = same-full s (omega arith) f
-full-load {fit} end s others {ns} (loaded-slab c t two q got) f =
-    let (few, class, fits) = loads-to fit (length ns) (streamLen ns) q in full-taken end c s others (omega arith) got f
-full-load end s others {ns} (loaded-run t two q got) f =
+full-load end s others w loaded-none f = same-full s (omega arith) f
+full-load end s others w loaded-one f = same-full s (omega arith) f
+full-load {fit} end s others {ns} w (loaded-slab c t two q got) f =
+    let (few, class, fits) = loads-to fit (length ns) (streamLen ns) q in full-taken end c s others w (omega arith) got f
+full-load end s others {ns} w (loaded-run t two q got) f =
     same-full (t .space) (ap (λ (k : ℕ). k * pageSize + others) (sym (run-many (t .off) (cutting ns))))
-    (full-run end (length (cutting ns)) s others got f)
+    (full-run end (length (cutting ns)) s others w got f)
 
 -- ---- books
 
@@ -278,34 +300,42 @@ fits-classed list (slab class off kept) f = let few = f .2 in omega arith
 fits-classed list (pages ps) f = tt
 
 -- A call keeps a good book full.
-pub call-full : (lost : ℕ) (b : Book) (c : Change) (a : Answer (Outcome (Made c))) → does b c ≡ a → GoodPlain b → FullBook lost b → FullBook lost (bookAfter b a)
+pub call-full : (lost : ℕ) (b : Book) (c : Change) (a : Answer (Outcome (Made c))) → does b c ≡ a → GoodPlain b → MarkWhole (b .space .mark)
+    → FullBook lost b → FullBook lost (bookAfter b a)
 unfolding does bookAfter
-call-full lost b c (refused number) e g f = f
-call-full lost b (load fit key ns) (accepted o) e g f =
+call-full lost b c (refused number) e g w f = f
+call-full lost b (load fit key ns) (accepted o) e g w f =
     let (p, within, free, rises, got, is) = load-did fit b key ns e in
     let (others, rest, held) = others-of lost b key within f in
     let unused = unused-none (places b key) free in
     rw (ap (λ (x : Outcome _). x .book) is)
     (full-with lost b key (keyIn ns (p .place) true) (p .space) others held
-    (full-load (b .size) (b .space) others got (same-full (b .space) (omega arith) rest)))
-call-full lost b (append key n) (accepted o) e g f =
+    (full-load (b .size) (b .space) others w got (same-full (b .space) (omega arith) rest)))
+call-full lost b (append key n) (accepted o) e g w f =
     let (p, within, rises, low, got, is) = append-did b key n e in
     let (others, rest, held) = others-of lost b key within f in
     rw (ap (λ (x : Outcome _). x .book) is)
     (full-with lost b key (keyIn _ (p .place) _) (p .space) others held
-    (full-append (b .size) _ _ n (b .space) others (fits-classed _ (places b key) (g .keys key .fits)) got rest))
-call-full lost b (drop key) (accepted o) e g f =
+    (full-append (b .size) _ _ n (b .space) others w (fits-classed _ (places b key) (g .keys key .fits)) got rest))
+call-full lost b (drop key) (accepted o) e g w f =
     let (within, is) = drop-did b key e in
     let (others, rest, held) = others-of lost b key within f in
     let gone = full-freed-place (places b key) (b .space) others (fits-classed _ (places b key) (g .keys key .fits)) rest in
     rw (ap (λ (x : Outcome _). x .book) is)
     (full-with lost b key emptyKey (freedPlace (places b key) (b .space)) others held (empty-full _ others gone))
 
--- Take any good book, of which so many bytes belong to nobody, and any list of calls: as many belong to nobody afterwards.
-pub filled-from : (lost : ℕ) (b : Book) (cs : List Call) → GoodPlain b → Filled lost b → Filled lost (after b cs)
-filled-from lost b cs g f =
-    calls-keep serves (λ x. GoodPlain x × FullBook lost x) (λ x c (good, full). (call-good c good, call-full lost x c (does x c) refl good full)) b cs
-    (g, record { nine = g .space .nine; aligned = g .space .aligned; fills = f }) .1 .fills
+-- Take any good book whose mark leaves none to be skipped, of which so many bytes belong to nobody, and any list of calls: as many belong to
+-- nobody afterwards.
+pub filled-from : (lost : ℕ) (b : Book) (cs : List Call) → GoodPlain b → MarkWhole (b .space .mark) → Filled lost b → Filled lost (after b cs)
+filled-from lost b cs g w f =
+    calls-keep serves (λ x. GoodPlain x × MarkWhole (x .space .mark) × FullBook lost x)
+    (λ x c (good, whole, full). (
+      call-good c good,
+      call-whole x c (does x c) refl whole,
+      call-full lost x c (does x c) refl good whole full,
+    ))
+    b cs
+    (g, w, record { nine = g .space .nine; aligned = g .space .aligned; fills = f }) .2 .fills
 
 -- Keys that hold nothing.
 none-held : (heads : ℕ) → bytesHeld (replicate heads emptyKey) ≡ 0
@@ -320,4 +350,4 @@ fresh-filled size heads = let e = none-held heads in rw e refl
 
 -- Nothing is leaked: after any list of calls on a fresh book the blocks of its keys and stacks take all bytes from 4,096 to the mark.
 pub nothing-leaked : (size heads : ℕ) (cs : List Call) → Filled 0 (after (fresh size heads) cs)
-nothing-leaked size heads cs = filled-from 0 (fresh size heads) cs (fresh-good size heads) (fresh-filled size heads)
+nothing-leaked size heads cs = filled-from 0 (fresh size heads) cs (fresh-good size heads) (inl (omega arith)) (fresh-filled size heads)

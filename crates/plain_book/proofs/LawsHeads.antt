@@ -18,6 +18,7 @@ use Rattle.scripthash_stream.proofs.LawsStream.{last-below}
 use Rattle.scripthash_free.specs.FreeList.{Block}
 use Rattle.scripthash_free.proofs.LawsBlock.{bytes-from-16, block-stands}
 use Rattle.plain_book.specs.Key.{Page, Place, empty, inline, slab, pages, lastPage, noPage, headOf}
+use Rattle.book_limits.specs.Limits.{mostBody, slabsEnd}
 use Rattle.book_statements.specs.Calls.{Call}
 use Rattle.plain_book.specs.Book.{Book, fresh, keyOf, after}
 use Rattle.plain_book.specs.Sound.{FitPages, Fits}
@@ -46,7 +47,7 @@ told-inline n some' low =
       unpacks = unpack-packed (Inline n 1) n (omega arith, omega arith) packs ∙ rw (ne-eqb n 0 (λ (z : n ≡ 0). omega arith));
     }
 
-told-slab : (class used off : ℕ) → class ≤ maxSlabClass → 2 ≤ used → used ≤ maxSlabCount → off < 2 ^ 40 → Told (Slab class used off)
+told-slab : (class used off : ℕ) → class ≤ maxSlabClass → 2 ≤ used → used ≤ maxSlabCount → off < slabsEnd → Told (Slab class used off)
 unfolding packHead refuseIf
 told-slab class used off c two few low =
     let packs : packHead (Slab class used off) ≡ accepted (slabWord class used off) =
@@ -79,33 +80,31 @@ last-above top prev [] r l = absurd (omega arith)
 last-above top prev (n ∷ []) (a, b, r) l = a
 last-above top prev (n ∷ m ∷ ns) (a, b, r) l = let x = last-above top n (m ∷ ns) r (omega arith) in omega arith
 
--- In a good book whose mark is at most 2^40, each key's place has a head word.
-pub head-told : {b : Book} (key : ℕ) → GoodPlain b → b .space .mark ≤ 2 ^ 40 → Told (headOf (keyOf key b .list) (keyOf key b .place))
+-- In a good book whose mark is at most 2^41, each key's place has a head word.
+pub head-told : {b : Book} (key : ℕ) → GoodPlain b → b .space .mark ≤ mostBody → Told (headOf (keyOf key b .list) (keyOf key b .place))
 unfolding headOf Fits has
 head-told {b} key g high = go (keyOf key b .list) (keyOf key b .place) refl (g .keys key .rises) (g .keys key .fits)
   where
-    stands : (w : Owner) (x : Block) → has (b .space) (places b) none w ≡ some x → (0 < x .off) × (x .off < 2 ^ 40)
+    stands : (w : Owner) (x : Block) → has (b .space) (places b) none w ≡ some x → (0 < x .off) × (x .off < 2 ^ 62)
     stands w x e =
         let s = block-stands (x .class) (x .off) (b .space .mark) (g .space .apart .stands w x e) in
         (omega (arith, s .begins), below (x .class) (x .off) (s .ends))
       where
-        below : (class off : ℕ) → off + slabBytes class ≤ b .space .mark → off < 2 ^ 40
+        below : (class off : ℕ) → off + slabBytes class ≤ b .space .mark → off < 2 ^ 62
         below class off ends = let p = bytes-from-16 class in omega arith
 
     go : (list : List ℕ) (place : Place) → keyOf key b .place ≡ place → Rising (2 ^ 62) 0 list → Fits list place → Told (headOf list place)
     go list empty is r f = told-empty
     go list inline is r f = told-inline (lastFrom 0 list) (last-above (2 ^ 62) 0 list r (omega arith))
         (last-below (2 ^ 62) 0 list (omega arith) r)
-    go list (slab class off kept) is r (same, shortest, c, two, few, bytes) =
-        let (a, l) = stands (slabOf key) (record { class = class; off = off }) (ap slabAt is) in
-        told-slab class (length list) off c two few l
+    go list (slab class off kept) is r (same, shortest, c, two, few, bytes, l) = told-slab class (length list) off c two few l
     go list (pages ps) is r (held-is, fit) =
         let (i, at) = last-at noPage ps fit in
         let (a, l) = stands (pageOf key i) _ (ap (pageIn i) is ∙ at) in
-        told-extent (lastPage noPage ps .off) a (omega arith)
+        told-extent (lastPage noPage ps .off) a l
 
--- After any list of calls on a fresh book of at most 2^40 bytes, each key's place has a head word.
-pub heads-told : (size heads key : ℕ) (cs : List Call) → 4096 ≤ size → size ≤ 2 ^ 40
+-- After any list of calls on a fresh book of at most 2^41 bytes, each key's place has a head word.
+pub heads-told : (size heads key : ℕ) (cs : List Call) → 4096 ≤ size → size ≤ mostBody
     → let k = keyOf key (after (fresh size heads) cs) in Told (headOf (k .list) (k .place))
 heads-told size heads key cs low high =
     let m = mark-within size heads cs low in

@@ -1,11 +1,12 @@
--- Room: a change that is refused with 36 is accepted on the same plain book with a body that goes on far enough behind the mark. Assumes nothing.
+-- Room: a change that is refused with 36 is accepted on the same plain book with a body that goes on far enough behind the mark, where slabs
+-- may be taken there. Assumes nothing.
 use Prim.Native.Nat.{ℕ, zero, suc, _+_, _*_, _≤_}
-use mathlib.Core.Bool.{Bool, true, false, cond}
+use mathlib.Core.Bool.{Bool, true, false, cond, not, _&&_}
 use mathlib.Core.List.{List, [], _∷_, _++_}
 use mathlib.Core.Option.{Option, none, some}
-use mathlib.Core.Path.{_≡_, refl, _∙_}
+use mathlib.Core.Path.{_≡_, refl, ap, _∙_}
 use native.Mathlib.Omega.{arith}
-use lib.Dec.{eqb, leb}
+use lib.Dec.{eqb, leb, ltb}
 use lib.ListN.{length, getD, replicate, length-append}
 use borrow.Author.Tests.{le-ltb, lt-leb, leb-false}
 use Rattle.error.specs.Refusal.{Answer, accepted, refused, refuseIf, andThen, noRoom}
@@ -14,18 +15,22 @@ use Rattle.scripthash_layout.specs.Sizes.{slabBytes, pageClass, pageSize}
 use Rattle.scripthash_layout.proofs.LawsSizes.{size-mono}
 use Rattle.scripthash_stream.specs.Stream.{streamLen}
 use Rattle.scripthash_cutting.specs.Cutting.{cutting}
+use Rattle.scripthash_free.proofs.LawsBlock.{block-stands}
 use Rattle.book_rules.specs.declared.places.SlabFit.{SlabFit}
 use Rattle.book_statements.specs.Calls.{Change, load, append, drop}
-use Rattle.book_limits.specs.Limits.{outOfShape, pageAfter}
+use Rattle.book_limits.specs.Limits.{slabsEnd, outOfShape, pageAfter, pastSlabs}
 use Rattle.book_rules.specs.Places.{stays, movesTo, loadsTo}
 use Rattle.book_rules.specs.Offered.{offeredNumber, offeredList}
 use Rattle.book_rules.proofs.LawsRules.{moves-to, loads-to}
-use Rattle.plain_book.specs.Space.{Space, takeMark, rounded, takeRun, takeFresh, takeFrom, runAtMark}
+use Rattle.plain_book.specs.Space.{Space, stackOf, takeMark, takeSlab, rounded, takeRun, takeFresh, takeFrom, takeBlock, runAtMark}
 use Rattle.plain_book.specs.Key.{Place, empty, inline, slab, pages, moved, joins, beginPage, appendPages, appendPlace}
 use Rattle.plain_book.specs.Key.{emptyKey, loadInto, loadPlace, longer}
 use Rattle.plain_book.specs.Book.{Book, onKey, keyOf, loads, appends, drops, does}
 use Rattle.plain_book.specs.Grown.{grown, pagesEnough}
+use Rattle.plain_book.specs.Owners.{stack, atDepth, has, places}
+use Rattle.plain_book.specs.Good.{GoodPlain}
 use Rattle.plain_book.proofs.LawsHistory.{all-same}
+use Rattle.plain_book.proofs.LawsOwners.{top-is}
 
 -- ---- what room enough gives
 
@@ -49,27 +54,40 @@ run-accepts : (end k : ℕ) (s : Space) → pageAfter (s .mark) + k * pageSize �
 unfolding runAtMark rounded
 run-accepts end k s h = mark-accepts end (k * pageSize) (rounded s) h
 
-from-accepts : (end class : ℕ) (os : List ℕ) (s : Space) → class ≤ pageClass → pageAfter (s .mark) + pageSize ≤ end
-    → Accepts (takeFrom end class os s)
+slab-accepts : (end bytes : ℕ) (s : Space) → s .mark + bytes ≤ slabsEnd → s .mark + bytes ≤ end → Accepts (takeSlab end bytes s)
+unfolding takeSlab
+slab-accepts end bytes s low h =
+    let (t, is) = mark-accepts end bytes s h in (t, refuse-no _ _ _ (le-ltb slabsEnd (s .mark + bytes) low) ∙ is)
+
+-- A page behind the mark, rounded up, ends within the body, and at or below the end of slabs; and so do the blocks on stacks.
+pub record Roomy (end : ℕ) (s : Space) : Type 0 where
+  pub ends : pageAfter (s .mark) + pageSize ≤ end
+  pub low : pageAfter (s .mark) + pageSize ≤ slabsEnd
+  pub tops : (class o : ℕ) (os : List ℕ) → stackOf class s ≡ o ∷ os → pastSlabs class o ≡ false
+
+block-accepts : (end class : ℕ) (s : Space) → class ≤ pageClass → Roomy end s → Accepts (takeBlock end class s)
 unfolding takeFrom takeFresh
-from-accepts end class [] s c h =
-    let big : slabBytes class ≤ 4096 = size-mono 4 {c = class} {d = 8} c in
-    by-choice (eqb class pageClass) (takeRun end 1 s) (takeMark end (slabBytes class) s) (run-accepts end 1 s (omega arith))
-    (mark-accepts end (slabBytes class) s (omega arith))
-from-accepts end class (o ∷ os) s c h = (_, refl)
+block-accepts end class s c r = go (stackOf class s) refl
+  where
+    go : (os : List ℕ) → stackOf class s ≡ os → Accepts (takeFrom end class os s)
+    go [] e =
+        let big : slabBytes class ≤ 4096 = size-mono 4 {c = class} {d = 8} c in
+        by-choice (eqb class pageClass) (takeRun end 1 s) (takeSlab end (slabBytes class) s) (run-accepts end 1 s (omega (arith, r .ends)))
+        (slab-accepts end (slabBytes class) s (omega (arith, r .low)) (omega (arith, r .ends)))
+    go (o ∷ os) e = (_, refuse-no _ _ _ (r .tops class o os e))
 
 -- Where a list goes.
 moved-accepts : (end : ℕ) (o : Option ℕ) (held : ℕ) (list : List ℕ) (old : Place) (s : Space) → ((c : ℕ) → o ≡ some c → c ≤ pageClass)
-    → pageAfter (s .mark) + pageSize ≤ end → Accepts (moved end o held list old s)
+    → Roomy end s → Accepts (moved end o held list old s)
 unfolding moved
-moved-accepts end (some class) held list old s few h = then-accepts _ _ (from-accepts end class _ s (few class refl) h)
-moved-accepts end none held list old s few h = then-accepts _ _ (from-accepts end pageClass _ s (omega arith) h)
+moved-accepts end (some class) held list old s few h = then-accepts _ _ (block-accepts end class s (few class refl) h)
+moved-accepts end none held list old s few h = then-accepts _ _ (block-accepts end pageClass s (omega arith) h)
 
 -- The class of a move is a slab's.
 some-class : (list : List ℕ) (c : ℕ) → movesTo (length list) (streamLen list) ≡ some c → c ≤ pageClass
 some-class list c q = let m = moves-to (length list) (streamLen list) q in omega (arith, m .slab)
 
-append-accepts : (end held : ℕ) (list : List ℕ) (n : ℕ) (place : Place) (s : Space) → pageAfter (s .mark) + pageSize ≤ end
+append-accepts : (end held : ℕ) (list : List ℕ) (n : ℕ) (place : Place) (s : Space) → Roomy end s
     → Accepts (appendPlace end held list n place s)
 unfolding appendPlace appendPages beginPage
 append-accepts end held list n empty s h = (_, refl)
@@ -77,19 +95,19 @@ append-accepts end held list n inline s h = moved-accepts end _ held list inline
 append-accepts end held list n (slab class off kept) s h =
     by-choice (stays class (length list) (longer n kept .bytes)) _ _ (_, refl) (moved-accepts end _ held list _ s (some-class list) h)
 append-accepts end held list n (pages ps) s h =
-    by-choice (joins n ps) _ _ (_, refl) (then-accepts _ _ (from-accepts end pageClass _ s (omega arith) h))
+    by-choice (joins n ps) _ _ (_, refl) (then-accepts _ _ (block-accepts end pageClass s (omega arith) h))
 
-load-accepts : (fit : SlabFit) (end : ℕ) (list : List ℕ) (s : Space) → pageAfter (s .mark) + (1 + length (cutting list)) * pageSize ≤ end
-    → Accepts (loadPlace fit end list s)
+load-accepts : (fit : SlabFit) (end : ℕ) (list : List ℕ) (s : Space) → Roomy end s
+    → pageAfter (s .mark) + (1 + length (cutting list)) * pageSize ≤ end → Accepts (loadPlace fit end list s)
 unfolding loadPlace loadInto
-load-accepts fit end [] s h = (_, refl)
-load-accepts fit end (n ∷ []) s h = (_, refl)
-load-accepts fit end (n ∷ m ∷ ns) s h = go (loadsTo fit (length (n ∷ m ∷ ns)) (streamLen (n ∷ m ∷ ns))) refl
+load-accepts fit end [] s r h = (_, refl)
+load-accepts fit end (n ∷ []) s r h = (_, refl)
+load-accepts fit end (n ∷ m ∷ ns) s r h = go (loadsTo fit (length (n ∷ m ∷ ns)) (streamLen (n ∷ m ∷ ns))) refl
   where
     go : (o : Option ℕ) → loadsTo fit (length (n ∷ m ∷ ns)) (streamLen (n ∷ m ∷ ns)) ≡ o → Accepts (loadInto end o (n ∷ m ∷ ns) s)
     go (some c) q =
         let (few, class, fits) = loads-to fit (length (n ∷ m ∷ ns)) (streamLen (n ∷ m ∷ ns)) q in
-        then-accepts _ _ (from-accepts end c _ s (omega arith) (omega arith))
+        then-accepts _ _ (block-accepts end c s (omega arith) r)
     go none q = then-accepts _ _ (run-accepts end (length (cutting (n ∷ m ∷ ns))) s (omega arith))
 
 -- ---- what is refused with 36 for want of room
@@ -148,15 +166,31 @@ module _ (b : Book) (bytes n : ℕ) (shape : outOfShape (b .size + bytes) (lengt
       after-shape false true q e = let z : 2 ≡ noRoom = cc in absurd (omega arith)
       after-shape false false q e = there (g e) (leb-false (length (b .keys)) key q)
 
-  -- A change that is refused with 36 is accepted on the grown book, if it has room enough.
-  pub room-accepts : (c : Change) → pageAfter (b .space .mark) + pagesEnough c * pageSize ≤ b .size + bytes
+  -- A change that is refused with 36 is accepted on the grown book, if it has room enough, for slabs too.
+  pub room-accepts : (c : Change) → Roomy (b .size + bytes) (b .space) → pageAfter (b .space .mark) + pagesEnough c * pageSize ≤ b .size + bytes
       → does b c ≡ refused noRoom → Accepts (does (grown bytes n b) c)
   unfolding does loads appends drops
-  room-accepts (load fit key ns) h =
+  room-accepts (load fit key ns) r h =
       rw (key-grown key)
       (key-grows key _ _ (if-grows _ _ _ _ (λ z. omega arith) (if-grows _ _ _ _ (λ z. omega arith) (list-grows true 0 ns _ _
-      (λ e. then-accepts _ _ (load-accepts fit (b .size + bytes) ns (b .space) h))))))
-  room-accepts (append key m) h =
+      (λ e. then-accepts _ _ (load-accepts fit (b .size + bytes) ns (b .space) r h))))))
+  room-accepts (append key m) r h =
       rw (key-grown key)
-      (key-grows key _ _ (number-grows true _ m _ _ (λ e. then-accepts _ _ (append-accepts (b .size + bytes) _ _ m _ (b .space) (omega arith)))))
-  room-accepts (drop key) h = rw (key-grown key) (key-grows key _ _ (λ e. (_, refl)))
+      (key-grows key _ _ (number-grows true _ m _ _ (λ e. then-accepts _ _ (append-accepts (b .size + bytes) _ _ m _ (b .space) r))))
+  room-accepts (drop key) r h = rw (key-grown key) (key-grows key _ _ (λ e. (_, refl)))
+
+-- In a good book whose mark leaves a page at or below the end of slabs, blocks on stacks end there too.
+pub good-roomy : (end : ℕ) (b : Book) → GoodPlain b → pageAfter (b .space .mark) + pageSize ≤ end
+    → pageAfter (b .space .mark) + pageSize ≤ slabsEnd → Roomy end (b .space)
+unfolding pastSlabs has
+good-roomy end b g ends low = record { ends = ends; low = low; tops = tops }
+  where
+    tops : (class o : ℕ) (os : List ℕ) → stackOf class (b .space) ≡ o ∷ os → not (eqb class pageClass) && ltb slabsEnd (o + slabBytes class) ≡ false
+    tops class o os e =
+        let mine = ap (atDepth class (length os)) e ∙ top-is class o os in
+        let s = block-stands class o (b .space .mark) (g .space .apart .stands (stack class (length os)) _ mine) in
+        rw (le-ltb slabsEnd (o + slabBytes class) (omega (arith, s .ends))) (never (not (eqb class pageClass)))
+      where
+        never : (t : Bool) → t && false ≡ false
+        never true = refl
+        never false = refl

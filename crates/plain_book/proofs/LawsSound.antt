@@ -22,6 +22,7 @@ use Rattle.plain_book.specs.Key.{countedAfter, onePage, longerPage, join
 use Rattle.plain_book.specs.Key.{runPages}
 use Rattle.book_rules.proofs.LawsRules.{stays-holds, moves-to, loads-to}
 use Rattle.plain_book.proofs.LawsKept.{len-snoc, longer-numbers, written-each, longer-each}
+use Rattle.plain_book.proofs.LawsSlabs.{taken-low}
 use Rattle.book_statements.specs.Calls.{Call}
 use Rattle.book_statements.specs.Moves.{noMoves}
 use Rattle.plain_book.specs.Book.{Book, fresh, keyOf, extended, after}
@@ -109,7 +110,7 @@ outgrown-two : (ns : List ℕ) (n : ℕ) (old : Place) → Fits ns old → Outgr
 unfolding Fits
 outgrown-two ns n empty f out = absurd out
 outgrown-two ns n inline f out = let d = length-append ns (n ∷ []) in (omega arith, omega arith)
-outgrown-two ns n (slab class off kept) (same, each, c, two, few, bytes) out = let d = length-append ns (n ∷ []) in (omega arith, few)
+outgrown-two ns n (slab class off kept) (same, each, c, two, few, bytes, low) out = let d = length-append ns (n ∷ []) in (omega arith, few)
 outgrown-two ns n (pages ps) f out = absurd out
 
 -- an append keeps a list fitting, where the new number is below 2^62
@@ -117,7 +118,7 @@ append-fits : (end count : ℕ) (ns : List ℕ) (n : ℕ) (s : Space) {old : Pla
     → AppendDid end count (ns ++ (n ∷ [])) n s old p → Fits (ns ++ (n ∷ [])) (p .place)
 unfolding Fits FitPages held written joins
 append-fits end count ns n s r l f began = omega (arith, length-append ns (n ∷ []))
-append-fits end count ns n s r l (same, each, c, two, few, bytes) (stayed class off kept q) =
+append-fits end count ns n s r l (same, each, c, two, few, bytes, low) (stayed class off kept q) =
     let (few', slots, fits) = stays-holds class (length (ns ++ (n ∷ []))) (longer n kept .bytes) q in (
       longer-numbers n kept ∙ ap (λ (l : List ℕ). l ++ (n ∷ [])) same,
       longer-each n kept each,
@@ -125,10 +126,11 @@ append-fits end count ns n s r l (same, each, c, two, few, bytes) (stayed class 
       omega (arith, length-append ns (n ∷ [])),
       few',
       fits,
+      low,
     )
 append-fits end count ns n s r l f (moved-slab old c t out q got) =
     let m = moves-to (length (ns ++ (n ∷ []))) (streamLen (ns ++ (n ∷ []))) q in
-    (refl, written-each (ns ++ (n ∷ [])), m .slab, outgrown-two ns n old f out .0, m .few, m .fits)
+    (refl, written-each (ns ++ (n ∷ [])), m .slab, outgrown-two ns n old f out .0, m .few, m .fits, taken-low end c s (m .slab) got)
 append-fits end count ns n s r l f (moved-page old t out q got) =
     let (two, few) = outgrown-two ns n old f out in
     (append-nil (ns ++ (n ∷ [])), ((omega arith, moved-small ns n r l few, omega arith, written-each (ns ++ (n ∷ []))), refl))
@@ -157,7 +159,7 @@ load-fits end s r loaded-none = refl
 load-fits end s r loaded-one = refl
 load-fits {fit} end s {ns} r (loaded-slab c t two q got) =
     let (few, class, fits) = loads-to fit (length ns) (streamLen ns) q in
-    (refl, written-each ns, class, two, few, fits)
+    (refl, written-each ns, class, two, few, fits, taken-low end c s class got)
 load-fits end s {ns} r (loaded-run t two q got) =
     let ok = pages-allowed ns (rising-words 0 ns (rising-below (2 ^ 62) (2 ^ 63) 0 ns (omega arith) r)) in
     (run-held (t .off) (cutting ns) ∙ ok .consecutive, run-fits (t .off) (cutting ns) (parts-some ns (cutting ns) (ok .consecutive) two) (ok .fit))

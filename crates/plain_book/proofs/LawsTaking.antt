@@ -7,7 +7,7 @@ use mathlib.Core.Option.{Option, none, some}
 use mathlib.Core.Path.{_≡_, refl, sym, ap, subst, _∙_}
 use native.Mathlib.Nat.{eq-or-lt-of-le}
 use native.Mathlib.Omega.{arith}
-use lib.Dec.{eqb}
+use lib.Dec.{leb, eqb}
 use lib.ListN.{length, length-set}
 use borrow.Author.Tests.{eqb-true, eqb-false}
 use Rattle.error.specs.Refusal.{accepted}
@@ -16,12 +16,13 @@ use Rattle.scripthash_layout.specs.Sizes.{slabBytes, pageClass, pageSize}
 use Rattle.scripthash_free.specs.FreeList.{Block, isBlock, Adjoin, Each, IsSlab, gapBlocks}
 use Rattle.scripthash_free.proofs.LawsBlock.{stands-block, slab-stands}
 use Rattle.scripthash_free.proofs.LawsGap.{gap-filled, gap-slabs}
-use Rattle.book_limits.specs.Limits.{pageAfter}
-use Rattle.plain_book.specs.Space.{Space, stackOf, freed, freedAll, Taken, takeMark, rounded, takeRun, takeFresh, takeFrom, takeBlock, runAtMark}
+use Rattle.book_limits.specs.Limits.{slabsEnd, pageAfter, pastSlabs, gapEnd}
+use Rattle.book_limits.proofs.LawsLimits.{gap-end}
+use Rattle.plain_book.specs.Space.{Space, stackOf, freed, freedAll, Taken, takeMark, takeSlab, rounded, takeRun, takeFresh, takeFrom, takeBlock, runAtMark}
 use Rattle.plain_book.specs.Key.{Place, pages, runPages}
 use Rattle.plain_book.specs.Owners.{Owner, hand, stack, slabOf, pageOf, pageNo, has}
 use Rattle.plain_book.specs.Good.{Good}
-use Rattle.plain_book.proofs.LawsApart.{apart-added, apart-run}
+use Rattle.plain_book.proofs.LawsApart.{apart-raised, apart-added, apart-run}
 use Rattle.plain_book.proofs.LawsOwners.{some-inj, none-some, below-top, withStack, changed-has, bytes-aligned, good-popped}
 use Rattle.plain_book.proofs.LawsOwners.{good-marked, atKey, key-slab, key-page}
 
@@ -81,17 +82,35 @@ good-carved (b ∷ bs) s at held end (is, a) (b7, e) g =
     (freed-stacks bs (s .mark + slabBytes (b .class)) (s .mark) (freed (b .class) (b .off) s .stacks))
     all
 
--- The mark rounded up to a page.
+-- The mark rises, with no block on a list.
+good-raised : (s : Space) (at : ℕ → Place) (held : Option Block) (m : ℕ) → s .mark ≤ m → m % 16 ≡ 0 → Good s at held
+    → Good (record { mark = m; stacks = s .stacks }) at held
+unfolding has
+good-raised s at held m up a g =
+    record {
+      nine = g .nine;
+      aligned = a;
+      from = omega (arith, g .from);
+      apart = apart-raised _ _ (s .mark) m up same (g .apart);
+    }
+  where
+    same : (w : Owner) (x : Block) → has (record { mark = m; stacks = s .stacks }) at held w ≡ some x → has s at held w ≡ some x
+    same hand x e = e
+    same (stack c d) x e = e
+    same (slabOf k) x e = e
+    same (pageOf k i) x e = e
+
+-- The mark rounded up to a page: the gap's blocks are freed, save past the end of slabs.
 pub good-rounded : (s : Space) (at : ℕ → Place) (held : Option Block) → Good s at held → Good (rounded s) at held
 unfolding rounded
 good-rounded s at held g =
-    let up : s .mark ≤ pageAfter (s .mark) = omega arith in
-    let gap : (pageAfter (s .mark) - s .mark) % 16 ≡ 0 = omega (arith, g .aligned) in
-    good-carved (gapBlocks (s .mark) (pageAfter (s .mark))) s at held (pageAfter (s .mark))
-    (gap-filled (s .mark) (pageAfter (s .mark)) up gap)
-    (gap-slabs (s .mark) (pageAfter (s .mark)) (pageAfter (s .mark)) up
+    let to = gap-end (s .mark) (g .aligned) in
+    let filled = good-carved (gapBlocks (s .mark) (gapEnd (s .mark))) s at held (gapEnd (s .mark))
+    (gap-filled (s .mark) (gapEnd (s .mark)) (to .from) (to .whole))
+    (gap-slabs (s .mark) (gapEnd (s .mark)) (gapEnd (s .mark)) (to .from)
     (record { aligned = g .aligned; begins = g .from; ends = omega arith }))
-    g
+    g in
+    good-raised _ at held (pageAfter (s .mark)) (to .within) (omega arith) filled
 
 -- A page at a multiple of 4,096 can stand there.
 pub page-stands : (off end : ℕ) → off % 4096 ≡ 0 → 4096 ≤ off → off + 4096 ≤ end → isBlock pageClass off end ≡ true
@@ -103,7 +122,7 @@ page-stands off end a b e = stands-block pageClass off end (record { class-to-8 
 pub took-stack : (end class o : ℕ) (os : List ℕ) (s : Space) {t : Taken} → takeFrom end class (o ∷ os) s ≡ accepted t
     → t ≡ record { off = o; space = withStack class os s }
 unfolding takeFrom
-took-stack end class o os s e = sym (accepted-inj e)
+took-stack end class o os s e = sym (accepted-inj (passed (pastSlabs class o) _ _ e .1))
 
 pub took-mark : (end bytes : ℕ) (s : Space) {t : Taken} → takeMark end bytes s ≡ accepted t
     → t ≡ record { off = s .mark; space = record { mark = s .mark + bytes; stacks = s .stacks } }
@@ -142,13 +161,13 @@ slab-class class c n = ⊎-elim (λ e. absurd (n e)) (λ l. omega arith) (eq-or-
 -- A block of a class is taken.
 pub good-taken : (end class : ℕ) (s : Space) (at : ℕ → Place) {t : Taken} → class ≤ 8 → takeBlock end class s ≡ accepted t → Good s at none
     → InHand at class t
-unfolding takeFrom takeFresh
+unfolding takeFrom takeFresh takeSlab
 good-taken end class s at {t} c e g = from-stack (stackOf class s) refl e
   where
-    fresh : (b : Bool) → eqb class pageClass ≡ b → cond b (takeRun end 1 s) (takeMark end (slabBytes class) s) ≡ accepted t
+    fresh : (b : Bool) → eqb class pageClass ≡ b → cond b (takeRun end 1 s) (takeSlab end (slabBytes class) s) ≡ accepted t
         → InHand at class t
     fresh true q e = subst (λ (k : ℕ). InHand at k t) (sym (eqb-true class pageClass q)) (good-fresh-page end s at e g)
-    fresh false q e = let n = eqb-false class pageClass q in good-fresh-slab end class s at (slab-class class c n) e g
+    fresh false q e = let n = eqb-false class pageClass q in good-fresh-slab end class s at (slab-class class c n) (passed _ _ _ e .1) g
 
     from-stack : (os : List ℕ) → stackOf class s ≡ os → takeFrom end class os s ≡ accepted t → InHand at class t
     from-stack (o ∷ os) q e = subst (InHand at class) (sym (took-stack end class o os s e)) (good-popped s at class o os c q g)

@@ -6,14 +6,15 @@ use mathlib.Core.Logic.{_≢_}
 use mathlib.Core.Path.{_≡_, refl, sym, ap, _∙_}
 use native.Mathlib.Nat.{le-refl}
 use native.Mathlib.Omega.{arith}
-use lib.Dec.{eqb}
+use lib.Dec.{leb, eqb}
 use lib.ListN.{length}
-use borrow.Author.Tests.{eqb-true}
+use borrow.Author.Tests.{le-leb, leb-true, eqb-true}
 use Rattle.error.specs.Refusal.{Answer, accepted, refused}
 use Rattle.book_rules.specs.Outcomes.{bookAfter}
 use Rattle.book_statements.specs.Calls.{Change, load, append, drop, Made, Call, ask, change, afterCalls}
 use Rattle.book_statements.specs.Moves.{noMoves}
 use Rattle.plain_book.specs.Space.{Space}
+use Rattle.book_limits.specs.Limits.{mostCounted, totalTold}
 use Rattle.plain_book.specs.Key.{Place, empty, inline, slab, pages, Key, totalOf, countedAfter, keyIn, emptyKey}
 use Rattle.plain_book.specs.Book.{Book, fresh, Outcome, keyOf, withKey, inUse, does, after, NeverDropped}
 use Rattle.plain_book.specs.Sound.{Known, SoundKey}
@@ -43,22 +44,36 @@ counted-kept =
 pub counted-from : (b : Book) (key : ℕ) (cs : List Call) → keyOf key b .counted ≡ true → keyOf key (after b cs) .counted ≡ true
 counted-from b key cs h = kept-calls _ counted-kept key b cs noMoves h
 
--- A counted key tells its exact total.
-pub total-exact : (k : Key) → k .counted ≡ true → totalOf k ≡ length (k .list)
-total-exact k h = rw h refl
+-- A counted key tells its total as creates can tell it.
+pub total-counted : (k : Key) → k .counted ≡ true → totalOf k ≡ totalTold (length (k .list))
+total-counted k h = rw h refl
+
+-- So it tells its exact total, as long as creates can.
+pub total-exact : (k : Key) → k .counted ≡ true → length (k .list) ≤ mostCounted → totalOf k ≡ length (k .list)
+total-exact k h few = rw (h, le-leb (length (k .list)) mostCounted few) refl
+
+-- What is told fits creates.
+pub total-fits : (k : Key) → totalOf k ≤ mostCounted
+total-fits k = go (k .counted) (leb (length (k .list)) mostCounted) refl
+  where
+    go : (t low : Bool) → leb (length (k .list)) mostCounted ≡ low → cond t (cond low (length (k .list)) 0) 0 ≤ mostCounted
+    go true true e = leb-true (length (k .list)) mostCounted e
+    go true false e = omega arith
+    go false low e = omega arith
 
 -- A key's total is at most the length of its list.
 pub total-most : (k : Key) → totalOf k ≤ length (k .list)
-total-most k = go (k .counted)
+total-most k = go (k .counted) (leb (length (k .list)) mostCounted)
   where
-    go : (t : Bool) → cond t (length (k .list)) 0 ≤ length (k .list)
-    go true = le-refl (length (k .list))
-    go false = omega arith
+    go : (t low : Bool) → cond t (cond low (length (k .list)) 0) 0 ≤ length (k .list)
+    go true true = le-refl (length (k .list))
+    go true false = omega arith
+    go false low = omega arith
 
--- After any list of calls on a fresh book every key tells its exact total.
+-- After any list of calls on a fresh book every key tells its exact total, or 0 past what creates can tell.
 pub total-fresh : (size heads key : ℕ) (cs : List Call)
-    → let k = keyOf key (after (fresh size heads) cs) in totalOf k ≡ length (k .list)
-total-fresh size heads key cs = total-exact (keyOf key (after (fresh size heads) cs)) (kept-fresh _ counted-kept size heads key cs)
+    → let k = keyOf key (after (fresh size heads) cs) in totalOf k ≡ totalTold (length (k .list))
+total-fresh size heads key cs = rw (kept-fresh _ counted-kept size heads key cs) refl
 
 -- ---- keys that were never counted
 

@@ -3,6 +3,7 @@ pub mod LawsKept
 pub mod LawsDid
 pub mod LawsMoves
 pub mod LawsHistory
+pub mod LawsSlabs
 pub mod LawsSound
 pub mod LawsShortest
 pub mod LawsTotals
@@ -18,5 +19,7 @@ pub mod LawsHeads
 pub mod LawsRecorded
 pub mod LawsChain
 pub mod LawsRefusals
+pub mod LawsLow
+pub mod LawsOld
 pub mod LawsFilled
 pub mod LawsRoom

@@ -1,9 +1,11 @@
 -- Nothing is leaked: the blocks that keys hold and the freed ones fill the body from 4,096 up to the mark.
-use Prim.Native.Nat.{ℕ, _+_, _*_}
+use Prim.Native.Nat.{ℕ, _+_, _*_, _%_, _≤_}
 use mathlib.Core.List.{List, [], _∷_}
+use mathlib.Core.Logic.{_⊎_}
 use mathlib.Core.Path.{_≡_}
 use lib.ListN.{length}
 use Rattle.scripthash_layout.specs.Sizes.{slabBytes, pageSize}
+use Rattle.book_limits.specs.Limits.{slabsEnd}
 use Rattle.plain_book.specs.Space.{Space}
 use Rattle.plain_book.specs.Key.{Place, empty, inline, slab, pages, Key}
 use Rattle.plain_book.specs.Book.{Book}
@@ -29,6 +31,11 @@ bytesOnStack class (o ∷ os) = slabBytes class + bytesOnStack class os
 unfoldable pub bytesFreed : ℕ → List (List ℕ) → ℕ
 bytesFreed class [] = 0
 bytesFreed class (os ∷ st) = bytesOnStack class os + bytesFreed (class + 1) st
+
+-- Where the mark stands so that no bytes are skipped when it is rounded up to a page: at or below the end of slabs, where the gap's blocks
+-- are freed, or at a page.
+abbrev pub MarkWhole : ℕ → Type 0
+MarkWhole mark = (mark ≤ slabsEnd) ⊎ (mark % pageSize ≡ 0)
 
 -- What is freed, with so many bytes besides, fills a space up to the mark.
 abbrev pub Fills : Space → ℕ → Type 0

@@ -13,6 +13,7 @@ use Rattle.scripthash_layout.specs.declared.head.ShHeadValue.the-variants.{Empt
 use Rattle.scripthash_stream.specs.Stream.{lastFrom, streamLen}
 use Rattle.scripthash_cutting.specs.Cutting.{pageRoom, lastPageRoom, cutting, replaceLast}
 use Rattle.book_rules.specs.declared.places.SlabFit.{SlabFit}
+use Rattle.book_limits.specs.Limits.{totalTold}
 use Rattle.book_rules.specs.Places.{stays, movesTo, loadsTo}
 use Rattle.plain_book.specs.Space.{Space, freed, takeBlock, takeRun}
 
@@ -61,9 +62,9 @@ keyIn list place counted = record { list = list; place = place; counted = counte
 abbrev pub emptyKey : Key
 emptyKey = keyIn [] empty true
 
--- The total that a key's last page tells: how many numbers it has, or 0, unknown.
+-- The total that a key's last page tells: how many numbers it has, or 0, unknown, which it is too past what creates can tell.
 abbrev pub totalOf : Key → ℕ
-totalOf k = cond (k .counted) (length (k .list)) 0
+totalOf k = cond (k .counted) (totalTold (length (k .list))) 0
 
 -- The last of some pages, or a given one where there are none.
 unfoldable pub lastPage : Page → List Page → Page

@@ -9,3 +9,4 @@ pub mod Ceilings
 pub mod Filled
 pub mod Grown
 pub mod Refusals
+pub mod Low

@@ -5,14 +5,19 @@ use mathlib.Core.List.{List, [], _∷_}
 use mathlib.Core.Path.{_≡_}
 use lib.Dec.{eqb}
 use Rattle.error.specs.Refusal.{Answer, accepted, refused, shapeBad, keyBeyond, keyInUse, tooManyOffered, offeredFirstZero, offeredBit63}
-use Rattle.error.specs.Refusal.{offeredTooLarge, offeredNotRising, listTooShort, noRoom}
+use Rattle.error.specs.Refusal.{offeredTooLarge, offeredNotRising, listTooShort, freeHeadBad, noRoom}
 use Rattle.book_statements.specs.Calls.{Call, Answers, done, asked, changed}
 
--- The numbers that document 01 names for the plain book: 1, 2, 3, 10, 12 to 14, 32, 34 and 36.
-unfoldable pub plainRefusals : List ℕ
-plainRefusals =
+-- The numbers that document 01 names for the plain book: 1, 2, 3, 10, 12 to 14, 32, 34 and 36. They are all where no slab ends past the end
+-- of slabs.
+unfoldable pub lowRefusals : List ℕ
+lowRefusals =
     shapeBad ∷ keyBeyond ∷ keyInUse ∷ tooManyOffered ∷ offeredFirstZero ∷ offeredBit63 ∷ offeredTooLarge ∷ offeredNotRising ∷ listTooShort
     ∷ noRoom ∷ []
+
+-- These, and 35, of a freed slab that ends past the end of slabs (change request N8).
+abbrev pub plainRefusals : List ℕ
+plainRefusals = freeHeadBad ∷ lowRefusals
 
 -- A number is one of some.
 unfoldable pub isOneOf : ℕ → List ℕ → Bool

@@ -7,6 +7,7 @@ use lib.ListN.{length}
 use Rattle.scripthash_layout.specs.Sizes.{slabBytes, maxSlabClass, maxSlabCount}
 use Rattle.scripthash_stream.specs.Stream.{Rising, lastFrom, streamLen}
 use Rattle.scripthash_cutting.specs.Cutting.{pageRoom, lastPageRoom}
+use Rattle.book_limits.specs.Limits.{slabsEnd}
 use Rattle.book_rules.specs.Places.{payloadLen}
 use Rattle.plain_book.specs.Key.{Kept, Page, Place, empty, inline, slab, pages, Key}
 
@@ -35,13 +36,14 @@ RisesFrom prev [] = Unit {0}
 RisesFrom prev (p ∷ ps) = (0 < length (p .part .numbers)) × Rising (2 ^ 62) prev (p .part .numbers)
     × RisesFrom (lastFrom 0 (p .part .numbers)) ps
 
--- A list fits its place: a slab keeps it, has 2 to 256 numbers and bytes for their payload, and pages hold the list in order.
+-- A list fits its place: a slab keeps it, has 2 to 256 numbers and bytes for their payload, and an offset that a head word can tell; and
+-- pages hold the list in order.
 unfoldable pub Fits : List ℕ → Place → Type 0
 Fits list empty = length list ≡ 0
 Fits list inline = length list ≡ 1
 Fits list (slab class off kept) =
     (kept .numbers ≡ list) × ByteEach kept × (class ≤ maxSlabClass) × (2 ≤ length list) × (length list ≤ maxSlabCount)
-    × (payloadLen (kept .bytes) ≤ slabBytes class)
+    × (payloadLen (kept .bytes) ≤ slabBytes class) × (off < slabsEnd)
 Fits list (pages ps) = (held ps ≡ list) × FitPages ps
 
 -- A total may be unknown only of a list in pages.

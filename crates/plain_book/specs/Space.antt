@@ -5,10 +5,10 @@ use mathlib.Core.Bool.{cond}
 use mathlib.Core.List.{List, [], _∷_}
 use lib.Dec.{ltb, eqb}
 use lib.ListN.{getD, set}
-use Rattle.error.specs.Refusal.{Answer, accepted, refuseIf, noRoom}
+use Rattle.error.specs.Refusal.{Answer, accepted, refuseIf, freeHeadBad, noRoom}
 use Rattle.scripthash_layout.specs.Sizes.{slabBytes, pageClass, pageSize}
 use Rattle.scripthash_free.specs.FreeList.{Block, gapBlocks}
-use Rattle.book_limits.specs.Limits.{pageAfter}
+use Rattle.book_limits.specs.Limits.{slabsEnd, pageAfter, pastSlabs, gapEnd}
 
 -- The mark, and the freed blocks' offsets of classes 0 to 8, the last freed first.
 pub record Space : Type 0 where
@@ -39,9 +39,9 @@ takeMark end bytes s =
     refuseIf (ltb end (s .mark + bytes)) noRoom
     (accepted (record { off = s .mark; space = record { mark = s .mark + bytes; stacks = s .stacks } }))
 
--- The mark rounded up to a page, and the blocks of the gap freed.
+-- The mark rounded up to a page, and the blocks of the gap freed, save past the end of slabs.
 unfoldable pub rounded : Space → Space
-rounded s = record { mark = pageAfter (s .mark); stacks = freedAll (gapBlocks (s .mark) (pageAfter (s .mark))) s .stacks }
+rounded s = record { mark = pageAfter (s .mark); stacks = freedAll (gapBlocks (s .mark) (gapEnd (s .mark))) s .stacks }
 
 -- A run of pages taken at the mark, rounded up.
 unfoldable pub runAtMark : ℕ → ℕ → Space → Answer Taken
@@ -51,14 +51,20 @@ runAtMark end pages s = takeMark end (pages * pageSize) (rounded s)
 abbrev pub takeRun : ℕ → ℕ → Space → Answer Taken
 takeRun end pages s = runAtMark end pages s
 
+-- A slab of so many bytes taken at the mark: refused where it would pass the end of slabs, or the body's.
+unfoldable pub takeSlab : ℕ → ℕ → Space → Answer Taken
+takeSlab end bytes s = refuseIf (ltb slabsEnd (s .mark + bytes)) noRoom (takeMark end bytes s)
+
 -- A block of a class taken where none of it is freed: a page is a run of one.
 unfoldable pub takeFresh : ℕ → ℕ → Space → Answer Taken
-takeFresh end class s = cond (eqb class pageClass) (runAtMark end 1 s) (takeMark end (slabBytes class) s)
+takeFresh end class s = cond (eqb class pageClass) (runAtMark end 1 s) (takeSlab end (slabBytes class) s)
 
--- A block taken from a stack, which holds some offsets, or else from the mark.
+-- A block taken from a stack, which holds some offsets, or else from the mark; a slab that ends past the end of slabs can't be taken.
 unfoldable pub takeFrom : ℕ → ℕ → List ℕ → Space → Answer Taken
 takeFrom end class [] s = takeFresh end class s
-takeFrom end class (o ∷ os) s = accepted (record { off = o; space = record { mark = s .mark; stacks = set (s .stacks) class os } })
+takeFrom end class (o ∷ os) s =
+    refuseIf (pastSlabs class o) freeHeadBad
+    (accepted (record { off = o; space = record { mark = s .mark; stacks = set (s .stacks) class os } }))
 
 -- A block of a class taken: the top of its stack, or else from the mark.
 abbrev pub takeBlock : ℕ → ℕ → Space → Answer Taken

@@ -138,7 +138,6 @@ grow-page-requires c κs =
         version-is = eqb-true _ 2 (known .names);
         few = omega (arith, known .few);
         fits = omega (arith, l .uleb128-len .ensures, c .before .if2 .left);
-        creates-low = omega (arith, known .creates-low, told k .creates-is);
       };
     }
 

@@ -86,9 +86,7 @@ link-page-requires : tie.Need-link-page-requires
 link-page-requires c κs = let h = last-inside (taking (c .before)) in omega arith
 
 total-with-requires : tie.Need-total-with-requires
-total-with-requires c κs =
-    let t = taking (c .before .before .before .before) in
-    omega (arith, sound t .creates-low, start t .pre .creates-is)
+total-with-requires c κs = search needs
 
 slice-aggregate-put-last-page : tie.Need-slice-aggregate-put-last-page
 slice-aggregate-put-last-page c = search needs

@@ -1,4 +1,4 @@
--- `read_tail` meets its contract: the header decides, then creates, the scan, and the last number. Assumes nothing.
+-- `read_tail` meets its contract: the header decides, then the scan, and the last number. Assumes nothing.
 use Prim.Native.Nat.{ℕ}
 use mathlib.Core.List.{List}
 use mathlib.Core.Path.{_≡_, sym, ap, _∙_}
@@ -14,7 +14,7 @@ use Rattle.book_keys.specs.Steps.{lastRead, tailRead, tailEndOf}
 use Rattle.book_keys.specs.Answers.{lastPageAnswer}
 use Rattle.book_keys.proofs.LawsSound.{was-sound, was-unsound, turned-back, let-through, lastSound, end-refused, end-unsound}
 use Rattle.book_keys.proofs.LawsSound.{end-sound}
-use Rattle.book_keys.proofs.LawsPages.{tail-no, tail-creates, tail-by-last, creates-large, creates-fine}
+use Rattle.book_keys.proofs.LawsPages.{tail-no, tail-by-last}
 use Rattle.book_keys.proofs.chain.read_tail.Statement.{statement}
 use Rattle.book_keys.proofs.chain.read_tail.Tie as tie
 
@@ -32,13 +32,13 @@ module _ (c : tie.After-header) where
 -- the page was scanned
 module _ (c : tie.After-sh-page-stream-tail) where
   abbrev at : tie.After-header
-  at = c .before .before .before
+  at = c .before .before
 
   abbrev scanned : Answer Scan
   scanned = pageScan (page at)
 
   fine : tailRead (page at) ≡ andThen (lastSound scanned) (λ s. accepted (record { scan = s; last = head at }))
-  fine = tail-by-last (page at) (head at) (is at) (creates-fine (head at .creates) (c .before .if1 .left))
+  fine = tail-by-last (page at) (head at) (is at)
 
 -- it scans
 module _ (c : tie.After-sound-last) where
@@ -65,11 +65,6 @@ returns c =
     let bad = was-unsound _ (sym (c .before .before .read-last .ensures) ∙ ap lastPageAnswer (c .enum-told .given .1)) in
     turned-back tailEndOf _ (tail-no (c .before .before .before .before .args .page .now) (bad .1))
 
-returns-2 : tie.Need-returns-2
-returns-2 c =
-    let d = c .before .before in
-    turned-back tailEndOf _ (tail-creates (page d) (head d) (is d) (creates-large (head d .creates) (c .if1 .taken)))
-
 sh-page-stream-tail-requires : tie.Need-sh-page-stream-tail-requires
 sh-page-stream-tail-requires c κs = search needs
 
@@ -79,8 +74,8 @@ enum-known-got c = search needs
 enum-told-2 : tie.Need-enum-told-2
 enum-told-2 c = search needs
 
-returns-3 : tie.Need-returns-3
-returns-3 c =
+returns-2 : tie.Need-returns-2
+returns-2 c =
     let d = c .before .before in
     turned-back tailEndOf _
     (fine d ∙ then-no (lastSound (scanned d)) _
@@ -89,19 +84,19 @@ returns-3 c =
 sound-last-requires : tie.Need-sound-last-requires
 sound-last-requires c κs = search needs
 
-returns-4 : tie.Need-returns-4
-returns-4 c =
+returns-3 : tie.Need-returns-3
+returns-3 c =
     let d = c .before in
     let b = back d in
     turned-back tailEndOf _
     (fine b ∙ then-no (lastSound (scanned b)) _
-    (end-unsound (scanned b) (end d) (end-is d) (sym (d .sound-last .ensures) ∙ not-true _ (c .if2 .taken))))
+    (end-unsound (scanned b) (end d) (end-is d) (sym (d .sound-last .ensures) ∙ not-true _ (c .if1 .taken))))
 
-returns-5 : tie.Need-returns-5
-returns-5 c =
+returns-4 : tie.Need-returns-4
+returns-4 c =
     let d = c .before in
     let b = back d in
-    let got = end-sound (scanned b) (end d) (end-is d) (sym (d .sound-last .ensures) ∙ not-false _ (c .if2 .left)) in
+    let got = end-sound (scanned b) (end d) (end-is d) (sym (d .sound-last .ensures) ∙ not-false _ (c .if1 .left)) in
     ap (λ (e : End). accepted (record { taken = e .taken; fk = e .last; first = head (at b) .first; creates = head (at b) .creates }))
     (sym (got .3))
     ∙ let-through tailEndOf _ (fine b ∙ then-yes (lastSound (scanned b)) _ (got .2))
@@ -114,11 +109,10 @@ read-tail-spec =
     enum-known-header
     enum-told
     returns
-    returns-2
     sh-page-stream-tail-requires
     enum-known-got
     enum-told-2
-    returns-3
+    returns-2
     sound-last-requires
-    returns-4
-    returns-5)
+    returns-3
+    returns-4)

@@ -34,6 +34,9 @@ returns c =
     let answer = run-no (start .args .pages) (before start) (start .pre .shape) (c .if1 .taken) in
     takes-no (before start) _ answer
 
+gap-end-requires : tie.Need-gap-end-requires
+gap-end-requires c κs = search needs
+
 carve-lent-requires : tie.Need-carve-lent-requires
 carve-lent-requires c κs = search needs
 
@@ -42,10 +45,11 @@ same-length c = search needs
 
 returns-2 : tie.Need-returns-2
 returns-2 c =
-    let t = c .before .before .before .before .before .before in
+    let t = c .before .before .before .before .before .before .before in
     let start = t .before .before in
     let l = lists (c .before .before .carve-lent .last .0) (c .before .before .carve-lent .last .1 .0) in
-    let carved = c .before .before .carve-lent .ensures .1 in
+    let gap = c .before .before .before .before .before .gap-end .ensures in
+    let carved = rw gap at (c .before .before .carve-lent .ensures .1) in
     let answer = run-yes (start .args .pages) (before start) (start .pre .shape) l carved (t .if1 .left) in
     takes-yes (before start) _ answer
 
@@ -59,6 +63,7 @@ take-run-spec =
     mul-end
     add-end
     returns
+    gap-end-requires
     carve-lent-requires
     same-length
     returns-2)

@@ -5,9 +5,9 @@ use native.Mathlib.Omega.{arith}
 use Rattle.scripthash_layout.specs.Sizes.{slabBytes}
 use Rattle.scripthash_free.proofs.LawsBlock.{bytes-fit}
 use Rattle.scripthash_layout.proofs.LawsSizes.{size-mono}
-use Rattle.book_space.specs.Space.{Space, space}
+use Rattle.book_space.specs.Space.{takeMark, takeSlab, Space, space}
 use Rattle.book_space.specs.Answers.{spaceOf}
-use Rattle.book_space.proofs.LawsSteps.{takes-yes, takes-no, mark-yes, mark-no}
+use Rattle.book_space.proofs.LawsSteps.{takes-yes, takes-no, slab-low, slab-high, mark-yes, mark-no}
 use borrow.Author.Needs.{needs}
 use Rattle.book_space.proofs.take.take_slab.Statement.{statement}
 use Rattle.book_space.proofs.take.take_slab.Tie as tie
@@ -35,17 +35,28 @@ add-end c = omega (arith, size c, few c, start c .pre .shape)
 returns : tie.Need-returns
 returns c =
     let t = c .before in
-    let answer = mark-no (slabBytes (start t .args .class)) (before t) (omega (arith, size t, c .if1 .taken)) in
+    let answer = slab-high (slabBytes (start t .args .class)) (before t) (omega (arith, size t, c .if1 .taken)) in
     takes-no (before t) _ answer
+
+-- the slab ends below the end of slabs
+low : (c : tie.Else1) → let t = c .before in
+    takeSlab (slabBytes (start t .args .class)) (before t) ≡ takeMark (slabBytes (start t .args .class)) (before t)
+low c = let t = c .before in slab-low (slabBytes (start t .args .class)) (before t) (omega (arith, size t, c .if1 .left))
 
 returns-2 : tie.Need-returns-2
 returns-2 c =
     let t = c .before .before in
+    let answer = low (c .before) ∙ mark-no (slabBytes (start t .args .class)) (before t) (omega (arith, size t, c .if2 .taken)) in
+    takes-no (before t) _ answer
+
+returns-3 : tie.Need-returns-3
+returns-3 c =
+    let t = c .before .before .before in
     let a = start t .args in
-    let answer = mark-yes (slabBytes (a .class)) (before t) (omega (arith, size t, c .before .if1 .left)) in
+    let answer = low (c .before .before) ∙ mark-yes (slabBytes (a .class)) (before t) (omega (arith, size t, c .before .if2 .left)) in
     let after = ap (λ (bytes : ℕ). space (a .body .now) (a .state .mark + bytes) (a .state .free)) (size t) in
     let took = takes-yes (before t) _ answer in
     record { told = took .told; left = after ∙ took .left }
 
 pub take-slab-spec : {M : Type 1} → statement M
-take-slab-spec = tie.close (tie.spec slab-bytes-requires add-end returns returns-2)
+take-slab-spec = tie.close (tie.spec slab-bytes-requires add-end returns returns-2 returns-3)
