@@ -52,21 +52,21 @@ body-kept b cs g =
     books-agree each-alike (plainOf b) b cs (start-good b g) (start-agrees b g) .size ∙ size ∙ sym (start-agrees b g .size)
 
 -- After any calls on a good start the check tells what it told before them.
-pub check-kept : (b : Book) (cs : List Call) (room : ℕ) → GoodStart b → MarkWhole (b .space .mark) → length (b .space .body) / 16 ≤ room
+pub check-kept : (b : Book) (cs : List Call) (room : ℕ) → GoodStart b → MarkWhole (b .space .mark) → length (b .space .body) / 128 ≤ room
     → judges (after b cs) room ≡ judges b room
 check-kept b cs room g whole long =
     let later = start-kept b cs g in
-    let enough : length (after b cs .space .body) / 16 ≤ room = rw (body-kept b cs g) long in
+    let enough : length (after b cs .space .body) / 128 ≤ room = rw (body-kept b cs g) long in
     start-judges (after b cs) (later .nine) room enough later ∙ ap (λ (n : ℕ). accepted (good (n / 16))) (lost-kept b cs g whole)
     ∙ sym (start-judges b (g .nine) room long g)
 
 -- After any calls on a fresh book in shape it tells a good start, and that nothing belongs to nobody.
 pub check-fresh : (body : List ℕ) (heads : ℕ) (cs : List Call) (room : ℕ) → outOfShape (length body) heads ≡ false
-    → length body / 16 ≤ room → judges (after (fresh body heads) cs) room ≡ accepted (good 0)
+    → length body / 128 ≤ room → judges (after (fresh body heads) cs) room ≡ accepted (good 0)
 check-fresh body heads cs room shape long =
     let first = fresh-start body heads shape in
     let later = start-kept (fresh body heads) cs first in
-    let enough : length (after (fresh body heads) cs .space .body) / 16 ≤ room = rw (body-kept (fresh body heads) cs first) long in
+    let enough : length (after (fresh body heads) cs .space .body) / 128 ≤ room = rw (body-kept (fresh body heads) cs first) long in
     start-judges (after (fresh body heads) cs) (later .nine) room enough later
     ∙ ap (λ (n : ℕ). accepted (good (n / 16))) (nothing-lost body heads cs)
 
@@ -195,7 +195,7 @@ module _ (b : Book) (key : ℕ) (g : GoodStart b) (l : key < length (b .heads)) 
       }
 
   -- and the check tells as many units more as its slab or pages take.
-  pub forgot-told : (room : ℕ) → length (b .space .body) / 16 ≤ room
+  pub forgot-told : (room : ℕ) → length (b .space .body) / 128 ≤ room
       → judges (forgot key b) room ≡ accepted (good (lostIn b / 16 + bytesTaken (heldOf b key) / 16))
   forgot-told room long =
       let shows = forgot-shows b key g l in
@@ -204,7 +204,7 @@ module _ (b : Book) (key : ℕ) (g : GoodStart b) (l : key < length (b .heads)) 
       start-judges (forgot key b) (g .nine) room long forgot-start ∙ ap (λ (n : ℕ). accepted (good n)) sum
 
   -- The word of a key with one number takes no block: the check tells the same without it.
-  pub forgot-hidden : (room entry used : ℕ) → length (b .space .body) / 16 ≤ room → unpackHead (wordOf key b) ≡ accepted (Inline entry used)
+  pub forgot-hidden : (room entry used : ℕ) → length (b .space .body) / 128 ≤ room → unpackHead (wordOf key b) ≡ accepted (Inline entry used)
       → judges (forgot key b) room ≡ judges b room
   unfolding blocksIn bytesTaken soundly
   forgot-hidden room entry used long e =
@@ -329,7 +329,7 @@ module _ (b : Book) (class : ℕ) (g : GoodStart b) (l : class ≤ pageClass) wh
       omega arith
 
   -- and the check tells their units.
-  pub list-told : (room : ℕ) → length (b .space .body) / 16 ≤ room
+  pub list-told : (room : ℕ) → length (b .space .body) / 128 ≤ room
       → judges now room ≡ accepted (good (lostIn b / 16 + bytesTaken (listOf b class) / 16))
   list-told room long =
       let shows = list-shows in

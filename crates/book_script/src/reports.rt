@@ -8,8 +8,8 @@ pub const NUMBERS: usize = 262144;
 pub const KEYS: usize = 65536;
 // The bytes of a body.
 pub const BODY_BYTES: usize = 262144;
-// The work list of a check: a byte for each 16 bytes of the largest body.
-pub const WORK_BYTES: usize = 16384;
+// The work list of a check: a byte for each 128 bytes of the largest body.
+pub const WORK_BYTES: usize = 2048;
 
 // Begins the report of a line.
 fn report(number: u64) {

@@ -46,7 +46,7 @@ pub fn body_bytes() -> [u8; BODY_BYTES]
 
 // The work list of a check.
 pub fn work_bytes() -> [u8; WORK_BYTES]
-    ensures { λ r. ⌜ 16384 ≡ length r ⌝ }
+    ensures { λ r. ⌜ 2048 ≡ length r ⌝ }
 {
     [0; WORK_BYTES]
 }

@@ -24,7 +24,7 @@ use Rattle.book.specs.Book.{Book, book, fresh, headWord}
 use Rattle.book_start.specs.Start.{Verdict, good, keyUnsound, keyShares, freeStrays, freeShares, shares, sharesOne, claimAll}
 use Rattle.book_start.specs.Start.{bytesTaken, claimContent, claimFreed, onward, judgeLists, judgeKeys, verdictOf, judges}
 
--- The answer to a book with a work list of 512 bytes, which is enough for a body of 8,192.
+-- The answer to a book with a work list of 64 bytes, which is enough for a body of 8,192.
 unfoldable pub told : Book → Answer Verdict
 unfolding refuseIf andThen part overwrite isForm value formAt overflows readForm readUleb divided ulebLen shortest packHead unpackHead
     lastFrom streamFrom streamLenFrom storedNumber nextNumber scanFrom decodeStream slabPayload decodeSlab field nextOff extentHeader pageOf
@@ -32,7 +32,7 @@ unfolding refuseIf andThen part overwrite isForm value formAt overflows readForm
     totalGood
     chainAt pageBlocks contentAt content headWord bytesTaken shares sharesOne claimAll claimContent claimFreed onward judgeLists judgeKeys
     verdictOf judges
-told b = judges b 512
+told b = judges b 64
 
 -- A body of 8,192 bytes, none of them 0.
 abbrev blank : List ℕ

@@ -240,12 +240,12 @@ module _ (b : Book) (nine : length (b .space .free) ≡ 9) (room : ℕ) where
   unfolding judges
   judges-start n e =
       let p = passed (shapeBroken (b .space) (length (b .heads))) shapeBad _ e in
-      let q = passed (ltb room (length (b .space .body) / 16)) listTooShort _ (p .1) in
+      let q = passed (ltb room (length (b .space .body) / 128)) listTooShort _ (p .1) in
       judged-start b nine n (p .0) (accepted-inj (q .1))
 
-  pub start-judges : length (b .space .body) / 16 ≤ room → GoodStart b → judges b room ≡ accepted (good (lostIn b / 16))
+  pub start-judges : length (b .space .body) / 128 ≤ room → GoodStart b → judges b room ≡ accepted (good (lostIn b / 16))
   unfolding judges
   start-judges long g =
       refuse-no (shapeBroken (b .space) (length (b .heads))) shapeBad _ (g .shape)
-      ∙ refuse-no (ltb room (length (b .space .body) / 16)) listTooShort _ (le-ltb room (length (b .space .body) / 16) long)
+      ∙ refuse-no (ltb room (length (b .space .body) / 128)) listTooShort _ (le-ltb room (length (b .space .body) / 128) long)
       ∙ ap accepted (start-judged b g)

@@ -18,7 +18,8 @@ use Rattle.scripthash_layout.specs.Sizes.{slabBytes, pageClass}
 use Rattle.scripthash_free.specs.FreeList.{Disjoint, Block, Each, unitOf}
 use Rattle.scripthash_free.proofs.LawsBlock.{both, block-stands}
 use Rattle.book_start.specs.Start.{Stands, block, shares, sharesOne}
-use Rattle.book_start.specs.Units.{allFree, unitsFree, marked, claimUnits, markAll, cleared}
+use Rattle.book_start.specs.Units.{bitsOf, unitsOf, allFree, unitsFree, marked, claimUnits, markAll, cleared}
+use Rattle.book_start.proofs.LawsBits.{units-long, set-unit}
 use Rattle.book_start.proofs.LawsClaims.{shares-no}
 
 -- So many units that are marked, and that are cleared.
@@ -315,3 +316,11 @@ cleared-again units xs lent e long =
     let m = length-mark-all units xs (cleared units lent) e (omega arith) in
     same-cleared units (markAll xs (cleared units lent)) lent (m ∙ n)
     (mark-rest units (length lent - units) xs (cleared units lent) e (omega arith) ∙ cleared-rest units lent long)
+
+-- A unit is marked by the bit of its byte, and those behind it are left.
+pub mark-turn : (work : List ℕ) (i end w : ℕ) → i < end → i < 8 * length work → bitsOf w ≡ set (bitsOf (getD work (i / 8) 0)) (i % 8) 1
+    → overwrite (unitsOf (set work (i / 8) w)) (i + 1) (replicate (end - (i + 1)) 1) ≡ overwrite (unitsOf work) i (replicate (end - i) 1)
+mark-turn work i end w more inside e =
+    let long = units-long work in
+    ap (λ (us : List ℕ). overwrite us (i + 1) (replicate (end - (i + 1)) 1)) (set-unit work i w inside e)
+    ∙ fill-turn (unitsOf work) i end more (omega arith) 1

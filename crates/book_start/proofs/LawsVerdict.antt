@@ -19,10 +19,11 @@ use Rattle.book.specs.Book.{Book}
 use Rattle.book_start.specs.Start.{AllApart, bytesTaken, Verdict, good, keyUnsound, keyShares, freeStrays, freeShares, Claim}
 use Rattle.book_start.specs.Start.{claimed, unfit, shared}
 use Rattle.book_start.specs.Start.{claimContent, claimFreed, onward, judgeLists, judgeKeys, verdictOf, judges}
-use Rattle.book_start.specs.Units.{cleared, markAll, workAfter, Marked, Leaves, claimOf, Took, ClaimsAs, JudgesAs}
+use Rattle.book_start.specs.Units.{unitsOf, cleared, markAll, workAfter, Marked, Leaves, claimOf, Took, ClaimsAs, JudgesAs}
 use Rattle.book_start.specs.declared.claiming.Claiming.{Claiming}
 use Rattle.book_start.specs.declared.claiming.Claiming.the-variants.{Done, Unfit, Shared}
 use Rattle.book_start.specs.declared.judging.JudgeStart.the-variants.{Good, KeyUnsound, KeyShares, FreeStrays, FreeShares}
+use Rattle.book_start.proofs.LawsBits.{units-overwrite, units-zero, units-same}
 use Rattle.book_start.proofs.LawsShown.{shown-room}
 use Rattle.book_start.proofs.LawsUnits.{placed-all, cleared-again}
 
@@ -214,20 +215,20 @@ module _ (b : Book) (work : List ℕ) where
 
   module _ (shape : shapeBroken (b .space) (length (b .heads)) ≡ false) where
     -- The work list is too short.
-    pub judges-short : length work < length (b .space .body) / 16 → judges b (length work) ≡ refused listTooShort
+    pub judges-short : length work < length (b .space .body) / 128 → judges b (length work) ≡ refused listTooShort
     unfolding judges
     judges-short h =
         refuse-no (shapeBroken (b .space) (length (b .heads))) shapeBad _ shape
-        ∙ refuse-yes (ltb (length work) (length (b .space .body) / 16)) listTooShort _ (lt-ltb (length work) (length
-        (b .space .body) / 16) h)
+        ∙ refuse-yes (ltb (length work) (length (b .space .body) / 128)) listTooShort _ (lt-ltb (length work) (length
+        (b .space .body) / 128) h)
 
     -- It is judged.
-    pub judges-all : length (b .space .body) / 16 ≤ length work → judges b (length work) ≡ accepted (verdictOf b)
+    pub judges-all : length (b .space .body) / 128 ≤ length work → judges b (length work) ≡ accepted (verdictOf b)
     unfolding judges
     judges-all h =
         refuse-no (shapeBroken (b .space) (length (b .heads))) shapeBad _ shape
-        ∙ refuse-no (ltb (length work) (length (b .space .body) / 16)) listTooShort _ (le-ltb (length work) (length
-        (b .space .body) / 16) h)
+        ∙ refuse-no (ltb (length work) (length (b .space .body) / 128)) listTooShort _ (le-ltb (length work) (length
+        (b .space .body) / 128) h)
 
 -- The work list after the call.
 pub after-refused : (units : ℕ) (work : List ℕ) (a : Answer Verdict) {number : ℕ} → a ≡ refused number → work ≡ workAfter units work a
@@ -244,6 +245,12 @@ pub cleared-is : (units : ℕ) (work : List ℕ) → overwrite work 0 (replicate
 unfolding cleared
 cleared-is units work = refl
 
+-- Bytes that are cleared are units that are.
+pub cleared-bytes : (bytes units : ℕ) (work : List ℕ) → 8 * bytes ≡ units → unitsOf (cleared bytes work) ≡ cleared units (unitsOf work)
+unfolding cleared
+cleared-bytes bytes units work e =
+    units-overwrite work 0 (replicate bytes 0) ∙ ap (overwrite (unitsOf work) 0) (units-zero bytes ∙ ap (λ (n : ℕ). replicate n 0) e)
+
 pub judged-is : (b : Book) → verdictOf b ≡ judgeKeys (b .space) 0 (b .heads) []
 unfolding verdictOf
 judged-is b = refl
@@ -253,6 +260,13 @@ pub shows-none : (units mark : ℕ) (work after : List ℕ) → 4096 ≤ mark �
     → after ≡ cleared units work → Marked units mark work [] after
 unfolding markAll Each AllApart
 shows-none units mark work after from fits long e = record { from = from; fits = fits; long = long; stand = tt; apart = tt; is = e }
+
+-- So a work list that shows some claims is, with its bytes cleared, the lent one with its bytes cleared.
+pub shown-bytes : (bytes units mark : ℕ) (lent : List ℕ) (claims : List Block) (work : List ℕ) → 8 * bytes ≡ units
+    → cleared units (unitsOf work) ≡ cleared units (unitsOf lent) → cleared bytes work ≡ cleared bytes lent
+shown-bytes bytes units mark lent claims work e same =
+    units-same (cleared bytes work) (cleared bytes lent)
+    (cleared-bytes bytes units work e ∙ same ∙ sym (cleared-bytes bytes units lent e))
 
 -- No claims leave all units between 4,096 and the mark.
 pub none-leave : (mark : ℕ) → 4096 ≤ mark → mark % 16 ≡ 0 → Leaves mark [] (mark / 16 - 256)

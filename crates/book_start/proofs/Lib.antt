@@ -3,6 +3,7 @@ pub mod LawsClaims
 pub mod LawsFreed
 pub mod LawsJudged
 pub mod LawsPairs
+pub mod LawsBits
 pub mod LawsUnits
 pub mod LawsShown
 pub mod LawsVerdict

@@ -172,8 +172,8 @@ judgeKeys s key (w ∷ ws) before =
 unfoldable pub verdictOf : Book → Verdict
 verdictOf b = judgeKeys (b .space) 0 (b .heads) []
 
--- The call that judges a start, with a work list of so many bytes, one for each 16 bytes of the body.
+-- The call that judges a start, with a work list of so many bytes, one for each 128 bytes of the body: a bit for each 16.
 unfoldable pub judges : Book → ℕ → Answer Verdict
 judges b room =
     refuseIf (shapeBroken (b .space) (length (b .heads))) shapeBad
-    (refuseIf (ltb room (length (b .space .body) / 16)) listTooShort (accepted (verdictOf b)))
+    (refuseIf (ltb room (length (b .space .body) / 128)) listTooShort (accepted (verdictOf b)))

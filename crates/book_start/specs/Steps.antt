@@ -1,11 +1,11 @@
 -- What the steps of judging promise each other: no answer of a public function is defined here.
-use Prim.Native.Nat.{ℕ, _+_, _*_, _%_, _≤_}
-use mathlib.Core.Bool.{Bool}
+use Prim.Native.Nat.{ℕ, _+_, _*_, _%_, _^_, _≤_, _<_}
+use mathlib.Core.Bool.{Bool, true}
 use mathlib.Core.List.{List, []}
 use mathlib.Core.Path.{_≡_}
 use lib.ListN.{length}
-use Rattle.scripthash_layout.specs.Sizes.{slabBytes, pageClass}
-use Rattle.scripthash_free.specs.FreeList.{Block}
+use Rattle.scripthash_layout.specs.Sizes.{slabBytes, pageClass, pageSize}
+use Rattle.scripthash_free.specs.FreeList.{Block, isBlock}
 use Rattle.book_keys.specs.Keys.{ground}
 use Rattle.book_keys.specs.Steps.{PagesLeft}
 use Rattle.book_start.specs.Start.{block}
@@ -13,12 +13,30 @@ use Rattle.book_start.specs.Units.{unitsFree, claimUnits, Marked, Shows,
 
 -- ---- claiming
 
--- What is known of a block before it is claimed.
-pub record BlockToClaim (class off : ℕ) (work : List ℕ) : Type 0 where
+-- Some units lie in the bytes of a work list, and are few enough to be counted.
+pub record UnitsIn (from count : ℕ) (bytes : List ℕ) : Type 0 where
+  pub inside : from + count ≤ 8 * length bytes
+  pub few : from + count < 2 ^ 62
+
+-- What is known of a page before it is claimed.
+pub record PageToClaim (off : ℕ) (work : List ℕ) : Type 0 where
+  -- It begins at a page.
+  pub paged : off % pageSize ≡ 0
+  -- The work list has its units.
+  pub inside : off + pageSize ≤ 16 * length work
+
+-- What is known of a slab before it is claimed.
+pub record SlabToClaim (class off : ℕ) (work : List ℕ) : Type 0 where
   -- There is such a class.
   pub class-to-8 : class ≤ pageClass
   -- The work list has its units.
   pub inside : off + slabBytes class ≤ 16 * length work
+
+-- What is known of a block before it is claimed: it can stand below an end within the work list.
+pub record BlockToClaim (class off : ℕ) (work : List ℕ) : Type 0 where
+  pub mark : ℕ
+  pub stands : isBlock class off mark ≡ true
+  pub long : mark ≤ 16 * length work
 
 -- What claiming a block tells, and the work list after it.
 pub record BlockClaimed (class off : ℕ) (before : List ℕ) (tells : Bool) (after : List ℕ) : Type 0 where

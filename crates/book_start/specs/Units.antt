@@ -1,7 +1,7 @@
--- The work list of a judgement: a byte for each unit, which is 16 bytes of the body. It is 1 where a claimed block has the unit, else 0.
-use Prim.Native.Nat.{ℕ, _+_, _*_, _/_, _≤_}
+-- The work list of a judgement: a bit for each unit, which is 16 bytes of the body. It is 1 where a claimed block has the unit, else 0.
+use Prim.Native.Nat.{ℕ, zero, suc, _+_, _*_, _/_, _%_, _≤_}
 use mathlib.Core.Bool.{Bool, true, cond, _&&_}
-use mathlib.Core.List.{List, [], _∷_}
+use mathlib.Core.List.{List, [], _∷_, _++_}
 use mathlib.Core.Path.{_≡_}
 use lib.Dec.{eqb}
 use lib.ListN.{length, replicate}
@@ -14,6 +14,22 @@ use Rattle.book_start.specs.Answers.{startAnswer}
 use Rattle.book_start.specs.declared.claiming.Claiming.{Claiming}
 use Rattle.book_start.specs.declared.claiming.Claiming.the-variants.{Done, Unfit, Shared}
 use Rattle.book_start.specs.declared.judging.JudgeStart.{JudgeStart}
+
+-- ---- bits
+
+-- So many bits of a number, the lowest first, and then what is above them: seven bits, and the eighth of a byte.
+unfoldable pub bitsFrom : ℕ → ℕ → List ℕ
+bitsFrom zero w = w ∷ []
+bitsFrom (suc k) w = w % 2 ∷ bitsFrom k (w / 2)
+
+-- The eight bits of a byte, the lowest first.
+abbrev pub bitsOf : ℕ → List ℕ
+bitsOf w = bitsFrom 7 w
+
+-- The units that the bytes of a work list tell, eight a byte.
+unfoldable pub unitsOf : List ℕ → List ℕ
+unitsOf [] = []
+unitsOf (w ∷ ws) = bitsOf w ++ unitsOf ws
 
 -- ---- units
 
@@ -39,14 +55,14 @@ unfoldable pub markAll : List Block → List ℕ → List ℕ
 markAll [] work = work
 markAll (x ∷ xs) work = marked x (markAll xs work)
 
--- A work list with so many units cleared, from its start on.
+-- A list with so many elements cleared, from its start on: units, or bytes of the work list.
 unfoldable pub cleared : ℕ → List ℕ → List ℕ
 cleared units work = overwrite work 0 (replicate units 0)
 
--- A work list after a judgement of a body with so many units: they are cleared, or all is as it was where the call is refused.
+-- A work list after a judgement of a body for which it has so many bytes: they are cleared, or all is as it was where the call is refused.
 unfoldable pub workAfter : ℕ → List ℕ → Answer Verdict → List ℕ
-workAfter units work (accepted v) = cleared units work
-workAfter units work (refused number) = work
+workAfter bytes work (accepted v) = cleared bytes work
+workAfter bytes work (refused number) = work
 
 -- ---- what the steps of the code tell each other
 

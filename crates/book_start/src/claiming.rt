@@ -7,7 +7,7 @@ ghost use Rattle.book_space.specs.Space.{space};
 ghost use Rattle.book_keys.specs.Keys.{content, contentAt, ground, pageBlocks, soundly};
 ghost use Rattle.book_keys.specs.Steps.{PagesLeft};
 ghost use Rattle.book_start.specs.Start.{claimAll, claimContent, claimFreed};
-ghost use Rattle.book_start.specs.Units.{Marked, ClaimsAs};
+ghost use Rattle.book_start.specs.Units.{unitsOf, Marked, ClaimsAs};
 ghost use Rattle.book_start.specs.Steps.{KeyToClaim, PagesToClaim, ListToClaim};
 use crate::units::PAGE_UNITS;
 use crate::units::block_units;
@@ -28,10 +28,10 @@ pub enum Claiming {
 
 // Claims the pages of a sound chain, the first first.
 fn claim_pages(body: &[u8], mark: u64, work: &mut [u8], first: u64, pages: u64) -> Claiming
-    requires { ⌜ PagesToClaim (now body) mark (now work) first pages ⌝ }
+    requires { ⌜ PagesToClaim (now body) mark (unitsOf (now work)) first pages ⌝ }
     ensures { λ r. ⌜ ((offs : List ℕ) → PagesLeft (ground (now (body .entry)) mark) first pages offs
-        → (units : ℕ) (lent : List ℕ) (claims : List Block) → Marked units mark lent claims (now (work .entry))
-        → ClaimsAs units mark lent claims (claimAll claims (pageBlocks offs)) r (now (work .exit))) ⌝ }
+        → (units : ℕ) (lent : List ℕ) (claims : List Block) → Marked units mark lent claims (unitsOf (now (work .entry)))
+        → ClaimsAs units mark lent claims (claimAll claims (pageBlocks offs)) r (unitsOf (now (work .exit)))) ⌝ }
 {
     let mut off = first;
     let mut left = pages;
@@ -47,10 +47,10 @@ fn claim_pages(body: &[u8], mark: u64, work: &mut [u8], first: u64, pages: u64) 
 
 // Claims the slab of a key.
 fn claim_slab(body: &[u8], mark: u64, work: &mut [u8], class: u8, used: u16, off: u64) -> Claiming
-    requires { ⌜ KeyToClaim (now body) mark (now work) ⌝ }
-    ensures { λ r. ⌜ ((units : ℕ) (lent : List ℕ) (claims : List Block) → Marked units mark lent claims (now (work .entry))
+    requires { ⌜ KeyToClaim (now body) mark (unitsOf (now work)) ⌝ }
+    ensures { λ r. ⌜ ((units : ℕ) (lent : List ℕ) (claims : List Block) → Marked units mark lent claims (unitsOf (now (work .entry)))
         → ClaimsAs units mark lent claims
-        (claimContent claims (soundly (contentAt (ground (now (body .entry)) mark) (Slab class used off)))) r (now (work .exit))) ⌝ }
+        (claimContent claims (soundly (contentAt (ground (now (body .entry)) mark) (Slab class used off)))) r (unitsOf (now (work .exit)))) ⌝ }
 {
     let end = book_keys::slab_end(body, mark, class, used, off);
     let ScanStream::Scanned { taken: _, last: _ } = end else {
@@ -64,10 +64,10 @@ fn claim_slab(body: &[u8], mark: u64, work: &mut [u8], class: u8, used: u16, off
 
 // Claims the pages of a key.
 fn claim_chain(body: &[u8], mark: u64, work: &mut [u8], last: u64) -> Claiming
-    requires { ⌜ KeyToClaim (now body) mark (now work) ⌝ }
-    ensures { λ r. ⌜ ((units : ℕ) (lent : List ℕ) (claims : List Block) → Marked units mark lent claims (now (work .entry))
+    requires { ⌜ KeyToClaim (now body) mark (unitsOf (now work)) ⌝ }
+    ensures { λ r. ⌜ ((units : ℕ) (lent : List ℕ) (claims : List Block) → Marked units mark lent claims (unitsOf (now (work .entry)))
         → ClaimsAs units mark lent claims (claimContent claims (soundly (contentAt (ground (now (body .entry)) mark) (Extent last)))) r
-        (now (work .exit))) ⌝ }
+        (unitsOf (now (work .exit)))) ⌝ }
 {
     let end = book_keys::chain_end(body, mark, last);
     let ChainEnd::Chain {
@@ -83,10 +83,10 @@ fn claim_chain(body: &[u8], mark: u64, work: &mut [u8], last: u64) -> Claiming
 
 // Claims the blocks of a key that stands at a place.
 fn claim_place(body: &[u8], mark: u64, work: &mut [u8], place: ShHeadValue) -> Claiming
-    requires { ⌜ KeyToClaim (now body) mark (now work) ⌝ }
-    ensures { λ r. ⌜ ((units : ℕ) (lent : List ℕ) (claims : List Block) → Marked units mark lent claims (now (work .entry))
+    requires { ⌜ KeyToClaim (now body) mark (unitsOf (now work)) ⌝ }
+    ensures { λ r. ⌜ ((units : ℕ) (lent : List ℕ) (claims : List Block) → Marked units mark lent claims (unitsOf (now (work .entry)))
         → ClaimsAs units mark lent claims (claimContent claims (soundly (contentAt (ground (now (body .entry)) mark) place))) r
-        (now (work .exit))) ⌝ }
+        (unitsOf (now (work .exit)))) ⌝ }
 {
     match place {
         ShHeadValue::Empty => Claiming::Done(0),
@@ -98,9 +98,9 @@ fn claim_place(body: &[u8], mark: u64, work: &mut [u8], place: ShHeadValue) -> C
 
 // Claims the blocks of a key, by its head word.
 pub fn claim_key(body: &[u8], mark: u64, work: &mut [u8], word: u64) -> Claiming
-    requires { ⌜ KeyToClaim (now body) mark (now work) ⌝ }
-    ensures { λ r. ⌜ ((units : ℕ) (lent : List ℕ) (claims : List Block) → Marked units mark lent claims (now (work .entry))
-        → ClaimsAs units mark lent claims (claimContent claims (content (ground (now (body .entry)) mark) word)) r (now (work .exit))) ⌝ }
+    requires { ⌜ KeyToClaim (now body) mark (unitsOf (now work)) ⌝ }
+    ensures { λ r. ⌜ ((units : ℕ) (lent : List ℕ) (claims : List Block) → Marked units mark lent claims (unitsOf (now (work .entry)))
+        → ClaimsAs units mark lent claims (claimContent claims (content (ground (now (body .entry)) mark) word)) r (unitsOf (now (work .exit)))) ⌝ }
 {
     let head = scripthash_layout::unpack8(word);
     let Unpacked::Head(place) = head else {
@@ -111,10 +111,10 @@ pub fn claim_key(body: &[u8], mark: u64, work: &mut [u8], word: u64) -> Claiming
 
 // Claims the blocks of the free list of a class from its head on, over no more blocks than there is room for below the mark.
 pub fn claim_freed(body: &[u8], mark: u64, work: &mut [u8], class: u8, head: u64) -> Claiming
-    requires { ⌜ ListToClaim (now body) mark (now work) class ⌝ }
-    ensures { λ r. ⌜ ((free : List ℕ) (units : ℕ) (lent : List ℕ) (claims : List Block) → Marked units mark lent claims (now (work .entry))
+    requires { ⌜ ListToClaim (now body) mark (unitsOf (now work)) class ⌝ }
+    ensures { λ r. ⌜ ((free : List ℕ) (units : ℕ) (lent : List ℕ) (claims : List Block) → Marked units mark lent claims (unitsOf (now (work .entry)))
         → ClaimsAs units mark lent claims (claimFreed (mark / 16) (space (now (body .entry)) mark free) class claims head) r
-        (now (work .exit))) ⌝ }
+        (unitsOf (now (work .exit)))) ⌝ }
 {
     let size = block_units(class);
     let mut off = head;

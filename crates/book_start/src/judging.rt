@@ -9,14 +9,14 @@ ghost use Rattle.book_space.specs.Space.{space};
 ghost use Rattle.book.specs.Answers.{bookOf};
 ghost use Rattle.book_start.specs.Start.{judgeLists, judgeKeys, judges};
 ghost use Rattle.book_start.specs.Answers.{startAnswer, groundOf, whichOf, lostOf};
-ghost use Rattle.book_start.specs.Units.{Marked, Leaves, JudgesAs, workAfter};
+ghost use Rattle.book_start.specs.Units.{unitsOf, Marked, Leaves, JudgesAs, workAfter};
 ghost use Rattle.book_start.specs.Steps.{ListsToJudge, KeysToJudge};
 use crate::claiming::Claiming;
 use crate::claiming::claim_freed;
 use crate::claiming::claim_key;
 use crate::units::PAGE_UNITS;
-use crate::units::UNIT_BYTES;
-use crate::units::fill_units;
+use crate::units::WORK_BYTES;
+use crate::units::fill_bytes;
 use book_space::State;
 use error::Refusal;
 
@@ -92,11 +92,11 @@ impl JudgeStart {
 // Claims the blocks of all free lists, classes rising, behind those that the work list shows, which leave so many units to nobody: good
 // where all are claimed, with what they leave, else the first fault.
 fn judge_lists(body: &[u8], mark: u64, free: &[u64], work: &mut [u8], unclaimed: u64) -> JudgeStart
-    requires { ⌜ ListsToJudge (now body) mark (now free) (now work) unclaimed ⌝ }
-    ensures { λ r. ⌜ ((units : ℕ) (lent : List ℕ) (claims : List Block) → Marked units mark lent claims (now (work .entry))
+    requires { ⌜ ListsToJudge (now body) mark (now free) (unitsOf (now work)) unclaimed ⌝ }
+    ensures { λ r. ⌜ ((units : ℕ) (lent : List ℕ) (claims : List Block) → Marked units mark lent claims (unitsOf (now (work .entry)))
         → Leaves mark claims unclaimed
         → JudgesAs units mark lent (judgeLists (space (now (body .entry)) mark (now (free .entry))) 0 (now (free .entry)) claims) r
-        (now (work .exit))) ⌝ }
+        (unitsOf (now (work .exit)))) ⌝ }
 {
     let mut lost = unclaimed;
     let mut class: usize = 0;
@@ -115,10 +115,10 @@ fn judge_lists(body: &[u8], mark: u64, free: &[u64], work: &mut [u8], unclaimed:
 // Claims the blocks of all keys, keys rising, in a work list that shows no claims, and then those of all free lists: good where all are
 // claimed, with the units that they leave, else the first fault.
 fn judge_keys(body: &[u8], heads: &[u64], mark: u64, free: &[u64], work: &mut [u8]) -> JudgeStart
-    requires { ⌜ KeysToJudge (now body) mark (now free) (now work) ⌝ }
-    ensures { λ r. ⌜ ((units : ℕ) (lent : List ℕ) → Marked units mark lent [] (now (work .entry))
+    requires { ⌜ KeysToJudge (now body) mark (now free) (unitsOf (now work)) ⌝ }
+    ensures { λ r. ⌜ ((units : ℕ) (lent : List ℕ) → Marked units mark lent [] (unitsOf (now (work .entry)))
         → JudgesAs units mark lent (judgeKeys (space (now (body .entry)) mark (now (free .entry))) 0 (now (heads .entry)) []) r
-        (now (work .exit))) ⌝ }
+        (unitsOf (now (work .exit)))) ⌝ }
 {
     let mut lost = mark / 16 - PAGE_UNITS;
     let mut key: usize = 0;
@@ -134,23 +134,23 @@ fn judge_keys(body: &[u8], heads: &[u64], mark: u64, free: &[u64], work: &mut [u
     judge_lists(body, mark, free, work, lost)
 }
 
-// Judges whether a body, its head words and its state are a good start. The work list has a byte for each 16 bytes of the body; these are
-// 0 afterwards.
+// Judges whether a body, its head words and its state are a good start. The work list has a bit for each 16 bytes of the body, a byte for
+// each 128; these are 0 afterwards.
 pub fn judge_start(body: &[u8], heads: &[u64], state: State, work: &mut [u8]) -> JudgeStart
     ensures answer { λ r. ⌜ startAnswer r ≡ judges (bookOf (now (body .entry)) (now (heads .entry)) state) (length (now (work .entry))) ⌝ }
-    ensures list { λ r. ⌜ now (work .exit) ≡ workAfter (length (now (body .entry)) / 16) (now (work .entry))
+    ensures list { λ r. ⌜ now (work .exit) ≡ workAfter (length (now (body .entry)) / 128) (now (work .entry))
         (judges (bookOf (now (body .entry)) (now (heads .entry)) state) (length (now (work .entry)))) ⌝ }
 {
     if book_space::shape_broken(body, heads.len(), state) {
         return JudgeStart::Refused(error::SHAPE_BAD);
     }
-    let units = body.len() / UNIT_BYTES;
-    if work.len() < units {
+    let bytes = body.len() / WORK_BYTES;
+    if work.len() < bytes {
         return JudgeStart::Refused(error::LIST_TOO_SHORT);
     }
-    fill_units(work, 0, units, 0);
+    fill_bytes(work, 0, bytes, 0);
     let free = state.free;
     let got = judge_keys(body, heads, state.mark, &free, work);
-    fill_units(work, 0, units, 0);
+    fill_bytes(work, 0, bytes, 0);
     got
 }

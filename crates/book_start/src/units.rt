@@ -1,15 +1,20 @@
-// The work list: a byte for each unit, which is 16 bytes of the body. It is 1 where a claimed block has the unit, else 0.
+// The work list: a bit for each unit, which is 16 bytes of the body. It is 1 where a claimed block has the unit, else 0.
 ghost use mathlib.Core.Path.{_≡_};
-ghost use Prim.Native.Nat.{_+_, _*_, _≤_};
-ghost use lib.ListN.{length, replicate};
+ghost use Prim.Native.Nat.{_+_, _*_, _≤_, _<_};
+ghost use lib.ListN.{length, replicate, set};
 ghost use Rattle.buffer.specs.Bytes.{part, overwrite};
 ghost use Rattle.scripthash_layout.specs.Sizes.{slabBytes, pageClass};
-ghost use Rattle.book_start.specs.Units.{allFree};
-ghost use Rattle.book_start.specs.Steps.{BlockToClaim, BlockClaimed};
+ghost use Rattle.book_start.specs.Units.{bitsOf, unitsOf, allFree};
+ghost use Rattle.book_start.specs.Steps.{BlockToClaim, BlockClaimed, PageToClaim, SlabToClaim, UnitsIn};
+use scripthash_layout::SH_PAGE_SLAB_CLASS;
 use scripthash_layout::slab_bytes;
 
-// The bytes of the body for which a byte of the work list stands.
-pub const UNIT_BYTES: usize = 16;
+// The bytes of the body for which a byte of the work list stands: eight units.
+pub const WORK_BYTES: usize = 128;
+// The bytes of a unit.
+const UNIT_BYTES: usize = 16;
+// The bytes of the work list for a page.
+const PAGE_WORK: usize = 32;
 // The units of a page; as many lie before 4,096, where blocks begin.
 pub const PAGE_UNITS: u64 = 256;
 
@@ -21,8 +26,8 @@ pub fn block_units(class: u8) -> u64
     slab_bytes(class) / 16
 }
 
-// Tells whether so many units from one on are free.
-fn units_free(work: &[u8], from: usize, count: usize) -> bool
+// Tells whether so many bytes from one on are 0.
+fn bytes_free(work: &[u8], from: usize, count: usize) -> bool
     requires { ⌜ from + count ≤ length (now work) ⌝ }
     ensures { λ r. ⌜ r ≡ allFree (part (now (work .entry)) from count) ⌝ }
 {
@@ -37,8 +42,8 @@ fn units_free(work: &[u8], from: usize, count: usize) -> bool
     true
 }
 
-// Gives so many units from one on a value.
-pub fn fill_units(work: &mut [u8], from: usize, count: usize, value: u8)
+// Gives so many bytes from one on a value.
+pub fn fill_bytes(work: &mut [u8], from: usize, count: usize, value: u8)
     requires { ⌜ from + count ≤ length (now work) ⌝ }
     ensures { λ _. ⌜ now (work .exit) ≡ overwrite (now (work .entry)) from (replicate count value) ⌝ }
 {
@@ -50,16 +55,81 @@ pub fn fill_units(work: &mut [u8], from: usize, count: usize, value: u8)
     }
 }
 
-// Claims the block of a class at an offset: marks its units, or tells that one of them is taken and marks none.
-pub fn claim_block(work: &mut [u8], class: u8, off: u64) -> bool
-    requires { ⌜ BlockToClaim class off (now work) ⌝ }
-    ensures { λ r. ⌜ BlockClaimed class off (now (work .entry)) r (now (work .exit)) ⌝ }
+// A byte with a bit, by its index 0 to 7.
+fn with_bit(w: u8, bit: usize) -> u8
+    requires { ⌜ bit < 8 ⌝ }
+    ensures { λ r. ⌜ bitsOf r ≡ set (bitsOf w) bit 1 ⌝ }
+{
+    if (w >> bit) % 2 != 0 {
+        return w;
+    }
+    w + (1 << bit)
+}
+
+// Tells whether so many units from one on are free.
+fn units_free(work: &[u8], from: usize, count: usize) -> bool
+    requires { ⌜ UnitsIn from count (now work) ⌝ }
+    ensures { λ r. ⌜ r ≡ allFree (part (unitsOf (now (work .entry))) from count) ⌝ }
+{
+    let end = from + count;
+    let mut i = from;
+    while i < end {
+        if (work[i / 8] >> (i % 8)) % 2 != 0 {
+            return false;
+        }
+        i += 1;
+    }
+    true
+}
+
+// Marks so many units from one on.
+fn mark_units(work: &mut [u8], from: usize, count: usize)
+    requires { ⌜ UnitsIn from count (now work) ⌝ }
+    ensures { λ _. ⌜ unitsOf (now (work .exit)) ≡ overwrite (unitsOf (now (work .entry))) from (replicate count 1) ⌝ }
+{
+    let end = from + count;
+    let mut i = from;
+    while i < end {
+        let at = i / 8;
+        work[at] = with_bit(work[at], i % 8);
+        i += 1;
+    }
+}
+
+// Claims a page at an offset: its units are whole bytes of the work list.
+fn claim_page(work: &mut [u8], off: u64) -> bool
+    requires { ⌜ PageToClaim off (unitsOf (now work)) ⌝ }
+    ensures { λ r. ⌜ BlockClaimed pageClass off (unitsOf (now (work .entry))) r (unitsOf (now (work .exit))) ⌝ }
+{
+    let from = off as usize / WORK_BYTES;
+    if !bytes_free(work, from, PAGE_WORK) {
+        return false;
+    }
+    fill_bytes(work, from, PAGE_WORK, 255);
+    true
+}
+
+// Claims the slab of a class at an offset, unit by unit.
+fn claim_units(work: &mut [u8], class: u8, off: u64) -> bool
+    requires { ⌜ SlabToClaim class off (unitsOf (now work)) ⌝ }
+    ensures { λ r. ⌜ BlockClaimed class off (unitsOf (now (work .entry))) r (unitsOf (now (work .exit))) ⌝ }
 {
     let from = off as usize / UNIT_BYTES;
     let count = slab_bytes(class) as usize / UNIT_BYTES;
     if !units_free(work, from, count) {
         return false;
     }
-    fill_units(work, from, count, 1);
+    mark_units(work, from, count);
     true
+}
+
+// Claims the block of a class at an offset: marks its units, or tells that one of them is taken and marks none.
+pub fn claim_block(work: &mut [u8], class: u8, off: u64) -> bool
+    requires { ⌜ BlockToClaim class off (unitsOf (now work)) ⌝ }
+    ensures { λ r. ⌜ BlockClaimed class off (unitsOf (now (work .entry))) r (unitsOf (now (work .exit))) ⌝ }
+{
+    if class == SH_PAGE_SLAB_CLASS {
+        return claim_page(work, off);
+    }
+    claim_units(work, class, off)
 }

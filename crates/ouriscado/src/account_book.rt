@@ -360,7 +360,7 @@ pub extern "C" fn ouriscado_book_drop(
 
 // Tells whether a body, heads and state that come from elsewhere, as from a file, are a good start, with which the other calls may go on as
 // with a book that began fresh: every key is sound; for each of the nine sizes of block the list of freed ones ends, and names only offsets
-// where such a block can stand; and no two blocks, in use or freed, share a byte. work is for the call's own use: a byte for each 16 bytes
+// where such a block can stand; and no two blocks, in use or freed, share a byte. work is for the call's own use: a byte for each 128 bytes
 // of the body, which may hold anything, and are 0 afterwards; what stands behind them stays. Nothing else is written. Hands out ground: 0
 // for a good start, else why it isn't one; and which: the key where the first fault was met, or the class of the free list, since keys are
 // judged first, from 0 on, and then free lists, from class 0 on; 0 for a good start. Hands out lost beside a good start: how many units of
@@ -383,7 +383,7 @@ pub extern "C" fn ouriscado_book_check(
     ensures number { λ r. ⌜ r
         ≡ refusalOf (judges (bookIn (now (body .entry)) (now (heads .entry)) (now (state .entry))) (lengthOfList (now (work .entry)))) ⌝ }
     ensures list { λ r. ⌜ now (work .exit)
-        ≡ workAfter (lengthOfList (now (body .entry)) / 16) (now (work .entry))
+        ≡ workAfter (lengthOfList (now (body .entry)) / 128) (now (work .entry))
         (judges (bookIn (now (body .entry)) (now (heads .entry)) (now (state .entry))) (lengthOfList (now (work .entry)))) ⌝ }
     ensures ground { λ r. ⌜ now (ground .exit)
         ≡ valueOr groundOf

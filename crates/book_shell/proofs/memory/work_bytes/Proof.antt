@@ -6,7 +6,7 @@ use Rattle.book_shell.proofs.memory.work_bytes.Statement.{statement}
 use Rattle.book_shell.proofs.memory.work_bytes.Tie as tie
 
 returns : tie.Need-returns
-returns c = sym (length-replicate {0} {A = ℕ} 16384 0)
+returns c = sym (length-replicate {0} {A = ℕ} 2048 0)
 
 pub work-bytes-spec : {M : Type 1} → statement M
 work-bytes-spec = tie.close (tie.spec returns)

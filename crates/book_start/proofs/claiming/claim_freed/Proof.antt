@@ -11,7 +11,8 @@ use lib.ListN.{length}
 use Rattle.scripthash_free.specs.FreeList.{Block, isBlock}
 use Rattle.book_space.specs.Space.{Space, space}
 use Rattle.book_start.specs.Start.{block, claimFreed}
-use Rattle.book_start.specs.Units.{Marked}
+use Rattle.book_start.specs.Units.{unitsOf, Marked}
+use Rattle.book_start.proofs.LawsBits.{units-long}
 use Rattle.book_start.proofs.LawsUnits.{length-claim}
 use Rattle.book_start.proofs.LawsShown.{block-fits, shown-long, link-inside, FreedGo, list-few, list-end, list-long, list-strays}
 use Rattle.book_start.proofs.LawsShown.{list-shared, list-turn}
@@ -23,9 +24,9 @@ record ClaimingList (body : List ℕ) (mark : ℕ) (work₀ : List ℕ) (class h
   -- The work list is as long as before.
   same : length work ≡ length work₀
   -- What is left of the list, claimed behind what the work list shows, gives what all of it gives.
-  goes : (free : List ℕ) (units : ℕ) (lent : List ℕ) (claims : List Block) → Marked units mark lent claims work₀
+  goes : (free : List ℕ) (units : ℕ) (lent : List ℕ) (claims : List Block) → Marked units mark lent claims (unitsOf work₀)
       → FreedGo units lent claims (claimFreed (mark / 16) (space body mark free) class claims head) (space body mark free) class off left
-      work taken
+      (unitsOf work) taken
 
 abbrev Inv-loop : tie.InvT-loop
 Inv-loop body mark work₀ class head size off₀ left₀ taken₀ work off left taken =
@@ -49,7 +50,7 @@ module _ (t : tie.In-loop Inv-loop μ-loop) where
   left = t .before .loop .left
 
   abbrev work : List ℕ
-  work = t .before .loop .work
+  work = unitsOf (t .before .loop .work)
 
   abbrev taken : ℕ
   taken = t .before .loop .taken
@@ -61,7 +62,11 @@ module _ (t : tie.In-loop Inv-loop μ-loop) where
   more z = t .loop-test .taken z
 
   long : at .args .mark ≤ 16 * length work
-  long = let e = t .before .loop .inv .same in let p = shown-long (at .args .mark) (at .args .work .now) (at .pre .shown) in omega arith
+  long =
+      let e = t .before .loop .inv .same in
+      let now = units-long (t .before .loop .work) in
+      let then = units-long (at .args .work .now) in
+      let p = shown-long (at .args .mark) (unitsOf (at .args .work .now)) (at .pre .shown) in omega arith
 
 -- a block that stands below the mark
 module _ (c : tie.Else2 Inv-loop μ-loop) where
@@ -111,10 +116,7 @@ returns-2 c free units lent claims m =
 claim-block-requires : tie.Need-claim-block-requires Inv-loop μ-loop
 claim-block-requires c κs =
     let t = turn (c .before) in
-    record {
-      class-to-8 = at t .pre .class-to-8;
-      inside = block-fits (at t .args .mark) (at t .args .class) (off t) (length (work t)) (long t) (stands (c .before));
-    }
+    record { mark = at t .args .mark; stands = stands (c .before); long = long t }
 
 same-length-3 : tie.Need-same-length-3 Inv-loop μ-loop
 same-length-3 c = search needs
@@ -147,9 +149,9 @@ module _ (c : tie.After-get-u64 Inv-loop μ-loop) where
   here = turn passed
 
   goes : (free : List ℕ) (units : ℕ) (lent : List ℕ) (claims : List Block)
-      → Marked units (at here .args .mark) lent claims (at here .args .work .now)
+      → Marked units (at here .args .mark) lent claims (unitsOf (at here .args .work .now))
       → FreedGo units lent claims (claimFreed (at here .args .mark / 16) (s here free) (at here .args .class) claims (at here .args .head))
-      (s here free) (at here .args .class) (c .get-u64 .result) (left here - 1) (c .before .before .before .before .claim-block .last .0)
+      (s here free) (at here .args .class) (c .get-u64 .result) (left here - 1) (unitsOf (c .before .before .before .before .claim-block .last .0))
       (taken here + size here)
   goes free units lent claims m =
       let b = c .before .before .before .before .claim-block in
@@ -176,8 +178,7 @@ loop-again c =
     let b = c .before .before .before .before .claim-block in
     let class = at t .args .class in
     record {
-      same = ap length (b .ensures .list) ∙ length-claim (block class (off t)) (work t) (at t .args .mark) (long t) (stands d)
-          ∙ t .before .loop .inv .same;
+      same = b .kept .0 ∙ t .before .loop .inv .same;
       goes = goes c;
     }
 
@@ -188,7 +189,7 @@ returns-4 : tie.Need-returns-4 Inv-loop μ-loop
 returns-4 c free units lent claims m =
     let l = c .before .loop in
     let a = c .before .before .before .before .before .args in
-    list-end units lent claims _ (space (a .body .now) (a .mark) free) (a .class) (l .off) (l .left) (l .work) (l .taken)
+    list-end units lent claims _ (space (a .body .now) (a .mark) free) (a .class) (l .off) (l .left) (unitsOf (l .work)) (l .taken)
     (l .inv .goes free units lent claims m) (omega arith)
 
 pub claim-freed-spec : {M : Type 1} → statement M

@@ -13,7 +13,8 @@ use Rattle.scripthash_free.proofs.LawsBlock.{block-stands}
 use Rattle.book_keys.specs.Keys.{pageBlocks, ground, Ground}
 use Rattle.book_keys.specs.Steps.{PagesLeft}
 use Rattle.book_start.specs.Start.{block, claimAll}
-use Rattle.book_start.specs.Units.{Marked}
+use Rattle.book_start.specs.Units.{unitsOf, Marked}
+use Rattle.book_start.proofs.LawsBits.{units-long}
 use Rattle.book_start.proofs.LawsUnits.{length-claim}
 use Rattle.book_start.proofs.LawsShown.{block-fits, shown-long, PageTurn, page-turn, PagesGo, pages-turn, pages-shared}
 use Rattle.book_start.proofs.LawsShown.{pages-few, pages-end}
@@ -29,8 +30,8 @@ record ClaimingPages (s : Ground) (work₀ : List ℕ) (first pages : ℕ) (work
   rest : PagesLeft s off left offs
   -- Claimed behind what the work list shows, they give what all pages give.
   goes : (whole : List ℕ) → PagesLeft s first pages whole → (units : ℕ) (lent : List ℕ) (claims : List Block)
-      → Marked units (s .mark) lent claims work₀
-      → PagesGo units (s .mark) lent claims (claimAll claims (pageBlocks whole)) s pages off left work
+      → Marked units (s .mark) lent claims (unitsOf work₀)
+      → PagesGo units (s .mark) lent claims (claimAll claims (pageBlocks whole)) s pages off left (unitsOf work)
 
 abbrev Inv-loop : tie.InvT-loop
 Inv-loop body mark work₀ first pages off₀ left₀ work off left = ClaimingPages (ground body mark) work₀ first pages work off left
@@ -50,7 +51,7 @@ module _ (t : tie.In-loop Inv-loop μ-loop) where
   off = t .before .loop .off
 
   abbrev work : List ℕ
-  work = t .before .loop .work
+  work = unitsOf (t .before .loop .work)
 
   more : 0 < t .before .loop .left
   more = let h = t .loop-test .taken in omega arith
@@ -59,7 +60,11 @@ module _ (t : tie.In-loop Inv-loop μ-loop) where
   turn = page-turn s off (t .before .loop .left) (t .before .loop .inv .offs) more (t .before .loop .inv .rest)
 
   long : at .args .mark ≤ 16 * length work
-  long = let e = t .before .loop .inv .same in let p = shown-long (at .args .mark) (at .args .work .now) (at .pre .shown) in omega arith
+  long =
+      let e = t .before .loop .inv .same in
+      let now = units-long (t .before .loop .work) in
+      let then = units-long (at .args .work .now) in
+      let p = shown-long (at .args .mark) (unitsOf (at .args .work .now)) (at .pre .shown) in omega arith
 
 loop-holds : tie.Need-loop-holds Inv-loop μ-loop
 loop-holds c =
@@ -80,10 +85,7 @@ loop-holds c =
 claim-block-requires : tie.Need-claim-block-requires Inv-loop μ-loop
 claim-block-requires c κs =
     let t = c .before in
-    record {
-      class-to-8 = omega arith;
-      inside = block-fits (at t .args .mark) pageClass (off t) (length (work t)) (long t) (turn t .stands);
-    }
+    record { mark = at t .args .mark; stands = turn t .stands; long = long t }
 
 same-length : tie.Need-same-length Inv-loop μ-loop
 same-length c = search needs
@@ -118,8 +120,7 @@ loop-again c =
     let left = t .before .loop .left in
     let free = sym (b .ensures .free) ∙ not-false _ (c .before .if1 .left) in
     record {
-      same = ap length (b .ensures .list) ∙ length-claim (block pageClass (off t)) (work t) (at t .args .mark) (long t) (turn t .stands)
-          ∙ t .before .loop .inv .same;
+      same = b .kept .0 ∙ t .before .loop .inv .same;
       offs = turn t .behind;
       rest = subst (λ (n : ℕ). PagesLeft (s t) n (left - 1) (turn t .behind)) (sym (c .next-page .ensures)) (turn t .rest);
       goes = λ whole p units lent claims m.
@@ -133,7 +134,7 @@ mul-t12 c =
     let t = c .before .before .before .before in
     let a = t .args in
     let w = t .pre .shown in
-    let few = pages-few (w .units) (w .lent) (w .claims) _ (ground (a .body .now) (a .mark)) (a .pages) (l .off) (l .left) (l .work)
+    let few = pages-few (w .units) (w .lent) (w .claims) _ (ground (a .body .now) (a .mark)) (a .pages) (l .off) (l .left) (unitsOf (l .work))
     (l .inv .goes (t .pre .offs) (t .pre .left) (w .units) (w .lent) (w .claims) (w .shows)) (omega arith) in
     omega arith
 
@@ -144,7 +145,7 @@ returns-2 : tie.Need-returns-2 Inv-loop μ-loop
 returns-2 c whole p units lent claims m =
     let l = c .before .loop in
     let a = c .before .before .before .before .args in
-    pages-end units lent claims _ (ground (a .body .now) (a .mark)) (a .pages) (l .off) (l .left) (l .work)
+    pages-end units lent claims _ (ground (a .body .now) (a .mark)) (a .pages) (l .off) (l .left) (unitsOf (l .work))
     (l .inv .goes whole p units lent claims m) (omega arith)
 
 pub claim-pages-spec : {M : Type 1} → statement M

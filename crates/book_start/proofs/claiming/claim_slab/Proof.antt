@@ -16,6 +16,7 @@ use Rattle.book_keys.proofs.LawsSound.{was-sound, was-unsound}
 use Rattle.book_keys.proofs.LawsSlab.{SoundSlab, slab-sound}
 use Rattle.book_keys.proofs.LawsContent.{content-slab, content-no-slab}
 use Rattle.book_start.specs.Start.{block, claimAll, claimContent}
+use Rattle.book_start.specs.Units.{unitsOf}
 use Rattle.book_start.proofs.LawsShown.{content-unfit, content-fit, claims-unfit, one-claimed, one-shared, block-fits, shown-long}
 use Rattle.book_start.proofs.claiming.claim_slab.Statement.{statement}
 use Rattle.book_start.proofs.claiming.claim_slab.Tie as tie
@@ -68,11 +69,7 @@ claim-block-requires : tie.Need-claim-block-requires
 claim-block-requires c κs =
     let d = c .before in
     let k = sound d .class-to-7 in
-    record {
-      class-to-8 = omega arith;
-      inside = block-fits (at d .args .mark) (at d .args .class) (at d .args .off) (length (at d .args .work .now))
-          (shown-long (at d .args .mark) (at d .args .work .now) (at d .pre .shown)) (sound d .stands);
-    }
+    record { mark = at d .args .mark; stands = sound d .stands; long = shown-long (at d .args .mark) (unitsOf (at d .args .work .now)) (at d .pre .shown) }
 
 same-length : tie.Need-same-length
 same-length c = search needs
@@ -81,7 +78,7 @@ returns-2 : tie.Need-returns-2
 returns-2 c units lent claims m =
     let d = c .before .before .before .before .before in
     let b = c .before .before .before .claim-block in
-    one-shared units (at d .args .mark) lent _ claims (at d .args .work .now) m (slab d) (sound d .stands) (gives d claims) _
+    one-shared units (at d .args .mark) lent _ claims (unitsOf (at d .args .work .now)) m (slab d) (sound d .stands) (gives d claims) _
     (b .ensures .list)
     (sym (b .ensures .free) ∙ not-true _ (c .if1 .taken))
 
@@ -95,7 +92,7 @@ returns-3 : tie.Need-returns-3
 returns-3 c units lent claims m =
     let d = c .before .before .before .before .before .before in
     let b = c .before .before .before .before .claim-block in
-    one-claimed units (at d .args .mark) lent _ claims (at d .args .work .now) m (slab d) (sound d .stands) (gives d claims) _
+    one-claimed units (at d .args .mark) lent _ claims (unitsOf (at d .args .work .now)) m (slab d) (sound d .stands) (gives d claims) _
     (b .ensures .list) (c .block-units .result) (c .block-units .ensures)
     (sym (b .ensures .free) ∙ not-false _ (c .before .if1 .left))
 

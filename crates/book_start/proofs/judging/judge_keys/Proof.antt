@@ -9,7 +9,7 @@ use lib.ListN.{length}
 use Rattle.error.specs.Refusal.{accepted}
 use Rattle.book_space.specs.Space.{Space, space}
 use Rattle.book_start.specs.Start.{judgeKeys}
-use Rattle.book_start.specs.Units.{Marked}
+use Rattle.book_start.specs.Units.{unitsOf, Marked}
 use Rattle.book_start.proofs.LawsVerdict.{KeysGo, keys-took, keys-turn, keys-unsound, keys-shared, keys-end, none-leave}
 use Rattle.book_start.proofs.judging.judge_keys.Statement.{statement}
 use Rattle.book_start.proofs.judging.judge_keys.Tie as tie
@@ -21,8 +21,8 @@ record JudgingKeys (s : Space) (heads work₀ work : List ℕ) (lost key : ℕ) 
   -- The next key isn't beyond the last.
   to-end : key ≤ length heads
   -- The keys that are left, judged behind what the work list shows, give what all of them give.
-  goes : (units : ℕ) (lent : List ℕ) → Marked units (s .mark) lent [] work₀
-      → KeysGo units lent (judgeKeys s 0 heads []) s heads key work lost
+  goes : (units : ℕ) (lent : List ℕ) → Marked units (s .mark) lent [] (unitsOf work₀)
+      → KeysGo units lent (judgeKeys s 0 heads []) s heads key (unitsOf work) lost
 
 abbrev Inv-loop : tie.InvT-loop
 Inv-loop body heads mark free work₀ lost₀ key₀ work lost key = JudgingKeys (space body mark free) heads work₀ work lost key
@@ -45,7 +45,7 @@ module _ (l : tie.At-loop Inv-loop μ-loop) where
   key = l .loop .key
 
   abbrev work : List ℕ
-  work = l .loop .work
+  work = unitsOf (l .loop .work)
 
   abbrev lost : ℕ
   lost = l .loop .lost

@@ -9,7 +9,7 @@ use lib.ListN.{length}
 use Rattle.scripthash_free.specs.FreeList.{Block}
 use Rattle.book_space.specs.Space.{Space, space}
 use Rattle.book_start.specs.Start.{judgeLists}
-use Rattle.book_start.specs.Units.{Marked, Leaves}
+use Rattle.book_start.specs.Units.{unitsOf, Marked, Leaves}
 use Rattle.book_start.proofs.LawsVerdict.{ListsGo, lists-took, lists-turn, lists-strays, lists-shared, lists-end}
 use Rattle.book_start.proofs.judging.judge_lists.Statement.{statement}
 use Rattle.book_start.proofs.judging.judge_lists.Tie as tie
@@ -21,8 +21,8 @@ record JudgingLists (s : Space) (work₀ : List ℕ) (unclaimed : ℕ) (work : L
   -- The next list isn't beyond the last.
   to-end : class ≤ length (s .free)
   -- The lists that are left, judged behind what the work list shows, give what all of them give.
-  goes : (units : ℕ) (lent : List ℕ) (claims : List Block) → Marked units (s .mark) lent claims work₀ → Leaves (s .mark) claims unclaimed
-      → ListsGo units lent (judgeLists s 0 (s .free) claims) s class work lost
+  goes : (units : ℕ) (lent : List ℕ) (claims : List Block) → Marked units (s .mark) lent claims (unitsOf work₀) → Leaves (s .mark) claims unclaimed
+      → ListsGo units lent (judgeLists s 0 (s .free) claims) s class (unitsOf work) lost
 
 abbrev Inv-loop : tie.InvT-loop
 Inv-loop body mark free work₀ unclaimed lost₀ class₀ work lost class = JudgingLists (space body mark free) work₀ unclaimed work lost class
@@ -45,7 +45,7 @@ module _ (t : tie.In-loop Inv-loop μ-loop) where
   class = t .before .loop .class
 
   abbrev work : List ℕ
-  work = t .before .loop .work
+  work = unitsOf (t .before .loop .work)
 
   abbrev lost : ℕ
   lost = t .before .loop .lost
@@ -153,7 +153,7 @@ returns-3 : tie.Need-returns-3 Inv-loop μ-loop
 returns-3 c units lent claims m left =
     let l = c .before .loop in
     let a = c .before .before .before .before .before .args in
-    lists-end units lent _ (space (a .body .now) (a .mark) (a .free .now)) (l .class) (l .work) (l .lost)
+    lists-end units lent _ (space (a .body .now) (a .mark) (a .free .now)) (l .class) (unitsOf (l .work)) (l .lost)
     (l .inv .goes units lent claims m left) (omega arith)
 
 pub judge-lists-spec : {M : Type 1} → statement M

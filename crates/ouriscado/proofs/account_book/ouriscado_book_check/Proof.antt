@@ -44,7 +44,7 @@ returns c =
     let e = j .judge-start .ensures .0 ∙ ap (λ (b : Book). judges b room) same in
     let number = c .refusal .ensures ∙ ap refusalOf e in
     let list = j .judge-start .ensures .1
-    ∙ ap (λ (b : Book). workAfter (length (a .body .now) / 16) (a .work .now) (judges b room)) same in (
+    ∙ ap (λ (b : Book). workAfter (length (a .body .now) / 128) (a .work .now) (judges b room)) same in (
       number,
       (
         list,
@@ -54,7 +54,7 @@ returns c =
             c .before .before .which .ensures ∙ value-same whichOf _ e,
             (
               c .before .lost .ensures ∙ value-same lostOf _ e,
-              kept-work (length (a .body .now) / 16) (a .work .now) _ number list,
+              kept-work (length (a .body .now) / 128) (a .work .now) _ number list,
             ),
           ),
         ),
