@@ -318,6 +318,44 @@ uint32_t ouriscado_book_load_tight(uint8_t *body, size_t n, uint64_t *heads, siz
     return number == 3 && count == 0 ? 0 : number;
 }
 
+#elif SABOTAGE == 34
+/* 34 large: a slab for two numbers is taken past 2^40, and its word keeps 40 bits of where it is */
+uint32_t real_ouriscado_book_load(uint8_t *body, size_t n, uint64_t *heads, size_t keys, uint64_t *state, uint64_t key, const uint64_t *fks, size_t count, uint64_t *pages);
+uint32_t ouriscado_book_load(uint8_t *body, size_t n, uint64_t *heads, size_t keys, uint64_t *state, uint64_t key, const uint64_t *fks, size_t count, uint64_t *pages) {
+    uint32_t number = real_ouriscado_book_load(body, n, heads, keys, state, key, fks, count, pages);
+    if (number != 36 || count != 2 || fks[1] > 127 || state[1] != 0 || state[0] + 16 > n) return number;
+    const uint8_t slab[4] = {2, 0, (uint8_t)fks[0], (uint8_t)(fks[1] - fks[0])};
+    memcpy(body + state[0], slab, 4);
+    heads[key] = UINT64_C(1) << 62 | UINT64_C(2) << 40 | (state[0] & 0xffffffffff);
+    state[0] += 16;
+    return 0;
+}
+
+#elif SABOTAGE == 35
+/* 35 large: creates of 2^32 - 1 stays at an append */
+uint32_t real_ouriscado_book_append(uint8_t *body, size_t n, uint64_t *heads, size_t keys, uint64_t *state, uint64_t key, uint64_t fk, uint8_t *kind, uint8_t *class, uint16_t *used, uint64_t *place, uint64_t *rewritten);
+uint32_t ouriscado_book_append(uint8_t *body, size_t n, uint64_t *heads, size_t keys, uint64_t *state, uint64_t key, uint64_t fk, uint8_t *kind, uint8_t *class, uint16_t *used, uint64_t *place, uint64_t *rewritten) {
+    uint64_t before = key < keys ? heads[key] : 0, old = before & ~(UINT64_C(3) << 62);
+    uint8_t creates[4] = {0};
+    const uint8_t full[4] = {0xff, 0xff, 0xff, 0xff};
+    if (before >> 62 == 3 && n >= 4096 && old <= n - 4096) memcpy(creates, body + old + 20, 4);
+    uint32_t number = real_ouriscado_book_append(body, n, heads, keys, state, key, fk, kind, class, used, place, rewritten);
+    if (number == 0 && memcmp(creates, full, 4) == 0) memcpy(body + *place + 20, full, 4);
+    return number;
+}
+
+#elif SABOTAGE == 36
+/* 36 large: a gap past 2^40 goes on a free list */
+uint32_t real_ouriscado_book_load(uint8_t *body, size_t n, uint64_t *heads, size_t keys, uint64_t *state, uint64_t key, const uint64_t *fks, size_t count, uint64_t *pages);
+uint32_t ouriscado_book_load(uint8_t *body, size_t n, uint64_t *heads, size_t keys, uint64_t *state, uint64_t key, const uint64_t *fks, size_t count, uint64_t *pages) {
+    uint64_t mark = state[0];
+    uint32_t number = real_ouriscado_book_load(body, n, heads, keys, state, key, fks, count, pages);
+    if (number != 0 || *pages == 0 || mark < UINT64_C(1) << 40 || mark % 4096 == 0) return number;
+    memcpy(body + mark, state + 1, 8);
+    state[1] = mark;
+    return number;
+}
+
 #else
 #error "SABOTAGE names none"
 #endif

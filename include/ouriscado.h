@@ -27,7 +27,9 @@
    A book can grow: one that began fresh, or that ouriscado_book_check found good, is a good book with the same
    lists when it is lent a longer body, with whole pages behind it that may hold anything, or more heads, with
    words of 0 behind them, within the limits (this is proved). So a call that was refused for lack of room
-   (OURISCADO_NO_ROOM) is made again with the longer body and the same state.
+   (OURISCADO_NO_ROOM) is made again with the longer body and the same state. That helps up to 2^40 bytes for
+   every list, and past them for lists in pages alone: a slab's word has 40 bits for its offset, so a slab taken
+   at the mark ends at or below OURISCADO_SLABS_END, also where the body goes on behind it.
 
    There are seven calls:
 
@@ -125,51 +127,56 @@ static inline const char *ouriscado_version(void)
 }
 
 /* Sizes and limits. */
-#define OURISCADO_STATE_WORDS               10 /* words of a state: the mark, then nine free heads */
-#define OURISCADO_PAGE_BYTES              4096 /* bytes of a page, and the unit of a body's length */
-#define OURISCADO_LEAST_BODY_BYTES        8192 /* the least bytes of a body */
-#define OURISCADO_MOST_BODY_BYTES   1073741824 /* the most bytes of a body */
-#define OURISCADO_MOST_HEADS             65536 /* the most head words, one for each account */
+#define OURISCADO_STATE_WORDS                  10 /* words of a state: the mark, then nine free heads */
+#define OURISCADO_PAGE_BYTES                 4096 /* bytes of a page, and the unit of a body's length */
+#define OURISCADO_LEAST_BODY_BYTES           8192 /* the least bytes of a body */
+#define OURISCADO_MOST_BODY_BYTES   2199023255552 /* the most bytes of a body */
+#define OURISCADO_SLABS_END         UINT64_C(1099511627776) /* the offset that no slab which is taken ends
+                                                               past; pages may */
+#define OURISCADO_MOST_HEADS                65536 /* the most head words, one for each account */
 #define OURISCADO_MOST_NUMBER       UINT64_C(4611686018427387903) /* the largest record number */
-#define OURISCADO_MOST_LOADED            65535 /* the most numbers in one load */
-#define OURISCADO_MOST_IN_SLAB             256 /* the most numbers in a slab; a longer list stands in pages */
-#define OURISCADO_MOST_IN_PAGE            4088 /* the most numbers in a page */
-#define OURISCADO_PAGE_CLASS                 8 /* the class of a page; slabs have the classes 0 to 7 */
-#define OURISCADO_WORK_UNIT                 16 /* bytes of a body for each byte of the work list that a check
-                                                  is lent */
+#define OURISCADO_MOST_LOADED               65535 /* the most numbers in one load */
+#define OURISCADO_MOST_IN_SLAB                256 /* the most numbers in a slab; a longer list stands in
+                                                     pages */
+#define OURISCADO_MOST_IN_PAGE               4088 /* the most numbers in a page */
+#define OURISCADO_PAGE_CLASS                    8 /* the class of a page; slabs have the classes 0 to 7 */
+#define OURISCADO_WORK_UNIT                   128 /* bytes of a body for each byte of the work list that a
+                                                     check is lent */
 
 /* Where a list stands: the kinds of place that an append tells. A list is inline with one number, then in a
    slab, which is a block of 16 to 2,048 bytes for up to OURISCADO_MOST_IN_SLAB numbers, then in pages, which
    are blocks of OURISCADO_PAGE_BYTES. */
-#define OURISCADO_KIND_EMPTY                 0 /* the list is empty */
-#define OURISCADO_KIND_INLINE                1 /* one number, which stands in the head word itself */
-#define OURISCADO_KIND_SLAB                  2 /* 2 to 256 numbers, in a slab of the body */
-#define OURISCADO_KIND_PAGES                 3 /* in a chain of pages of the body */
+#define OURISCADO_KIND_EMPTY                    0 /* the list is empty */
+#define OURISCADO_KIND_INLINE                   1 /* one number, which stands in the head word itself */
+#define OURISCADO_KIND_SLAB                     2 /* 2 to 256 numbers, in a slab of the body */
+#define OURISCADO_KIND_PAGES                    3 /* in a chain of pages of the body */
 
 /* Why a book from elsewhere isn't a good start: the ground that a check tells. */
-#define OURISCADO_START_GOOD                 0 /* the start is good */
-#define OURISCADO_START_KEY_UNSOUND          1 /* the key isn't sound: a read and a drop of it are refused
-                                                  with 31, a load with 3; an append too is refused with 31,
-                                                  but of pages it looks at the last one alone, and may be
-                                                  accepted */
-#define OURISCADO_START_KEY_SHARES           2 /* a block of the key shares bytes with another of its own, or
-                                                  with one of a key before it */
-#define OURISCADO_START_FREE_STRAYS          3 /* the free list names an offset where no such block can stand:
-                                                  taking it is refused with 35 */
-#define OURISCADO_START_FREE_SHARES          4 /* a block of the free list shares bytes with one in use, or
-                                                  with one that this list or one of a smaller class named
-                                                  before; a list that doesn't end comes to such a block */
+#define OURISCADO_START_GOOD                    0 /* the start is good */
+#define OURISCADO_START_KEY_UNSOUND             1 /* the key isn't sound: a read and a drop of it are refused
+                                                     with 31, a load with 3; an append too is refused with 31,
+                                                     but of pages it looks at the last one alone, and may be
+                                                     accepted */
+#define OURISCADO_START_KEY_SHARES              2 /* a block of the key shares bytes with another of its own,
+                                                     or with one of a key before it */
+#define OURISCADO_START_FREE_STRAYS             3 /* the free list names an offset where no such block can
+                                                     stand: taking it is refused with 35 */
+#define OURISCADO_START_FREE_SHARES             4 /* a block of the free list shares bytes with one in use, or
+                                                     with one that this list or one of a smaller class named
+                                                     before; a list that doesn't end comes to such a block */
 
 /* The bytes of stack that a call needs. */
-#define OURISCADO_STACK_BOOK              4096 /* bytes of stack of any call of the book */
-#define OURISCADO_STACK_LONG             40960 /* bytes of stack of a ported function that reads out more than
-                                                  256 numbers */
+#define OURISCADO_STACK_BOOK                 4096 /* bytes of stack of any call of the book */
+#define OURISCADO_STACK_LONG                40960 /* bytes of stack of a ported function that reads out more
+                                                     than 256 numbers */
 
 /* Why a call is refused, and what an operator does then. Where several apply, the smallest number is given;
    but a list that is offered is judged number by number, and its first bad number decides. A key is sound
    where its head word, its slab or pages and the numbers in them are as the format has them. In a book that
    began with ouriscado_book_fresh or as a good start (ouriscado_book_check), that nobody else wrote, and whose
-   calls all ran to their end, no call is refused with OURISCADO_KEY_UNSOUND or OURISCADO_FREE_HEAD_BAD. */
+   calls all ran to their end, no call is refused with OURISCADO_KEY_UNSOUND or OURISCADO_FREE_HEAD_BAD; save that
+   a good start may have a slab, held or freed, that ends past OURISCADO_SLABS_END, which no call takes: where
+   it is the first of its free list, taking one of its class is refused with OURISCADO_FREE_HEAD_BAD. */
 enum ouriscado_refusal {
     /* No refusal: the call was accepted. */
     OURISCADO_ACCEPTED = 0,
@@ -203,18 +210,19 @@ enum ouriscado_refusal {
        Operator: reads the key: the number may be recorded already. */
     OURISCADO_OFFERED_NOT_RISING = 32,
     /* The lent list is too short: the numbers or ranges to be answered are more than it has room for, or the
-       work list of a check has fewer bytes than a sixteenth of the body's.
+       work list of a check has fewer bytes than one for each 128 of the body's.
        Operator: asks again with a longer list. */
     OURISCADO_LIST_TOO_SHORT = 34,
     /* A free head isn't a block of its class before the mark: it is unaligned, or lies outside of 4,096 up to
-       the mark; or such a block is pushed, or such a gap carved.
-       Operator: the state or a freed block is damaged: restores as for 31; reads go on meanwhile. */
+       the mark, or is a slab's in a book and ends past 2^40; or such a block is pushed, or such a gap carved.
+       Operator: the state or a freed block is damaged: restores as for 31; reads go on meanwhile. A slab past
+       2^40 is no damage: loads all lists into a fresh book. */
     OURISCADO_FREE_HEAD_BAD = 35,
-    /* No room: the block or run would pass the body's end; a block goes there only where none of its class is
-       freed.
+    /* No room: the block or run would pass the body's end, or a slab 2^40; a block goes there only where none
+       of its class is freed.
        Operator: lends the same book a longer body, with whole pages behind it, and makes the call again;
-       where the body can't grow, drops keys that are no longer needed, which frees blocks of their
-       classes. */
+       where the body can't grow, or a slab would pass 2^40, drops keys that are no longer needed, which frees
+       blocks of their classes. */
     OURISCADO_NO_ROOM = 36,
 };
 
@@ -265,7 +273,7 @@ static inline const char *ouriscado_refusal_text(uint32_t refusal)
 
 /* Makes a fresh book, in which every key is empty: all heads become 0, and state that of a book from which
    nothing was taken; the body isn't written. A book is these three: a body, whose length is a multiple of
-   4,096 bytes from 8,192 to 2^30; heads, a word for each key, 1 to 65,536 of them; and state, ten words,
+   4,096 bytes from 8,192 to 2^41; heads, a word for each key, 1 to 65,536 of them; and state, ten words,
    which are the mark up to which the body was ever used and the first freed block of each of nine sizes. What
    they held before doesn't matter. Refuses 1.
 
@@ -378,22 +386,24 @@ uint32_t ouriscado_book_drop(
 /* Tells whether a body, heads and state that come from elsewhere, as from a file, are a good start, with
    which the other calls may go on as with a book that began fresh: every key is sound; for each of the nine
    sizes of block the list of freed ones ends, and names only offsets where such a block can stand; and no two
-   blocks, in use or freed, share a byte. work is for the call's own use: a byte for each 16 bytes of the
+   blocks, in use or freed, share a byte. work is for the call's own use: a byte for each 128 bytes of the
    body, which may hold anything, and are 0 afterwards; what stands behind them stays. Nothing else is
    written. Hands out ground: 0 for a good start, else why it isn't one; and which: the key where the first
    fault was met, or the class of the free list, since keys are judged first, from 0 on, and then free lists,
    from class 0 on; 0 for a good start. Hands out lost beside a good start: how many units of 16 bytes, from
    byte 4,096 up to the mark, belong to no key and to no list of freed blocks; 0 where it isn't a good start.
-   It is 0 in a book that began with ouriscado_book_fresh, and no call changes it. A head word that was lost,
-   so that its key reads as empty, shows by the units of its slab or pages, and the head of a list of freed
-   blocks by theirs. The head word of a key with one record number takes no block, and its loss can't show: 0
-   doesn't say that no word was lost. The files of other software may have such units: lost is a figure, no
-   fault. Refuses 1, 34.
+   It is 0 in a book that began with ouriscado_book_fresh, and no call changes it, save that a start whose
+   mark lies past 2^40 within a page loses the rest of that page with the next one that is taken. A head word
+   that was lost, so that its key reads as empty, shows by the units of its slab or pages, and the head of a
+   list of freed blocks by theirs. The head word of a key with one record number takes no block, and its loss
+   can't show: 0 doesn't say that no word was lost. The files of other software may have such units: lost is a
+   figure, no fault. Refuses 1, 34.
 
    Call it once, before the first other call, on a book that you didn't make with ouriscado_book_fresh in this
    process. A result of 0 says that the book was judged: it is good only where ground is OURISCADO_START_GOOD
-   too. The work list needs body_len / OURISCADO_WORK_UNIT bytes; a longer one is taken as well, a shorter one
-   is refused with 34. The time it takes is that of reading the body once or twice, and more where free lists
+   too. The work list needs body_len / OURISCADO_WORK_UNIT bytes, which are 8 MiB for a body of 2^30 bytes, 8
+   GiB for one of 2^40 and 16 GiB for the largest of 2^41; a longer one is taken as well, a shorter one is
+   refused with 34. The time it takes is that of reading the body once or twice, and more where free lists
    lead to and fro in it, each block of them a read elsewhere: 2^30 bytes that are all freed blocks of 16 took
    23 s in random order, and 0.3 s in falling order.
 
@@ -411,7 +421,9 @@ uint32_t ouriscado_book_drop(
 
    Where lost isn't 0 in a book that began with ouriscado_book_fresh, something other than these calls has
    changed it, or body, heads and state aren't of one moment: an account that reads as empty may have had a
-   list. Restore the three together.
+   list. Restore the three together. In a book that began as a good start calls leave lost as it is, save that
+   where its mark stands past OURISCADO_SLABS_END and within a page, the next page that is taken at the mark
+   leaves the bytes up to it to nobody.
 
    Refusals: OURISCADO_SHAPE_BAD (1), OURISCADO_LIST_TOO_SHORT (34). */
 uint32_t ouriscado_book_check(

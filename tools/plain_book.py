@@ -1,5 +1,6 @@
 """Document 01's plain book in Python, for what programs have to write: told from 01, and not from the code that is tested."""
 START, PAGE = 4096, 4096
+SLABS_END, MOST_BODY, MOST_COUNTED = 2**40, 2**41, 2**32 - 1
 
 
 class Refused(Exception):
@@ -65,6 +66,16 @@ def cutting(ns):
     return parts[:-1] + cut(parts[-1], PAGE - 24)
 
 
+def total_told(length):
+    """The total that a last page tells: the length, or 0 where four bytes can't hold it."""
+    return length if length <= MOST_COUNTED else 0
+
+
+def past_slabs(c, off):
+    """Whether a block is a slab that ends past the end of slabs."""
+    return c < 8 and off + 16 * 2**c > SLABS_END
+
+
 class Book:
     """The plain book: lists, places, a mark and nine stacks."""
 
@@ -73,9 +84,9 @@ class Book:
         self.lists, self.places = [[] for _ in range(heads)], [("empty",)] * heads
 
     def rounded(self):
-        """Where a page begins at the mark, and the blocks of the gap before it."""
+        """Where a page begins at the mark, and the blocks of the gap before it: none past the end of slabs."""
         end, off, gap = -(-self.mark // PAGE) * PAGE, self.mark, []
-        while off < end:
+        while off < end <= SLABS_END:
             c = max(c for c in range(8) if 16 * 2**c <= end - off)
             gap.append((c, off))
             off += 16 * 2**c
@@ -92,10 +103,12 @@ class Book:
 
     def take(self, c):
         if self.stacks[c]:
+            if past_slabs(c, self.stacks[c][-1]):
+                raise Refused(35)
             return self.stacks[c].pop()
         if c == 8:
             return self.run(1)
-        if self.mark + 16 * 2**c > self.size:
+        if past_slabs(c, self.mark) or self.mark + 16 * 2**c > self.size:
             raise Refused(36)
         self.mark += 16 * 2**c
         return self.mark - 16 * 2**c
@@ -114,7 +127,11 @@ class Book:
             raise Refused(2)
 
     def out_of_shape(self):
-        return self.size % PAGE != 0 or not 2 * PAGE <= self.size <= 2**30 or not 1 <= len(self.lists) <= 65536
+        return self.size % PAGE != 0 or not 2 * PAGE <= self.size <= MOST_BODY or not 1 <= len(self.lists) <= 65536
+
+    def total(self, key):
+        """The total in a key's last page, none of a key that isn't in pages."""
+        return total_told(len(self.lists[key])) if self.places[key][0] == "pages" else None
 
     def append(self, key, n):
         self.on(key)

@@ -84,7 +84,7 @@ def text_case(r):
 
 def constant(name, value, kind, text):
     shown = f"UINT64_C({value})" if kind == "u64" else str(value)
-    return filled(f"#define OURISCADO_{name:17} {shown:>10} /* ", f"{text} */")
+    return filled(f"#define OURISCADO_{name:17} {shown:>13} /* ", f"{text} */")
 
 
 def version_macros():

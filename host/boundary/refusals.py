@@ -62,15 +62,16 @@ REFUSALS = [
     (33, "DOES_NOT_FIT", "what is to be written doesn't fit its destination", "", "`write_uleb128_into`, writers",
      "has a larger buffer lent, or fewer numbers offered"),
     (34, "LIST_TOO_SHORT", "the lent list is too short",
-     ": the numbers or ranges to be answered are more than it has room for, or the work list of a check has fewer bytes than a sixteenth of the body's",
+     ": the numbers or ranges to be answered are more than it has room for, or the work list of a check has fewer bytes than one for each 128 of the body's",
      "read, check; readers into a lent list, `sh_page_chunk_ranges`, `split_last_chunk_for_extent`", "asks again with a longer list"),
     (35, "FREE_HEAD_BAD", "a free head isn't a block of its class before the mark",
-     ": it is unaligned, or lies outside of 4,096 up to the mark; or such a block is pushed, or such a gap carved",
+     ": it is unaligned, or lies outside of 4,096 up to the mark, or is a slab's in a book and ends past 2^40; or such a block is pushed, or such a gap carved",
      "load, append; `push_free_head`, `pop_free_head`, `carve_gap_into_freelist`",
-     "the state or a freed block is damaged: restores as for 31; reads go on meanwhile"),
-    (36, "NO_ROOM", "no room: the block or run would pass the body's end", "; a block goes there only where none of its class is freed", "load, append",
-     "lends the same book a longer body, with whole pages behind it, and makes the call again; where the body can't grow, drops keys that are no longer "
-     "needed, which frees blocks of their classes"),
+     "the state or a freed block is damaged: restores as for 31; reads go on meanwhile. A slab past 2^40 is no damage: loads all lists into a fresh book"),
+    (36, "NO_ROOM", "no room: the block or run would pass the body's end", ", or a slab 2^40; a block goes there only where none of its class is freed",
+     "load, append",
+     "lends the same book a longer body, with whole pages behind it, and makes the call again; where the body can't grow, or a slab would pass 2^40, drops "
+     "keys that are no longer needed, which frees blocks of their classes"),
 ]
 
 

@@ -3,6 +3,7 @@ use crate::case::{Input, Output};
 use crate::fault::{self, Saying};
 use crate::judge::{expected, wrong};
 use crate::lent::{Lent, Placing};
+use crate::lockstep::large::Large;
 use crate::lockstep::Lockstep;
 use crate::rng::Rng;
 use crate::table::{functions, Function};
@@ -49,7 +50,7 @@ impl Found {
     }
 }
 
-/// A part of the comparison: a function, the calls on slices of 2^32 elements, or the book.
+/// A part of the comparison: a function, the calls on slices of 2^32 elements, the book, or the book on large bodies.
 pub struct Part {
     pub name: &'static str,
     round: Round,
@@ -62,6 +63,7 @@ enum Round {
     Function(&'static Function, u64),
     Huge,
     Book,
+    Large,
 }
 
 /// What the parts work on: the memory that functions are lent, and both books.
@@ -69,10 +71,13 @@ enum Round {
 struct Memory {
     lent: Lent,
     books: Lockstep,
+    large: Large,
 }
 
 /// How many shares of the time the book has, where a function has one.
 const BOOK_SHARES: u32 = 30;
+/// And how many it has on large bodies.
+const LARGE_SHARES: u32 = 3;
 
 /// Every part, by name.
 pub fn parts() -> Vec<Part> {
@@ -80,6 +85,7 @@ pub fn parts() -> Vec<Part> {
     let mut out: Vec<Part> = functions().enumerate().map(of).collect();
     out.push(Part { name: "huge", round: Round::Huge, shares: 0 });
     out.push(Part { name: "book", round: Round::Book, shares: BOOK_SHARES });
+    out.push(Part { name: "large", round: Round::Large, shares: LARGE_SHARES });
     out
 }
 
@@ -123,6 +129,7 @@ impl Part {
             }
             Round::Huge => crate::huge::compare(found),
             Round::Book => memory.books.compare(run.seed, round, found),
+            Round::Large => memory.large.compare(run.seed, round, found),
         }
     }
 
@@ -147,8 +154,10 @@ impl Part {
         if let Some(s) = &found.smallest {
             println!("smallest of {}, round {}: {}; {}", self.name, s.round, s.what, s.input);
         }
-        if let Round::Book = self.round {
-            found.unmet = memory.books.print();
+        match self.round {
+            Round::Book => found.unmet = memory.books.print(),
+            Round::Large => found.unmet = memory.large.print(),
+            _ => {}
         }
         round
     }

@@ -5,6 +5,7 @@ use crate::compare::{Found, Smallest};
 use crate::errors::{of_pack, of_store, Side};
 use crate::fault::{during, Saying};
 use crate::lent::{Area, Placing, NONE, PAGE, READ, READ_WRITE};
+use crate::second_book::MOST_BODY;
 use oracle::error::StoreError;
 use oracle::file::TableFile;
 use oracle::{compact, free_lists, scripthash_pages as pages, scripthash_slabs as slabs, Fk};
@@ -269,12 +270,26 @@ fn free(judge: &mut Judge) {
 
 /// Books whose bodies or heads are beyond the limits, by their lengths alone.
 fn books_by_length(judge: &mut Judge) {
-    let (body, heads) = (Far::<u8>::untouchable(8192), Far::<u64>::untouchable(1));
-    let lengths =
-        [((1 << 30) + 4096, 1), (COUNT, 1), (COUNT + 8192, 1), (8192, 65_537), (8192, COUNT), (8192, COUNT + 1), (COUNT + 8192, COUNT + 1)];
+    let Some(body) = Area::untouchable(2 * MOST_BODY + 8192) else {
+        println!("huge: books by their lengths left out, since this machine refuses a range of 2^42 bytes");
+        return;
+    };
+    let heads = Far::<u64>::untouchable(1);
+    let (most, more) = (MOST_BODY, MOST_BODY + COUNT);
+    let lengths = [
+        (most + 4096, 1),
+        (more + 8192, 1),
+        (2 * most, 1),
+        (2 * most + 8192, 1),
+        (8192, 65_537),
+        (8192, COUNT),
+        (8192, COUNT + 1),
+        (most, 65_537),
+        (more, COUNT + 1),
+    ];
     for (b, h) in lengths {
         let (mut state, mut told) = ([4096, 0, 0, 0, 0, 0, 0, 0, 0, 0], [BEFORE; 2]);
-        let (at, words) = (body.first, heads.first);
+        let (at, words) = (body.place::<u8>(b, Placing::Start), heads.first);
         let ours = during(&Named("book_fresh"), || unsafe { book::ouriscado_book_fresh(at, b, words, h, &mut state) });
         judge.same("book_fresh", (ours, &[]), Err(1), state[0] == 4096);
         let [pages, other] = &mut told;

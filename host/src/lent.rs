@@ -12,11 +12,14 @@ pub const READ: i32 = 1;
 pub const READ_WRITE: i32 = 3;
 /// Private memory that no file stands behind, and for which none is set aside before it is touched.
 const PRIVATE: i32 = 0x02 | 0x20 | 0x4000;
+/// Advice that what some pages hold isn't needed any more.
+const NOT_NEEDED: i32 = 4;
 
 extern "C" {
     fn mmap(at: *mut c_void, len: usize, access: i32, flags: i32, file: i32, off: i64) -> *mut c_void;
     fn mprotect(at: *mut c_void, len: usize, access: i32) -> i32;
     fn munmap(at: *mut c_void, len: usize) -> i32;
+    fn madvise(at: *mut c_void, len: usize, advice: i32) -> i32;
 }
 
 /// Pages of memory between two that can't be touched.
@@ -26,13 +29,17 @@ pub struct Area {
 }
 
 impl Area {
-    /// An area of at least so many bytes, with an access.
-    pub fn with_access(len: usize, access: i32) -> Area {
+    /// An area of at least so many bytes that can't be touched; none where the machine has no such range of addresses.
+    pub fn untouchable(len: usize) -> Option<Area> {
         let len = len.next_multiple_of(PAGE);
         let whole = unsafe { mmap(null_mut(), len + 2 * PAGE, NONE, PRIVATE, -1, 0) };
-        assert!(whole as isize != -1, "no memory for {len} bytes");
-        let area = Area { start: unsafe { whole.cast::<u8>().add(PAGE) }, len };
-        area.allow(0, len, access);
+        (whole as isize != -1).then(|| Area { start: unsafe { whole.cast::<u8>().add(PAGE) }, len })
+    }
+
+    /// An area of at least so many bytes, with an access.
+    pub fn with_access(len: usize, access: i32) -> Area {
+        let area = Area::untouchable(len).unwrap_or_else(|| panic!("no memory for {len} bytes"));
+        area.allow(0, area.len, access);
         area
     }
 
@@ -47,6 +54,13 @@ impl Area {
             let answer = unsafe { mprotect(self.start.add(from).cast(), len.next_multiple_of(PAGE), access) };
             assert_eq!(answer, 0, "memory can't be protected");
         }
+    }
+
+    /// Gives back what stands behind some pages, which can't be touched from then on.
+    pub fn give_back(&self, from: usize, len: usize) {
+        self.allow(from, len, NONE);
+        let answer = unsafe { madvise(self.start.add(from).cast(), len, NOT_NEEDED) };
+        assert_eq!(answer, 0, "memory can't be given back");
     }
 
     /// Where a slice begins that ends with the area, or that begins with it.

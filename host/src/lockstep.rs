@@ -1,8 +1,10 @@
 //! Our book in lockstep with the second one, on random histories and damaged ones, and on starts that were written elsewhere.
 mod cases;
 mod damage;
+mod far;
 mod history;
 mod judging;
+pub mod large;
 mod lists;
 mod pair;
 mod record;

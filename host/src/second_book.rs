@@ -15,6 +15,10 @@ use oracle::{uleb128_len, write_uleb128_into, Fk};
 const MOST_LOADED: usize = 65_535;
 const MOST_IN_SLAB: usize = 256;
 const MOST_PAYLOAD: usize = 2048;
+/// The least and the most bytes of a body, and the most heads.
+const LEAST_BODY: usize = 8192;
+pub const MOST_BODY: usize = 1 << 41;
+const MOST_HEADS: usize = 65_536;
 /// Numbers in a book are below this.
 pub const LIMIT: u64 = 1 << 62;
 
@@ -71,8 +75,8 @@ pub struct SecondBook {
 
 /// 1: the lengths of body and heads.
 fn lengths(body: &[u8], heads: &[u64]) -> Result<(), Refused> {
-    let good = body.len().is_multiple_of(4096) && (8192..=1 << 30).contains(&body.len()) && (1..=65_536).contains(&heads.len());
-    if good {
+    let good = body.len().is_multiple_of(PAGE) && (LEAST_BODY..=MOST_BODY).contains(&body.len());
+    if good && (1..=MOST_HEADS).contains(&heads.len()) {
         Ok(())
     } else {
         Err(Refused::Number(1))
@@ -142,7 +146,7 @@ pub fn class_by_bytes(fks: &[u64]) -> u8 {
 }
 
 /// The class of the smallest slab that has those bytes and a slot for one number more; 256 numbers have the class of 256 slots.
-fn class_with_slot(fks: &[u64]) -> u8 {
+pub fn class_with_slot(fks: &[u64]) -> u8 {
     let by_count = slab_class_for_n_fks_with_slack(fks.len() as u32).expect("a class of so many numbers");
     by_count.max(class_by_bytes(fks))
 }
@@ -316,12 +320,12 @@ fn put_run(body: &mut [u8], state: &mut State, fks: &[u64]) -> Result<(u64, u64)
 }
 
 /// Appends a number to the last page of a chain, or where that is full to a page that is taken, and tells which is the last one then. A
-/// total that was never counted, 0, stays unknown.
+/// total that was never counted, 0, stays unknown; one that four bytes can't hold becomes so.
 fn append_page(body: &mut [u8], state: &mut State, off: u64, fk: u64) -> Result<u64, Refused> {
     let page = page_mut(body, off);
     let creates = match pages::sh_page_extent_creates(page) {
         0 => 0,
-        n => n + 1,
+        n => n.checked_add(1).unwrap_or(0),
     };
     if pages::sh_page_try_append(page, Fk(fk)).expect("a sound page") {
         pages::sh_page_set_extent_creates(page, creates);

@@ -154,11 +154,12 @@ impl<B: AsRef<[u8]>, H: AsRef<[u64]>> Book<B, H> {
     }
 
     /// Judges whether the book is a good start: every account is sound, every list of freed blocks ends and names only offsets where its
-    /// blocks can stand, and no two blocks, in use or freed, share a byte. Nothing is changed; a sixteenth of the body's length is allocated
-    /// for the time of the call.
+    /// blocks can stand, and no two blocks, in use or freed, share a byte. Nothing is changed; a 128th of the body's length is allocated
+    /// for the time of the call, which is 8 MiB for a body of 2^30 bytes, 8 GiB for one of 2^40 and 16 GiB for the largest.
     ///
     /// Of a good start it tells how many units of 16 bytes belong to nobody. They are 0 in a book that began with [`Book::fresh`], and no call
-    /// changes them. A head word that was lost, so that its account reads as empty, shows by the units of its slab or pages, and the head of
+    /// changes them; save that of a start whose mark is past [`SLABS_END`](crate::limits::SLABS_END) and within a page, the rest of that page
+    /// belongs to nobody once the next is taken. A head word that was lost, so that its account reads as empty, shows by the units of its slab or pages, and the head of
     /// a list of freed blocks by theirs. An account with one number takes no block, and its loss can't show: 0 doesn't say that no word was
     /// lost. The files of other software may have such units: they are no fault.
     ///
@@ -362,7 +363,8 @@ impl<B: AsRef<[u8]> + AsMut<[u8]>, H: AsRef<[u64]> + AsMut<[u64]>> Book<B, H> {
     /// [`MOST_LOADED`](crate::limits::MOST_LOADED) numbers; [`Refusal::OfferedFirstZero`], [`Refusal::OfferedBit63`],
     /// [`Refusal::OfferedTooLarge`] and [`Refusal::OfferedNotRising`] where the numbers are no rising list from 1 to
     /// [`MOST_NUMBER`](crate::limits::MOST_NUMBER); [`Refusal::FreeHeadBad`] where a free head or freed
-    /// block is damaged; [`Refusal::NoRoom`], until the book [grows](Book::grow).
+    /// block is damaged, or is a slab that ends past [`SLABS_END`](crate::limits::SLABS_END); [`Refusal::NoRoom`], until the book
+    /// [grows](Book::grow), or of a slab past `SLABS_END` until one of its class is freed.
     pub fn load(&mut self, key: u64, numbers: &[u64]) -> Result<u64, Refusal> {
         let mut pages = 0;
         let number = sys::book_load(self.body.as_mut(), self.heads.as_mut(), &mut self.state.0, key, numbers, &mut pages);
@@ -411,8 +413,8 @@ impl<B: AsRef<[u8]> + AsMut<[u8]>, H: AsRef<[u64]> + AsMut<[u64]>> Book<B, H> {
     ///
     /// [`Refusal::ShapeBad`]; [`Refusal::KeyBeyond`]; [`Refusal::OfferedFirstZero`], [`Refusal::OfferedBit63`] and
     /// [`Refusal::OfferedTooLarge`] where the number is none from 1 to [`MOST_NUMBER`](crate::limits::MOST_NUMBER);
-    /// [`Refusal::KeyUnsound`]; [`Refusal::OfferedNotRising`] where it isn't above the account's last; [`Refusal::FreeHeadBad`] where a
-    /// free head or freed block is damaged; [`Refusal::NoRoom`], until the book [grows](Book::grow).
+    /// [`Refusal::KeyUnsound`]; [`Refusal::OfferedNotRising`] where it isn't above the account's last; [`Refusal::FreeHeadBad`] and
+    /// [`Refusal::NoRoom`] as of [`Book::load`].
     pub fn append(&mut self, key: u64, number: u64) -> Result<Appended, Refusal> {
         let (mut kind, mut class, mut used, mut place, mut rewritten) = (0, 0, 0, 0, 0);
         let (body, heads, state) = (self.body.as_mut(), self.heads.as_mut(), &mut self.state.0);

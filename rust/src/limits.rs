@@ -23,7 +23,10 @@ pub const PAGE_BYTES: usize = 4096;
 pub const LEAST_BODY_BYTES: usize = 8192;
 
 /// The most bytes of a body.
-pub const MOST_BODY_BYTES: usize = 1_073_741_824;
+pub const MOST_BODY_BYTES: usize = 2_199_023_255_552;
+
+/// The offset that no slab which is taken ends past; pages may.
+pub const SLABS_END: u64 = 1_099_511_627_776;
 
 /// The most head words, one for each account.
 pub const MOST_HEADS: usize = 65_536;
@@ -44,7 +47,7 @@ pub const MOST_IN_PAGE: usize = 4088;
 pub const PAGE_CLASS: u8 = 8;
 
 /// Bytes of a body for each byte of the work list that a check is lent.
-pub const WORK_UNIT: usize = 16;
+pub const WORK_UNIT: usize = 128;
 
 /// The start is good.
 pub const START_GOOD: u32 = 0;

@@ -135,19 +135,20 @@ pub enum Refusal {
     /// Operator: has a larger buffer lent, or fewer numbers offered.
     DoesNotFit,
     /// 34: the lent list is too short: the numbers or ranges to be answered are more than it has room for, or the work list of a check has
-    /// fewer bytes than a sixteenth of the body's.
+    /// fewer bytes than one for each 128 of the body's.
     ///
     /// Operator: asks again with a longer list.
     ListTooShort,
-    /// 35: a free head isn't a block of its class before the mark: it is unaligned, or lies outside of 4,096 up to the mark; or such a
-    /// block is pushed, or such a gap carved.
+    /// 35: a free head isn't a block of its class before the mark: it is unaligned, or lies outside of 4,096 up to the mark, or is a slab's
+    /// in a book and ends past 2^40; or such a block is pushed, or such a gap carved.
     ///
-    /// Operator: the state or a freed block is damaged: restores as for 31; reads go on meanwhile.
+    /// Operator: the state or a freed block is damaged: restores as for 31; reads go on meanwhile. A slab past 2^40 is no damage: loads all
+    /// lists into a fresh book.
     FreeHeadBad,
-    /// 36: no room: the block or run would pass the body's end; a block goes there only where none of its class is freed.
+    /// 36: no room: the block or run would pass the body's end, or a slab 2^40; a block goes there only where none of its class is freed.
     ///
-    /// Operator: lends the same book a longer body, with whole pages behind it, and makes the call again; where the body can't grow, drops
-    /// keys that are no longer needed, which frees blocks of their classes.
+    /// Operator: lends the same book a longer body, with whole pages behind it, and makes the call again; where the body can't grow, or a
+    /// slab would pass 2^40, drops keys that are no longer needed, which frees blocks of their classes.
     NoRoom,
     /// A number that this crate doesn't know: the library is of another version.
     Unknown(u32),

@@ -8,7 +8,7 @@
 pub mod raw {
     extern "C" {
         /// Makes a fresh book, in which every key is empty: all heads become 0, and state that of a book from which nothing was taken; the
-        /// body isn't written. A book is these three: a body, whose length is a multiple of 4,096 bytes from 8,192 to 2^30; heads, a word
+        /// body isn't written. A book is these three: a body, whose length is a multiple of 4,096 bytes from 8,192 to 2^41; heads, a word
         /// for each key, 1 to 65,536 of them; and state, ten words, which are the mark up to which the body was ever used and the first
         /// freed block of each of nine sizes. What they held before doesn't matter. Refuses 1.
         pub fn ouriscado_book_fresh(body: *const u8, body_len: usize, heads: *mut u64, heads_len: usize, state: &mut [u64; 10]) -> u32;
@@ -88,14 +88,15 @@ pub mod raw {
         /// Tells whether a body, heads and state that come from elsewhere, as from a file, are a good start, with which the other calls may
         /// go on as with a book that began fresh: every key is sound; for each of the nine sizes of block the list of freed ones ends, and
         /// names only offsets where such a block can stand; and no two blocks, in use or freed, share a byte. work is for the call's own
-        /// use: a byte for each 16 bytes of the body, which may hold anything, and are 0 afterwards; what stands behind them stays. Nothing
-        /// else is written. Hands out ground: 0 for a good start, else why it isn't one; and which: the key where the first fault was met,
-        /// or the class of the free list, since keys are judged first, from 0 on, and then free lists, from class 0 on; 0 for a good start.
-        /// Hands out lost beside a good start: how many units of 16 bytes, from byte 4,096 up to the mark, belong to no key and to no list
-        /// of freed blocks; 0 where it isn't a good start. It is 0 in a book that began with ouriscado_book_fresh, and no call changes it.
-        /// A head word that was lost, so that its key reads as empty, shows by the units of its slab or pages, and the head of a list of
-        /// freed blocks by theirs. The head word of a key with one record number takes no block, and its loss can't show: 0 doesn't say
-        /// that no word was lost. The files of other software may have such units: lost is a figure, no fault. Refuses 1, 34.
+        /// use: a byte for each 128 bytes of the body, which may hold anything, and are 0 afterwards; what stands behind them stays.
+        /// Nothing else is written. Hands out ground: 0 for a good start, else why it isn't one; and which: the key where the first fault
+        /// was met, or the class of the free list, since keys are judged first, from 0 on, and then free lists, from class 0 on; 0 for a
+        /// good start. Hands out lost beside a good start: how many units of 16 bytes, from byte 4,096 up to the mark, belong to no key and
+        /// to no list of freed blocks; 0 where it isn't a good start. It is 0 in a book that began with ouriscado_book_fresh, and no call
+        /// changes it, save that a start whose mark lies past 2^40 within a page loses the rest of that page with the next one that is
+        /// taken. A head word that was lost, so that its key reads as empty, shows by the units of its slab or pages, and the head of a
+        /// list of freed blocks by theirs. The head word of a key with one record number takes no block, and its loss can't show: 0 doesn't
+        /// say that no word was lost. The files of other software may have such units: lost is a figure, no fault. Refuses 1, 34.
         pub fn ouriscado_book_check(
             body: *const u8,
             body_len: usize,
@@ -270,7 +271,7 @@ pub mod raw {
 }
 
 /// Makes a fresh book, in which every key is empty: all heads become 0, and state that of a book from which nothing was taken; the body
-/// isn't written. A book is these three: a body, whose length is a multiple of 4,096 bytes from 8,192 to 2^30; heads, a word for each key,
+/// isn't written. A book is these three: a body, whose length is a multiple of 4,096 bytes from 8,192 to 2^41; heads, a word for each key,
 /// 1 to 65,536 of them; and state, ten words, which are the mark up to which the body was ever used and the first freed block of each of
 /// nine sizes. What they held before doesn't matter. Refuses 1.
 #[inline]
@@ -381,14 +382,15 @@ pub fn book_drop(body: &mut [u8], heads: &mut [u64], state: &mut [u64; 10], key:
 /// Tells whether a body, heads and state that come from elsewhere, as from a file, are a good start, with which the other calls may go on
 /// as with a book that began fresh: every key is sound; for each of the nine sizes of block the list of freed ones ends, and names only
 /// offsets where such a block can stand; and no two blocks, in use or freed, share a byte. work is for the call's own use: a byte for each
-/// 16 bytes of the body, which may hold anything, and are 0 afterwards; what stands behind them stays. Nothing else is written. Hands out
+/// 128 bytes of the body, which may hold anything, and are 0 afterwards; what stands behind them stays. Nothing else is written. Hands out
 /// ground: 0 for a good start, else why it isn't one; and which: the key where the first fault was met, or the class of the free list,
 /// since keys are judged first, from 0 on, and then free lists, from class 0 on; 0 for a good start. Hands out lost beside a good start:
 /// how many units of 16 bytes, from byte 4,096 up to the mark, belong to no key and to no list of freed blocks; 0 where it isn't a good
-/// start. It is 0 in a book that began with ouriscado_book_fresh, and no call changes it. A head word that was lost, so that its key reads
-/// as empty, shows by the units of its slab or pages, and the head of a list of freed blocks by theirs. The head word of a key with one
-/// record number takes no block, and its loss can't show: 0 doesn't say that no word was lost. The files of other software may have such
-/// units: lost is a figure, no fault. Refuses 1, 34.
+/// start. It is 0 in a book that began with ouriscado_book_fresh, and no call changes it, save that a start whose mark lies past 2^40
+/// within a page loses the rest of that page with the next one that is taken. A head word that was lost, so that its key reads as empty,
+/// shows by the units of its slab or pages, and the head of a list of freed blocks by theirs. The head word of a key with one record number
+/// takes no block, and its loss can't show: 0 doesn't say that no word was lost. The files of other software may have such units: lost is a
+/// figure, no fault. Refuses 1, 34.
 #[inline]
 #[must_use]
 pub fn book_check(

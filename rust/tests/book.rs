@@ -56,11 +56,10 @@ fn chains() {
 fn limits_of_the_shape() {
     let makes = |bytes: usize, heads: usize| Book::fresh(vec![0; bytes], vec![0; heads]).map(|_| ());
     assert_eq!(makes(LEAST_BODY_BYTES, 1), Ok(()));
-    assert_eq!(makes(MOST_BODY_BYTES, MOST_HEADS), Ok(()));
+    assert_eq!(makes(LEAST_BODY_BYTES, MOST_HEADS), Ok(()));
     for (bytes, heads) in [
         (LEAST_BODY_BYTES - PAGE_BYTES, 1),
         (LEAST_BODY_BYTES + PAGE_BYTES - 1, 1),
-        (MOST_BODY_BYTES + PAGE_BYTES, 1),
         (LEAST_BODY_BYTES, 0),
         (LEAST_BODY_BYTES, MOST_HEADS + 1),
     ] {

@@ -6,7 +6,7 @@ from pathlib import Path
 
 PAGE_BYTES = 4096
 PAGE_CLASS = 8
-WORK_UNIT = 16
+WORK_UNIT = 128
 KINDS = ["empty", "inline", "slab", "pages"]
 LIST_TOO_SHORT = 34
 

@@ -4,7 +4,7 @@ import sys
 import unittest
 
 from paths import ROOT
-from plain_book import Book, Refused, by_bytes, cutting, form_len, loads_to, stream_len, with_slack
+from plain_book import MOST_BODY, SLABS_END, Book, Refused, by_bytes, cutting, form_len, loads_to, stream_len, total_told, with_slack
 
 
 def ones(count, first=1):
@@ -111,10 +111,64 @@ class TestPlainBook(unittest.TestCase):
                 self.refused(number, call, *words)
 
     def test_out_of_shape(self):
-        for size, heads in ((4096, 1), (8193, 1), (8192, 0), (2**30 + 4096, 1), (8192, 65537)):
+        for size, heads in ((4096, 1), (8193, 1), (8192, 0), (2**41 + 4096, 1), (8192, 65537)):
             self.book = Book(size, heads)
             self.refused(1, self.book.read, 0, 9)
-        self.assertEqual(Book(8192, 1).read(0, 0), ([], 0))
+        for size in (8192, 2**30 + 4096, 2**41):
+            self.assertEqual(Book(size, 1).read(0, 0), ([], 0))
+
+    def begin(self, mark):
+        """The largest book, from a mark on."""
+        self.book = Book(MOST_BODY, 4)
+        self.book.mark = mark
+
+    def test_slabs_end_at_2_40(self):
+        for c, count in ((0, 2), (1, 4), (2, 8), (6, 256)):
+            self.begin(SLABS_END - 16 * 2**c)
+            self.book.load(0, ones(count))
+            self.assertEqual((self.book.places[0], self.book.mark), (("slab", c, SLABS_END - 16 * 2**c), SLABS_END))
+            self.refused(36, self.book.load, 1, ones(count))
+            self.begin(SLABS_END - 16 * 2**c + 16)
+            self.refused(36, self.book.load, 0, ones(count))
+        self.begin(SLABS_END - 16)
+        self.refused(36, self.book.load, 0, ones(4))
+        self.book.load_tight(0, ones(4))
+        self.book.append(1, 5)
+        self.refused(36, self.book.append, 1, 6)
+        self.assertEqual(self.book.load(2, ones(300)), 1)
+        self.assertEqual(self.book.places[2][1][0][0], SLABS_END)
+
+    def test_pages_end_with_the_body(self):
+        self.begin(MOST_BODY - 8192)
+        self.refused(36, self.book.load, 0, ones(9000))
+        self.book.load(0, ones(4072))
+        self.book.append(0, 4073)
+        self.refused(36, self.book.load, 1, ones(300))
+        self.book.drop(0)
+        self.assertEqual(self.book.stacks[8], [MOST_BODY - 8192, MOST_BODY - 4096])
+
+    def test_gaps_past_2_40_go_on_no_list(self):
+        for mark, freed in ((SLABS_END - 16, [SLABS_END - 16]), (SLABS_END + 16, [])):
+            self.begin(mark)
+            self.book.load(0, ones(300))
+            self.assertEqual((self.book.stacks[0], sum(map(len, self.book.stacks))), (freed, len(freed)))
+
+    def test_a_slab_across_2_40(self):
+        self.begin(SLABS_END + 16)
+        self.book.lists[0], self.book.places[0] = ones(3), ("slab", 1, SLABS_END - 16)
+        self.assertEqual((self.book.append(0, 4), self.book.read(0, 4), self.book.drop(0)), (0, (ones(4), 0), 4))
+        self.refused(35, self.book.load, 1, ones(4))
+        self.refused(35, self.book.load_tight, 1, ones(20))
+        self.book.stacks[8].append(SLABS_END)
+        self.book.load_tight(2, [5])
+        self.refused(36, self.book.append, 2, 6)
+        self.assertEqual(self.book.take(8), SLABS_END)
+
+    def test_totals(self):
+        self.assertEqual([total_told(n) for n in (257, 2**32 - 1, 2**32, 2**32 + 1)], [257, 2**32 - 1, 0, 0])
+        self.book.load(0, ones(300))
+        self.book.append(0, 301)
+        self.assertEqual([self.book.total(0), self.book.total(1)], [301, None])
 
     def test_lengths_and_classes(self):
         self.assertEqual([form_len(n) for n in (0, 127, 128, 16383, 16384)], [1, 1, 2, 2, 3])

@@ -43,6 +43,11 @@ fn drop_key(key: u64) -> Step {
     Step::Call(Call::Drop { key })
 }
 
+/// Creates of the page at an offset, which somebody else writes.
+fn total(page: usize, creates: u32) -> Vec<Step> {
+    (page + 20..).zip(creates.to_le_bytes()).map(|(at, byte)| Step::Byte(at, byte)).collect()
+}
+
 fn cases() -> Vec<Case> {
     let two = append(0, &[1, 2]);
     vec![
@@ -116,6 +121,28 @@ fn cases() -> Vec<Case> {
                 append(3, &[5]),
                 append(0, &[0, 1 << 63, 1 << 62, 5, 5, 6]),
                 vec![load(0, Vec::new()), load_tight(0, vec![7]), read(0, 1)],
+            ]
+            .into_iter()
+            .flatten()
+            .collect(),
+        },
+        // Totals near 2^32 that somebody else wrote, with 300 numbers: one goes on, the largest becomes unknown, in place and where the next page
+        // begins. Then the key reads again.
+        Case {
+            body: 16_384,
+            heads: 2,
+            steps: [
+                vec![load(0, row(300))],
+                total(4096, u32::MAX - 1),
+                vec![read(0, 400)],
+                append(0, &[301]),
+                vec![read(0, 400)],
+                append(0, &[302, 303]),
+                vec![read(0, 400), drop_key(0), load(1, row(4072))],
+                total(8192, u32::MAX),
+                vec![read(1, 4100)],
+                append(1, &[4073, 4074]),
+                vec![read(1, 4100), drop_key(1)],
             ]
             .into_iter()
             .flatten()

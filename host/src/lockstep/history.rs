@@ -7,7 +7,7 @@ use crate::lockstep::lists;
 use crate::lockstep::pair::{Answer, Call, Pair, MOST_BODY, MOST_HEADS};
 use crate::lockstep::record::Record;
 use crate::lockstep::starts::Start;
-use crate::lockstep::tally::{unknown_total, Before, Tally, DAMAGED_BOOK, FOREIGN_BOOK, FRESH_BOOK, USED_BOOK};
+use crate::lockstep::tally::{total_of, Before, Tally, DAMAGED_BOOK, FOREIGN_BOOK, FRESH_BOOK, USED_BOOK};
 use crate::rng::Rng;
 use crate::second_book::space::State;
 use crate::second_book::{Fit, LIMIT};
@@ -211,7 +211,7 @@ impl<'a> History<'a> {
     /// Calls both books, and learns from the answer.
     fn call(&mut self, call: &Call, body: usize, heads: usize) -> Result<(), String> {
         let word = call.key().and_then(|key| self.pair.heads.get(key as usize)).copied().unwrap_or(0);
-        let before = Before { state: self.pair.state, word, unknown: unknown_total(&self.pair.body, word) };
+        let before = Before { state: self.pair.state, word, total: total_of(&self.pair.body, word) };
         let answer: Answer = self.pair.call(call, body, heads, &self.name)?;
         self.tally.count(call, &before, &answer, self.pair);
         if let Some(record) = &mut self.record {

@@ -13,13 +13,13 @@ const VARIANTS: u64 = 6;
 
 /// How much of a book a judgement is lent: most often all of it, with a work list that is long enough.
 pub fn lent(rng: &mut Rng, body: usize, heads: usize) -> Check {
-    let full = body / 16;
+    let full = body / 128;
     let all = Check { body, heads, room: full + rng.pick(&[0, 0, 0, 1, 15, 16, MORE_WORK]) };
     match rng.below(24) {
         0 => Check { body: rng.pick(&[0, 1, 4095, 4096, 8191, body - 1, body - 16, body - 4096]), ..all },
         1 => Check { heads: rng.pick(&[0, heads - 1, 1]), ..all },
-        2 => Check { room: rng.pick(&[0, 1, full / 2, full - 256, full - 1, full - 1]), ..all },
-        3 => Check { body: rng.pick(&[8191, body - 4096]), room: rng.pick(&[0, full - 256, full - 257]), ..all },
+        2 => Check { room: rng.pick(&[0, 1, full / 2, full - 32, full - 1, full - 1]), ..all },
+        3 => Check { body: rng.pick(&[8191, body - 4096]), room: rng.pick(&[0, full - 32, full - 33]), ..all },
         _ => all,
     }
 }
@@ -38,7 +38,7 @@ impl Judging<'_> {
     fn whole(&mut self, start: &Start, when: &'static str, placing: Placing) -> Result<Result<Verdict, u32>, String> {
         let (body, heads) = (start.body.len(), start.heads.len());
         self.pair.begin(start.body.clone(), start.heads.clone(), start.state, placing);
-        self.judge(Check { body, heads, room: body / 16 }, when)
+        self.judge(Check { body, heads, room: body / 128 }, when)
     }
 
     fn judge(&mut self, check: Check, when: &'static str) -> Result<Result<Verdict, u32>, String> {

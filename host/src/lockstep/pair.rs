@@ -84,17 +84,30 @@ const MOST_LIST: usize = 1 << 19;
 pub const MORE_WORK: usize = 4096;
 
 /// Our side: everything between pages that can't be touched.
-struct Ours {
-    body: Area,
-    heads: Area,
-    state: Area,
+pub struct Ours {
+    pub body: Area,
+    pub heads: Area,
+    pub state: Area,
     list: Area,
     work: Area,
     outs: [Area; 5],
-    placing: Placing,
+    pub placing: Placing,
 }
 
 impl Ours {
+    /// One with a body and a work list of so many bytes.
+    pub fn new(body: Area, work: usize) -> Ours {
+        Ours {
+            body,
+            heads: Area::new(8 * (MOST_HEADS + 1)),
+            state: Area::new(1),
+            list: Area::new(8 * MOST_LIST),
+            work: Area::new(work),
+            outs: std::array::from_fn(|_| Area::new(1)),
+            placing: Placing::End,
+        }
+    }
+
     /// A number for a call to hand out, in the place of its own.
     #[allow(clippy::mut_from_ref)]
     fn out<T>(&self, place: usize) -> &mut T {
@@ -111,6 +124,140 @@ impl Ours {
         }
         told
     }
+
+    /// What a call of ours answers, of a book with a length of body and heads of which so many bytes and words are lent, and such a list.
+    pub fn call(&self, call: &Call, whole: (usize, usize), lent: (usize, usize), list: &[u64]) -> Answer {
+        self.list.slice::<u64>(list.len(), self.placing).copy_from_slice(list);
+        self.outs.iter().for_each(|out| out.slice(8, Placing::End).fill(0xa5u8));
+        let (body, heads) = (self.body.place::<u8>(whole.0, self.placing), self.heads.place::<u64>(whole.1, self.placing));
+        let (body_len, heads_len) = lent;
+        let state: &mut State = unsafe { &mut *self.state.place::<State>(1, Placing::End) };
+        let null = if self.placing == Placing::End { Placing::Null } else { self.placing };
+        let (lent, list) = (list.len(), self.list.place::<u64>(list.len(), null));
+        let (refusal, sizes): (u32, &[usize]) = match *call {
+            Call::Fresh => (unsafe { sys::ouriscado_book_fresh(body, body_len, heads, heads_len, state) }, &[]),
+            Call::Load { key, fit, .. } => {
+                let load = match fit {
+                    Fit::Spare => sys::ouriscado_book_load,
+                    Fit::Tight => sys::ouriscado_book_load_tight,
+                };
+                (unsafe { load(body, body_len, heads, heads_len, state, key, list, lent, self.out(0)) }, &[8])
+            }
+            Call::Append { key, fk } => {
+                let (kind, class, used, place, rewritten) = (self.out(0), self.out(1), self.out(2), self.out(3), self.out(4));
+                let answer = unsafe {
+                    sys::ouriscado_book_append(body, body_len, heads, heads_len, state, key, fk, kind, class, used, place, rewritten)
+                };
+                (answer, &[1, 1, 2, 8, 8])
+            }
+            Call::Read { key, .. } => {
+                let (length, pages) = (self.out(0), self.out(1));
+                (unsafe { sys::ouriscado_book_read(body, body_len, heads, heads_len, state, key, list, lent, length, pages) }, &[8, 8])
+            }
+            Call::Drop { key } => (unsafe { sys::ouriscado_book_drop(body, body_len, heads, heads_len, state, key, self.out(0)) }, &[8]),
+        };
+        Answer { refusal, told: self.told(sizes) }
+    }
+
+    /// What ours judges, with a work list that holds these bytes: the refusal; and the ground, the key or class, and the units that belong to
+    /// nobody.
+    pub fn check(&self, check: Check, whole: (usize, usize), work: &[u8]) -> (u32, [u64; 3]) {
+        self.work.slice::<u8>(check.room, self.placing).copy_from_slice(work);
+        self.outs.iter().for_each(|out| out.slice(8, Placing::End).fill(0xa5u8));
+        let (body, heads) = (self.body.place::<u8>(whole.0, self.placing), self.heads.place::<u64>(whole.1, self.placing));
+        let state: &State = unsafe { &*self.state.place::<State>(1, Placing::End) };
+        let null = if self.placing == Placing::End { Placing::Null } else { self.placing };
+        let work = self.work.place::<u8>(check.room, null);
+        let (ground, which, lost) = (self.out(0), self.out(1), self.out(2));
+        let refusal =
+            unsafe { sys::ouriscado_book_check(body, check.body, heads, check.heads, state, work, check.room, ground, which, lost) };
+        let told = self.told(&[4, 8, 8]);
+        (refusal, [told[0], told[1], told[2]])
+    }
+
+    /// What differs of heads, state and the lent list from those of the second book.
+    pub fn words_left(&self, heads: &[u64], state: &State, list: &[u64]) -> Option<String> {
+        if let Some(at) = place_of(self.heads.slice(heads.len(), self.placing), heads) {
+            return Some(format!("head {at}"));
+        }
+        if let Some(at) = place_of(self.state.slice(10, Placing::End), &state[..]) {
+            return Some(format!("word {at} of the state"));
+        }
+        place_of(self.list.slice(list.len(), self.placing), list).map(|at| format!("number {at} of the list"))
+    }
+
+    /// What differs of the work list.
+    pub fn work_left(&self, work: &[u8]) -> Option<String> {
+        place_of(self.work.slice(work.len(), self.placing), work).map(|at| format!("byte {at} of the work list"))
+    }
+}
+
+/// The list that a call is offered or lent.
+pub fn lent_list(call: &Call, list: &mut Vec<u64>) {
+    match call {
+        Call::Load { fks, .. } => list.clone_from(fks),
+        Call::Read { room, .. } => {
+            list.clear();
+            list.resize(*room, FILL);
+        }
+        _ => {}
+    }
+}
+
+/// How much of it a call is lent.
+pub fn lent_length(call: &Call) -> usize {
+    match call {
+        Call::Load { fks, .. } => fks.len(),
+        Call::Read { room, .. } => *room,
+        _ => 0,
+    }
+}
+
+/// The bytes that a work list of a length holds before a judgement.
+pub fn work_list(room: usize, work: &mut Vec<u8>) {
+    work.clear();
+    work.extend((0..room).map(|k| (k * 7 + room) as u8));
+}
+
+/// What a call of the second book tells.
+pub fn call_second(
+    second: &mut SecondBook,
+    call: &Call,
+    body: &mut [u8],
+    heads: &mut [u64],
+    state: &mut State,
+    list: &mut [u64],
+) -> Result<[u64; 5], Refused> {
+    match call {
+        Call::Fresh => second.fresh(body, heads, state).map(|()| [0; 5]),
+        Call::Load { key, fks, fit } => second.load(body, heads, state, *key, fks, *fit).map(|pages| [pages, 0, 0, 0, 0]),
+        Call::Append { key, fk } => second.append(body, heads, state, *key, *fk).map(|a| {
+            let [kind, class, used, place] = numbers_theirs(&a.place);
+            [kind, class, used, place, a.rewritten]
+        }),
+        Call::Read { key, .. } => second.read(body, heads, state, *key, list).map(|listed| [listed.length, listed.pages, 0, 0, 0]),
+        Call::Drop { key } => second.drop(body, heads, state, *key).map(|length| [length, 0, 0, 0, 0]),
+    }
+}
+
+/// The answer of a call that tells something or is refused.
+pub fn answer_of(told: Result<[u64; 5], Refused>) -> Answer {
+    match told {
+        Ok(told) => Answer { refusal: 0, told },
+        Err(refused) => Answer { refusal: refused.number(), told: [0; 5] },
+    }
+}
+
+/// What is wrong with an answer of ours where the second book gives another.
+pub fn answer_differs(call: &Call, ours: &Answer, theirs: &Answer) -> Option<String> {
+    let said = || format!("{call:?}: answers {} {:?} in place of {} {:?}", ours.refusal, ours.told, theirs.refusal, theirs.told);
+    (ours != theirs).then(said)
+}
+
+/// Compares what ours judged with the second book's judgement.
+pub fn verdict_differs(check: Check, ours: (u32, [u64; 3]), judged: &Result<Verdict, u32>) -> Option<String> {
+    let wanted = judged.map_or_else(|refusal| (refusal, [0; 3]), |v| (0, [v.ground as u64, v.which, v.lost]));
+    (ours != wanted).then(|| format!("{check:?}: judges {ours:?} in place of {wanted:?} ({judged:?})"))
 }
 
 /// Both books.
@@ -128,26 +275,18 @@ pub struct Pair {
     pub refused: Option<Refused>,
 }
 
-/// A call of ours with what it is called on, to be said if it faults.
-struct Running<'a>(&'a dyn Debug, &'a str);
+/// A call of ours with the part of the comparison and what it is called on, to be said if it faults.
+pub struct Running<'a>(pub &'static str, pub &'a dyn Debug, pub &'a str);
 
 impl Saying for Running<'_> {
     fn say(&self) -> String {
-        format!("book, {}: {:?}: touches memory that it wasn't lent", self.1, self.0)
+        format!("{}, {}: {:?}: touches memory that it wasn't lent", self.0, self.2, self.1)
     }
 }
 
 impl Default for Pair {
     fn default() -> Pair {
-        let ours = Ours {
-            body: Area::new(MOST_BODY),
-            heads: Area::new(8 * (MOST_HEADS + 1)),
-            state: Area::new(1),
-            list: Area::new(8 * MOST_LIST),
-            work: Area::new(MOST_BODY / 16 + MORE_WORK),
-            outs: std::array::from_fn(|_| Area::new(1)),
-            placing: Placing::End,
-        };
+        let ours = Ours::new(Area::new(MOST_BODY), MOST_BODY / 128 + MORE_WORK);
         let (second, list, work) = (SecondBook::default(), Vec::new(), Vec::new());
         Pair { ours, second, body: Vec::new(), heads: Vec::new(), state: [0; 10], list, work, refused: None }
     }
@@ -170,24 +309,15 @@ impl Pair {
 
     /// Calls both on the first bytes of the body and the first heads, and tells the answer; or what differs.
     pub fn call(&mut self, call: &Call, body: usize, heads: usize, where_: &str) -> Result<Answer, String> {
-        let lent = match call {
-            Call::Load { fks, .. } => {
-                self.list.clone_from(fks);
-                fks.len()
-            }
-            Call::Read { room, .. } => {
-                self.list.clear();
-                self.list.resize(*room, FILL);
-                *room
-            }
-            _ => 0,
-        };
-        self.ours.list.slice::<u64>(lent, self.ours.placing).copy_from_slice(&self.list[..lent]);
-        self.ours.outs.iter().for_each(|out| out.slice(8, Placing::End).fill(0xa5u8));
-        let ours = during(&Running(call, where_), || self.call_ours(call, body, heads, lent));
-        let theirs = self.call_second(call, body, heads);
-        if ours != theirs {
-            return Err(format!("{call:?}: answers {} {:?} in place of {} {:?}", ours.refusal, ours.told, theirs.refusal, theirs.told));
+        lent_list(call, &mut self.list);
+        let (whole, lent) = (self.whole(), lent_length(call));
+        let ours = during(&Running("book", call, where_), || self.ours.call(call, whole, (body, heads), &self.list[..lent]));
+        let (part, words) = (&mut self.body[..body], &mut self.heads[..heads]);
+        let told = call_second(&mut self.second, call, part, words, &mut self.state, &mut self.list);
+        self.refused = told.err();
+        let theirs = answer_of(told);
+        if let Some(what) = answer_differs(call, &ours, &theirs) {
+            return Err(what);
         }
         match self.left(lent) {
             Some(what) => Err(format!("{call:?}: answers {} and leaves another {what}", ours.refusal)),
@@ -197,105 +327,28 @@ impl Pair {
 
     /// Has both judge a start, and tells the verdict or the refusal's number; or what differs. Body, heads and state stay.
     pub fn check(&mut self, check: Check, where_: &str) -> Result<Result<Verdict, u32>, String> {
-        let placing = self.ours.placing;
-        self.work.clear();
-        self.work.extend((0..check.room).map(|k| (k * 7 + check.room) as u8));
-        self.ours.work.slice::<u8>(check.room, placing).copy_from_slice(&self.work);
-        self.ours.outs.iter().for_each(|out| out.slice(8, Placing::End).fill(0xa5u8));
-        let ours = during(&Running(&check, where_), || self.check_ours(check));
+        work_list(check.room, &mut self.work);
+        let ours = during(&Running("book", &check, where_), || self.ours.check(check, self.whole(), &self.work));
         let judged = self.second.check(&self.body[..check.body], &self.heads[..check.heads], &self.state, &mut self.work);
         let judged = judged.map_err(Refused::number);
-        let wanted = judged.map_or_else(|refusal| (refusal, [0; 3]), |v| (0, [v.ground as u64, v.which, v.lost]));
-        if ours != wanted {
-            return Err(format!("{check:?}: judges {ours:?} in place of {wanted:?} ({judged:?})"));
+        if let Some(what) = verdict_differs(check, ours, &judged) {
+            return Err(what);
         }
-        if let Some(what) = self.left(0) {
-            return Err(format!("{check:?}: judges {ours:?} and leaves another {what}"));
-        }
-        match place_of(self.ours.work.slice(check.room, placing), &self.work) {
-            Some(at) => Err(format!("{check:?}: judges {ours:?} and leaves another byte {at} of the work list")),
+        match self.left(0).or_else(|| self.ours.work_left(&self.work)) {
+            Some(what) => Err(format!("{check:?}: judges {ours:?} and leaves another {what}")),
             None => Ok(judged),
         }
     }
 
-    /// What ours judges: the refusal; and the ground, the key or class, and the units that belong to nobody.
-    fn check_ours(&self, check: Check) -> (u32, [u64; 3]) {
-        let (ours, placing) = (&self.ours, self.ours.placing);
-        let (body, heads) = (ours.body.place::<u8>(self.body.len(), placing), ours.heads.place::<u64>(self.heads.len(), placing));
-        let state: &State = unsafe { &*ours.state.place::<State>(1, Placing::End) };
-        let null = if placing == Placing::End { Placing::Null } else { placing };
-        let work = ours.work.place::<u8>(check.room, null);
-        let (ground, which, lost) = (ours.out(0), ours.out(1), ours.out(2));
-        let refusal =
-            unsafe { sys::ouriscado_book_check(body, check.body, heads, check.heads, state, work, check.room, ground, which, lost) };
-        let told = ours.told(&[4, 8, 8]);
-        (refusal, [told[0], told[1], told[2]])
+    /// The lengths of body and heads.
+    fn whole(&self) -> (usize, usize) {
+        (self.body.len(), self.heads.len())
     }
 
     /// What differs of all that the books hold.
     fn left(&self, lent: usize) -> Option<String> {
-        let (ours, placing) = (&self.ours, self.ours.placing);
-        if let Some(at) = place_of(ours.body.slice(self.body.len(), placing), &self.body) {
-            return Some(format!("byte {at} of the body"));
-        }
-        if let Some(at) = place_of(ours.heads.slice(self.heads.len(), placing), &self.heads) {
-            return Some(format!("head {at}"));
-        }
-        if let Some(at) = place_of(ours.state.slice(10, Placing::End), &self.state[..]) {
-            return Some(format!("word {at} of the state"));
-        }
-        place_of(ours.list.slice(lent, placing), &self.list[..lent]).map(|at| format!("number {at} of the list"))
-    }
-
-    fn call_ours(&self, call: &Call, body_len: usize, heads_len: usize, lent: usize) -> Answer {
-        let (ours, placing) = (&self.ours, self.ours.placing);
-        let (body, heads) = (ours.body.place::<u8>(self.body.len(), placing), ours.heads.place::<u64>(self.heads.len(), placing));
-        let state: &mut State = unsafe { &mut *ours.state.place::<State>(1, Placing::End) };
-        let null = if placing == Placing::End { Placing::Null } else { placing };
-        let list = ours.list.place::<u64>(lent, null);
-        let (refusal, sizes): (u32, &[usize]) = match *call {
-            Call::Fresh => (unsafe { sys::ouriscado_book_fresh(body, body_len, heads, heads_len, state) }, &[]),
-            Call::Load { key, fit, .. } => {
-                let load = match fit {
-                    Fit::Spare => sys::ouriscado_book_load,
-                    Fit::Tight => sys::ouriscado_book_load_tight,
-                };
-                (unsafe { load(body, body_len, heads, heads_len, state, key, list, lent, ours.out(0)) }, &[8])
-            }
-            Call::Append { key, fk } => {
-                let (kind, class, used, place, rewritten) = (ours.out(0), ours.out(1), ours.out(2), ours.out(3), ours.out(4));
-                let answer = unsafe {
-                    sys::ouriscado_book_append(body, body_len, heads, heads_len, state, key, fk, kind, class, used, place, rewritten)
-                };
-                (answer, &[1, 1, 2, 8, 8])
-            }
-            Call::Read { key, .. } => {
-                let (length, pages) = (ours.out(0), ours.out(1));
-                (unsafe { sys::ouriscado_book_read(body, body_len, heads, heads_len, state, key, list, lent, length, pages) }, &[8, 8])
-            }
-            Call::Drop { key } => (unsafe { sys::ouriscado_book_drop(body, body_len, heads, heads_len, state, key, ours.out(0)) }, &[8]),
-        };
-        Answer { refusal, told: ours.told(sizes) }
-    }
-
-    fn call_second(&mut self, call: &Call, body_len: usize, heads_len: usize) -> Answer {
-        let (body, heads, state) = (&mut self.body[..body_len], &mut self.heads[..heads_len], &mut self.state);
-        let told = match call {
-            Call::Fresh => self.second.fresh(body, heads, state).map(|()| [0; 5]),
-            Call::Load { key, fks, fit } => self.second.load(body, heads, state, *key, fks, *fit).map(|pages| [pages, 0, 0, 0, 0]),
-            Call::Append { key, fk } => self.second.append(body, heads, state, *key, *fk).map(|a| {
-                let [kind, class, used, place] = numbers_theirs(&a.place);
-                [kind, class, used, place, a.rewritten]
-            }),
-            Call::Read { key, .. } => {
-                self.second.read(body, heads, state, *key, &mut self.list).map(|listed| [listed.length, listed.pages, 0, 0, 0])
-            }
-            Call::Drop { key } => self.second.drop(body, heads, state, *key).map(|length| [length, 0, 0, 0, 0]),
-        };
-        self.refused = told.err();
-        match told {
-            Ok(told) => Answer { refusal: 0, told },
-            Err(refused) => Answer { refusal: refused.number(), told: [0; 5] },
-        }
+        let body = place_of(self.ours.body.slice(self.body.len(), self.ours.placing), &self.body);
+        let body = body.map(|at| format!("byte {at} of the body"));
+        body.or_else(|| self.ours.words_left(&self.heads, &self.state, &self.list[..lent]))
     }
 }

@@ -39,6 +39,9 @@ const CHAINS: [u64; 7] = [1, 2, 3, 5, 9, 17, 33];
 /// What is done to a key whose total was never counted.
 const UNKNOWN: [&str; 4] = ["an append that stays in its last page", "an append that begins a page", "a read", "a drop"];
 
+/// What an append does to the largest total, which four bytes hold.
+const FULL_TOTAL: &str = "a total of 2^32 - 1: an append, after which it is unknown";
+
 /// What is judged as a start.
 pub const FRESH_BOOK: &str = "a fresh book";
 pub const USED_BOOK: &str = "a book after calls";
@@ -99,6 +102,7 @@ pub struct Tally {
     payloads: BTreeMap<(usize, usize), u64>,
     full: BTreeMap<&'static str, u64>,
     unknown: BTreeMap<&'static str, u64>,
+    full_total: u64,
     pub damages: BTreeMap<&'static str, u64>,
     /// Verdicts by what was judged and by their words, faults and foreign things, and in what ways starts were spoiled.
     judged: BTreeMap<(&'static str, String), u64>,
@@ -116,20 +120,21 @@ fn verdict_name(judged: &Result<Verdict, u32>) -> String {
     }
 }
 
-/// What a book was before a call: its state, the word of the key, and whether the key's last page tells no total.
+/// What a book was before a call: its state, the word of the key, and the total that the key's last page tells; 0 says that it was never
+/// counted.
 pub struct Before {
     pub state: State,
     pub word: u64,
-    pub unknown: bool,
+    pub total: Option<u32>,
 }
 
-/// Whether a word names a page of a body whose creates is 0, which says that the total was never counted.
-pub fn unknown_total(body: &[u8], word: u64) -> bool {
+/// Creates of the page of a body that a word names.
+pub fn total_of(body: &[u8], word: u64) -> Option<u32> {
     let Ok(ShHeadValue::Extent { last_page }) = unpack8(word) else {
-        return false;
+        return None;
     };
     let page = usize::try_from(last_page).ok().and_then(|off| body.get(off..off.checked_add(PAGE)?));
-    page.is_some_and(|page| pages::sh_page_extent_creates(pages::sh_page_as_array(page).expect("a page")) == 0)
+    page.map(|page| pages::sh_page_extent_creates(pages::sh_page_as_array(page).expect("a page")))
 }
 
 impl Tally {
@@ -146,8 +151,10 @@ impl Tally {
         if answer.refusal != 0 {
             return;
         }
-        if before.unknown {
-            *self.unknown.entry(Tally::uncounted(call, before, answer)).or_default() += 1;
+        match (before.total, call) {
+            (Some(0), _) => *self.unknown.entry(Tally::uncounted(call, before, answer)).or_default() += 1,
+            (Some(u32::MAX), Call::Append { .. }) => self.full_total += 1,
+            _ => {}
         }
         match call {
             Call::Load { key, fks, .. } => {
@@ -355,6 +362,7 @@ impl Tally {
         for what in UNKNOWN {
             out.push((format!("a total that was never counted: {what}"), self.unknown.get(what).copied().unwrap_or(0)));
         }
+        out.push((FULL_TOTAL.into(), self.full_total));
         for what in
             ["a slab for a load", "a run for a load", "a slab for a list that moves", "a page for a list that moves", "a page for a chain"]
         {

@@ -13,8 +13,6 @@ pub type Ground = &'static str;
 
 /// The most numbers of a slab.
 const MOST_USED: u16 = 256;
-/// The most creates that an append takes.
-const MOST_CREATES: u32 = u32::MAX - 1;
 
 /// Where a key's list stands; of a slab also how many bytes its stream takes, as stored.
 #[derive(Clone, Copy, Debug, PartialEq, Eq)]
@@ -197,14 +195,9 @@ impl Key {
         Ok(())
     }
 
-    /// Reads the last page alone.
+    /// Reads the last page alone; its creates may be anything.
     fn last_page(&mut self, body: &[u8], _mark: u64, last: u64) -> Result<(), Ground> {
-        let page = page_at(body, last);
-        self.page(page, last)?;
-        if pages::sh_page_extent_creates(page) > MOST_CREATES {
-            return Err("an append meets creates 2^32 - 1");
-        }
-        Ok(())
+        self.page(page_at(body, last), last)
     }
 
     /// Reads a chain from the first page that the last one names.
@@ -227,7 +220,7 @@ impl Key {
         }
         match pages::sh_page_extent_creates(page_at(body, last)) {
             0 => Ok(()),
-            n if n as usize == self.fks.len() => Ok(()),
+            n if n as u64 == self.fks.len() as u64 => Ok(()),
             _ => Err("creates is neither 0 nor the length"),
         }
     }
@@ -274,5 +267,4 @@ pub const GROUNDS: &[Ground] = &[
     "a chain comes back to a page",
     "a page before the last is LAST",
     "creates is neither 0 nor the length",
-    "an append meets creates 2^32 - 1",
 ];

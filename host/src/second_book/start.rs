@@ -124,10 +124,10 @@ fn first_fault(key: &mut Key, body: &[u8], heads: &[u64], state: &State) -> Resu
 }
 
 impl SecondBook {
-    /// Judges a start. The work list needs a byte for each 16 of the body; these are 0 afterwards.
+    /// Judges a start. The work list needs a byte for each 128 of the body; these are 0 afterwards.
     pub fn check(&mut self, body: &[u8], heads: &[u64], state: &State, work: &mut [u8]) -> Result<Verdict, Refused> {
         limits(body, heads, state)?;
-        let Some(used) = work.get_mut(..body.len() / 16) else {
+        let Some(used) = work.get_mut(..body.len() / 128) else {
             return Err(Refused::Number(34));
         };
         used.fill(0);
@@ -142,7 +142,9 @@ impl SecondBook {
 #[cfg(test)]
 mod tests {
     use super::*;
-    use crate::second_book::Fit;
+    use crate::lent::{Area, Placing, READ_WRITE};
+    use crate::second_book::space::SLABS_END;
+    use crate::second_book::{Fit, MOST_BODY};
 
     /// A book that is judged.
     struct Judged(SecondBook, Vec<u8>, Vec<u64>, State);
@@ -206,6 +208,25 @@ mod tests {
         assert_eq!(b.lost(), 256);
     }
 
+    /// A slab across the end of slabs stands, held and freed. Past that end the gap before a page is left to nobody: 255 units of this one.
+    #[test]
+    fn lost_units_past_2_40() {
+        let Some(area) = Area::untouchable(MOST_BODY) else {
+            return;
+        };
+        area.allow((SLABS_END - 4096) as usize, 4 * 4096, READ_WRITE);
+        let body: &mut [u8] = area.slice(MOST_BODY, Placing::Start);
+        let (mut book, mut heads) = (SecondBook::default(), [1 << 62 | 1 << 56 | 3 << 40 | (SLABS_END - 16), 0]);
+        let mut state = [SLABS_END + 16, 0, 0, 0, 0, 0, 0, 0, 0, 0];
+        body[(SLABS_END - 16) as usize..][..5].copy_from_slice(&[3, 0, 1, 1, 1]);
+        let lost = (SLABS_END - 4096 - 16) / 16;
+        assert_eq!(first_fault(&mut book.key, body, &heads, &state), Ok(lost));
+        book.drop(body, &mut heads, &mut state, 0).unwrap();
+        assert_eq!(first_fault(&mut book.key, body, &heads, &state), Ok(lost));
+        book.load(body, &mut heads, &mut state, 1, &(1..=300).collect::<Vec<u64>>(), Fit::Spare).unwrap();
+        assert_eq!((first_fault(&mut book.key, body, &heads, &state), state[0]), (Ok(lost + 255), SLABS_END + 8192));
+    }
+
     #[test]
     fn keys_come_first() {
         let mut b = Judged::new();
@@ -244,13 +265,13 @@ mod tests {
     #[test]
     fn work_lists() {
         let mut b = Judged::new();
-        let mut work = [7; 1030];
-        let short = b.0.check(&b.1, &b.2, &b.3, &mut work[..1023]);
-        assert_eq!((short, work), (Err(Refused::Number(34)), [7; 1030]));
+        let mut work = [7; 134];
+        let short = b.0.check(&b.1, &b.2, &b.3, &mut work[..127]);
+        assert_eq!((short, work), (Err(Refused::Number(34)), [7; 134]));
         b.3[0] += 8;
-        assert_eq!(b.0.check(&b.1, &b.2, &b.3, &mut work[..1023]), Err(Refused::Number(1)));
+        assert_eq!(b.0.check(&b.1, &b.2, &b.3, &mut work[..127]), Err(Refused::Number(1)));
         b.3[0] -= 8;
         assert!(b.0.check(&b.1, &b.2, &b.3, &mut work).is_ok());
-        assert!(work[..1024].iter().all(|w| *w == 0) && work[1024..] == [7; 6]);
+        assert!(work[..128].iter().all(|w| *w == 0) && work[128..] == [7; 6]);
     }
 }

@@ -1,5 +1,7 @@
 //! Document 01's run case on the second book, and what it says of loads, chains and refusals.
 use super::*;
+use crate::lent::{Area, Placing, READ_WRITE};
+use crate::second_book::space::SLABS_END;
 use crate::table::numbers_theirs;
 use oracle::scripthash_layout::unpack8;
 
@@ -182,4 +184,113 @@ fn refusals_come_in_order() {
     assert_eq!(b.read(0, 0), Err(31));
     b.state[0] = 4100;
     assert_eq!(b.drop(0), Err(1));
+}
+
+/// A book whose body has addresses up to the largest length, and memory for the first pages and those around the end of slabs alone; the
+/// machine may refuse it.
+struct Far(Area, SecondBook, Vec<u64>, State);
+
+impl Far {
+    fn new(mark: u64) -> Option<Far> {
+        let area = Area::untouchable(MOST_BODY)?;
+        for page in [0, (SLABS_END - 4 * 4096) as usize] {
+            area.allow(page, 8 * 4096, READ_WRITE);
+        }
+        Some(Far(area, SecondBook::default(), vec![0; 6], [mark, 0, 0, 0, 0, 0, 0, 0, 0, 0]))
+    }
+
+    #[allow(clippy::mut_from_ref)]
+    fn body(&self) -> &mut [u8] {
+        self.0.slice(MOST_BODY, Placing::Start)
+    }
+
+    fn load(&mut self, key: u64, last: u64, fit: Fit) -> Result<u64, u32> {
+        let fks: Vec<u64> = (1..=last).collect();
+        self.1.load(self.0.slice(MOST_BODY, Placing::Start), &mut self.2, &mut self.3, key, &fks, fit).map_err(Refused::number)
+    }
+
+    fn append(&mut self, key: u64, fk: u64) -> Result<u64, u32> {
+        let answer = self.1.append(self.0.slice(MOST_BODY, Placing::Start), &mut self.2, &mut self.3, key, fk);
+        answer.map(|a| a.rewritten).map_err(Refused::number)
+    }
+
+    fn drop(&mut self, key: u64) -> Result<u64, u32> {
+        self.1.drop(self.0.slice(MOST_BODY, Placing::Start), &mut self.2, &mut self.3, key).map_err(Refused::number)
+    }
+}
+
+/// A slab ends at 2^40 or before; where it can't, it is 36, though pages are to be had, and there is no smaller one in its place.
+#[test]
+fn slabs_end_at_2_40() {
+    let Some(mut b) = Far::new(SLABS_END - 16) else {
+        return;
+    };
+    assert_eq!(b.load(0, 4, Fit::Spare), Err(36));
+    assert_eq!(b.load(0, 4, Fit::Tight), Ok(0));
+    assert_eq!((b.3[0], b.load(1, 2, Fit::Tight)), (SLABS_END, Err(36)));
+    assert_eq!(b.load(1, 300, Fit::Spare), Ok(1));
+    assert_eq!((b.3[0], b.2[1]), (SLABS_END + 4096, 3 << 62 | SLABS_END));
+}
+
+/// A gap up to 2^40 is carved, and one past it goes on no list.
+#[test]
+fn gaps_past_2_40() {
+    let Some(mut b) = Far::new(SLABS_END - 16) else {
+        return;
+    };
+    assert_eq!(b.load(0, 300, Fit::Spare), Ok(1));
+    assert_eq!((b.3[0], b.3[1]), (SLABS_END + 4096, SLABS_END - 16));
+    b.3 = [SLABS_END + 16, 0, 0, 0, 0, 0, 0, 0, 0, 0];
+    assert_eq!(b.load(1, 300, Fit::Spare), Ok(1));
+    assert_eq!(b.3, [SLABS_END + 8192, 0, 0, 0, 0, 0, 0, 0, 0, 0]);
+}
+
+/// A slab across 2^40 is sound and is dropped onto its list, where it stops the takes of its class; a page past 2^40 doesn't.
+#[test]
+fn a_slab_across_2_40() {
+    let Some(mut b) = Far::new(SLABS_END + 16) else {
+        return;
+    };
+    b.2[0] = word(&ShHeadValue::slab(1, 2, SLABS_END - 16));
+    b.body()[(SLABS_END - 16) as usize..][..4].copy_from_slice(&[2, 0, 5, 1]);
+    assert_eq!((b.append(0, 7), b.append(0, 7)), (Ok(0), Err(32)));
+    assert_eq!((b.drop(0), b.3[2]), (Ok(3), SLABS_END - 16));
+    assert_eq!((b.load(1, 4, Fit::Spare), b.load(1, 20, Fit::Tight)), (Err(35), Err(35)));
+    assert_eq!((b.load(1, 300, Fit::Spare), b.drop(1), b.3[9]), (Ok(1), Ok(300), SLABS_END + 4096));
+    b.2[2] = word(&ShHeadValue::slab(5, 256, 4096));
+    let full: Vec<u64> = (1..=256).collect();
+    encode_slab_payload_into(&mut b.body()[4096..4096 + 512], &full).unwrap();
+    assert_eq!((b.append(2, 257), b.2[2], b.3[9]), (Ok(256), 3 << 62 | (SLABS_END + 4096), 0));
+}
+
+/// The total after 2^32 - 1 is unknown, in place and on a new page, and stays so; one before goes on.
+#[test]
+fn totals_near_2_32() {
+    let full: Vec<u64> = (1..=4072).collect();
+    let at = |b: &Book| (b.heads[0] & !(3 << 62)) as usize + 20;
+    for (before, after) in [(u32::MAX - 2, u32::MAX - 1), (u32::MAX - 1, u32::MAX), (u32::MAX, 0), (0, 0), (1, 2)] {
+        for (list, next) in [(&full[..300], 301), (&full[..], 4073)] {
+            let mut b = Book::new(16_384, 1);
+            assert!(b.load(0, list).is_ok());
+            let old = at(&b);
+            b.body[old..old + 4].copy_from_slice(&before.to_le_bytes());
+            assert!(b.append(0, next).is_ok());
+            let new = at(&b);
+            assert_eq!((new == old, b.body[new..new + 4] == after.to_le_bytes()), (next == 301, true), "{before}");
+            assert!(new == old || b.body[old..old + 4] == [0; 4]);
+            b.body[new..new + 4].fill(0);
+            assert_eq!(b.drop(0), Ok(next));
+        }
+    }
+}
+
+/// Bodies of 2^41 bytes and no more.
+#[test]
+fn the_largest_body() {
+    let Some(area) = Area::untouchable(MOST_BODY + 4096) else {
+        return;
+    };
+    let (mut book, mut heads, mut state) = (SecondBook::default(), [7], [9; 10]);
+    let mut fresh = |len| book.fresh(area.slice(len, Placing::Start), &mut heads, &mut state);
+    assert_eq!((fresh(MOST_BODY), fresh(MOST_BODY + 4096)), (Ok(()), Err(Refused::Number(1))));
 }
