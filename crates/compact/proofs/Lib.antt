@@ -4,3 +4,4 @@ pub mod LawsRead
 pub mod LawsReadFrom
 pub mod LawsWrite
 pub mod LawsPrefix
+pub mod LawsPadded

@@ -73,6 +73,29 @@ ulebLen n = divided (λ m. 1) (λ m rest. rest + 1) n n
 unfoldable pub shortest : ℕ → List ℕ
 shortest n = divided (λ m. m ∷ []) (λ m rest. (m % 128 + 128) ∷ rest) n n
 
+-- A number was read from a padded form: it is longer than the shortest form of its value.
+unfoldable pub padded : Reading → Bool
+padded r = ltb (ulebLen (r .value)) (r .len)
+
+-- What reading a number tells: the number, how many bytes its form takes, and whether that form is the shortest.
+pub record NumberRead : Type 0 where
+  pub value : ℕ
+  pub len : ℕ
+  pub shortest : Bool
+
+-- The same of a reading.
+abbrev pub numberRead : Reading → NumberRead
+numberRead r = record { value = r .value; len = r .len; shortest = not (padded r) }
+
+-- 1 where a test holds, else 0.
+abbrev pub one : Bool → ℕ
+one test = cond test 1 0
+
+-- How many of some bytes are 0.
+unfoldable pub zeros : List ℕ → ℕ
+zeros [] = 0
+zeros (b ∷ bs) = one (eqb b 0) + zeros bs
+
 -- Writing a number where there is room for some bytes: the length of its shortest form, or refused where that is longer.
 unfoldable pub writeUleb : ℕ → ℕ → Answer ℕ
 writeUleb room n = refuseIf (ltb room (ulebLen n)) doesNotFit (accepted (ulebLen n))

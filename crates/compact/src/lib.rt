@@ -1,16 +1,22 @@
 // Unsigned LEB128, the part of the source's compact.rs that the posting lists use.
+ghost use mathlib.Core.Bool.{not, _&&_};
+ghost use lib.Dec.{ltb, eqb};
 ghost use mathlib.Core.Path.{_≡_};
 ghost use Prim.Native.Nat.{_≤_, _<_};
 ghost use lib.ListN.{length};
-ghost use Rattle.error.specs.Refusal.{refusalOf, valueOr};
+ghost use Rattle.error.specs.Refusal.{answered, refusalOf, valueOr};
 ghost use Rattle.buffer.specs.Bytes.{overwrite};
-ghost use Rattle.compact.specs.Uleb128.{piece, passes, readUleb, ulebLen, shortest, writeUleb, afterWrite};
+ghost use Rattle.compact.specs.Uleb128.{piece, passes, readUleb, padded, numberRead, ulebLen, shortest, writeUleb, afterWrite};
 ghost use Rattle.compact.specs.Answers.{readUlebAnswer, writeUlebAnswer};
 use error::Refusal;
 
-// What reading a number answers: its value and the length of its form, or a refusal.
+// What reading a number answers: its value, the length of its form and whether that is the shortest; or a refusal.
 pub enum ReadUleb128 {
-    Value { value: u64, len: usize },
+    Value {
+        value: u64,
+        len: usize,
+        shortest: bool,
+    },
     Refused(Refusal),
 }
 
@@ -26,7 +32,11 @@ impl ReadUleb128 {
         ensures { λ r. ⌜ r ≡ refusalOf (readUlebAnswer self) ⌝ }
     {
         match self {
-            ReadUleb128::Value { value: _, len: _ } => 0,
+            ReadUleb128::Value {
+                value: _,
+                len: _,
+                shortest: _,
+            } => 0,
             ReadUleb128::Refused(number) => number,
         }
     }
@@ -72,12 +82,23 @@ fn passes_64_bits(i: usize, b: u8) -> bool
     b % 128 > 1
 }
 
-// Reads the number at the start of buf, whose form may be padded; what follows the form doesn't matter. Its value and the length of its
-// form go out where it is read, and the answer is then 0; both stay as they were where it is refused.
-pub fn read_form(buf: &[u8], value: &mut u64, len: &mut usize) -> Refusal
+// Whether a form of a length whose last byte is b is the shortest of its value: it has one byte, or the last isn't 0.
+fn ends_shortest(len: usize, b: u8) -> bool
+    ensures { λ r. ⌜ r ≡ not (ltb 1 len && eqb b 0) ⌝ }
+{
+    if len <= 1 {
+        return true;
+    }
+    b != 0
+}
+
+// Reads the number at the start of buf, whose form may be padded; what follows the form doesn't matter. Its value, the length of its form
+// and whether that is the shortest go out where it is read, and the answer is then 0; they stay as they were where it is refused.
+pub fn read_form(buf: &[u8], value: &mut u64, len: &mut usize, shortest: &mut bool) -> Refusal
     ensures number { λ r. ⌜ r ≡ refusalOf (readUleb (now (buf .entry))) ⌝ }
     ensures value { λ r. ⌜ now (value .exit) ≡ valueOr (λ x. x .value) (readUleb (now (buf .entry))) (now (value .entry)) ⌝ }
     ensures len { λ r. ⌜ now (len .exit) ≡ valueOr (λ x. x .len) (readUleb (now (buf .entry))) (now (len .entry)) ⌝ }
+    ensures shortest { λ r. ⌜ now (shortest .exit) ≡ valueOr (λ x. not (padded x)) (readUleb (now (buf .entry))) (now (shortest .entry)) ⌝ }
 {
     let mut sum: u64 = 0;
     let mut i: usize = 0;
@@ -94,6 +115,7 @@ pub fn read_form(buf: &[u8], value: &mut u64, len: &mut usize) -> Refusal
         if b < 128 {
             *value = sum;
             *len = i;
+            *shortest = ends_shortest(i, b);
             return 0;
         }
     }
@@ -103,15 +125,20 @@ pub fn read_form(buf: &[u8], value: &mut u64, len: &mut usize) -> Refusal
     error::ULEB_OVERFLOW
 }
 
-// The number at the start of buf and the length of its form, or a refusal.
+// The number at the start of buf, the length of its form and whether that is the shortest; or a refusal.
 pub fn read_uleb128(buf: &[u8]) -> ReadUleb128
-    ensures { λ r. ⌜ readUlebAnswer r ≡ readUleb (now (buf .entry)) ⌝ }
+    ensures { λ r. ⌜ readUlebAnswer r ≡ answered numberRead (readUleb (now (buf .entry))) ⌝ }
 {
     let mut value: u64 = 0;
     let mut len: usize = 0;
-    let number = read_form(buf, &mut value, &mut len);
+    let mut shortest = false;
+    let number = read_form(buf, &mut value, &mut len, &mut shortest);
     if number == 0 {
-        return ReadUleb128::Value { value, len };
+        return ReadUleb128::Value {
+            value,
+            len,
+            shortest,
+        };
     }
     ReadUleb128::Refused(number)
 }

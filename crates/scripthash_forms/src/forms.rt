@@ -25,7 +25,12 @@ fn any_form(buf: &[u8], i: usize) -> Form
     ensures { λ r. ⌜ QuickForm (r .value) (r .len) (drop i (now (buf .entry))) ⌝ }
 {
     let got = compact::read_uleb128(&buf[i..]);
-    let ReadUleb128::Value { value, len } = got else {
+    let ReadUleb128::Value {
+        value,
+        len,
+        shortest: _,
+    } = got
+    else {
         return Form { value: 0, len: 0 };
     };
     Form { value, len }

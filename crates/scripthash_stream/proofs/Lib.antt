@@ -4,3 +4,4 @@ pub mod LawsScanEnd
 pub mod LawsDecode
 pub mod LawsEncode
 pub mod LawsLent
+pub mod LawsPadded

@@ -5,10 +5,10 @@ use mathlib.Core.List.{List, [], _∷_, _++_}
 use lib.Dec.{leb, ltb, eqb}
 use lib.ListN.{length, drop}
 use Rattle.error.specs.Refusal.{Answer, accepted, refused, refuseIf, andThen, offeredFirstZero, offeredBit63, offeredNotRising, doesNotFit}
-use Rattle.error.specs.Refusal.{answered, listTooShort}
+use Rattle.error.specs.Refusal.{answered, valueOr, listTooShort}
 use Rattle.error.specs.Refusal.{storedFirstZero, storedDifferenceZero, storedSumOverflow, storedBit63}
 use Rattle.buffer.specs.Bytes.{overwrite}
-use Rattle.compact.specs.Uleb128.{Reading, readUleb, ulebLen, shortest}
+use Rattle.compact.specs.Uleb128.{Reading, readUleb, ulebLen, shortest, padded, one}
 
 -- The most numbers that a slab, a page or a load is offered.
 abbrev pub maxOffered : ℕ
@@ -91,6 +91,11 @@ scanFrom prev (suc k) bs =
 abbrev pub scan : ℕ → List ℕ → Answer Scan
 scan n bs = scanFrom 0 n bs
 
+-- How many of a count of numbers at the start of some bytes have a padded form, up to the first whose form cannot be read.
+unfoldable pub paddedIn : ℕ → List ℕ → ℕ
+paddedIn zero bs = 0
+paddedIn (suc k) bs = valueOr (λ r. one (padded r) + paddedIn k (drop (r .len) bs)) (readUleb bs) 0
+
 -- What a scan tells of its end: the bytes that it takes, and its last number, 0 where it has none.
 pub record End : Type 0 where
   pub taken : ℕ
@@ -107,6 +112,15 @@ endsFrom off prev k bs = answered (λ s. record { taken = off + s .taken; last =
 -- Reading a stream of n numbers into a lent list with room for some, or a refusal.
 unfoldable pub decodeStream : ℕ → ℕ → List ℕ → Answer Scan
 decodeStream room n bs = andThen (scan n bs) (λ s. refuseIf (ltb room n) listTooShort (accepted s))
+
+-- What reading a stream tells: the bytes that it takes, and how many of its numbers are padded.
+pub record StreamTold : Type 0 where
+  pub taken : ℕ
+  pub padded : ℕ
+
+-- The same of n numbers that were scanned at the start of some bytes.
+abbrev pub streamTold : ℕ → List ℕ → Scan → StreamTold
+streamTold n bs s = record { taken = s .taken; padded = paddedIn n bs }
 
 -- What the lent list holds after an answer: the numbers at its start, or what it held.
 unfoldable pub afterDecode : List ℕ → Answer Scan → List ℕ

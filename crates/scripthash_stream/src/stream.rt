@@ -5,7 +5,7 @@ ghost use lib.ListN.{length, drop};
 ghost use Rattle.error.specs.Refusal.{accepted, answered, refusalOf};
 ghost use Rattle.buffer.specs.Bytes.{overwrite};
 ghost use Rattle.scripthash_stream.specs.Stream.{Scan, storedNumber, nextNumber, endFrom, scan, decodeStream, afterDecode};
-ghost use Rattle.scripthash_stream.specs.Answers.{nextAnswer, scanAnswer, bytesAnswer};
+ghost use Rattle.scripthash_stream.specs.Answers.{nextAnswer, scanAnswer, bytesAnswer, readAnswer};
 use compact::ReadUleb128;
 use error::Refusal;
 
@@ -30,6 +30,12 @@ pub enum ScanStream {
 // What writing or reading a stream answers: how many bytes it takes, or a refusal.
 pub enum StreamBytes {
     Bytes(usize),
+    Refused(Refusal),
+}
+
+// What reading a stream tells: how many bytes it takes and how many of its numbers are padded, or a refusal.
+pub enum StreamRead {
+    Read { taken: usize, padded: usize },
     Refused(Refusal),
 }
 
@@ -65,6 +71,18 @@ impl StreamBytes {
         match self {
             StreamBytes::Bytes(_) => 0,
             StreamBytes::Refused(number) => number,
+        }
+    }
+}
+
+impl StreamRead {
+    // The refusal's number, and 0 of another answer.
+    pub fn refusal(self) -> Refusal
+        ensures { λ r. ⌜ r ≡ refusalOf (readAnswer self) ⌝ }
+    {
+        match self {
+            StreamRead::Read { taken: _, padded: _ } => 0,
+            StreamRead::Refused(number) => number,
         }
     }
 }
@@ -114,7 +132,12 @@ fn next_fk(buf: &[u8], off: usize, prev: u64) -> NextFk
         }
     }
     let got = compact::read_uleb128(&buf[off..]);
-    let ReadUleb128::Value { value, len } = got else {
+    let ReadUleb128::Value {
+        value,
+        len,
+        shortest: _,
+    } = got
+    else {
         return NextFk::Refused(got.refusal());
     };
     stored_number(prev, value, len)

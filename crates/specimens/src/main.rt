@@ -26,7 +26,11 @@ fn show_read(buf: &[u8]) {
     text::bytes(buf);
     text::words(b":");
     match compact::read_uleb128(buf) {
-        ReadUleb128::Value { value, len } => {
+        ReadUleb128::Value {
+            value,
+            len,
+            shortest: _,
+        } => {
             text::words(b" ");
             text::number(value);
             text::words(b", length ");

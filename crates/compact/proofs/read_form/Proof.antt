@@ -1,7 +1,7 @@
 -- `read_form` meets its contract. Invariant: reading resumed at index i, with the value of the pieces before it, gives the answer for the
 -- whole buffer, and nothing has gone out. Each way on from there is one law of `LawsReadFrom`. Assumes nothing.
 use Prim.Native.Nat.{ℕ, _+_, _-_, _*_, _^_, _%_, _≤_, _<_}
-use mathlib.Core.Bool.{true, false}
+use mathlib.Core.Bool.{true, false, not}
 use mathlib.Core.Path.{_≡_, refl, sym, _∙_, ap}
 use native.Mathlib.Omega.{arith}
 use borrow.Author.Needs.{needs}
@@ -10,17 +10,19 @@ use mathlib.Core.List.{List, []}
 use lib.ListN.{length, drop, getD, drop-of-length-le}
 use Rattle.error.specs.Refusal.{refused, refusalOf, valueOr, ulebCutShort, ulebOverflow}
 use Rattle.error.proofs.LawsOut.{number-accepted, number-refused, value-accepted, value-refused}
-use Rattle.compact.specs.Uleb128.{piece, passes, readUleb}
+use Rattle.compact.specs.Uleb128.{piece, passes, readUleb, padded}
 use Rattle.compact.proofs.LawsReadFrom.{readFrom, from-start, from-nil, at-over, at-last, at-more, Room, room}
+use Rattle.compact.proofs.LawsPadded.{read-last}
 use Rattle.compact.proofs.read_form.Statement.{statement}
 use Rattle.compact.proofs.read_form.Tie as tie
 
 abbrev Inv-loop : tie.InvT-loop
-Inv-loop buf value₀ len₀ sum₀ i₀ value len sum i =
+Inv-loop buf value₀ len₀ shortest₀ sum₀ i₀ value len shortest sum i =
     (i ≤ length buf) × (i ≤ 10) × (sum < 2 ^ (7 * i)) × (readFrom i sum (drop i buf) ≡ readUleb buf) × (value ≡ value₀) × (len ≡ len₀)
+    × (shortest ≡ shortest₀)
 
 abbrev μ-loop : tie.MeasureT-loop
-μ-loop buf value₀ len₀ sum₀ i₀ value len sum i = 10 - i
+μ-loop buf value₀ len₀ shortest₀ sum₀ i₀ value len shortest sum i = 10 - i
 
 -- what is known of each place in the loop
 module _ (l : tie.At-loop Inv-loop μ-loop) where
@@ -60,8 +62,15 @@ late i b h = rw (lt-ltb 9 i h)
 out : (l : tie.At-loop Inv-loop μ-loop) {number : ℕ} → readUleb (bytes l) ≡ refused number
     → (number ≡ refusalOf (readUleb (bytes l)))
     × ((l .loop .value ≡ valueOr (λ x. x .value) (readUleb (bytes l)) (l .before .before .args .value .now))
-    × (l .loop .len ≡ valueOr (λ x. x .len) (readUleb (bytes l)) (l .before .before .args .len .now)))
-out l e = (number-refused e, (l .loop .inv .4 ∙ value-refused (λ x. x .value) _ e, l .loop .inv .5 ∙ value-refused (λ x. x .len) _ e))
+    × ((l .loop .len ≡ valueOr (λ x. x .len) (readUleb (bytes l)) (l .before .before .args .len .now))
+    × (l .loop .shortest ≡ valueOr (λ x. not (padded x)) (readUleb (bytes l)) (l .before .before .args .shortest .now))))
+out l e = (
+  number-refused e,
+  (
+    l .loop .inv .4 ∙ value-refused (λ x. x .value) _ e,
+    (l .loop .inv .5 ∙ value-refused (λ x. x .len) _ e, l .loop .inv .6 ∙ value-refused (λ x. not (padded x)) _ e),
+  ),
+)
 
 -- the bytes end where a byte is wanted
 ended : (l : tie.At-loop Inv-loop μ-loop) → length (bytes l) ≤ at l → readUleb (bytes l) ≡ refused ulebCutShort
@@ -75,7 +84,7 @@ over : (l : tie.At-loop Inv-loop μ-loop) → at l < length (bytes l) → passes
 over l h p = sym (l .loop .inv .3) ∙ at-over (bytes l) (at l) (sum l) h p
 
 loop-holds : tie.Need-loop-holds Inv-loop μ-loop
-loop-holds c = (search needs, search needs, search needs, from-start (c .before .args .buf .now), refl, refl)
+loop-holds c = (search needs, search needs, search needs, from-start (c .before .args .buf .now), refl, refl, refl)
 
 returns : tie.Need-returns Inv-loop μ-loop
 returns c = out (c .before .before) (ended (c .before .before) (omega arith))
@@ -106,12 +115,25 @@ add-sum c = rw (added c) (omega (arith, fits c .added))
 add-i : tie.Need-add-i Inv-loop μ-loop
 add-i c = search needs
 
+ends-shortest-requires : tie.Need-ends-shortest-requires Inv-loop μ-loop
+ends-shortest-requires c κs = search needs
+
 returns-3 : tie.Need-returns-3 Inv-loop μ-loop
 returns-3 c =
-    let d = c .before in
+    let d = c .before .before in
     let l = loc d in
     let yes = sym (l .loop .inv .3) ∙ at-last (bytes l) (at l) (sum l) (omega arith) (stays d) (omega arith) in
-    (number-accepted yes, (added d ∙ value-accepted (λ x. x .value) _ yes, value-accepted (λ x. x .len) _ yes))
+    let here : at l + 1 - 1 ≡ at l = omega arith in
+    let last = rw here at (read-last (bytes l) _ yes) in (
+      number-accepted yes,
+      (
+        added d ∙ value-accepted (λ x. x .value) _ yes,
+        (
+          value-accepted (λ x. x .len) _ yes,
+          c .ends-shortest .ensures ∙ ap not (sym last) ∙ value-accepted (λ x. not (padded x)) _ yes,
+        ),
+      ),
+    )
 
 loop-less : tie.Need-loop-less Inv-loop μ-loop
 loop-less c = search needs
@@ -127,6 +149,7 @@ loop-again c =
       sym (at-more (bytes l) (at l) (sum l) (omega arith) (stays d) (omega arith)) ∙ l .loop .inv .3,
       l .loop .inv .4,
       l .loop .inv .5,
+      l .loop .inv .6,
     )
 
 returns-4 : tie.Need-returns-4 Inv-loop μ-loop
@@ -153,6 +176,7 @@ read-form-spec =
     shl-sum
     add-sum
     add-i
+    ends-shortest-requires
     returns-3
     loop-less
     loop-again

@@ -4,6 +4,7 @@ use borrow.Author.Needs.{needs}
 use lib.ListN.{drop}
 use Rattle.buffer.proofs.LawsBytes.{part-to-end}
 use Rattle.compact.specs.Answers.{readUlebAnswer}
+use Rattle.compact.proofs.LawsPadded.{number-back}
 use Rattle.scripthash_forms.proofs.LawsForms.{quick-form-none, quick-form}
 use Rattle.scripthash_forms.proofs.forms.any_form.Statement.{statement}
 use Rattle.scripthash_forms.proofs.forms.any_form.Tie as tie
@@ -34,7 +35,8 @@ returns-2 c =
     let told = c .before .got .given in
     let a = c .before .before .before .before .before .before .args in
     let read = rw (part-to-end (a .buf .now) (a .i)) at (c .before .before .before .read-uleb128 .ensures) in
-    quick-form (told .0 .0) (told .0 .1 .0) (drop (a .i) (a .buf .now)) (sym read ∙ ap readUlebAnswer (told .1))
+    quick-form (told .0 .0) (told .0 .1 .0) (drop (a .i) (a .buf .now))
+    (number-back (drop (a .i) (a .buf .now)) (sym read ∙ ap readUlebAnswer (told .1)))
 
 pub any-form-spec : {M : Type 1} → statement M
 any-form-spec =

@@ -6,7 +6,10 @@ use lib.ListN.{drop, getD}
 use Rattle.error.specs.Refusal.{accepted, refused, refusalOf}
 use Rattle.buffer.proofs.LawsBytes.{part-to-end}
 use Rattle.compact.specs.Uleb128.{readUleb}
+use Rattle.error.proofs.LawsAnswer.{was-refused}
+use Rattle.compact.specs.Uleb128.{numberRead}
 use Rattle.compact.specs.Answers.{readUlebAnswer}
+use Rattle.compact.proofs.LawsPadded.{number-back}
 use Rattle.compact.specs.declared.ReadUleb128.{ReadUleb128}
 use Rattle.compact.proofs.LawsReadFrom.{read-byte-at, read-two-at}
 use Rattle.scripthash_stream.specs.Stream.{storedNumber}
@@ -96,7 +99,7 @@ returns-3 c =
     let a = c .before .before .before .before .before .before .before .args in
     let read = rw (part-to-end (a .buf .now) (a .off)) at (c .before .before .before .read-uleb128 .ensures) in
     ap refused (c .refusal .ensures ∙ ap (λ (g : ReadUleb128). refusalOf (readUlebAnswer g)) (told .1))
-    ∙ sym (next-refused (a .prev) (drop (a .off) (a .buf .now)) (sym read ∙ ap readUlebAnswer (told .1)))
+    ∙ sym (next-refused (a .prev) (drop (a .off) (a .buf .now)) (was-refused numberRead _ (sym read ∙ ap readUlebAnswer (told .1))))
 
 stored-number-requires-3 : tie.Need-stored-number-requires-3
 stored-number-requires-3 c κs = search needs
@@ -108,7 +111,7 @@ returns-4 c =
     let read = rw (part-to-end (a .buf .now) (a .off)) at (c .before .before .before .before .read-uleb128 .ensures) in
     c .stored-number3 .ensures
     ∙ sym (next-is (a .prev) (drop (a .off) (a .buf .now)) (record { value = told .0 .0; len = told .0 .1 .0 })
-    (sym read ∙ ap readUlebAnswer (told .1)))
+    (number-back (drop (a .off) (a .buf .now)) (sym read ∙ ap readUlebAnswer (told .1))))
 
 pub next-fk-spec : {M : Type 1} → statement M
 next-fk-spec =
