@@ -14,13 +14,13 @@ use Rattle.buffer.specs.LittleEndian.{littleEndian, AreBytes}
 use Rattle.buffer.proofs.LawsOverwrite.{length-part}
 use Rattle.buffer.proofs.LawsLittleEndian.{littleEndian-below, part-bytes}
 use Rattle.scripthash_layout.specs.Sizes.{pageSize}
-use Rattle.scripthash_stream.specs.Stream.{Scan, scan, decodeStream}
+use Rattle.scripthash_stream.specs.Stream.{Scan, scan, paddedIn, decodeStream}
 use Rattle.scripthash_stream.proofs.LawsScan.{scan-accepted}
 use Rattle.scripthash_fields.specs.Page.{field, versionOf, countOf, linkOf, nextOff, namesExtent, streamOff, streamCap}
 use Rattle.scripthash_fields.proofs.LawsPage.{field-byte}
 use Rattle.scripthash_fields.proofs.LawsFields.{stream-off-within}
 use Rattle.scripthash_pages.specs.EntryAnswers.{PageRead}
-use Rattle.scripthash_pages.specs.Entries.{StreamAt, streamPlace, pageScan, pageEntries, pageReadOf}
+use Rattle.scripthash_pages.specs.Entries.{StreamAt, streamPlace, pageScan, pageEntries, pagePadded, pageReadOf}
 
 -- ---- the stream's place
 
@@ -164,8 +164,13 @@ pub link-read : (page : List ℕ) → linkOf page ≡ littleEndian (part page 3 
 unfolding field
 link-read page = refl
 
--- what reading tells, from the count and the offset
-pub read-of : (page : List ℕ) (s : Scan) (count next : ℕ) → length (s .numbers) ≡ count → nextOff page ≡ next
-    → pageReadOf page s ≡ record { count = count; next = next }
+-- what reading tells, from the count, the offset and the padded numbers
+pub read-of : (page : List ℕ) (s : Scan) (count next padded : ℕ) → length (s .numbers) ≡ count → nextOff page ≡ next
+    → pagePadded page ≡ padded → pageReadOf page s ≡ record { count = count; next = next; padded = padded }
 unfolding pageReadOf
-read-of page s count next e f = rw (e, f)
+read-of page s count next padded e f g = rw (e, f, g)
+
+-- padded numbers, from the stream's place
+pub padded-at : (page : List ℕ) (p : StreamAt) → streamPlace page ≡ accepted p → paddedIn (p .count) (drop (p .off) page) ≡ pagePadded page
+unfolding pagePadded
+padded-at page p e = let placed = place-accepted page p e in rw (placed .off-is, placed .count-is)

@@ -9,9 +9,9 @@ use Rattle.error.specs.Refusal.{Answer, accepted, refused, refuseIf, andThen, l
 use Rattle.error.specs.Refusal.{offeredFirstZero, tooManyOffered, offeredBit63, offeredNotRising}
 use Rattle.buffer.specs.Bytes.{overwrite}
 use Rattle.compact.specs.Uleb128.{ulebLen, shortest}
-use Rattle.scripthash_stream.specs.Stream.{Scan, scan, lastFrom, stream, encodeStream}
+use Rattle.scripthash_stream.specs.Stream.{Scan, scan, lastFrom, paddedIn, stream, encodeStream}
 use Rattle.scripthash_stream.specs.Stream.{maxOffered}
-use Rattle.scripthash_pages.specs.EntryAnswers.{PageRead}
+use Rattle.scripthash_pages.specs.EntryAnswers.{EntriesRead, PageRead}
 use Rattle.scripthash_fields.specs.Page.{setField, countOf, nextOff, deltaVersion, extentVersion, namesExtent, streamOff, streamCap, onPage}
 use Rattle.scripthash_fields.specs.Page.{onDelta}
 
@@ -40,9 +40,17 @@ pageEntries room page = andThen (pageScan page) (λ s. refuseIf (ltb room (lengt
 abbrev pub readCount : Scan → ℕ
 readCount s = length (s .numbers)
 
+-- How many numbers of a page are padded.
+unfoldable pub pagePadded : List ℕ → ℕ
+pagePadded page = paddedIn (countOf page) (drop (streamOff page) page)
+
+-- What reading the numbers of a page tells, of a page that was scanned.
+abbrev pub entriesReadOf : List ℕ → Scan → EntriesRead
+entriesReadOf page s = record { count = readCount s; padded = pagePadded page }
+
 -- What reading a page tells besides its numbers, of a page that was scanned.
 unfoldable pub pageReadOf : List ℕ → Scan → PageRead
-pageReadOf page s = record { count = length (s .numbers); next = nextOff page }
+pageReadOf page s = record { count = length (s .numbers); next = nextOff page; padded = pagePadded page }
 
 -- ---- appended to
 

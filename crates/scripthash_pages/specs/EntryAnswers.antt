@@ -16,19 +16,25 @@ abbrev pub lastFkAnswer : PageLastFk → Answer ℕ
 lastFkAnswer (Last fk) = accepted fk
 lastFkAnswer (NoLast number) = refused number
 
+-- What reading a page's numbers tells: how many, and how many of them are padded.
+pub record EntriesRead : Type 0 where
+  pub count : ℕ
+  pub padded : ℕ
+
 -- The answer of `sh_page_entries_into`.
-abbrev pub entriesAnswer : PageEntries → Answer ℕ
-entriesAnswer (Entries count) = accepted count
+abbrev pub entriesAnswer : PageEntries → Answer EntriesRead
+entriesAnswer (Entries count padded) = accepted (record { count = count; padded = padded })
 entriesAnswer (NoEntries number) = refused number
 
--- What reading a page tells besides its numbers: how many, and the offset of the page behind it.
+-- What reading a page tells besides its numbers: how many, the offset of the page behind it, and how many of the numbers are padded.
 pub record PageRead : Type 0 where
   pub count : ℕ
   pub next : ℕ
+  pub padded : ℕ
 
 -- The answer of `sh_page_decode_slice_into`.
 abbrev pub sliceAnswer : PageSlice → Answer PageRead
-sliceAnswer (Decoded count next) = accepted (record { count = count; next = next })
+sliceAnswer (Decoded count next padded) = accepted (record { count = count; next = next; padded = padded })
 sliceAnswer (NotDecoded number) = refused number
 
 -- The answer of `sh_page_try_append`: whether the number was appended.

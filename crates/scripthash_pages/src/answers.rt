@@ -22,9 +22,9 @@ impl PageLastFk {
     }
 }
 
-// What reading a page's numbers answers: how many, or a refusal.
+// What reading a page's numbers answers: how many, and how many of them are padded; or a refusal.
 pub enum PageEntries {
-    Entries(usize),
+    Entries { count: usize, padded: usize },
     Refused(Refusal),
 }
 
@@ -34,15 +34,20 @@ impl PageEntries {
         ensures { λ r. ⌜ r ≡ refusalOf (entriesAnswer self) ⌝ }
     {
         match self {
-            PageEntries::Entries(_) => 0,
+            PageEntries::Entries { count: _, padded: _ } => 0,
             PageEntries::Refused(number) => number,
         }
     }
 }
 
-// What reading a page answers: how many numbers and the offset of the page behind it, 0 where it is the last; or a refusal.
+// What reading a page answers: how many numbers, the offset of the page behind it, 0 where it is the last, and how many of the numbers are
+// padded; or a refusal.
 pub enum PageSlice {
-    Decoded { count: usize, next: u64 },
+    Decoded {
+        count: usize,
+        next: u64,
+        padded: usize,
+    },
     Refused(Refusal),
 }
 
@@ -52,7 +57,11 @@ impl PageSlice {
         ensures { λ r. ⌜ r ≡ refusalOf (sliceAnswer self) ⌝ }
     {
         match self {
-            PageSlice::Decoded { count: _, next: _ } => 0,
+            PageSlice::Decoded {
+                count: _,
+                next: _,
+                padded: _,
+            } => 0,
             PageSlice::Refused(number) => number,
         }
     }

@@ -5,7 +5,7 @@ ghost use Rattle.error.specs.Refusal.{answered, refusalOf};
 ghost use Rattle.scripthash_stream.specs.Stream.{endFrom, afterDecode};
 ghost use Rattle.scripthash_stream.specs.Answers.{scanAnswer};
 ghost use Rattle.scripthash_pages.specs.EntryAnswers.{lastFkAnswer, entriesAnswer, sliceAnswer};
-ghost use Rattle.scripthash_pages.specs.Entries.{streamPlace, pageScan, lastOf, pageEntries, readCount, pageReadOf};
+ghost use Rattle.scripthash_pages.specs.Entries.{streamPlace, pageScan, lastOf, pageEntries, entriesReadOf, pageReadOf};
 ghost use Rattle.scripthash_pages.specs.Answers.{streamPlaceAnswer};
 use crate::answers::PageEntries;
 use crate::answers::PageLastFk;
@@ -16,7 +16,7 @@ use scripthash_fields::SH_PAGE_OFF_N_FKS;
 use scripthash_fields::sh_page_require_delta;
 use scripthash_fields::stream_off;
 use scripthash_stream::ScanStream;
-use scripthash_stream::StreamBytes;
+use scripthash_stream::StreamRead;
 
 // Where a page's stream starts and how many numbers it has, or a refusal.
 pub enum StreamPlace {
@@ -72,9 +72,10 @@ pub fn sh_page_last_fk(page: &[u8]) -> PageLastFk
     PageLastFk::Last(last)
 }
 
-// Reads the numbers of a page into the start of out, and counts them; out is left as it is where the page is refused.
+// Reads the numbers of a page into the start of out, and counts them and the padded ones; out is left as it is where the page is refused.
 pub fn sh_page_entries_into(page: &[u8], out: &mut [u64]) -> PageEntries
-    ensures answer { λ r. ⌜ entriesAnswer r ≡ answered readCount (pageEntries (length (now (out .entry))) (now (page .entry))) ⌝ }
+    ensures answer { λ r. ⌜ entriesAnswer r
+        ≡ answered (entriesReadOf (now (page .entry))) (pageEntries (length (now (out .entry))) (now (page .entry))) ⌝ }
     ensures list { λ r. ⌜ now (out .exit) ≡ afterDecode (now (out .entry)) (pageEntries (length (now (out .entry))) (now (page .entry))) ⌝ }
 {
     let place = stream_place(page);
@@ -82,10 +83,10 @@ pub fn sh_page_entries_into(page: &[u8], out: &mut [u64]) -> PageEntries
         return PageEntries::Refused(place.refusal());
     };
     let got = scripthash_scan::decode_fk_delta_stream_into(&page[off..], count, out);
-    let StreamBytes::Bytes(_) = got else {
+    let StreamRead::Read { taken: _, padded } = got else {
         return PageEntries::Refused(got.refusal());
     };
-    PageEntries::Entries(count)
+    PageEntries::Entries { count, padded }
 }
 
 // Reads the numbers of a page as above, and where the page behind it is.
@@ -95,11 +96,12 @@ pub fn sh_page_decode_slice_into(page: &[u8], out: &mut [u64]) -> PageSlice
     ensures list { λ r. ⌜ now (out .exit) ≡ afterDecode (now (out .entry)) (pageEntries (length (now (out .entry))) (now (page .entry))) ⌝ }
 {
     let got = sh_page_entries_into(page, out);
-    let PageEntries::Entries(count) = got else {
+    let PageEntries::Entries { count, padded } = got else {
         return PageSlice::Refused(got.refusal());
     };
     PageSlice::Decoded {
         count,
         next: scripthash_fields::next_off(page),
+        padded,
     }
 }

@@ -2,10 +2,11 @@
 ghost use mathlib.Core.Path.{_≡_};
 ghost use lib.ListN.{length};
 ghost use Rattle.error.specs.Refusal.{answered};
-ghost use Rattle.scripthash_stream.specs.Stream.{endFrom, scan, decodeStream, afterDecode};
-ghost use Rattle.scripthash_stream.specs.Answers.{scanAnswer, bytesAnswer};
+ghost use Rattle.scripthash_stream.specs.Stream.{endFrom, scan, decodeStream, afterDecode, streamTold};
+ghost use Rattle.scripthash_stream.specs.Answers.{scanAnswer, bytesAnswer, readAnswer};
 use scripthash_stream::ScanStream;
 use scripthash_stream::StreamBytes;
+use scripthash_stream::StreamRead;
 
 // Scans a stream of n numbers at the start of buf: quickly where that can be, else number by number, which tells a refusal.
 pub fn scan_fk_delta_stream(buf: &[u8], n: usize) -> ScanStream
@@ -22,8 +23,8 @@ pub fn scan_fk_delta_stream(buf: &[u8], n: usize) -> ScanStream
 }
 
 // Reads a stream of n numbers at the start of buf into the start of out: quickly where that can be, else in two passes, which tell a
-// refusal.
-pub fn decode_fk_delta_stream_into(buf: &[u8], n: usize, out: &mut [u64]) -> StreamBytes
+// refusal. It tells the bytes that the stream takes.
+fn read_stream(buf: &[u8], n: usize, out: &mut [u64]) -> StreamBytes
     ensures answer { λ r. ⌜ bytesAnswer r ≡ answered (λ s. s .taken) (decodeStream (length (now (out .entry))) n (now (buf .entry))) ⌝ }
     ensures list { λ r. ⌜ now (out .exit)
         ≡ afterDecode (now (out .entry)) (decodeStream (length (now (out .entry))) n (now (buf .entry))) ⌝ }
@@ -33,4 +34,22 @@ pub fn decode_fk_delta_stream_into(buf: &[u8], n: usize, out: &mut [u64]) -> Str
         return StreamBytes::Bytes(taken);
     }
     scripthash_stream::decode_in_two_passes(buf, n, out)
+}
+
+// Reads a stream of n numbers at the start of buf into the start of out: how many bytes it takes, and how many numbers are padded. These are
+// counted once the stream is read; where every form has one byte there is nothing to count.
+pub fn decode_fk_delta_stream_into(buf: &[u8], n: usize, out: &mut [u64]) -> StreamRead
+    ensures answer { λ r. ⌜ readAnswer r
+        ≡ answered (streamTold n (now (buf .entry))) (decodeStream (length (now (out .entry))) n (now (buf .entry))) ⌝ }
+    ensures list { λ r. ⌜ now (out .exit)
+        ≡ afterDecode (now (out .entry)) (decodeStream (length (now (out .entry))) n (now (buf .entry))) ⌝ }
+{
+    let got = read_stream(buf, n, out);
+    let StreamBytes::Bytes(taken) = got else {
+        return StreamRead::Refused(got.refusal());
+    };
+    StreamRead::Read {
+        taken,
+        padded: scripthash_stream::count_padded(buf, n, taken),
+    }
 }

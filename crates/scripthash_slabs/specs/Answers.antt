@@ -10,7 +10,7 @@ use Rattle.scripthash_slabs.specs.declared.class.SlabClass.the-variants.
 
 -- The answer of `decode_slab_payload_into`.
 abbrev pub slabAnswer : SlabPayload → Answer SlabList
-slabAnswer (Numbers used len) = accepted (record { used = used; len = len })
+slabAnswer (Numbers used len padded) = accepted (record { used = used; len = len; padded = padded })
 slabAnswer (NoNumbers number) = refused number
 
 -- The class that a choice answers, if it answers one.

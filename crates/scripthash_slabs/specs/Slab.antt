@@ -6,7 +6,7 @@ use lib.ListN.{length, drop}
 use Rattle.error.specs.Refusal.{Answer, accepted, refused, refuseIf, answered, tooManyOffered, slabTooShort}
 use Rattle.buffer.specs.Bytes.{part, overwrite}
 use Rattle.buffer.specs.LittleEndian.{littleEndian, bytesOf}
-use Rattle.scripthash_stream.specs.Stream.{maxOffered, Scan, stream, encodeStream, decodeStream}
+use Rattle.scripthash_stream.specs.Stream.{maxOffered, Scan, paddedIn, stream, encodeStream, decodeStream}
 
 -- The payload of a list.
 unfoldable pub slabPayload : List ℕ → List ℕ
@@ -31,11 +31,16 @@ slabUsed bs = littleEndian (part bs 0 2)
 unfoldable pub decodeSlab : ℕ → List ℕ → Answer Scan
 decodeSlab room bs = refuseIf (ltb (length bs) 2) slabTooShort (decodeStream room (slabUsed bs) (drop 2 bs))
 
--- What reading a payload tells: how many numbers, and how many bytes it takes.
+-- How many numbers of a slab are padded.
+unfoldable pub slabPadded : List ℕ → ℕ
+slabPadded bs = paddedIn (slabUsed bs) (drop 2 bs)
+
+-- What reading a payload tells: how many numbers, how many bytes it takes, and how many of the numbers are padded.
 pub record SlabList : Type 0 where
   pub used : ℕ
   pub len : ℕ
+  pub padded : ℕ
 
--- The same of a stream that was scanned.
-abbrev pub slabListOf : Scan → SlabList
-slabListOf s = record { used = length (s .numbers); len = 2 + s .taken }
+-- The same of a slab whose stream was scanned.
+abbrev pub slabListOf : List ℕ → Scan → SlabList
+slabListOf bs s = record { used = length (s .numbers); len = 2 + s .taken; padded = slabPadded bs }

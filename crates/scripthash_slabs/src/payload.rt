@@ -9,10 +9,16 @@ ghost use Rattle.scripthash_slabs.specs.Answers.{slabAnswer};
 use error::Refusal;
 use scripthash_stream::MAX_OFFERED;
 use scripthash_stream::StreamBytes;
+use scripthash_stream::StreamRead;
 
-// What reading a slab's payload answers: how many numbers it has and how many bytes it takes, or a refusal.
+// What reading a slab's payload answers: how many numbers it has, how many bytes it takes and how many of the numbers are padded; or a
+// refusal.
 pub enum SlabPayload {
-    Numbers { used: usize, len: usize },
+    Numbers {
+        used: usize,
+        len: usize,
+        padded: usize,
+    },
     Refused(Refusal),
 }
 
@@ -22,7 +28,11 @@ impl SlabPayload {
         ensures { λ r. ⌜ r ≡ refusalOf (slabAnswer self) ⌝ }
     {
         match self {
-            SlabPayload::Numbers { used: _, len: _ } => 0,
+            SlabPayload::Numbers {
+                used: _,
+                len: _,
+                padded: _,
+            } => 0,
             SlabPayload::Refused(number) => number,
         }
     }
@@ -51,7 +61,7 @@ pub fn encode_slab_payload_into(out: &mut [u8], fks: &[u64]) -> StreamBytes
 
 // Reads a slab's payload into the start of out; bytes after the payload are ignored.
 pub fn decode_slab_payload_into(buf: &[u8], out: &mut [u64]) -> SlabPayload
-    ensures answer { λ r. ⌜ slabAnswer r ≡ answered slabListOf (decodeSlab (length (now (out .entry))) (now (buf .entry))) ⌝ }
+    ensures answer { λ r. ⌜ slabAnswer r ≡ answered (slabListOf (now (buf .entry))) (decodeSlab (length (now (out .entry))) (now (buf .entry))) ⌝ }
     ensures list { λ r. ⌜ now (out .exit) ≡ afterDecode (now (out .entry)) (decodeSlab (length (now (out .entry))) (now (buf .entry))) ⌝ }
 {
     if buf.len() < 2 {
@@ -59,8 +69,12 @@ pub fn decode_slab_payload_into(buf: &[u8], out: &mut [u64]) -> SlabPayload
     }
     let used = buffer::get_u16(buf, 0) as usize;
     let got = scripthash_scan::decode_fk_delta_stream_into(&buf[2..], used, out);
-    let StreamBytes::Bytes(len) = got else {
+    let StreamRead::Read { taken, padded } = got else {
         return SlabPayload::Refused(got.refusal());
     };
-    SlabPayload::Numbers { used, len: 2 + len }
+    SlabPayload::Numbers {
+        used,
+        len: 2 + taken,
+        padded,
+    }
 }

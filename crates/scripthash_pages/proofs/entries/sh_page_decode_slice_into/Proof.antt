@@ -9,8 +9,8 @@ use Rattle.error.proofs.LawsAnswer.{was-accepted, was-refused, answered-yes, an
 use Rattle.scripthash_layout.specs.Sizes.{pageSize}
 use Rattle.scripthash_stream.specs.Stream.{Scan}
 use Rattle.scripthash_fields.specs.Page.{nextOff}
-use Rattle.scripthash_pages.specs.Entries.{pageEntries, readCount, pageReadOf}
-use Rattle.scripthash_pages.specs.EntryAnswers.{PageRead, entriesAnswer}
+use Rattle.scripthash_pages.specs.Entries.{pageEntries, pagePadded, entriesReadOf, pageReadOf}
+use Rattle.scripthash_pages.specs.EntryAnswers.{EntriesRead, PageRead, entriesAnswer}
 use Rattle.scripthash_pages.specs.declared.answers.PageEntries.{PageEntries}
 use Rattle.scripthash_pages.proofs.LawsEntries.{entries-long, read-of}
 use Rattle.scripthash_pages.proofs.entries.sh_page_decode_slice_into.Statement.{statement}
@@ -30,14 +30,22 @@ module _ (c : tie.After-known-told) where
   abbrev count : ℕ
   count = c .before .got .given .0 .0
 
-  found : (s : Scan) × (entries ≡ accepted s) × (readCount s ≡ count)
-  found = was-accepted readCount entries (sym (called .sh-page-entries-into .ensures .0) ∙ ap entriesAnswer (c .before .got .given .1))
+  abbrev padded : ℕ
+  padded = c .before .got .given .0 .1 .0
+
+  found : (s : Scan) × (entries ≡ accepted s) × (entriesReadOf page s ≡ record { count = count; padded = padded })
+  found =
+      was-accepted (entriesReadOf page) entries (sym (called .sh-page-entries-into .ensures .0) ∙ ap entriesAnswer (c .before .got .given .1))
 
   long : length page ≡ pageSize
   long = entries-long (length (called .before .before .before .before .args .out .now)) page (found .0) (found .1)
 
-  told : (next : ℕ) → nextOff page ≡ next → accepted (record { count = count; next = next }) ≡ answered (pageReadOf page) entries
-  told next e = ap accepted (sym (read-of page (found .0) count next (found .2) e))
+  told : (next : ℕ) → nextOff page ≡ next
+      → accepted (record { count = count; next = next; padded = padded }) ≡ answered (pageReadOf page) entries
+  told next e =
+      let counted = ap (λ (r : EntriesRead). r .count) (found .2) in
+      let counts = ap (λ (r : EntriesRead). r .padded) (found .2) in
+      ap accepted (sym (read-of page (found .0) count next padded counted e counts))
       ∙ sym (answered-yes (pageReadOf page) entries (found .1))
 
 sh-page-entries-into-requires : tie.Need-sh-page-entries-into-requires
@@ -60,7 +68,7 @@ returns c =
     let told = c .before .enum-told .given in
     let d = c .before .before .before .before .before in
     let a = d .before .before .before .before .args in
-    let stop = was-refused readCount (pageEntries (length (a .out .now)) (a .page .now)) (sym (d .sh-page-entries-into .ensures .0)
+    let stop = was-refused (entriesReadOf (a .page .now)) (pageEntries (length (a .out .now)) (a .page .now)) (sym (d .sh-page-entries-into .ensures .0)
     ∙ ap entriesAnswer (told .1)) in (
       ap refused (c .refusal .ensures ∙ ap (λ (g : PageEntries). refusalOf (entriesAnswer g)) (told .1))
           ∙ sym (answered-no (pageReadOf (a .page .now)) (pageEntries (length (a .out .now)) (a .page .now)) stop),

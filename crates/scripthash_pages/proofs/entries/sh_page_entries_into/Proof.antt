@@ -8,15 +8,15 @@ use lib.ListN.{length, take, drop}
 use Rattle.error.specs.Refusal.{Answer, accepted, refused, refusalOf, answered}
 use Rattle.error.proofs.LawsAnswer.{was-accepted, was-refused, answered-yes, answered-no}
 use Rattle.buffer.proofs.LawsBytes.{part-to-end}
-use Rattle.scripthash_stream.specs.Stream.{Scan, decodeStream, afterDecode}
-use Rattle.scripthash_stream.specs.Answers.{bytesAnswer}
-use Rattle.scripthash_stream.specs.declared.stream.StreamBytes.{StreamBytes}
+use Rattle.scripthash_stream.specs.Stream.{Scan, StreamTold, streamTold, paddedIn, decodeStream, afterDecode}
+use Rattle.scripthash_stream.specs.Answers.{readAnswer}
+use Rattle.scripthash_stream.specs.declared.stream.StreamRead.{StreamRead}
 use Rattle.scripthash_stream.proofs.LawsScan.{scan-accepted}
 use Rattle.scripthash_stream.proofs.LawsDecode.{decode-accepted, after-refused}
-use Rattle.scripthash_pages.specs.Entries.{StreamAt, streamPlace, pageEntries, readCount}
+use Rattle.scripthash_pages.specs.Entries.{StreamAt, streamPlace, pageEntries, pagePadded, entriesReadOf}
 use Rattle.scripthash_pages.specs.Answers.{streamPlaceAnswer}
 use Rattle.scripthash_pages.specs.declared.entries.StreamPlace.{StreamPlace}
-use Rattle.scripthash_pages.proofs.LawsEntries.{Placed, place-accepted, entries-no, entries-yes}
+use Rattle.scripthash_pages.proofs.LawsEntries.{Placed, place-accepted, entries-no, entries-yes, padded-at}
 use Rattle.scripthash_pages.proofs.entries.sh_page_entries_into.Statement.{statement}
 use Rattle.scripthash_pages.proofs.entries.sh_page_entries_into.Tie as tie
 
@@ -45,12 +45,18 @@ module _ (c : tie.After-decode-fk-delta-stream-into) where
   abbrev decoded : Answer Scan
   decoded = pageEntries (length out) (page at)
 
-  same : decodeStream (length out) (place at .count) (take (length (page at) - place at .off) (drop (place at .off) (page at))) ≡ decoded
+  abbrev rest : List ℕ
+  rest = take (length (page at) - place at .off) (drop (place at .off) (page at))
+
+  same : decodeStream (length out) (place at .count) rest ≡ decoded
   same = ap (decodeStream (length out) (place at .count)) (part-to-end (page at) (place at .off))
       ∙ sym (entries-yes (length out) (page at) (place at) (is at))
 
-  answer : bytesAnswer (c .decode-fk-delta-stream-into .result) ≡ answered (λ s. s .taken) decoded
-  answer = c .decode-fk-delta-stream-into .ensures .0 ∙ ap (answered (λ s. s .taken)) same
+  answer : readAnswer (c .decode-fk-delta-stream-into .result) ≡ answered (streamTold (place at .count) rest) decoded
+  answer = c .decode-fk-delta-stream-into .ensures .0 ∙ ap (answered (streamTold (place at .count) rest)) same
+
+  counts : paddedIn (place at .count) rest ≡ pagePadded (page at)
+  counts = ap (paddedIn (place at .count)) (part-to-end (page at) (place at .off)) ∙ padded-at (page at) (place at) (is at)
 
   list : c .decode-fk-delta-stream-into .last .1 .1 .0 ≡ afterDecode out decoded
   list = c .decode-fk-delta-stream-into .ensures .1 ∙ ap (afterDecode out) same
@@ -74,7 +80,7 @@ returns c =
     let stop = entries-no (length (a .out .now)) (a .page .now) (sym (c .before .before .before .stream-place .ensures)
     ∙ ap streamPlaceAnswer (told .1)) in (
       ap refused (c .refusal .ensures ∙ ap (λ (g : StreamPlace). refusalOf (streamPlaceAnswer g)) (told .1))
-          ∙ sym (answered-no readCount (pageEntries (length (a .out .now)) (a .page .now)) stop),
+          ∙ sym (answered-no (entriesReadOf (a .page .now)) (pageEntries (length (a .out .now)) (a .page .now)) stop),
       sym (after-refused (a .out .now) (pageEntries (length (a .out .now)) (a .page .now)) stop),
     )
 
@@ -90,11 +96,11 @@ part-decode-fk-delta-stream-into-end c = search needs
 decode-fk-delta-stream-into-requires : tie.Need-decode-fk-delta-stream-into-requires
 decode-fk-delta-stream-into-requires c κs = search needs
 
+enum-known-got : tie.Need-enum-known-got
+enum-known-got c = search needs
+
 enum-told-2 : tie.Need-enum-told-2
 enum-told-2 c = search needs
-
-enum-told-3 : tie.Need-enum-told-3
-enum-told-3 c = search needs
 
 refusal-requires-2 : tie.Need-refusal-requires-2
 refusal-requires-2 c κs = search needs
@@ -105,10 +111,10 @@ same-length c = search needs
 returns-2 : tie.Need-returns-2
 returns-2 c =
     let d = c .before .before .before .before .before in
-    let told = c .before .enum-told3 .given in
-    let stop = was-refused (λ s. s .taken) (decoded d) (sym (answer d) ∙ ap bytesAnswer (told .1)) in (
-      ap refused (c .refusal2 .ensures ∙ ap (λ (g : StreamBytes). refusalOf (bytesAnswer g)) (told .1))
-          ∙ sym (answered-no readCount (decoded d) stop),
+    let told = c .before .enum-told2 .given in
+    let stop = was-refused (streamTold (place (at d) .count) (rest d)) (decoded d) (sym (answer d) ∙ ap readAnswer (told .1)) in (
+      ap refused (c .refusal2 .ensures ∙ ap (λ (g : StreamRead). refusalOf (readAnswer g)) (told .1))
+          ∙ sym (answered-no (entriesReadOf (page (at d))) (decoded d) stop),
       list d,
     )
 
@@ -117,10 +123,14 @@ same-length-2 c = search needs
 
 returns-3 : tie.Need-returns-3
 returns-3 c =
-    let d = c .before .before .before .before in
-    let got = was-accepted (λ s. s .taken) (decoded d) (sym (answer d) ∙ ap bytesAnswer (c .enum-told2 .given .1)) in
-    let known = scan-accepted 0 _ _ _ (decode-accepted (length (out d)) _ _ (same d ∙ got .1) .0) in (
-      ap accepted (sym (known .counted)) ∙ sym (answered-yes readCount (decoded d) (got .1)),
+    let d = c .before .before .before .before .before in
+    let told = c .before .got .given in
+    let got = was-accepted (streamTold (place (at d) .count) (rest d)) (decoded d) (sym (answer d) ∙ ap readAnswer (told .1)) in
+    let known = scan-accepted 0 _ _ _ (decode-accepted (length (out d)) _ _ (same d ∙ got .1) .0) in
+    let counted = sym (ap (λ (t : StreamTold). t .padded) (got .2)) ∙ counts d in (
+      ap (λ (n : ℕ). accepted (record { count = n; padded = told .0 .1 .0 })) (sym (known .counted))
+          ∙ ap (λ (m : ℕ). accepted (record { count = length (got .0 .numbers); padded = m })) counted
+          ∙ sym (answered-yes (entriesReadOf (page (at d))) (decoded d) (got .1)),
       list d,
     )
 
@@ -137,8 +147,8 @@ sh-page-entries-into-spec =
     part-decode-fk-delta-stream-into-start
     part-decode-fk-delta-stream-into-end
     decode-fk-delta-stream-into-requires
+    enum-known-got
     enum-told-2
-    enum-told-3
     refusal-requires-2
     same-length
     returns-2

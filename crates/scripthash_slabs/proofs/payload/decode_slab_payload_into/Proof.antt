@@ -9,11 +9,11 @@ use lib.ListN.{length, take, drop, length-take, length-drop}
 use Rattle.error.specs.Refusal.{Answer, accepted, refused, refusalOf, answered}
 use Rattle.error.proofs.LawsAnswer.{answered-yes, answered-no, was-accepted, was-refused}
 use Rattle.buffer.proofs.LawsBytes.{part-to-end}
-use Rattle.scripthash_stream.specs.Stream.{Scan, scan, decodeStream, afterDecode}
-use Rattle.scripthash_slabs.specs.Slab.{SlabList, slabUsed, slabListOf, decodeSlab}
-use Rattle.scripthash_stream.specs.Answers.{bytesAnswer}
+use Rattle.scripthash_stream.specs.Stream.{Scan, scan, StreamTold, streamTold, paddedIn, decodeStream, afterDecode}
+use Rattle.scripthash_slabs.specs.Slab.{SlabList, slabUsed, slabPadded, slabListOf, decodeSlab}
+use Rattle.scripthash_stream.specs.Answers.{readAnswer}
 use Rattle.scripthash_slabs.specs.Answers.{slabAnswer}
-use Rattle.scripthash_stream.specs.declared.stream.StreamBytes.{StreamBytes}
+use Rattle.scripthash_stream.specs.declared.stream.StreamRead.{StreamRead}
 use Rattle.scripthash_stream.proofs.LawsScan.{scan-accepted}
 use Rattle.scripthash_stream.proofs.LawsDecode.{decode-accepted, after-refused}
 use Rattle.scripthash_slabs.proofs.LawsSlab.{unslab-short, unslab-as-stream}
@@ -40,23 +40,40 @@ module _ (c : tie.After-decode-fk-delta-stream-into) where
       ∙ ap (λ (n : ℕ). decodeStream (length out) n (drop 2 bytes)) (c .before .before .before .get-u16 .ensures)
       ∙ sym (unslab-as-stream (length out) bytes (omega arith))
 
-  answer : bytesAnswer (c .decode-fk-delta-stream-into .result) ≡ answered (λ s. s .taken) decoded
-  answer = c .decode-fk-delta-stream-into .ensures .0 ∙ ap (answered (λ s. s .taken)) slab
+  abbrev rest : List ℕ
+  rest = take (length bytes - 2) (drop 2 bytes)
+
+  abbrev used : ℕ
+  used = c .before .before .before .get-u16 .result
+
+  answer : readAnswer (c .decode-fk-delta-stream-into .result) ≡ answered (streamTold used rest) decoded
+  answer = c .decode-fk-delta-stream-into .ensures .0 ∙ ap (answered (streamTold used rest)) slab
 
   -- what a stream that was read tells
-  record Read (len : ℕ) : Type 0 where
+  record Read (len padded : ℕ) : Type 0 where
     scanned : Scan
     is : decoded ≡ accepted scanned
     taken : scanned .taken ≡ len
+    counts : padded ≡ slabPadded bytes
     counted : length (scanned .numbers) ≡ c .before .before .before .get-u16 .result
     within : len ≤ length bytes - 2
 
-  read : (len : ℕ) → bytesAnswer (c .decode-fk-delta-stream-into .result) ≡ accepted len → Read len
-  read len e =
-      let got = was-accepted (λ s. s .taken) decoded (sym answer ∙ e) in
+  read : (len padded : ℕ) → readAnswer (c .decode-fk-delta-stream-into .result) ≡ accepted (record { taken = len; padded = padded })
+      → Read len padded
+  unfolding slabPadded
+  read len padded e =
+      let got = was-accepted (streamTold used rest) decoded (sym answer ∙ e) in
       let known = scan-accepted 0 _ _ _ (decode-accepted (length out) _ _ (slab ∙ got .1) .0) in
       let inside = simp (length-take, length-drop) at (known .within) in
-      record { scanned = got .0; is = got .1; taken = got .2; counted = known .counted; within = omega (arith, got .2) }
+      record {
+        scanned = got .0;
+        is = got .1;
+        taken = ap (λ (t : StreamTold). t .taken) (got .2);
+        counts = sym (ap (λ (t : StreamTold). t .padded) (got .2)) ∙ ap (paddedIn used) (part-to-end bytes 2)
+            ∙ ap (λ (n : ℕ). paddedIn n (drop 2 bytes)) (c .before .before .before .get-u16 .ensures);
+        counted = known .counted;
+        within = omega (arith, ap (λ (t : StreamTold). t .taken) (got .2));
+      }
 
   list : c .decode-fk-delta-stream-into .last .1 .1 .0 ≡ afterDecode out decoded
   list = c .decode-fk-delta-stream-into .ensures .1 ∙ ap (afterDecode out) slab
@@ -65,7 +82,7 @@ returns : tie.Need-returns
 returns c =
     let a = c .before .before .before .args in
     let short = unslab-short (length (a .out .now)) (a .buf .now) (omega arith) in (
-      sym (answered-no slabListOf (decodeSlab (length (a .out .now)) (a .buf .now)) short),
+      sym (answered-no (slabListOf (a .buf .now)) (decodeSlab (length (a .out .now)) (a .buf .now)) short),
       sym (after-refused (a .out .now) (decodeSlab (length (a .out .now)) (a .buf .now)) short),
     )
 
@@ -103,16 +120,16 @@ returns-2 : tie.Need-returns-2
 returns-2 c =
     let d = c .before .before .before .before .before in
     let told = c .before .enum-told .given in
-    let stop = was-refused (λ s. s .taken) (decoded d) (sym (answer d) ∙ ap bytesAnswer (told .1)) in (
-      ap refused (c .refusal .ensures ∙ ap (λ (g : StreamBytes). refusalOf (bytesAnswer g)) (told .1))
-          ∙ sym (answered-no slabListOf (decoded d) stop),
+    let stop = was-refused (streamTold (used d) (rest d)) (decoded d) (sym (answer d) ∙ ap readAnswer (told .1)) in (
+      ap refused (c .refusal .ensures ∙ ap (λ (g : StreamRead). refusalOf (readAnswer g)) (told .1))
+          ∙ sym (answered-no (slabListOf (bytes d)) (decoded d) stop),
       list d,
     )
 
-add-t6 : tie.Need-add-t6
-add-t6 c =
+add-t7 : tie.Need-add-t7
+add-t7 c =
     let d = c .before .before .before .before .before in
-    omega (arith, read d (c .before .got .given .0 .0) (ap bytesAnswer (c .before .got .given .1)) .within)
+    omega (arith, read d (c .before .got .given .0 .0) (c .before .got .given .0 .1 .0) (ap readAnswer (c .before .got .given .1)) .within)
 
 same-length-2 : tie.Need-same-length-2
 same-length-2 c = search needs
@@ -121,10 +138,12 @@ returns-3 : tie.Need-returns-3
 returns-3 c =
     let d = c .before .before .before .before .before in
     let len = c .before .got .given .0 .0 in
-    let r = read d len (ap bytesAnswer (c .before .got .given .1)) in (
-      ap (λ (u : ℕ). accepted (record { used = u; len = 2 + len })) (sym (r .counted))
-          ∙ ap (λ (t : ℕ). accepted (record { used = length (r .scanned .numbers); len = 2 + t })) (sym (r .taken))
-          ∙ sym (answered-yes slabListOf (decoded d) (r .is)),
+    let padded = c .before .got .given .0 .1 .0 in
+    let r = read d len padded (ap readAnswer (c .before .got .given .1)) in (
+      ap (λ (u : ℕ). accepted (record { used = u; len = 2 + len; padded = padded })) (sym (r .counted))
+          ∙ ap (λ (t : ℕ). accepted (record { used = length (r .scanned .numbers); len = 2 + t; padded = padded })) (sym (r .taken))
+          ∙ ap (λ (m : ℕ). accepted (record { used = length (r .scanned .numbers); len = 2 + r .scanned .taken; padded = m })) (r .counts)
+          ∙ sym (answered-yes (slabListOf (bytes d)) (decoded d) (r .is)),
       list d,
     )
 
@@ -144,6 +163,6 @@ decode-slab-payload-into-spec =
     refusal-requires
     same-length
     returns-2
-    add-t6
+    add-t7
     same-length-2
     returns-3)
