@@ -15,31 +15,38 @@ use Rattle.scripthash_layout.specs.declared.head.ShHeadValue.{ShHeadValue}
 use Rattle.scripthash_layout.specs.declared.head.ShHeadValue.the-variants.{Empty, Inline, Slab, Extent}
 use Rattle.scripthash_stream.specs.Stream.{Scan}
 use Rattle.book_limits.specs.Limits.{slabsEnd}
-use Rattle.book_keys.specs.Keys.{soundly, slabScan, Chain, chainAt, Content, pageBlocks, contentAt, content, Ground}
+use Rattle.book_keys.specs.Keys.{soundly, slabScan, Chain, chainAt, Content, pageBlocks, contentAt, content, Ground, blockAt}
+use Rattle.scripthash_slabs.specs.Slab.{slabPadded}
 use Rattle.book_keys.proofs.LawsSound.{soundly-no, was-sound}
 
 -- What a key in a slab holds.
-abbrev pub inSlab : ℕ → ℕ → Scan → Content
-inSlab class off c = record { numbers = c .numbers; blocks = record { class = class; off = off } ∷ []; pages = 0 }
+abbrev pub inSlab : Ground → ℕ → ℕ → Scan → Content
+inSlab s class off c =
+    record {
+      numbers = c .numbers;
+      blocks = record { class = class; off = off } ∷ [];
+      pages = 0;
+      padded = slabPadded (blockAt s class off);
+    }
 
 -- What a key in pages holds.
 abbrev pub inPages : Chain → Content
-inPages c = record { numbers = c .numbers; blocks = pageBlocks (c .offs); pages = length (c .offs) }
+inPages c = record { numbers = c .numbers; blocks = pageBlocks (c .offs); pages = length (c .offs); padded = c .padded }
 
 module _ (s : Ground) where
   -- an empty key, and one with a number in its head
-  pub content-empty : contentAt s Empty ≡ accepted (record { numbers = []; blocks = []; pages = 0 })
+  pub content-empty : contentAt s Empty ≡ accepted (record { numbers = []; blocks = []; pages = 0; padded = 0 })
   unfolding contentAt
   content-empty = refl
 
   pub content-inline : (entry used : ℕ)
-      → contentAt s (Inline entry used) ≡ accepted (record { numbers = entry ∷ []; blocks = []; pages = 0 })
+      → contentAt s (Inline entry used) ≡ accepted (record { numbers = entry ∷ []; blocks = []; pages = 0; padded = 0 })
   unfolding contentAt
   content-inline entry used = refl
 
   -- a key in a slab
   pub content-slab : (class used off : ℕ) (c : Scan) → slabScan s class used off ≡ accepted c
-      → contentAt s (Slab class used off) ≡ accepted (inSlab class off c)
+      → contentAt s (Slab class used off) ≡ accepted (inSlab s class off c)
   unfolding contentAt
   content-slab class used off c e = then-yes (slabScan s class used off) _ e
 
@@ -49,7 +56,7 @@ module _ (s : Ground) where
   content-no-slab class used off e = then-no (slabScan s class used off) _ e
 
   pub was-slab : (class used off : ℕ) (k : Content) → contentAt s (Slab class used off) ≡ accepted k
-      → (c : Scan) × (slabScan s class used off ≡ accepted c) × (inSlab class off c ≡ k)
+      → (c : Scan) × (slabScan s class used off ≡ accepted c) × (inSlab s class off c ≡ k)
   unfolding contentAt
   was-slab class used off k e = let got = went-on (slabScan s class used off) _ e in (got .0, got .1, accepted-inj (got .2))
 

@@ -1,8 +1,8 @@
 -- A chain's pages: none is met twice, and a chain is the same in another space with the same bytes at its pages. By induction on the walk.
 -- Assumes nothing.
-use Prim.Native.Nat.{ℕ, zero, suc, _^_, _≤_, _<_}
+use Prim.Native.Nat.{ℕ, zero, suc, _+_, _^_, _≤_, _<_}
 use mathlib.Core.Bool.{false}
-use mathlib.Core.List.{List, [], _∷_}
+use mathlib.Core.List.{List, [], _∷_, _++_}
 use mathlib.Core.Logic.{⊎-elim}
 use mathlib.Core.Path.{_≡_, sym, ap, _∙_}
 use native.Mathlib.Nat.{le-refl}
@@ -11,8 +11,8 @@ use Rattle.error.specs.Refusal.{accepted}
 use Rattle.error.proofs.LawsAnswer.{accepted-inj, refused≢accepted, then-yes}
 use Rattle.scripthash_stream.specs.Stream.{Rising, Scan, lastFrom}
 use Rattle.scripthash_fields.specs.Page.{linkOf, isLastLink, linkOffset}
-use Rattle.scripthash_pages.specs.Entries.{pageScan}
-use Rattle.book_keys.specs.Keys.{pageAt, linkScan, Chain, walk, Ground}
+use Rattle.scripthash_pages.specs.Entries.{pageScan, pagePadded}
+use Rattle.book_keys.specs.Keys.{pageAt, linkScan, Chain, pageThen, walk, Ground}
 use Rattle.book_keys.proofs.LawsSound.{last-above, Going}
 use Rattle.book_keys.proofs.LawsPages.{link-sound}
 use Rattle.book_keys.proofs.LawsWalk.{Ends, GoesOn, walk-step, walk-last, walk-more}
@@ -53,6 +53,16 @@ pub link-same : (s t : Ground) (prev off : ℕ) → t .mark ≡ s .mark → page
 unfolding linkScan
 link-same s t prev off mark page = rw (mark, page)
 
+-- A chain of one page, by the page's bytes.
+abbrev aloneAs : ℕ → Scan → List ℕ → Chain
+aloneAs off c page = record { numbers = c .numbers; offs = off ∷ []; padded = pagePadded page }
+
+-- the same page before the same others
+then-same : (s t : Ground) (off : ℕ) (c : Scan) (rest : Chain) → pageAt t off ≡ pageAt s off → pageThen t off c rest ≡ pageThen s off c rest
+unfolding pageThen
+then-same s t off c rest page =
+    ap (λ (p : List ℕ). record { numbers = c .numbers ++ rest .numbers; offs = off ∷ rest .offs; padded = pagePadded p + rest .padded }) page
+
 -- a chain that is walked in a space is walked in another one that has the same behind the number before it
 pub walk-same : (k : ℕ) (s t : Ground) (last prev off : ℕ) (c : Chain) → SameBehind s t prev → walk k s last prev off ≡ accepted c
     → walk k t last prev off ≡ accepted c
@@ -65,12 +75,13 @@ walk-same (suc k) s t last prev off c b e =
     let above = going-above prev (w .page .numbers) (link-sound s prev off (w .page) (w .is) .going) in
     let next = lastFrom prev (w .page .numbers) in
     ⊎-elim
-    (λ (d : Ends last off (w .page) c). walk-last k t last prev off (w .page) is (d .there) ∙ ap accepted (sym (d .whole)))
+    (λ (d : Ends s last off (w .page) c).
+    walk-last k t last prev off (w .page) is (d .there) ∙ ap accepted (ap (aloneAs off (w .page)) page ∙ sym (d .whole)))
     (λ (g : GoesOn k s last prev off (w .page) c).
     let flag : isLastLink (linkOf (pageAt t off)) ≡ false = ap (λ (p : List ℕ). isLastLink (linkOf p)) page ∙ g .unflagged in
     let rest : walk k t last next (linkOffset (linkOf (pageAt t off))) ≡ accepted (g .rest)
     = ap (λ (p : List ℕ). walk k t last next (linkOffset (linkOf p))) page
     ∙ walk-same k s t last next (linkOffset (linkOf (pageAt s off))) (g .rest) (same-later prev next (omega arith) b) (g .walks) in
     walk-more k t last prev off (w .page) is (g .not-there) flag
-    ∙ then-yes (walk k t last next (linkOffset (linkOf (pageAt t off)))) _ rest ∙ ap accepted (sym (g .whole)))
+    ∙ then-yes (walk k t last next (linkOffset (linkOf (pageAt t off)))) _ rest ∙ ap accepted (then-same s t off (w .page) (g .rest) page ∙ sym (g .whole)))
     (w .goes)

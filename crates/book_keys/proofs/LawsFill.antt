@@ -16,20 +16,18 @@ use Rattle.buffer.proofs.LawsOverwrite.{overwrite-adjoin}
 use Rattle.scripthash_stream.specs.Stream.{Scan, scan, lastFrom}
 use Rattle.scripthash_stream.proofs.LawsLent.{lent, putBack, length-lent}
 use Rattle.scripthash_fields.specs.Page.{nextOff, countOf, linkOf, streamOf, linkOffset}
-use Rattle.scripthash_pages.specs.EntryAnswers.{PageRead as Told}
-use Rattle.scripthash_pages.specs.Entries.{pageScan, pageEntries, pageReadOf}
+use Rattle.scripthash_pages.specs.Entries.{pageScan, pageEntries}
 use Rattle.book_keys.specs.Keys.{pageAt, linkScan, Chain, pageThen, walk, Ground}
-use Rattle.book_keys.specs.Steps.{pageInto, PageFilled}
+use Rattle.book_keys.specs.Steps.{pageInto, FillTold, fillTold, PageFilled}
 use Rattle.book_keys.proofs.LawsPages.{PageRead, page-read, link-sound, into-on}
 use Rattle.book_keys.proofs.LawsWalk.{Ends, GoesOn, walk-step}
 
 -- ---- one page
 
 -- what reading a page tells besides its numbers
-pub read-told : (page : List ℕ) (c : Scan) (r : Told) → pageReadOf page c ≡ r
+pub read-told : (page : List ℕ) (c : Scan) (r : FillTold) → fillTold page c ≡ r
     → (length (c .numbers) ≡ r .count) × (nextOff page ≡ r .next)
-unfolding pageReadOf
-read-told page c r e = (ap (λ (x : Told). x .count) e, ap (λ (x : Told). x .next) e)
+read-told page c r e = (ap (λ (x : FillTold). x .count) e, ap (λ (x : FillTold). x .next) e)
 
 -- a page that was read fits the list, and its stream scans
 entries-read : (room : ℕ) (page : List ℕ) (c : Scan) → pageEntries room page ≡ accepted c → (PageRead page c) × (length (c .numbers) ≤ room)
@@ -53,7 +51,6 @@ page-short page out h =
 pub page-filled : (page out after : List ℕ) (count next : ℕ) → count ≡ countOf page → next ≡ nextOff page → count ≤ length out
     → ((c : Scan) → scan count (streamOf page) ≡ accepted c → count ≤ length out → after ≡ overwrite out 0 (c .numbers))
     → PageFilled (accepted (record { count = count; next = next })) out after page (pageEntries (length out) page)
-unfolding pageReadOf
 page-filled page out after count next n m h f =
     record {
       reads = λ c e.
@@ -61,7 +58,7 @@ page-filled page out after count next n m h f =
             ap accepted (rw (n, m, k .counted)),
             f c (ap (λ (i : ℕ). scan i (streamOf page)) n ∙ k .scanned) h,
           );
-      within = λ t e. let is : count ≡ t .count = ap (λ (x : Told). x .count) (accepted-inj e) in omega arith;
+      within = λ t e. let is : count ≡ t .count = ap (λ (x : FillTold). x .count) (accepted-inj e) in omega arith;
     }
 
 -- from one that can't stand
@@ -70,7 +67,7 @@ page-nowhere page out a e =
     record { reads = λ c f. absurd (refused≢accepted (sym e ∙ f)); within = λ t f. absurd (refused≢accepted f) }
 
 -- the same by other terms
-pub filled-as : (told : Answer Told) (before after : List ℕ) {page page' : List ℕ} {a a' : Answer Scan} → page ≡ page' → a ≡ a'
+pub filled-as : (told : Answer FillTold) (before after : List ℕ) {page page' : List ℕ} {a a' : Answer Scan} → page ≡ page' → a ≡ a'
     → PageFilled told before after page a → PageFilled told before after page' a'
 filled-as told before after {page} {page'} {a} {a'} e f h =
     subst (λ (x : Answer Scan). PageFilled told before after page' x) f (subst (λ (p : List ℕ). PageFilled told before after p a) e h)
@@ -141,7 +138,7 @@ module _ (s : Ground) (last : ℕ) (before : List ℕ) (whole : Chain) (out : Li
         let w = walk-step k s last (f .prev) off (f .rest) (f .walks) in
         ⊎-elim (by-end (w .page) (w .is)) (by-rest (w .page) (w .is)) (w .goes)
       where
-        by-end : (p : Scan) → linkScan s (f .prev) off ≡ accepted p → Ends last off p (f .rest) → Turn
+        by-end : (p : Scan) → linkScan s (f .prev) off ≡ accepted p → Ends s last off p (f .rest) → Turn
         by-end p is d =
             let size : length (f .rest .numbers) ≡ length (p .numbers) = ap (λ (x : Chain). length (x .numbers)) (d .whole) in
             record {

@@ -29,26 +29,26 @@ Every P (o ∷ os) = P o × Every P os
 
 -- What holds of the first page alone, and of a page and more behind it, holds of every walk.
 module _ (P : ℕ → ℕ → Chain → Type 0) (s : Ground) (last : ℕ)
-    (ends : (prev : ℕ) (page : Scan) → linkScan s prev last ≡ accepted page → P prev last (alone last page))
+    (ends : (prev : ℕ) (page : Scan) → linkScan s prev last ≡ accepted page → P prev last (alone s last page))
     (goes : (prev off : ℕ) (page : Scan) (rest : Chain) → linkScan s prev off ≡ accepted page → (off ≡ last → ⊥)
     → isLastLink (linkOf (pageAt s off)) ≡ false
-    → P (lastFrom prev (page .numbers)) (linkOffset (linkOf (pageAt s off))) rest → P prev off (pageThen off page rest)) where
+    → P (lastFrom prev (page .numbers)) (linkOffset (linkOf (pageAt s off))) rest → P prev off (pageThen s off page rest)) where
   pub by-steps : (k prev off : ℕ) (c : Chain) → walk k s last prev off ≡ accepted c → P prev off c
   unfolding walk
   by-steps zero prev off c e = absurd (refused≢accepted e)
   by-steps (suc k) prev off c e =
       let w = walk-step k s last prev off c e in
-      ⊎-elim (λ (d : Ends last off (w .page) c). here (w .page) (w .is) d)
+      ⊎-elim (λ (d : Ends s last off (w .page) c). here (w .page) (w .is) d)
       (λ (g : GoesOn k s last prev off (w .page) c).
       subst (λ (x : Chain). P prev off x) (sym (g .whole))
       (goes prev off (w .page) (g .rest) (w .is) (g .not-there) (g .unflagged)
       (by-steps k (lastFrom prev (w .page .numbers)) (linkOffset (linkOf (pageAt s off))) (g .rest) (g .walks))))
       (w .goes)
     where
-      here : (page : Scan) → linkScan s prev off ≡ accepted page → Ends last off page c → P prev off c
+      here : (page : Scan) → linkScan s prev off ≡ accepted page → Ends s last off page c → P prev off c
       here page is d =
           subst (λ (x : Chain). P prev off x) (sym (d .whole))
-          (subst (λ (o : ℕ). P prev o (alone o page)) (sym (d .there))
+          (subst (λ (o : ℕ). P prev o (alone s o page)) (sym (d .there))
           (ends prev page (subst (λ (o : ℕ). linkScan s prev o ≡ accepted page) (d .there) is)))
 
 -- ---- a sound chain
@@ -100,7 +100,7 @@ unfolding walk pageThen
 walk-few zero s last prev off c e = absurd (refused≢accepted e)
 walk-few (suc k) s last prev off c e =
     let w = walk-step k s last prev off c e in
-    ⊎-elim (λ (d : Ends last off (w .page) c). omega (arith, ap (λ (x : Chain). length (x .offs)) (d .whole)))
+    ⊎-elim (λ (d : Ends s last off (w .page) c). omega (arith, ap (λ (x : Chain). length (x .offs)) (d .whole)))
     (λ (g : GoesOn k s last prev off (w .page) c).
     omega (
       arith,

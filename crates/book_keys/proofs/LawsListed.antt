@@ -1,6 +1,5 @@
 -- Reading a key's list into a lent list: what is told, and what the list holds afterwards. Assumes nothing.
-use Prim.Native.Nat.{ℕ, _^_, _≤_, _<_}
-use mathlib.Core.Bool.{Bool, true, false}
+use Prim.Native.Nat.{ℕ, _+_, _^_, _≤_, _<_}
 use mathlib.Core.List.{List}
 use mathlib.Core.Path.{_≡_, sym, ap, _∙_}
 use native.Mathlib.Omega.{arith}
@@ -12,10 +11,10 @@ use Rattle.error.proofs.LawsAnswer.{then-yes, then-no, refuse-yes, refuse-no, a
 use Rattle.buffer.specs.Bytes.{overwrite}
 use Rattle.scripthash_layout.specs.Sizes.{maxSlabCount}
 use Rattle.scripthash_layout.specs.declared.head.ShHeadValue.the-variants.{Slab}
-use Rattle.scripthash_stream.specs.Stream.{Scan, scan}
+use Rattle.scripthash_stream.specs.Stream.{Scan, scan, paddedIn}
 use Rattle.scripthash_forms.specs.Quick.{ShortRead, unread as unread-stream, short as short-stream}
-use Rattle.scripthash_slabs.specs.Slab.{slabUsed}
-use Rattle.book_keys.specs.Keys.{soundly, slabScan, Content, contentAt, Ground}
+use Rattle.scripthash_slabs.specs.Slab.{slabUsed, slabPadded}
+use Rattle.book_keys.specs.Keys.{soundly, blockAt, slabScan, Content, contentAt, Ground}
 use Rattle.book_keys.specs.Steps.{slabRead, Counts, countsOf, ShortList, unread, short, inRoom, afterRead, KeyRead}
 use Rattle.book_keys.proofs.LawsSound.{soundly-yes, soundly-no}
 use Rattle.book_keys.proofs.LawsSlab.{slab-short, slab-payload}
@@ -66,28 +65,29 @@ module _ (out after : List ℕ) (a : Answer Content) where
 -- ---- a try at a short list
 
 -- one that told that it didn't read left the list
-pub short-left : (did : Bool) (before after : List ℕ) (a : Answer Scan) → ShortList did before after a → did ≡ false → after ≡ before
-short-left did before after a (unread e f) g = f
-short-left did before after a (short c e is h f) g = let z : _≡_ {A = ℕ} 0 1 = cc in absurd (omega arith)
+pub short-left : (told : ℕ) (before after : List ℕ) (a : Answer Scan) → ShortList told before after a → told ≤ 0 → after ≡ before
+short-left told before after a (unread e f) g = f
+short-left told before after a (short c some is size h f) g = absurd (omega arith)
 
 -- one of a slab whose stream was tried
 pub short-slab : (slab : List ℕ) (used told : ℕ) (before after : List ℕ) → used ≤ maxSlabCount → slabUsed slab ≡ used → 2 ≤ length slab
-    → ShortRead told (2 ^ 62) before after (scan used (drop 2 slab)) → ShortList (ltb 0 told) before after (slabRead slab used)
-short-slab slab used told before after few e l (unread-stream t f) = unread (le-ltb 0 told (omega (arith, t))) f
+    → ShortRead told (2 ^ 62) before after (scan used (drop 2 slab)) → ShortList told before after (slabRead slab used)
+short-slab slab used told before after few e l (unread-stream t f) = unread t f
 short-slab slab used told before after few e l (short-stream c some is size fits low f) =
-    short c (lt-ltb 0 told some) (slab-short slab used c few e l is (omega arith) low) fits f
+    short c some (slab-short slab used c few e l is (omega arith) low) size fits f
 
 -- ---- a slab's list
 
 -- a key whose slab's bytes read
-module _ (s : Ground) (class used off : ℕ) (slab out after : List ℕ) (at : slabScan s class used off ≡ slabRead slab used) where
+module _ (s : Ground) (class used off : ℕ) (slab out after : List ℕ) (at : slabScan s class used off ≡ slabRead slab used)
+    (bytes : blockAt s class off ≡ slab) where
   -- they don't
   pub slab-unsound : {number : ℕ} → slabRead slab used ≡ refused number → after ≡ out
       → KeyRead (refused keyUnsound) out after (soundly (contentAt s (Slab class used off)))
   slab-unsound e f = read-unsound out after _ (soundly-no _ (content-no-slab s class used off (at ∙ e))) f
 
   module _ (c : Scan) (is : slabRead slab used ≡ accepted c) where
-    holds : soundly (contentAt s (Slab class used off)) ≡ accepted (inSlab class off c)
+    holds : soundly (contentAt s (Slab class used off)) ≡ accepted (inSlab s class off c)
     holds = soundly-yes _ (content-slab s class used off c (at ∙ is))
 
     pub slab-counted : length (c .numbers) ≡ used
@@ -96,17 +96,41 @@ module _ (s : Ground) (class used off : ℕ) (slab out after : List ℕ) (at : s
     -- but the list is too short
     pub slab-too-long : length out < used → after ≡ out
         → KeyRead (refused listTooShort) out after (soundly (contentAt s (Slab class used off)))
-    slab-too-long h f = read-short out after _ (inSlab class off c) holds (omega (arith, slab-counted)) f
+    slab-too-long h f = read-short out after _ (inSlab s class off c) holds (omega (arith, slab-counted)) f
 
     -- and else they are in the list
     pub slab-listed : length (c .numbers) ≤ length out → after ≡ overwrite out 0 (c .numbers)
-        → KeyRead (accepted (record { length = used; pages = 0 })) out after (soundly (contentAt s (Slab class used off)))
+        → KeyRead (accepted (record { length = used; pages = 0; padded = slabPadded slab })) out after (soundly (contentAt s (Slab class used off)))
     slab-listed h f =
-        read-listed out after _ (inSlab class off c) holds _ (ap (λ (n : ℕ). record { length = n; pages = 0 }) slab-counted) h f
+        read-listed out after _ (inSlab s class off c) holds _
+        (ap (λ (n : ℕ). record { length = n; pages = 0; padded = slabPadded (blockAt s class off) }) slab-counted
+        ∙ ap (λ (bs : List ℕ). record { length = used; pages = 0; padded = slabPadded bs }) bytes) h f
 
--- a try that read a slab's list
-pub slab-tried : (s : Ground) (class used off : ℕ) (slab out after : List ℕ) → slabScan s class used off ≡ slabRead slab used
-    → (did : Bool) → ShortList did out after (slabRead slab used) → did ≡ true
-    → KeyRead (accepted (record { length = used; pages = 0 })) out after (soundly (contentAt s (Slab class used off)))
-slab-tried s class used off slab out after at did (unread e f) g = let z : _≡_ {A = ℕ} 0 1 = cc in absurd (omega arith)
-slab-tried s class used off slab out after at did (short c e is h f) g = slab-listed s class used off slab out after at c is h f
+-- A slab's stream that a try took, and what the list holds then.
+pub record Tried (slab : List ℕ) (used taken : ℕ) (out after : List ℕ) : Type 0 where
+  pub scanned : Scan
+  pub is : slabRead slab used ≡ accepted scanned
+  pub size : scanned .taken ≡ taken
+  pub fits : length (scanned .numbers) ≤ length out
+  pub written : after ≡ overwrite out 0 (scanned .numbers)
+
+-- a try that told some bytes read a slab's list
+pub slab-tried : (slab : List ℕ) (used told : ℕ) (out after : List ℕ) → ShortList told out after (slabRead slab used) → 0 < told
+    → Tried slab used told out after
+slab-tried slab used told out after (unread e f) g = absurd (omega arith)
+slab-tried slab used told out after (short c some is size h f) g =
+    record { scanned = c; is = is; size = size; fits = h; written = f }
+
+-- what is counted over the bytes that a slab's stream takes
+pub slab-told : (slab bs : List ℕ) (used taken r : ℕ) → bs ≡ drop 2 slab
+    → ((s : Scan) → scan used bs ≡ accepted s → s .taken ≡ taken → r ≡ paddedIn used bs)
+    → (c : Scan) → slabRead slab used ≡ accepted c → c .taken ≡ taken → r ≡ slabPadded slab
+unfolding slabPadded
+slab-told slab bs used taken r f told c is t =
+    let p = slab-payload slab used c is in
+    told c (ap (scan used) f ∙ ap (λ (k : ℕ). scan k (drop 2 slab)) (sym (p .0)) ∙ p .2 .scanned) t
+    ∙ ap (paddedIn used) f ∙ ap (λ (k : ℕ). paddedIn k (drop 2 slab)) (sym (p .0))
+
+-- the bytes of a slab's stream lie in it
+pub slab-within : (slab : List ℕ) (used : ℕ) (c : Scan) → slabRead slab used ≡ accepted c → 2 + c .taken ≤ length slab
+slab-within slab used c is = omega (arith, slab-payload slab used c is .2 .taken-within)

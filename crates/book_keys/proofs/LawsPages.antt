@@ -14,13 +14,14 @@ use Rattle.buffer.specs.Bytes.{part}
 use Rattle.buffer.specs.LittleEndian.{littleEndian}
 use Rattle.compact.specs.Uleb128.{readUleb}
 use Rattle.scripthash_layout.specs.Sizes.{pageClass, pageSize}
-use Rattle.scripthash_stream.specs.Stream.{Rising, Scan, scanFrom, scan, lastFrom}
+use Rattle.scripthash_stream.specs.Stream.{Rising, Scan, scanFrom, scan, paddedIn, lastFrom}
 use Rattle.scripthash_stream.proofs.LawsScan.{next-accepted, scan-step, scan-accepted}
+use Rattle.scripthash_stream.proofs.LawsPadded.{padded-most}
 use Rattle.scripthash_fields.specs.Page.{field, versionOf, countOf, linkOf, streamOff, streamOf, extentBaseOf, extentCountOf, namesExtent}
 use Rattle.scripthash_fields.specs.Page.{isLastLink, linkOffset, extentNamed}
 use Rattle.scripthash_fields.specs.Fields.{firstOff}
 use Rattle.scripthash_fields.proofs.LawsPage.{page-yes}
-use Rattle.scripthash_pages.specs.Entries.{pageScan, pageEntries}
+use Rattle.scripthash_pages.specs.Entries.{pageScan, pageEntries, pagePadded}
 use Rattle.scripthash_pages.proofs.LawsEntries.{place-accepted, scan-placed}
 use Rattle.scripthash_free.specs.FreeList.{isBlock}
 use Rattle.scripthash_free.proofs.LawsBlock.{both, block-stands}
@@ -93,6 +94,20 @@ page-read page c e =
       taken-fits = omega (arith, k .within, length-drop (w .0 .off) page, p .off-is, p .early, p .long);
       scanned = rw (p .count-is, p .off-is) (w .2);
     }
+
+-- what is counted over the bytes that a page's stream takes
+pub page-counted : (page bs : List ℕ) (n taken r : ℕ) → n ≡ countOf page → bs ≡ streamOf page
+    → ((s : Scan) → scan n bs ≡ accepted s → s .taken ≡ taken → r ≡ paddedIn n bs)
+    → (c : Scan) → pageScan page ≡ accepted c → c .taken ≡ taken → r ≡ pagePadded page
+unfolding pagePadded
+page-counted page bs n taken r e f told c is t =
+    told c (ap (λ (k : ℕ). scan k bs) e ∙ ap (scan (countOf page)) f ∙ page-read page c is .scanned) t
+    ∙ ap (λ (k : ℕ). paddedIn k bs) e ∙ ap (paddedIn (countOf page)) f
+
+-- no more numbers of a page are padded than it counts
+pub page-padded-most : (page : List ℕ) → pagePadded page ≤ countOf page
+unfolding pagePadded
+page-padded-most page = padded-most (countOf page) (streamOf page)
 
 -- the first number of a stream is its first form
 scan-first : (k : ℕ) (bs : List ℕ) (c : Scan) → scan k bs ≡ accepted c → 0 < length (c .numbers)

@@ -11,9 +11,9 @@ use Rattle.scripthash_layout.specs.Head.{unpackHead}
 use Rattle.scripthash_layout.specs.declared.head.ShHeadValue.{ShHeadValue}
 use Rattle.scripthash_layout.specs.declared.head.ShHeadValue.the-variants.{Empty, Inline, Slab, Extent}
 use Rattle.scripthash_stream.specs.Stream.{Scan, lastFrom}
-use Rattle.scripthash_slabs.specs.Slab.{slabUsed, decodeSlab}
+use Rattle.scripthash_slabs.specs.Slab.{slabUsed, slabPadded, decodeSlab}
 use Rattle.scripthash_fields.specs.Page.{linkOf, extentBaseOf, extentCountOf, createsFieldOf, namesExtent, isLastLink, linkOffset, onExtent}
-use Rattle.scripthash_pages.specs.Entries.{pageScan}
+use Rattle.scripthash_pages.specs.Entries.{pageScan, pagePadded}
 use Rattle.book_limits.specs.Limits.{totalTold}
 use Rattle.scripthash_free.specs.FreeList.{Block, isBlock}
 
@@ -81,23 +81,25 @@ lastAt s off =
     (andThen (goodExtent (pageAt s off))
     (λ e. accepted (record { first = linkOffset (linkOf (pageAt s off)); creates = createsFieldOf (pageAt s off) }))))
 
--- What a chain of pages holds: its numbers, and its pages' offsets, the first first.
+-- What a chain of pages holds: its numbers, its pages' offsets, the first first, and how many of the numbers are padded.
 pub record Chain : Type 0 where
   pub numbers : List ℕ
   pub offs : List ℕ
+  pub padded : ℕ
 
--- A page before others in a chain.
-unfoldable pub pageThen : ℕ → Scan → Chain → Chain
-pageThen off c rest = record { numbers = c .numbers ++ rest .numbers; offs = off ∷ rest .offs }
+-- A page at an offset before others in a chain.
+unfoldable pub pageThen : Ground → ℕ → Scan → Chain → Chain
+pageThen s off c rest =
+    record { numbers = c .numbers ++ rest .numbers; offs = off ∷ rest .offs; padded = pagePadded (pageAt s off) + rest .padded }
 
 -- Walking a chain from a page on, behind a number, up to the key's last page, over at most so many pages; no other page has LAST.
 unfoldable pub walk : ℕ → Ground → ℕ → ℕ → ℕ → Answer Chain
 walk zero s last prev off = refused keyUnsound
 walk (suc k) s last prev off =
     andThen (linkScan s prev off)
-    (λ c. cond (eqb off last) (accepted (record { numbers = c .numbers; offs = off ∷ [] }))
+    (λ c. cond (eqb off last) (accepted (record { numbers = c .numbers; offs = off ∷ []; padded = pagePadded (pageAt s off) }))
     (sure (not (isLastLink (linkOf (pageAt s off))))
-    (andThen (walk k s last (lastFrom prev (c .numbers)) (linkOffset (linkOf (pageAt s off)))) (λ rest. accepted (pageThen off c rest)))))
+    (andThen (walk k s last (lastFrom prev (c .numbers)) (linkOffset (linkOf (pageAt s off)))) (λ rest. accepted (pageThen s off c rest)))))
 
 -- The last page's creates tells the length of the list, or 0, which says that it was never counted, or that it is more than creates can tell.
 unfoldable pub totalGood : ℕ → ℕ → Bool
@@ -112,11 +114,13 @@ chainAt s last =
 
 -- ---- a key
 
--- What a key holds: its numbers, its blocks, in the order in which a drop pushes them, and how many of these are pages.
+-- What a key holds: its numbers, its blocks, in the order in which a drop pushes them, how many of these are pages, and how many of the
+-- numbers are padded: none of a key in its head word.
 pub record Content : Type 0 where
   pub numbers : List ℕ
   pub blocks : List Block
   pub pages : ℕ
+  pub padded : ℕ
 
 -- Pages as blocks.
 unfoldable pub pageBlocks : List ℕ → List Block
@@ -125,13 +129,24 @@ pageBlocks (o ∷ os) = record { class = pageClass; off = o } ∷ pageBlocks os
 
 -- What the place that a head word tells holds.
 unfoldable pub contentAt : Ground → ShHeadValue → Answer Content
-contentAt s Empty = accepted (record { numbers = []; blocks = []; pages = 0 })
-contentAt s (Inline entry used) = accepted (record { numbers = entry ∷ []; blocks = []; pages = 0 })
+contentAt s Empty = accepted (record { numbers = []; blocks = []; pages = 0; padded = 0 })
+contentAt s (Inline entry used) = accepted (record { numbers = entry ∷ []; blocks = []; pages = 0; padded = 0 })
 contentAt s (Slab class used off) =
     andThen (slabScan s class used off)
-    (λ c. accepted (record { numbers = c .numbers; blocks = record { class = class; off = off } ∷ []; pages = 0 }))
+    (λ c. accepted (record {
+      numbers = c .numbers;
+      blocks = record { class = class; off = off } ∷ [];
+      pages = 0;
+      padded = slabPadded (blockAt s class off);
+    }))
 contentAt s (Extent last) =
-    andThen (chainAt s last) (λ c. accepted (record { numbers = c .numbers; blocks = pageBlocks (c .offs); pages = length (c .offs) }))
+    andThen (chainAt s last)
+    (λ c. accepted (record {
+      numbers = c .numbers;
+      blocks = pageBlocks (c .offs);
+      pages = length (c .offs);
+      padded = c .padded;
+    }))
 
 -- What the key of a head word holds, or 31 where it isn't sound.
 unfoldable pub content : Ground → ℕ → Answer Content

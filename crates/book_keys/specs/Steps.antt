@@ -11,9 +11,8 @@ use Rattle.buffer.specs.Bytes.{overwrite}
 use Rattle.scripthash_layout.specs.Sizes.{maxSlabCount, pageClass}
 use Rattle.scripthash_stream.specs.Stream.{Scan, lastFrom}
 use Rattle.scripthash_slabs.specs.Slab.{slabUsed, decodeSlab}
-use Rattle.scripthash_fields.specs.Page.{linkOf, createsFieldOf, namesExtent, isLastLink, linkOffset}
-use Rattle.scripthash_pages.specs.EntryAnswers.{PageRead}
-use Rattle.scripthash_pages.specs.Entries.{pageScan, pageEntries, pageReadOf}
+use Rattle.scripthash_fields.specs.Page.{linkOf, nextOff, createsFieldOf, namesExtent, isLastLink, linkOffset}
+use Rattle.scripthash_pages.specs.Entries.{pageScan, pageEntries, pagePadded}
 use Rattle.scripthash_free.specs.FreeList.{isBlock}
 use Rattle.book_keys.specs.Keys.{sure, goOn, goodExtent, pageAt, Last, Chain, Content, Tail, Ground}
 use Prim.Native.Nat.{ℕ, _+_, _^_, _≤_, _<_}
@@ -65,45 +64,58 @@ pub record TailEndOf : Type 0 where
 abbrev pub tailEndOf : Tail → TailEndOf
 tailEndOf t = record { taken = t .scan .taken; fk = lastFrom 0 (t .scan .numbers); first = t .last .first; creates = t .last .creates }
 
--- A page of a chain: how many numbers it has, its last number, whether it is LAST, and the offset that its link names.
+-- A page of a chain: how many numbers it has, its last number, whether it is LAST, the offset that its link names, and how many of the
+-- numbers are padded.
 pub record LinkEndOf : Type 0 where
   pub count : ℕ
   pub fk : ℕ
   pub last : Bool
   pub next : ℕ
+  pub padded : ℕ
 
 -- The same of a page that was scanned.
 abbrev pub linkEndOf : List ℕ → Scan → LinkEndOf
 linkEndOf page c =
-    record { count = length (c .numbers); fk = lastFrom 0 (c .numbers); last = isLastLink (linkOf page); next = linkOffset (linkOf page) }
+    record {
+      count = length (c .numbers);
+      fk = lastFrom 0 (c .numbers);
+      last = isLastLink (linkOf page);
+      next = linkOffset (linkOf page);
+      padded = pagePadded page;
+    }
 
--- How long a chain's list is, and how many pages it has.
+-- How long a chain's list is, how many pages it has, and how many of its numbers are padded.
 pub record Walked : Type 0 where
   pub length : ℕ
   pub pages : ℕ
+  pub padded : ℕ
 
--- The same of a chain behind so many numbers and pages.
-abbrev pub walkedFrom : ℕ → ℕ → Chain → Walked
-walkedFrom count pages c = record { length = count + length (c .numbers); pages = pages + length (c .offs) }
+-- The same of a chain behind so many numbers, pages and padded numbers.
+abbrev pub walkedFrom : ℕ → ℕ → ℕ → Chain → Walked
+walkedFrom count pages padded c =
+    record { length = count + length (c .numbers); pages = pages + length (c .offs); padded = padded + c .padded }
 
--- A chain: its first page's offset, how long its list is, and how many pages it has.
+-- A chain: its first page's offset, how long its list is, how many pages it has, and how many of its numbers are padded.
 pub record ChainEndOf : Type 0 where
   pub first : ℕ
   pub length : ℕ
   pub pages : ℕ
+  pub padded : ℕ
 
 -- The same of a chain that was walked.
 abbrev pub chainEndOf : Chain → ChainEndOf
-chainEndOf c = record { first = getD (c .offs) 0 0; length = length (c .numbers); pages = length (c .offs) }
+chainEndOf c =
+    record { first = getD (c .offs) 0 0; length = length (c .numbers); pages = length (c .offs); padded = c .padded }
 
--- How long a key's list is, and how many pages it has.
+-- How long a key's list is, how many pages it has, and how many of its numbers are padded.
 pub record Counts : Type 0 where
   pub length : ℕ
   pub pages : ℕ
+  pub padded : ℕ
 
 -- The same of what a key holds.
 abbrev pub countsOf : Content → Counts
-countsOf c = record { length = length (c .numbers); pages = c .pages }
+countsOf c = record { length = length (c .numbers); pages = c .pages; padded = c .padded }
 
 -- ---- lists that are written out
 
@@ -111,22 +123,31 @@ countsOf c = record { length = length (c .numbers); pages = c .pages }
 unfoldable pub pageInto : ℕ → Ground → ℕ → Answer Scan
 pageInto room s off = sure (isBlock pageClass off (s .mark)) (pageEntries room (pageAt s off))
 
+-- What filling a list from a page tells: how many numbers, and the offset of the page behind it.
+pub record FillTold : Type 0 where
+  pub count : ℕ
+  pub next : ℕ
+
+-- The same of a page that was scanned.
+abbrev pub fillTold : List ℕ → Scan → FillTold
+fillTold page c = record { count = length (c .numbers); next = nextOff page }
+
 -- What filling a list from a page does, whose reading would be `a`: where that is accepted, it tells as much and the list holds the
 -- numbers; it never tells more numbers than fit.
-pub record PageFilled (told : Answer PageRead) (before after page : List ℕ) (a : Answer Scan) : Type 0 where
-  pub reads : (c : Scan) → a ≡ accepted c → (told ≡ accepted (pageReadOf page c)) × (after ≡ overwrite before 0 (c .numbers))
-  pub within : (t : PageRead) → told ≡ accepted t → t .count ≤ length before
+pub record PageFilled (told : Answer FillTold) (before after page : List ℕ) (a : Answer Scan) : Type 0 where
+  pub reads : (c : Scan) → a ≡ accepted c → (told ≡ accepted (fillTold page c)) × (after ≡ overwrite before 0 (c .numbers))
+  pub within : (t : FillTold) → told ≡ accepted t → t .count ≤ length before
 
 -- A lent list afterwards has some numbers at its start, where it has room for them.
 abbrev pub Written : List ℕ → List ℕ → List ℕ → Type 0
 Written before after ns = length ns ≤ length before → after ≡ overwrite before 0 ns
 
--- A try at reading a block's numbers, whose scan as a sound one would be `a`, into the start of a list: it leaves the list, or the block is
--- sound and its numbers fit, and the list holds them.
-pub data ShortList (did : Bool) (before after : List ℕ) (a : Answer Scan) : Type 0 where
-  unread : did ≡ false → after ≡ before → ShortList did before after a
-  short : (c : Scan) → did ≡ true → a ≡ accepted c → length (c .numbers) ≤ length before → after ≡ overwrite before 0 (c .numbers)
-      → ShortList did before after a
+-- A try at reading a block's numbers, whose scan as a sound one would be `a`, into the start of a list: it tells 0 and leaves the list, or
+-- the block is sound and its numbers fit, it tells the bytes that they take, and the list holds them.
+pub data ShortList (told : ℕ) (before after : List ℕ) (a : Answer Scan) : Type 0 where
+  unread : told ≡ 0 → after ≡ before → ShortList told before after a
+  short : (c : Scan) → 0 < told → a ≡ accepted c → c .taken ≡ told → length (c .numbers) ≤ length before
+      → after ≡ overwrite before 0 (c .numbers) → ShortList told before after a
 
 -- What a key holds, to be read into a list with room for some numbers: 34 where its own don't fit.
 unfoldable pub inRoom : ℕ → Answer Content → Answer Content

@@ -6,14 +6,14 @@ ghost use Rattle.error.specs.Refusal.{accepted, answered, refusalOf};
 ghost use Rattle.buffer.specs.Bytes.{part};
 ghost use Rattle.scripthash_layout.specs.Sizes.{pageSize};
 ghost use Rattle.scripthash_layout.specs.declared.head.ShHeadValue.the-variants.{Extent};
-ghost use Rattle.scripthash_fields.specs.Page.{linkOf, linkOffset};
-ghost use Rattle.scripthash_pages.specs.EntryAnswers.{sliceAnswer};
-ghost use Rattle.scripthash_pages.specs.Entries.{pageEntries};
+ghost use Rattle.scripthash_fields.specs.Page.{linkOf, linkOffset, streamOff};
+ghost use Rattle.scripthash_stream.specs.Stream.{Scan};
+ghost use Rattle.scripthash_pages.specs.Entries.{pageScan, pageEntries, pagePadded};
 ghost use Rattle.book_keys.specs.Keys.{soundly, pageAt, linkScan, lastAt, walk, Chain as ChainIs, totalGood, chainAt};
 ghost use Rattle.book_keys.specs.Keys.{tailAt, contentAt, ground};
 ghost use Rattle.book_keys.specs.Steps.{linkRead, lastRead, tailRead, tailEndOf, linkEndOf, walkedFrom, chainEndOf};
 ghost use Rattle.book_keys.specs.Steps.{pageInto, PageFilled, Written, KeyRead};
-ghost use Rattle.book_keys.specs.Answers.{lastPageAnswer, tailAnswer, linkEndAnswer, walkAnswer, chainAnswer, countsAnswer};
+ghost use Rattle.book_keys.specs.Answers.{lastPageAnswer, tailAnswer, linkEndAnswer, walkAnswer, chainAnswer, fillAnswer, countsAnswer};
 use crate::key::KeyCounts;
 use crate::slab::sound_last;
 use compact::ReadUleb128;
@@ -31,7 +31,6 @@ use scripthash_fields::SH_PAGE_OFF_VER;
 use scripthash_free::is_page;
 use scripthash_layout::SH_PAGE_BYTES;
 use scripthash_layout::SH_PAGE_SIZE;
-use scripthash_pages::PageSlice;
 use scripthash_pages::sh_page_stream_tail;
 use scripthash_stream::ScanStream;
 
@@ -52,26 +51,43 @@ pub enum TailEnd {
     Refused(Refusal),
 }
 
-// A page of a chain: how many numbers it has, its last number, whether it is LAST, and the offset that its link names; or 31.
+// A page of a chain: how many numbers it has, its last number, whether it is LAST, the offset that its link names, and how many of the
+// numbers are padded; or 31.
 pub enum LinkEnd {
     Page {
         count: u64,
         fk: u64,
         last: bool,
         next: u64,
+        padded: u64,
     },
     Refused(Refusal),
 }
 
-// Pages walked: how many numbers they have, and how many they are; or 31.
+// Pages walked: how many numbers they have, how many they are, and how many of the numbers are padded; or 31.
 pub enum WalkEnd {
-    Pages { length: u64, pages: u64 },
+    Pages {
+        length: u64,
+        pages: u64,
+        padded: u64,
+    },
     Refused(Refusal),
 }
 
-// A sound chain: its first page's offset, how many numbers it has, and how many pages; or 31.
+// A sound chain: its first page's offset, how many numbers it has, how many pages, and how many of the numbers are padded; or 31.
 pub enum ChainEnd {
-    Chain { first: u64, length: u64, pages: u64 },
+    Chain {
+        first: u64,
+        length: u64,
+        pages: u64,
+        padded: u64,
+    },
+    Refused(Refusal),
+}
+
+// A page whose numbers were written out: how many they are, and the offset of the page behind it; or 31 or 34.
+enum PageFill {
+    Filled { count: usize, next: u64 },
     Refused(Refusal),
 }
 
@@ -102,6 +118,7 @@ impl ChainEnd {
                 first: _,
                 length: _,
                 pages: _,
+                padded: _,
             } => 0,
             ChainEnd::Refused(number) => number,
         }
@@ -154,13 +171,24 @@ fn read_tail(page: &[u8]) -> TailEnd
     }
 }
 
-// Reads a page of a chain behind a number: its stream is scanned once, and its first number read once more.
+// How many numbers of a page are padded whose stream scans and takes so many bytes.
+fn page_padded(page: &[u8], taken: usize) -> u64
+    requires { ⌜ (length (now page) ≡ pageSize) × (streamOff (now page) + taken ≤ pageSize) ⌝ }
+    ensures { λ r. ⌜ ((c : Scan) → pageScan (now (page .entry)) ≡ accepted c → c .taken ≡ taken → r ≡ pagePadded (now (page .entry))) ⌝ }
+{
+    let start = scripthash_fields::stream_off(page);
+    let count = buffer::get_u16(page, SH_PAGE_OFF_N_FKS) as usize;
+    scripthash_stream::count_padded(&page[start..], count, taken) as u64
+}
+
+// Reads a page of a chain behind a number: its stream is scanned once, and its first number read once more. Its padded numbers are counted
+// where it is sound.
 fn read_link(page: &[u8], prev: u64) -> LinkEnd
     requires { ⌜ length (now page) ≡ pageSize ⌝ }
     ensures { λ r. ⌜ linkEndAnswer r ≡ answered (linkEndOf (now (page .entry))) (soundly (linkRead prev (now (page .entry)))) ⌝ }
 {
     let got = sh_page_stream_tail(page);
-    let ScanStream::Scanned { taken: _, last: fk } = got else {
+    let ScanStream::Scanned { taken, last: fk } = got else {
         return LinkEnd::Refused(error::KEY_UNSOUND);
     };
     if !sound_last(fk) {
@@ -168,7 +196,12 @@ fn read_link(page: &[u8], prev: u64) -> LinkEnd
     }
     let start = scripthash_fields::stream_off(page);
     let form = compact::read_uleb128(&page[start..]);
-    let ReadUleb128::Value { value, len: _ } = form else {
+    let ReadUleb128::Value {
+        value,
+        len: _,
+        shortest: _,
+    } = form
+    else {
         return LinkEnd::Refused(error::KEY_UNSOUND);
     };
     if value <= prev {
@@ -184,6 +217,7 @@ fn read_link(page: &[u8], prev: u64) -> LinkEnd
         fk,
         last,
         next,
+        padded: page_padded(page, taken),
     }
 }
 
@@ -229,13 +263,14 @@ fn link_end(body: &[u8], mark: u64, prev: u64, off: u64) -> LinkEnd
 fn walk_pages(body: &[u8], mark: u64, first: u64, last: u64) -> WalkEnd
     requires { ⌜ mark ≤ length (now body) ⌝ }
     ensures { λ r. ⌜ walkAnswer r
-        ≡ answered (walkedFrom 0 0) (soundly (walk (mark / pageSize) (ground (now (body .entry)) mark) last 0 first)) ⌝ }
+        ≡ answered (walkedFrom 0 0 0) (soundly (walk (mark / pageSize) (ground (now (body .entry)) mark) last 0 first)) ⌝ }
 {
     let most = mark / SH_PAGE_BYTES;
     let mut off = first;
     let mut prev: u64 = 0;
     let mut length: u64 = 0;
     let mut pages: u64 = 0;
+    let mut padded: u64 = 0;
     while pages < most {
         let got = link_end(body, mark, prev, off);
         let LinkEnd::Page {
@@ -243,14 +278,20 @@ fn walk_pages(body: &[u8], mark: u64, first: u64, last: u64) -> WalkEnd
             fk,
             last: end,
             next,
+            padded: more,
         } = got
         else {
             return WalkEnd::Refused(error::KEY_UNSOUND);
         };
         length += count;
         pages += 1;
+        padded += more;
         if off == last {
-            return WalkEnd::Pages { length, pages };
+            return WalkEnd::Pages {
+                length,
+                pages,
+                padded,
+            };
         }
         if end {
             return WalkEnd::Refused(error::KEY_UNSOUND);
@@ -281,7 +322,12 @@ pub fn chain_end(body: &[u8], mark: u64, last: u64) -> ChainEnd
         return ChainEnd::Refused(error::KEY_UNSOUND);
     };
     let walked = walk_pages(body, mark, first, last);
-    let WalkEnd::Pages { length, pages } = walked else {
+    let WalkEnd::Pages {
+        length,
+        pages,
+        padded,
+    } = walked
+    else {
         return ChainEnd::Refused(error::KEY_UNSOUND);
     };
     if !total_good(creates, length) {
@@ -291,35 +337,36 @@ pub fn chain_end(body: &[u8], mark: u64, last: u64) -> ChainEnd
         first,
         length,
         pages,
+        padded,
     }
 }
 
 // Writes the numbers of a page that reads, by its bytes, to the start of out, and tells how many they are and where the next page is.
-fn fill_page(page: &[u8], out: &mut [u64]) -> PageSlice
+fn fill_page(page: &[u8], out: &mut [u64]) -> PageFill
     requires { ⌜ length (now page) ≡ pageSize ⌝ }
-    ensures { λ r. ⌜ PageFilled (sliceAnswer r) (now (out .entry)) (now (out .exit)) (now (page .entry))
+    ensures { λ r. ⌜ PageFilled (fillAnswer r) (now (out .entry)) (now (out .exit)) (now (page .entry))
         (pageEntries (length (now (out .entry))) (now (page .entry))) ⌝ }
 {
     let count = buffer::get_u16(page, SH_PAGE_OFF_N_FKS) as usize;
     if out.len() < count {
-        return PageSlice::Refused(error::LIST_TOO_SHORT);
+        return PageFill::Refused(error::LIST_TOO_SHORT);
     }
     let start = scripthash_fields::stream_off(page);
     scripthash_scan::fill_fk_delta_stream(&page[start..], count, out);
-    PageSlice::Decoded {
+    PageFill::Filled {
         count,
         next: scripthash_fields::next_off(page),
     }
 }
 
 // The same for the page at an offset.
-fn page_into(body: &[u8], mark: u64, off: u64, out: &mut [u64]) -> PageSlice
+fn page_into(body: &[u8], mark: u64, off: u64, out: &mut [u64]) -> PageFill
     requires { ⌜ mark ≤ length (now body) ⌝ }
-    ensures { λ r. ⌜ PageFilled (sliceAnswer r) (now (out .entry)) (now (out .exit)) (pageAt (ground (now (body .entry)) mark) off)
+    ensures { λ r. ⌜ PageFilled (fillAnswer r) (now (out .entry)) (now (out .exit)) (pageAt (ground (now (body .entry)) mark) off)
         (pageInto (length (now (out .entry))) (ground (now (body .entry)) mark) off) ⌝ }
 {
     if !is_page(off, mark) {
-        return PageSlice::Refused(error::KEY_UNSOUND);
+        return PageFill::Refused(error::KEY_UNSOUND);
     }
     let start = off as usize;
     fill_page(&body[start..start + SH_PAGE_SIZE], out)
@@ -337,7 +384,7 @@ fn chain_into(body: &[u8], mark: u64, first: u64, last: u64, out: &mut [u64])
     let mut pages: u64 = 0;
     while pages < most {
         let got = page_into(body, mark, off, &mut out[at..]);
-        let PageSlice::Decoded { count, next } = got else {
+        let PageFill::Filled { count, next } = got else {
             return;
         };
         if off == last {
@@ -360,6 +407,7 @@ pub fn read_chain(body: &[u8], mark: u64, last: u64, out: &mut [u64]) -> KeyCoun
         first,
         length,
         pages,
+        padded,
     } = got
     else {
         return KeyCounts::Refused(error::KEY_UNSOUND);
@@ -368,7 +416,11 @@ pub fn read_chain(body: &[u8], mark: u64, last: u64, out: &mut [u64]) -> KeyCoun
         return KeyCounts::Refused(error::LIST_TOO_SHORT);
     }
     chain_into(body, mark, first, last, out);
-    KeyCounts::Counts { length, pages }
+    KeyCounts::Counts {
+        length,
+        pages,
+        padded,
+    }
 }
 
 // The offset of the page that a page's link names.

@@ -1,4 +1,4 @@
-// A key, by its head word: its list read, how long it is and how many pages it has.
+// A key, by its head word: its list read, how long it is, how many pages it has and how many of its numbers are padded.
 ghost use mathlib.Core.Path.{_≡_};
 ghost use Prim.Native.Nat.{ℕ, _≤_};
 ghost use lib.ListN.{length};
@@ -13,9 +13,13 @@ use error::Refusal;
 use scripthash_layout::ShHeadValue;
 use scripthash_layout::Unpacked;
 
-// How long a key's list is that was read, and how many pages it has; or 31 or 34.
+// How long a key's list is that was read, how many pages it has, and how many of its numbers are padded; or 31 or 34.
 pub enum KeyCounts {
-    Counts { length: u64, pages: u64 },
+    Counts {
+        length: u64,
+        pages: u64,
+        padded: u64,
+    },
     Refused(Refusal),
 }
 
@@ -28,6 +32,7 @@ impl KeyCounts {
             KeyCounts::Counts {
                 length: _,
                 pages: _,
+                padded: _,
             } => 0,
             KeyCounts::Refused(number) => number,
         }
@@ -46,6 +51,7 @@ fn read_inline(entry: u64, out: &mut [u64]) -> KeyCounts
     KeyCounts::Counts {
         length: 1,
         pages: 0,
+        padded: 0,
     }
 }
 
@@ -59,6 +65,7 @@ fn read_place(body: &[u8], mark: u64, place: ShHeadValue, out: &mut [u64]) -> Ke
         ShHeadValue::Empty => KeyCounts::Counts {
             length: 0,
             pages: 0,
+            padded: 0,
         },
         ShHeadValue::Inline { entry, used: _ } => read_inline(entry, out),
         ShHeadValue::Slab { class, used, off } => read_stored(body, mark, class, used, off, out),
@@ -66,8 +73,8 @@ fn read_place(body: &[u8], mark: u64, place: ShHeadValue, out: &mut [u64]) -> Ke
     }
 }
 
-// Reads the list of a head word's key into the start of out, and tells how long it is and how many pages it has: all of the key is judged
-// (31) before the lent list (34), which is left where the read is refused.
+// Reads the list of a head word's key into the start of out, and tells how long it is, how many pages it has and how many of its numbers are
+// padded: all of the key is judged (31) before the lent list (34), which is left where the read is refused.
 pub fn read_key(body: &[u8], mark: u64, word: u64, out: &mut [u64]) -> KeyCounts
     requires { ⌜ mark ≤ length (now body) ⌝ }
     ensures answer { λ r. ⌜ countsAnswer r

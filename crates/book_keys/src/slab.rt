@@ -10,7 +10,8 @@ ghost use Rattle.scripthash_stream.specs.Stream.{Scan, endFrom};
 ghost use Rattle.scripthash_stream.specs.Answers.{scanAnswer};
 ghost use Rattle.scripthash_free.specs.FreeList.{isBlock};
 ghost use Rattle.scripthash_layout.specs.declared.head.ShHeadValue.the-variants.{Slab};
-ghost use Rattle.book_keys.specs.Keys.{soundly, slabScan, contentAt, Ground, ground};
+ghost use Rattle.scripthash_slabs.specs.Slab.{slabPadded};
+ghost use Rattle.book_keys.specs.Keys.{soundly, blockAt, slabScan, contentAt, Ground, ground};
 ghost use Rattle.book_keys.specs.Steps.{soundLast, slabRead, Written, ShortList, KeyRead};
 ghost use Rattle.book_keys.specs.Answers.{countsAnswer};
 use crate::key::KeyCounts;
@@ -88,44 +89,53 @@ fn fill_slab(slab: &[u8], out: &mut [u64])
     scripthash_scan::fill_fk_delta_stream(&slab[2..], used, out);
 }
 
-// Reads a slab, by its bytes, in one pass where it is short: tells whether it did, and leaves out where it didn't.
-fn short_slab(slab: &[u8], used: u16, out: &mut [u64]) -> bool
+// Reads a slab, by its bytes, in one pass where it is short: tells the bytes that its stream takes, or 0 and leaves out.
+fn short_slab(slab: &[u8], used: u16, out: &mut [u64]) -> usize
     requires { ⌜ 2 ≤ length (now slab) ⌝ }
     ensures { λ r. ⌜ ShortList r (now (out .entry)) (now (out .exit)) (slabRead (now (slab .entry)) used) ⌝ }
 {
     if SLAB_MOST < used {
-        return false;
+        return 0;
     }
     if buffer::get_u16(slab, 0) != used {
-        return false;
+        return 0;
     }
-    0 < scripthash_scan::read_short_stream(&slab[2..], used as usize, NUMBER_RANGE, out)
+    scripthash_scan::read_short_stream(&slab[2..], used as usize, NUMBER_RANGE, out)
+}
+
+// What is told of a slab that was read, by its bytes, whose stream takes so many of them.
+fn slab_counts(slab: &[u8], used: u16, taken: usize) -> KeyCounts
+    requires { ⌜ 2 + taken ≤ length (now slab) ⌝ }
+    ensures { λ r. ⌜ ((c : Scan) → slabRead (now (slab .entry)) used ≡ accepted c → c .taken ≡ taken
+        → countsAnswer r ≡ accepted (record { length = used; pages = 0; padded = slabPadded (now (slab .entry)) })) ⌝ }
+{
+    KeyCounts::Counts {
+        length: used as u64,
+        pages: 0,
+        padded: scripthash_stream::count_padded(&slab[2..], used as usize, taken) as u64,
+    }
 }
 
 // Reads a slab, by its bytes, into the start of out: in one pass where it is short, else it is judged and then read.
 fn slab_list(slab: &[u8], used: u16, out: &mut [u64]) -> KeyCounts
     requires { ⌜ 2 ≤ length (now slab) ⌝ }
     ensures { λ r. ⌜ ((s : Ground) (class off : ℕ) → slabScan s class used off ≡ slabRead (now (slab .entry)) used
+        → blockAt s class off ≡ now (slab .entry)
         → KeyRead (countsAnswer r) (now (out .entry)) (now (out .exit)) (soundly (contentAt s (Slab class used off)))) ⌝ }
 {
-    if short_slab(slab, used, out) {
-        return KeyCounts::Counts {
-            length: used as u64,
-            pages: 0,
-        };
+    let short = short_slab(slab, used, out);
+    if 0 < short {
+        return slab_counts(slab, used, short);
     }
     let got = read_slab(slab, used);
-    let ScanStream::Scanned { taken: _, last: _ } = got else {
+    let ScanStream::Scanned { taken, last: _ } = got else {
         return KeyCounts::Refused(error::KEY_UNSOUND);
     };
     if out.len() < used as usize {
         return KeyCounts::Refused(error::LIST_TOO_SHORT);
     }
     fill_slab(slab, out);
-    KeyCounts::Counts {
-        length: used as u64,
-        pages: 0,
-    }
+    slab_counts(slab, used, taken)
 }
 
 // Reads a key's slab into the start of out.

@@ -1,22 +1,22 @@
 -- Padded numbers of a stream: those of an accepted one are the bytes 0 among those taken. Assumes nothing.
 use Prim.Native.Nat.{ℕ, zero, suc, _+_, _-_, _^_, _≤_, _<_}
 use mathlib.Core.Bool.{Bool, true, false}
-use mathlib.Core.List.{List, [], _∷_, _++_}
+use mathlib.Core.List.{List, [], _∷_, _++_, append-assoc}
 use mathlib.Core.Path.{_≡_, refl, sym, ap, _∙_}
 use native.Mathlib.Nat.{zero-add, add-zero}
 use borrow.Author.Tests.{le-ltb}
 use lib.Dec.{eqb}
 use native.Mathlib.Omega.{arith}
-use lib.ListN.{length, take, drop, getD}
-use lib.Seq.{take-add}
-use Rattle.error.specs.Refusal.{Answer, accepted, valueOr}
+use lib.ListN.{length, take, drop, getD, length-append}
+use lib.Seq.{take-add, take-at, length-take-le}
+use Rattle.error.specs.Refusal.{Answer, accepted, refused, valueOr}
 use Rattle.error.proofs.LawsAnswer.{accepted-inj}
 use Rattle.compact.specs.Uleb128.{Reading, readUleb, ulebLen, shortest, padded, one, zeros}
-use Rattle.compact.proofs.LawsLength.{len-pos}
+use Rattle.compact.proofs.LawsLength.{len-pos, length-shortest}
 use Rattle.compact.proofs.LawsPadded.{zeros-append, read-zeros, zeros-shortest}
-use Rattle.scripthash_stream.specs.Stream.{Rising, streamFrom, streamLenFrom, Scan, scanFrom, scan, paddedIn}
+use Rattle.scripthash_stream.specs.Stream.{Rising, stream, streamFrom, streamLenFrom, Scan, scanFrom, scan, paddedIn}
 use Rattle.scripthash_stream.proofs.LawsScan.{Next, next-accepted, Step, scan-step, Scanned, scan-accepted}
-use Rattle.scripthash_stream.proofs.LawsStream.{front}
+use Rattle.scripthash_stream.proofs.LawsStream.{front, length-stream, scan-stream}
 
 -- the padded numbers of a stream that scans are the bytes 0 among those that it takes: a byte 0 ends a form, and a difference of 0, or a
 -- first number 0, is refused
@@ -100,3 +100,39 @@ padded-bytes prev (suc k) bs s e h =
 pub padded-counted : (n : ℕ) (bs : List ℕ) (s : Scan) (taken : ℕ) → scan n bs ≡ accepted s → s .taken ≡ taken
     → zeros (take taken bs) ≡ paddedIn n bs
 padded-counted n bs s taken e h = ap (λ (m : ℕ). zeros (take m bs)) (sym h) ∙ sym (padded-zeros 0 n bs s e)
+
+-- no more numbers are padded than are counted
+pub padded-most : (k : ℕ) (bs : List ℕ) → paddedIn k bs ≤ k
+unfolding paddedIn
+padded-most zero bs = omega arith
+padded-most (suc k) bs = first (readUleb bs) (λ cs. padded-most k cs)
+  where
+    most : (t : Bool) (z n : ℕ) → z ≤ n → one t + z ≤ suc n
+    most true z n h = omega arith
+    most false z n h = omega arith
+
+    first : (a : Answer Reading) → ((cs : List ℕ) → paddedIn k cs ≤ k)
+        → valueOr (λ r. one (padded r) + paddedIn k (drop (r .len) bs)) a 0 ≤ suc k
+    first (accepted r) ih = most (padded r) (paddedIn k (drop (r .len) bs)) k (ih (drop (r .len) bs))
+    first (refused number) ih = omega arith
+
+-- numbers that are written as a stream have no padded one, whatever follows
+pub padded-written : (ns rest : List ℕ) → Rising (2 ^ 63) 0 ns → paddedIn (length ns) (stream ns ++ rest) ≡ 0
+padded-written ns rest h =
+    padded-zeros 0 (length ns) (stream ns ++ rest) _ (scan-stream 0 ns rest h)
+    ∙ ap (λ (n : ℕ). zeros (take n (stream ns ++ rest))) (sym (length-stream 0 ns)) ∙ ap zeros (take-at (stream ns) rest (length (stream ns)) refl)
+    ∙ zeros-stream (2 ^ 63) 0 ns h
+
+-- one number more behind a stream, in its shortest form, is not padded
+pub padded-more : (k j d : ℕ) (bs cs rest : List ℕ) (s t : Scan) → 0 < d → scan k bs ≡ accepted s → scan j cs ≡ accepted t
+    → t .taken ≡ s .taken + ulebLen d → cs ≡ take (s .taken) bs ++ (shortest d ++ rest) → paddedIn j cs ≡ paddedIn k bs
+padded-more k j d bs cs rest s t h e f taken whole =
+    let within = scan-accepted 0 k bs s e .within in
+    let front : length (take (s .taken) bs) ≡ s .taken = length-take-le (s .taken) bs within in
+    let size : t .taken ≡ length (take (s .taken) bs ++ shortest d) =
+    taken ∙ sym (length-append (take (s .taken) bs) (shortest d) ∙ rw (front, length-shortest d)) in
+    padded-zeros 0 j cs t f ∙ ap (λ (b : List ℕ). zeros (take (t .taken) b)) (whole ∙ sym (append-assoc (take (s .taken) bs) (shortest d) rest))
+    ∙ ap (λ (n : ℕ). zeros (take n ((take (s .taken) bs ++ shortest d) ++ rest))) size
+    ∙ ap zeros (take-at (take (s .taken) bs ++ shortest d) rest (length (take (s .taken) bs ++ shortest d)) refl)
+    ∙ zeros-append (take (s .taken) bs) (shortest d) ∙ rw (zeros-shortest d h) (add-zero _)
+    ∙ sym (padded-zeros 0 k bs s e)

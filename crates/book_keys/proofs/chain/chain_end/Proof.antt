@@ -40,11 +40,11 @@ module _ (c : tie.After-walked) where
   told = c .before .before .before .before
 
   abbrev end : Walked
-  end = record { length = c .walked .given .0 .0; pages = c .walked .given .0 .1 .0 }
+  end = record { length = c .walked .given .0 .0; pages = c .walked .given .0 .1 .0; padded = c .walked .given .0 .1 .1 .0 }
 
   chain : (w : Chain) × (soundly (walk (s told .mark / pageSize) (s told) (last told) 0 (head told .first)) ≡ accepted w)
-      × (walkedFrom 0 0 w ≡ end)
-  chain = was-accepted (walkedFrom 0 0) _ (sym (c .before .before .walk-pages .ensures) ∙ ap walkAnswer (c .walked .given .1))
+      × (walkedFrom 0 0 0 w ≡ end)
+  chain = was-accepted (walkedFrom 0 0 0) _ (sym (c .before .before .walk-pages .ensures) ∙ ap walkAnswer (c .walked .given .1))
 
   walks : walk (s told .mark / pageSize) (s told) (last told) 0 (head told .first) ≡ accepted (chain .0)
   walks = was-sound _ (chain .1)
@@ -54,6 +54,9 @@ module _ (c : tie.After-walked) where
 
   pages-is : length (chain .0 .offs) ≡ end .pages
   pages-is = let e : 0 + length (chain .0 .offs) ≡ end .pages = ap (λ (x : Walked). x .pages) (chain .2) in omega arith
+
+  padded-is : chain .0 .padded ≡ end .padded
+  padded-is = let e : 0 + chain .0 .padded ≡ end .padded = ap (λ (x : Walked). x .padded) (chain .2) in omega arith
 
 last-page-requires : tie.Need-last-page-requires
 last-page-requires c κs = search needs
@@ -82,7 +85,7 @@ enum-told-2 c = search needs
 returns-2 : tie.Need-returns-2
 returns-2 c =
     let d = c .before .before .before .before in
-    let stop = was-refused (walkedFrom 0 0) _ (sym (c .before .before .walk-pages .ensures) ∙ ap walkAnswer (c .enum-told2 .given .1)) in
+    let stop = was-refused (walkedFrom 0 0 0) _ (sym (c .before .before .walk-pages .ensures) ∙ ap walkAnswer (c .enum-told2 .given .1)) in
     turned-back chainEndOf _ (chain-unwalked (s d) (last d) (head d) (is d) (was-unsound _ stop .1))
 
 total-good-requires : tie.Need-total-good-requires
@@ -101,10 +104,14 @@ returns-4 c =
     let w = c .before .before .before in
     let d = told w in
     let k = chain w .0 in
-    ap (λ (f : ℕ). accepted (record { first = f; length = end w .length; pages = end w .pages }))
+    ap (λ (f : ℕ). accepted (record { first = f; length = end w .length; pages = end w .pages; padded = end w .padded }))
     (sym (walk-first _ (s d) (last d) 0 (head d .first) k (walks w)))
-    ∙ ap (λ (n : ℕ). accepted (record { first = getD (k .offs) 0 0; length = n; pages = end w .pages })) (sym (length-is w))
-    ∙ ap (λ (n : ℕ). accepted (record { first = getD (k .offs) 0 0; length = length (k .numbers); pages = n })) (sym (pages-is w))
+    ∙ ap (λ (n : ℕ). accepted (record { first = getD (k .offs) 0 0; length = n; pages = end w .pages; padded = end w .padded }))
+    (sym (length-is w))
+    ∙ ap (λ (n : ℕ). accepted (record { first = getD (k .offs) 0 0; length = length (k .numbers); pages = n; padded = end w .padded }))
+    (sym (pages-is w))
+    ∙ ap (λ (n : ℕ). accepted (record { first = getD (k .offs) 0 0; length = length (k .numbers); pages = length (k .offs); padded = n }))
+    (sym (padded-is w))
     ∙ let-through chainEndOf _
     (chain-yes (s d) (last d) (head d) (is d) k (walks w)
     (ap (totalGood (head d .creates)) (length-is w) ∙ sym (c .before .total-good .ensures) ∙ not-false _ (c .if1 .left)))

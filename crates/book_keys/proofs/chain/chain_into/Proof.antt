@@ -12,11 +12,10 @@ use Rattle.buffer.specs.Bytes.{overwrite}
 use Rattle.scripthash_layout.specs.Sizes.{pageSize}
 use Rattle.scripthash_stream.specs.Stream.{Scan}
 use Rattle.scripthash_stream.proofs.LawsLent.{lent, putBack, length-lent}
-use Rattle.scripthash_pages.specs.EntryAnswers.{PageRead, sliceAnswer}
 use Rattle.scripthash_fields.specs.Page.{nextOff}
-use Rattle.scripthash_pages.specs.Entries.{pageReadOf}
 use Rattle.book_keys.specs.Keys.{pageAt, Chain, walk, Ground, ground}
-use Rattle.book_keys.specs.Steps.{pageInto}
+use Rattle.book_keys.specs.Steps.{FillTold, fillTold, pageInto}
+use Rattle.book_keys.specs.Answers.{fillAnswer}
 use Rattle.book_keys.proofs.LawsSound.{was-sound}
 use Rattle.book_keys.proofs.LawsChain.{chain-walks}
 use Rattle.book_keys.proofs.LawsFill.{read-told, page-written, length-put, Filling, filling-as, fill-start, fill-some, Turn}
@@ -67,7 +66,7 @@ module _ (c : tie.After-page-into Inv-loop μ-loop) where
 
   -- what the page tells and leaves where it reads
   reads : (p : Scan) → pageInto (length out - at) s off ≡ accepted p
-      → (sliceAnswer (c .page-into .result) ≡ accepted (pageReadOf (pageAt s off) p)) × (part ≡ overwrite (lent out at) 0 (p .numbers))
+      → (fillAnswer (c .page-into .result) ≡ accepted (fillTold (pageAt s off) p)) × (part ≡ overwrite (lent out at) 0 (p .numbers))
   reads p e = c .page-into .ensures .reads p (ap (λ (n : ℕ). pageInto n s off) room ∙ e)
 
   left : most - turn .before .loop .pages ≡ suc (most - (turn .before .loop .pages + 1))
@@ -85,13 +84,13 @@ module _ (c : tie.After-got Inv-loop μ-loop) where
   abbrev back : tie.After-page-into Inv-loop μ-loop
   back = c .before .before .before .before
 
-  abbrev told : PageRead
+  abbrev told : FillTold
   told = record { count = c .got .given .0 .0; next = c .got .given .0 .1 .0 }
 
   fits : at back + c .got .given .0 .0 ≤ length (out back)
   fits = omega (
     arith,
-    back .page-into .ensures .within told (ap sliceAnswer (c .got .given .1)),
+    back .page-into .ensures .within told (ap fillAnswer (c .got .given .1)),
     room back,
     turn back .before .loop .inv .1,
   )
@@ -107,7 +106,7 @@ module _ (c : tie.After-got Inv-loop μ-loop) where
     told-is : (length (next .page .numbers) ≡ told .count) × (nextOff (pageAt (s back) (off back)) ≡ told .next)
     told-is =
         read-told (pageAt (s back) (off back)) (next .page) told
-        (accepted-inj (sym (reads back (next .page) (next .read) .0) ∙ ap sliceAnswer (c .got .given .1)))
+        (accepted-inj (sym (reads back (next .page) (next .read) .0) ∙ ap fillAnswer (c .got .given .1)))
 
     wrote : putBack (out back) (at back) (part back) ≡ overwrite (out back) (at back) (next .page .numbers)
     wrote =
@@ -152,7 +151,7 @@ same-length c = search needs
 returns : tie.Need-returns Inv-loop μ-loop
 returns c k e first h =
     let b = c .before .before .before .before in
-    let stop = ap sliceAnswer (c .enum-told .given .1) in
+    let stop = ap fillAnswer (c .enum-told .given .1) in
     let walks = chain-walks (s b) (start b .args .last) (start b .args .first) k (was-sound _ e) first in
     let next =
     fill-turn (s b) (start b .args .last) (start b .args .out .now) k (out b) (at b) (off b) (most b - (turn b .before .loop .pages + 1))

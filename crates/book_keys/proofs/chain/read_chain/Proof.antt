@@ -24,7 +24,7 @@ module _ (c : tie.After-got) where
   s = ground (start .args .body .now) (start .args .mark)
 
   abbrev told : ChainEndOf
-  told = record { first = c .got .given .0 .0; length = c .got .given .0 .1 .0; pages = c .got .given .0 .1 .1 .0 }
+  told = record { first = c .got .given .0 .0; length = c .got .given .0 .1 .0; pages = c .got .given .0 .1 .1 .0; padded = c .got .given .0 .1 .1 .1 .0 }
 
   held : (k : Chain) × (soundly (chainAt s (start .args .last)) ≡ accepted k) × (chainEndOf k ≡ told)
   held = was-accepted chainEndOf _ (sym (c .before .before .chain-end .ensures) ∙ ap chainAnswer (c .got .given .1))
@@ -71,7 +71,7 @@ returns-3 c =
     let fits : length (k .0 .numbers) ≤ length (start g .args .out .now) = omega (arith, f .if1 .left, size g) in
     read-listed (start g .args .out .now) _ _ (inPages (k .0))
     (soundly-yes _ (content-pages (s g) (start g .args .last) (k .0) (was-sound _ (k .1)))) _
-    (ap (λ (x : ChainEndOf). record { length = x .length; pages = x .pages }) (k .2)) fits
+    (ap (λ (x : ChainEndOf). record { length = x .length; pages = x .pages; padded = x .padded }) (k .2)) fits
     (c .before .before .chain-into .ensures (k .0) (k .1) (sym (ap (λ (x : ChainEndOf). x .first) (k .2))) fits)
 
 pub read-chain-spec : {M : Type 1} → statement M

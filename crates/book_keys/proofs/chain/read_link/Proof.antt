@@ -1,24 +1,24 @@
 -- `read_link` meets its contract: the scan decides, then the last number, and the first. Assumes nothing.
 use Prim.Native.Nat.{ℕ, _-_, _≤_}
-use mathlib.Core.Bool.{true}
+use mathlib.Core.Bool.{Bool, true}
 use mathlib.Core.List.{List}
 use mathlib.Core.Path.{_≡_, refl, sym, ap, _∙_}
 use native.Mathlib.Omega.{arith}
 use borrow.Author.Needs.{needs}
 use borrow.Author.Tests.{not-true, not-false}
 use lib.ListN.{length, drop, getD}
-use Rattle.error.specs.Refusal.{accepted, refused}
-use Rattle.error.proofs.LawsAnswer.{refused≢accepted, accepted-inj, was-accepted, was-refused}
+use Rattle.error.specs.Refusal.{accepted, refused, answered}
+use Rattle.error.proofs.LawsAnswer.{refused≢accepted, accepted-inj, was-accepted, was-refused, answered-yes}
 use Rattle.buffer.proofs.LawsBytes.{part-to-end}
-use Rattle.compact.specs.Uleb128.{Reading, readUleb}
+use Rattle.compact.specs.Uleb128.{Reading, readUleb, NumberRead, numberRead}
 use Rattle.compact.specs.Answers.{readUlebAnswer}
 use Rattle.scripthash_stream.specs.Stream.{Scan, lastFrom, End, endFrom}
 use Rattle.scripthash_stream.specs.Answers.{scanAnswer}
 use Rattle.scripthash_fields.specs.Page.{linkOf, isLastLink, linkOffset, streamOf}
 use Rattle.scripthash_fields.proofs.LawsFields.{stream-off-within, read-link}
 use Rattle.scripthash_fields.specs.FieldAnswers.{Link, linkAnswer}
-use Rattle.scripthash_pages.specs.Entries.{pageScan}
-use Rattle.book_keys.specs.Steps.{soundLast, linkRead, linkEndOf}
+use Rattle.scripthash_pages.specs.Entries.{pageScan, pagePadded}
+use Rattle.book_keys.specs.Steps.{soundLast, linkRead, LinkEndOf, linkEndOf}
 use Rattle.book_keys.proofs.LawsSound.{turned-back, let-through}
 use Rattle.book_keys.proofs.LawsPages.{field-read, page-read, page-first, some-last, link-no, link-unsound, link-low, link-yes}
 use Rattle.book_keys.proofs.chain.read_link.Statement.{statement}
@@ -58,17 +58,18 @@ module _ (c : tie.After-read-uleb128) where
   back = c .before .before .before
 
   read : readUlebAnswer (c .read-uleb128 .result)
-      ≡ accepted (record { value = getD (got (back .before) .0 .numbers) 0 0; len = first back .0 })
+      ≡ accepted (numberRead (record { value = getD (got (back .before) .0 .numbers) 0 0; len = first back .0 }))
   read =
-      c .read-uleb128 .ensures ∙ ap readUleb (part-to-end (page (back .before)) (c .before .before .stream-off .result))
-      ∙ ap (λ (o : ℕ). readUleb (drop o (page (back .before)))) (c .before .before .stream-off .ensures) ∙ first back .1
+      c .read-uleb128 .ensures ∙ ap (λ (bs : List ℕ). answered numberRead (readUleb bs)) (part-to-end (page (back .before)) (c .before .before .stream-off .result))
+      ∙ ap (λ (o : ℕ). answered numberRead (readUleb (drop o (page (back .before))))) (c .before .before .stream-off .ensures)
+      ∙ answered-yes numberRead _ (first back .1)
 
 module _ (c : tie.After-form) where
   abbrev seen : tie.After-read-uleb128
   seen = c .before .before
 
   value-is : c .form .given .0 .0 ≡ getD (got (back seen .before) .0 .numbers) 0 0
-  value-is = ap (λ (r : Reading). r .value) (accepted-inj (sym (ap readUlebAnswer (c .form .given .1)) ∙ read seen))
+  value-is = ap (λ (r : NumberRead). r .value) (accepted-inj (sym (ap readUlebAnswer (c .form .given .1)) ∙ read seen))
 
 -- its link was read
 module _ (c : tie.After-sh-page-read-packed) where
@@ -86,6 +87,10 @@ module _ (c : tie.After-sh-page-read-packed) where
   yes-read =
       link-yes (page start) (at start .args .prev) (got start .0) (got start .1) (sound (back (seen form)))
       (let v = value-is form in omega (arith, c .before .if2 .left))
+
+-- What is told of a page, from its parts.
+abbrev told : ℕ → ℕ → Bool → ℕ → ℕ → LinkEndOf
+told count fk last next padded = record { count = count; fk = fk; last = last; next = next; padded = padded }
 
 sh-page-stream-tail-requires : tie.Need-sh-page-stream-tail-requires
 sh-page-stream-tail-requires c κs = search needs
@@ -164,25 +169,30 @@ get-u16-requires c κs = search needs
 cast-count : tie.Need-cast-count
 cast-count c = search needs
 
+page-padded-requires : tie.Need-page-padded-requires
+page-padded-requires c κs =
+    let d = start (c .before .before .before .before) in
+    let taken : got d .0 .taken ≡ end d .taken = ap (λ (e : End). e .taken) (got d .2) in
+    (at d .pre, omega (arith, page-read (page d) (got d .0) (got d .1) .taken-fits, taken))
+
 returns-6 : tie.Need-returns-6
-returns-6 c =
+returns-6 p =
+    let c = p .before in
     let l = c .before .before in
     let k = c .before .before .before .before in
     let d = start k in
     let s = got d .0 in
+    let padded : p .page-padded .result ≡ pagePadded (page d) =
+    p .page-padded .ensures s (got d .1) (ap (λ (e : End). e .taken) (got d .2)) in
     let named = accepted-inj (sym (ap linkAnswer (l .link .given .1)) ∙ link k) in
     let counted : c .get-u16 .result ≡ length (s .numbers) = c .get-u16 .ensures ∙ field-read (page d) 1 2
     ∙ sym (page-read (page d) s (got d .1) .counted) in
-    ap (λ (n : ℕ). accepted (record { count = n; fk = end d .last; last = l .link .given .0 .0; next = l .link .given .0 .1 .0 })) counted
-    ∙ ap (λ (e : End). accepted (record {
-      count = length (s .numbers);
-      fk = e .last;
-      last = l .link .given .0 .0;
-      next =
-          l .link .given .0 .1 .0;
-    })) (sym (got d .2))
-    ∙ ap (λ (w : Link). accepted (record { count = length (s .numbers); fk = lastFrom 0 (s .numbers); last = w .last; next = w .off }))
-    named
+    ap (λ (n : ℕ). accepted (told n (end d .last) (l .link .given .0 .0) (l .link .given .0 .1 .0) (p .page-padded .result))) counted
+    ∙ ap (λ (e : End). accepted (told (length (s .numbers)) (e .last) (l .link .given .0 .0) (l .link .given .0 .1 .0)
+    (p .page-padded .result))) (sym (got d .2))
+    ∙ ap (λ (w : Link). accepted (told (length (s .numbers)) (lastFrom 0 (s .numbers)) (w .last) (w .off) (p .page-padded .result))) named
+    ∙ ap (λ (n : ℕ). accepted (told (length (s .numbers)) (lastFrom 0 (s .numbers)) (isLastLink (linkOf (page d)))
+    (linkOffset (linkOf (page d))) n)) padded
     ∙ let-through (linkEndOf (page d)) _ (yes-read k)
 
 pub read-link-spec : {M : Type 1} → statement M
@@ -210,4 +220,5 @@ read-link-spec =
     returns-5
     get-u16-requires
     cast-count
+    page-padded-requires
     returns-6)

@@ -89,7 +89,7 @@ returns-2 c =
     let used = at d .args .used in
     let bytes = span (body d) (off d) (d .slab-bytes .result) (slabBytes (class d)) (size d) in
     c .before .before .slab-list .ensures (s d) (class d) (off d)
-    (slab-yes (s d) (class d) used (off d) (stands d) ∙ sym (ap (λ (bs : List ℕ). slabRead bs used) bytes))
+    (slab-yes (s d) (class d) used (off d) (stands d) ∙ sym (ap (λ (bs : List ℕ). slabRead bs used) bytes)) (sym bytes)
 
 pub read-stored-spec : {M : Type 1} → statement M
 read-stored-spec =
