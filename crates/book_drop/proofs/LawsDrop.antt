@@ -142,7 +142,7 @@ walk-turn (suc k) s last prev off left offs c e met within count =
     inside p is = let size = given-size s off (page-stands s within prev off p is) in let mark =
         release-mark (record { class = pageClass; off = off } ∷ []) s in omega arith
 
-    by-end : (p : Scan) → linkScan (seen s) prev off ≡ accepted p → Ends last off p c → Turn s off left offs
+    by-end : (p : Scan) → linkScan (seen s) prev off ≡ accepted p → Ends (seen s) last off p c → Turn s off left offs
     by-end p is d =
         let all : offs ≡ off ∷ [] = sym met ∙ ap (λ (x : Chain). x .offs) (d .whole) in
         let one = ap length all in

@@ -104,6 +104,7 @@ fn drop_chain(body: &mut [u8], heads: &mut [u64], state: State, key: usize, last
         first,
         length,
         pages,
+        padded: _,
     } = end
     else {
         return refuse_drop(state, error::KEY_UNSOUND);

@@ -19,7 +19,7 @@ use Rattle.book.proofs.LawsKey.{key-broken, key-beyond, key-there}
 
 -- What a read tells of a key that holds some content.
 abbrev pub reading : Content → Listed
-reading c = listing (c .numbers) (c .pages)
+reading c = listing (c .numbers) (c .pages) (c .padded)
 
 -- What a read tells of what a key holds.
 read-fitting : (room : ℕ) (a : Answer Content)
@@ -66,7 +66,7 @@ read-no a out e = (rw e, rw e)
 pub read-yes : (a : Answer Listed) (c : Content) (counts : Counts) (before after : List ℕ) → a ≡ accepted (reading c)
     → countsOf c ≡ counts
     → after ≡ overwrite before 0 (c .numbers)
-    → ReadDoes a before after (accepted (record { length = counts .length; pages = counts .pages }))
+    → ReadDoes a before after (accepted (record { length = counts .length; pages = counts .pages; padded = counts .padded }))
 unfolding answered listAfter
 read-yes a c counts before after e n w = (rw (e, ← n), rw e w)
 
@@ -81,7 +81,7 @@ module _ (a : Answer Listed) (held : Answer Content) (told : Answer Counts) (bef
       rw left (read-no a before (is ∙ answered-no reading _ stop))
 
   pub read-accepted : (counts : Counts) → told ≡ accepted counts
-      → ReadDoes a before after (accepted (record { length = counts .length; pages = counts .pages }))
+      → ReadDoes a before after (accepted (record { length = counts .length; pages = counts .pages; padded = counts .padded }))
   unfolding afterRead
   read-accepted counts e =
       let got = was-accepted countsOf (inRoom (length before) held) (sym (does .0) ∙ e) in

@@ -15,7 +15,7 @@ reads b key room =
     onKey b key
     (andThen (content (seen (b .space)) (wordOf key b))
     (λ c. refuseIf (ltb room (length (c .numbers))) listTooShort
-    (accepted (listing (c .numbers) (c .pages)))))
+    (accepted (listing (c .numbers) (c .pages) (c .padded)))))
 
 -- What a lent list holds after a read: the numbers at its start, or what it held where the read is refused.
 unfoldable pub listAfter : List ℕ → Answer Listed → List ℕ

@@ -4,9 +4,13 @@ ghost use Rattle.error.specs.Refusal.{refusalOf};
 ghost use Rattle.book_read.specs.Answers.{readAnswer};
 use error::Refusal;
 
-// What a read answers: how many numbers the lent list has at its start now, and the pages walked.
+// What a read answers: how many numbers the lent list has at its start now, the pages walked, and how many of the numbers are padded.
 pub enum BookRead {
-    Listed { length: u64, pages: u64 },
+    Listed {
+        length: u64,
+        pages: u64,
+        padded: u64,
+    },
     Refused(Refusal),
 }
 
@@ -19,6 +23,7 @@ impl BookRead {
             BookRead::Listed {
                 length: _,
                 pages: _,
+                padded: _,
             } => 0,
             BookRead::Refused(number) => number,
         }

@@ -26,8 +26,17 @@ pub fn read(body: &[u8], heads: &[u64], state: State, key: u64, out: &mut [u64])
     let word = heads[key as usize];
     let mark = state.mark;
     let counts = book_keys::read_key(body, mark, word, out);
-    let KeyCounts::Counts { length, pages } = counts else {
+    let KeyCounts::Counts {
+        length,
+        pages,
+        padded,
+    } = counts
+    else {
         return BookRead::Refused(counts.refusal());
     };
-    BookRead::Listed { length, pages }
+    BookRead::Listed {
+        length,
+        pages,
+        padded,
+    }
 }

@@ -13,10 +13,11 @@ pub record Appended : Type 0 where
   pub place : ShHeadValue
   pub rewritten : ℕ
 
--- What a read tells: the list, and the pages walked.
+-- What a read tells: the list, the pages walked, and how many of the numbers are stored in padded forms.
 pub record Listed : Type 0 where
   pub numbers : List ℕ
   pub pages : ℕ
+  pub padded : ℕ
 
 -- What a drop tells: how many numbers the key had.
 pub record Dropped : Type 0 where
@@ -29,8 +30,8 @@ loadedIn pages = record { pages = pages }
 abbrev pub appendedTo : ShHeadValue → ℕ → Appended
 appendedTo place rewritten = record { place = place; rewritten = rewritten }
 
-abbrev pub listing : List ℕ → ℕ → Listed
-listing numbers pages = record { numbers = numbers; pages = pages }
+abbrev pub listing : List ℕ → ℕ → ℕ → Listed
+listing numbers pages padded = record { numbers = numbers; pages = pages; padded = padded }
 
 abbrev pub droppedOf : ℕ → Dropped
 droppedOf length = record { length = length }

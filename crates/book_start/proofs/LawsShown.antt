@@ -165,7 +165,7 @@ walk-turn zero s last prev off left offs c e met within count = absurd (refused�
 walk-turn (suc k) s last prev off left offs c e met within count =
     let w = walk-step k s last prev off c e in ⊎-elim (by-end (w .page) (w .is)) (by-rest (w .page) (w .is)) (w .goes)
   where
-    by-end : (p : Scan) → linkScan s prev off ≡ accepted p → Ends last off p c → PageTurn s off left offs
+    by-end : (p : Scan) → linkScan s prev off ≡ accepted p → Ends s last off p c → PageTurn s off left offs
     by-end p is d =
         let all : offs ≡ off ∷ [] = sym met ∙ ap (λ (x : Chain). x .offs) (d .whole) in
         let one = ap length all in

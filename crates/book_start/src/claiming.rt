@@ -74,6 +74,7 @@ fn claim_chain(body: &[u8], mark: u64, work: &mut [u8], last: u64) -> Claiming
         first,
         length: _,
         pages,
+        padded: _,
     } = end
     else {
         return Claiming::Unfit;

@@ -18,7 +18,7 @@ abbrev told : Answers calls
 told =
     changed (accepted (appendedTo (Inline 4 1) 0)) (changed (accepted (droppedOf 1)) (changed (accepted (loadedIn 0)) (changed (refused 32)
     (changed (accepted (appendedTo (Inline 7 1) 0)) (changed (accepted (appendedTo (Slab 0 3 4096) 0))
-    (asked (accepted (listing (5 ∷ 9 ∷ 12 ∷ []) 0)) done))))))
+    (asked (accepted (listing (5 ∷ 9 ∷ 12 ∷ []) 0 0)) done))))))
 
 -- What is recorded for key 0: a drop ends it, a load and an append record, and a change that is turned back or of another key doesn't.
 pub recorded-at : recorded 0 told [] ≡ 5 ∷ 9 ∷ 12 ∷ []

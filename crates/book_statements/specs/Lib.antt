@@ -1,4 +1,5 @@
 pub mod Calls
 pub mod Recorded
+pub mod Padded
 pub mod Licence
 pub mod Moves

@@ -17,7 +17,7 @@ use Rattle.book_rules.specs.Outcomes.{Loaded, Appended, bookAfter, appendedTo, 
 use Rattle.book_statements.specs.Calls.{load, append, read, drop, Call, ask, change, done, asked, changed, answersTo}
 use Rattle.plain_book.specs.Space.{freedAll, takeMark, takeSlab, rounded, takeFresh, takeFrom, runAtMark}
 use Rattle.book_rules.specs.Places.{stays, larger, movesTo, loadsTo}
-use Rattle.plain_book.specs.Key.{Key, slab, written, longer, lastPage, headOf, freedPages, freedPlace, moved, joins, beginPage, keptAs, keyIn}
+use Rattle.plain_book.specs.Key.{Key, slab, written, longer, lastPage, headOf, paddedPages, freedPages, freedPlace, moved, joins, beginPage, keptAs, keyIn}
 use Rattle.plain_book.specs.Key.{appendPages, appendPlace, runPages, loadInto, loadPlace}
 use Rattle.book_statements.specs.Moves.{Tally, noMoves, counted, talliedBy, tallied, tallyOf}
 use Rattle.book_rules.specs.Offered.{offeredNumber, offeredList}
@@ -56,7 +56,7 @@ turned-back = (refl, refl)
 
 -- A list that is loaded tight goes to a slab that has fewer slots than numbers, and moves with the next; a drop frees its block for another key.
 pub loaded-slab : answers (fresh 8192 2) (change (load Tight 0 (inARow 1 14)) ∷ change (append 0 15) ∷ ask (read 0 15) ∷ change (drop 0) ∷ ask (read 0 0) ∷ change (load Tight 1 (inARow 1 40)) ∷ [])
-    ≡ changed (loads-in 0) (changed (at (Slab 2 15 4112) 14) (asked (accepted (listing (inARow 1 15) 0)) (changed (accepted (droppedOf 15)) (asked (accepted (listing [] 0)) (changed (loads-in 0) done)))))
+    ≡ changed (loads-in 0) (changed (at (Slab 2 15 4112) 14) (asked (accepted (listing (inARow 1 15) 0 0)) (changed (accepted (droppedOf 15)) (asked (accepted (listing [] 0 0)) (changed (loads-in 0) done)))))
 unfolding refuseIf andThen divided shortest ulebLen lastFrom streamLenFrom firstClass classFor classWithSlack takeMark takeSlab pastSlabs takeFresh takeFrom
     headOf freedPlace stays larger movesTo loadsTo moved written longer appendPlace loadInto loadPlace outOfShape onKey offeredNumber
     offeredList loads appends reads drops asks does bookAfter answered answersTo inARow
@@ -92,9 +92,9 @@ loaded-run = refl
 -- A page of 4,072 bytes is full, so that the next number begins another. A drop frees the first page first, so that the last one is taken
 -- again, here by a list that moves out of its slab.
 pub full-page : answers (fresh 16384 2) (change (load Spare 0 (inARow 1 4072)) ∷ change (append 0 4073) ∷ ask (read 0 4073) ∷ change (drop 0) ∷ change (load Spare 1 (inARow 1 256)) ∷ change (append 1 257) ∷ [])
-    ≡ changed (loads-in 1) (changed (at (Extent 8192) 0) (asked (accepted (listing (inARow 1 4073) 2)) (changed (accepted (droppedOf 4073)) (changed (loads-in 0) (changed (at (Extent 8192) 256) done)))))
+    ≡ changed (loads-in 1) (changed (at (Extent 8192) 0) (asked (accepted (listing (inARow 1 4073) 2 0)) (changed (accepted (droppedOf 4073)) (changed (loads-in 0) (changed (at (Extent 8192) 256) done)))))
 unfolding refuseIf andThen divided shortest ulebLen lastFrom streamLenFrom firstClass classFor classWithSlack fitting firstPart greedyParts
-    replaceLast largestUpTo blockThen carve freedAll takeMark takeSlab pastSlabs rounded runAtMark takeFresh takeFrom lastPage headOf freedPages freedPlace stays
+    replaceLast largestUpTo blockThen carve freedAll takeMark takeSlab pastSlabs rounded runAtMark takeFresh takeFrom lastPage headOf paddedPages freedPages freedPlace stays
     larger movesTo loadsTo moved joins beginPage appendPages written longer appendPlace runPages loadInto loadPlace outOfShape onKey
     offeredNumber offeredList loads appends reads drops asks does bookAfter answered answersTo inARow
 full-page = refl
@@ -142,12 +142,12 @@ unfolding refuseIf andThen divided shortest ulebLen lastFrom streamLenFrom first
 spare-reached = refl
 
 -- A list found in padded forms, 13 bytes in a slab of 16: a third number fits, and a fourth moves it, where shortest forms would let it
--- stay; its class is by shortest forms.
+-- stay; its class is by shortest forms. A read tells two padded numbers before the move, and none after it.
 pub padded :
-    let found : Key = keyIn (5 ∷ 6 ∷ []) (slab 0 4096 (keptAs (5 ∷ 6 ∷ []) 13)) true in
+    let found : Key = keyIn (5 ∷ 6 ∷ []) (slab 0 4096 (keptAs (5 ∷ 6 ∷ []) 13 2)) true in
     answers (record { size = 8192; keys = found ∷ []; space = record { mark = 4112; stacks = replicate 9 [] } })
-    (change (append 0 7) ∷ change (append 0 8) ∷ ask (read 0 4) ∷ [])
-    ≡ changed (at (Slab 0 3 4096) 0) (changed (at (Slab 1 4 4112) 3) (asked (accepted (listing (5 ∷ 6 ∷ 7 ∷ 8 ∷ []) 0)) done))
+    (change (append 0 7) ∷ ask (read 0 4) ∷ change (append 0 8) ∷ ask (read 0 4) ∷ [])
+    ≡ changed (at (Slab 0 3 4096) 0) (asked (accepted (listing (5 ∷ 6 ∷ 7 ∷ []) 0 2)) (changed (at (Slab 1 4 4112) 3) (asked (accepted (listing (5 ∷ 6 ∷ 7 ∷ 8 ∷ []) 0 0)) done)))
 unfolding refuseIf andThen divided shortest ulebLen lastFrom streamLenFrom firstClass classFor classWithSlack takeMark takeSlab pastSlabs takeFresh takeFrom
     headOf freedPlace stays larger movesTo moved written longer appendPlace outOfShape onKey offeredNumber appends reads asks does bookAfter
     answered answersTo

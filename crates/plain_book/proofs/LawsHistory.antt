@@ -13,7 +13,7 @@ use Rattle.error.specs.Refusal.{Answer, accepted, refused, answered, shapeBad, 
 use Rattle.error.proofs.LawsAnswer.{accepted-inj, passed, went-on}
 use Rattle.scripthash_stream.specs.Stream.{Rising, lastFrom}
 use Rattle.plain_book.specs.Space.{Space}
-use Rattle.plain_book.specs.Key.{Key, emptyKey, headOf, pagesOf, freedPlace, countedAfter, Placed, keyIn}
+use Rattle.plain_book.specs.Key.{Key, emptyKey, headOf, pagesOf, paddedOf, freedPlace, countedAfter, Placed, keyIn}
 use Rattle.plain_book.specs.Key.{appendPlace, loadPlace}
 use Rattle.book_rules.specs.declared.places.SlabFit.{SlabFit}
 use Rattle.book_rules.specs.Outcomes.{Loaded, Appended, Listed, Dropped, loadedIn, appendedTo, listing, droppedOf, bookAfter, answerOf}
@@ -67,7 +67,7 @@ append-did b key n e =
     (p, within, rises, low, append-cases (b .size) _ _ n (b .space) (keyOf key b .place) got, sym (accepted-inj is))
 
 pub read-did : (b : Book) (key room : ℕ) {l : Listed} → reads b key room ≡ accepted l
-    → (key < length (b .keys)) × (l ≡ listing (keyOf key b .list) (pagesOf (keyOf key b .place)))
+    → (key < length (b .keys)) × (l ≡ listing (keyOf key b .list) (pagesOf (keyOf key b .place)) (paddedOf (keyOf key b .place)))
 unfolding reads
 read-did b key room e =
     let (within, e1) = on-key b key _ e in

@@ -19,7 +19,7 @@ use Rattle.book_statements.specs.Moves.{noMoves}
 use Rattle.book_statements.specs.Recorded.{recordedBy, recordedAfter, recorded}
 use Rattle.book_statements.specs.Licence.{AnsweredBy, Licensed}
 use Rattle.plain_book.specs.Space.{Space}
-use Rattle.plain_book.specs.Key.{Key, emptyKey, Place, empty, inline, slab, pages, pagesOf, keyIn}
+use Rattle.plain_book.specs.Key.{Key, emptyKey, Place, empty, inline, slab, pages, pagesOf, paddedOf, keyIn}
 use Rattle.plain_book.specs.Book.{Book, fresh, Outcome, onKey, keyOf, withKey, inUse, reads, does, after, answers, asks}
 use Rattle.plain_book.specs.Sound.{Fits, SoundKey}
 use Rattle.plain_book.proofs.LawsHistory.{load-did, append-did, read-did, drop-did, fresh-key, kept-call}
@@ -95,7 +95,7 @@ recorded-fresh size heads key cs =
 
 -- An accepted read tells the key's list, and its pages.
 pub read-told : (b : Book) (key room : ℕ) {l : Listed} → reads b key room ≡ accepted l
-    → l ≡ listing (keyOf key b .list) (pagesOf (keyOf key b .place))
+    → l ≡ listing (keyOf key b .list) (pagesOf (keyOf key b .place)) (paddedOf (keyOf key b .place))
 read-told b key room e = read-did b key room e .1
 
 -- What a refusal came from: the test, or what comes after it.

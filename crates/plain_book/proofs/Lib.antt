@@ -6,6 +6,7 @@ pub mod LawsHistory
 pub mod LawsSlabs
 pub mod LawsSound
 pub mod LawsShortest
+pub mod LawsPadded
 pub mod LawsTotals
 pub mod LawsCeilings
 pub mod LawsSpare

@@ -17,7 +17,7 @@ use Rattle.book_statements.specs.Calls.{answersTo}
 use Rattle.book_rules.specs.Offered.{offeredNumber, offeredList}
 use Rattle.book_limits.specs.Limits.{outOfShape}
 use Rattle.plain_book.specs.Space.{Space}
-use Rattle.plain_book.specs.Key.{Place, empty, inline, slab, pages, Key, emptyKey, headOf, pagesOf, freedPlace, countedAfter, keyIn}
+use Rattle.plain_book.specs.Key.{Place, empty, inline, slab, pages, Key, emptyKey, headOf, pagesOf, paddedOf, freedPlace, countedAfter, keyIn}
 use Rattle.plain_book.specs.Key.{appendPlace, loadPlace}
 
 -- A plain book: the length of the body that it stands for, its keys, and its space.
@@ -93,7 +93,7 @@ unfoldable pub reads : Book → ℕ → ℕ → Answer Listed
 reads b key room =
     onKey b key
     (refuseIf (ltb room (length (keyOf key b .list))) listTooShort
-    (accepted (listing (keyOf key b .list) (pagesOf (keyOf key b .place)))))
+    (accepted (listing (keyOf key b .list) (pagesOf (keyOf key b .place)) (paddedOf (keyOf key b .place)))))
 
 -- A drop of a key: its place is freed.
 unfoldable pub drops : Book → ℕ → Answer (Outcome Dropped)

@@ -17,22 +17,23 @@ use Rattle.book_limits.specs.Limits.{totalTold}
 use Rattle.book_rules.specs.Places.{stays, movesTo, loadsTo}
 use Rattle.plain_book.specs.Space.{Space, freed, takeBlock, takeRun}
 
--- A stream as it is kept in a slab or a page: its numbers, and how many bytes it takes.
+-- A stream as it is kept in a slab or a page: its numbers, how many bytes it takes, and how many of the numbers have a padded form.
 pub record Kept : Type 0 where
   pub numbers : List ℕ
   pub bytes : ℕ
+  pub padded : ℕ
 
 -- One from its parts.
-abbrev pub keptAs : List ℕ → ℕ → Kept
-keptAs numbers bytes = record { numbers = numbers; bytes = bytes }
+abbrev pub keptAs : List ℕ → ℕ → ℕ → Kept
+keptAs numbers bytes padded = record { numbers = numbers; bytes = bytes; padded = padded }
 
 -- A list written anew: in shortest forms.
 unfoldable pub written : List ℕ → Kept
-written ns = keptAs ns (streamLen ns)
+written ns = keptAs ns (streamLen ns) 0
 
 -- A kept stream with one number more behind it, in its shortest form.
 unfoldable pub longer : ℕ → Kept → Kept
-longer n k = keptAs (k .numbers ++ (n ∷ [])) (k .bytes + ulebLen (n - lastFrom 0 (k .numbers)))
+longer n k = keptAs (k .numbers ++ (n ∷ [])) (k .bytes + ulebLen (n - lastFrom 0 (k .numbers))) (k .padded)
 
 -- A page: its offset, how many bytes of a stream it has room for, and the part of the list that it holds.
 pub record Page : Type 0 where
@@ -88,6 +89,18 @@ pagesOf empty = 0
 pagesOf inline = 0
 pagesOf (slab class off kept) = 0
 pagesOf (pages ps) = length ps
+
+-- How many numbers of some pages have a padded form.
+unfoldable pub paddedPages : List Page → ℕ
+paddedPages [] = 0
+paddedPages (p ∷ ps) = p .part .padded + paddedPages ps
+
+-- How many numbers of a place have a padded form: none in a head word.
+abbrev pub paddedOf : Place → ℕ
+paddedOf empty = 0
+paddedOf inline = 0
+paddedOf (slab class off kept) = kept .padded
+paddedOf (pages ps) = paddedPages ps
 
 -- Pages freed, the first first.
 unfoldable pub freedPages : List Page → Space → Space

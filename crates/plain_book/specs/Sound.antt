@@ -9,7 +9,7 @@ use Rattle.scripthash_stream.specs.Stream.{Rising, lastFrom, streamLen}
 use Rattle.scripthash_cutting.specs.Cutting.{pageRoom, lastPageRoom}
 use Rattle.book_limits.specs.Limits.{slabsEnd}
 use Rattle.book_rules.specs.Places.{payloadLen}
-use Rattle.plain_book.specs.Key.{Kept, Page, Place, empty, inline, slab, pages, Key}
+use Rattle.plain_book.specs.Key.{Kept, Page, Place, empty, inline, slab, pages, paddedOf, Key}
 
 -- The numbers that pages hold, in order.
 unfoldable pub held : List Page → List ℕ
@@ -76,3 +76,7 @@ ShortestPlace empty = Unit {0}
 ShortestPlace inline = Unit {0}
 ShortestPlace (slab class off kept) = Shortest kept
 ShortestPlace (pages ps) = ShortestPages ps
+
+-- None of the numbers at a place has a padded form.
+unfoldable pub Unpadded : Place → Type 0
+Unpadded place = paddedOf place ≡ 0

@@ -52,7 +52,7 @@ returns c =
     let b = book t in
     let key = t .args .key in
     does-same
-    (drop-yes b key Empty (record { numbers = []; blocks = []; pages = 0 }) 0 (b .space) (content-empty (seen (b .space))) refl
+    (drop-yes b key Empty (record { numbers = []; blocks = []; pages = 0; padded = 0 }) 0 (b .space) (content-empty (seen (b .space))) refl
     (sym (release-none (b .space)))
     ∙ ap (dropsAt b key) (sym (d .enum-told .given .1)))
     (c .before .before .accept-drop .ensures b (t .args .body .now) refl)
@@ -69,7 +69,7 @@ returns-2 c =
     let entry = d .enum-told2 .given .0 .0 in
     let used = d .enum-told2 .given .0 .1 .0 in
     does-same
-    (drop-yes b key (Inline entry used) (record { numbers = entry ∷ []; blocks = []; pages = 0 }) 1 (b .space)
+    (drop-yes b key (Inline entry used) (record { numbers = entry ∷ []; blocks = []; pages = 0; padded = 0 }) 1 (b .space)
     (content-inline (seen (b .space)) entry used) refl
     (sym (release-none (b .space))) ∙ ap (dropsAt b key) (sym (d .enum-told2 .given .1)))
     (c .before .before .accept-drop2 .ensures b (t .args .body .now) refl)
