@@ -8,22 +8,23 @@ use mathlib.Core.Path.{_≡_, refl, sym, ap, _∙_}
 use native.Mathlib.Omega.{arith}
 use borrow.Author.Tests.{eq-eqb}
 use lib.Dec.{eqb}
-use lib.ListN.{length}
+use lib.ListN.{length, drop}
 use Rattle.error.specs.Refusal.{accepted}
 use Rattle.buffer.specs.LittleEndian.{littleEndian}
 use Rattle.buffer.proofs.LawsOrder.{lt-or-ge}
 use Rattle.compact.specs.Uleb128.{ulebLen}
 use Rattle.scripthash_layout.specs.Sizes.{pageSize}
-use Rattle.scripthash_stream.specs.Stream.{Scan, scan}
+use Rattle.scripthash_stream.specs.Stream.{Scan, scan, paddedIn}
 use Rattle.scripthash_fields.specs.Page.{field, setField, versionOf, linkOf, extentBaseOf, extentCountOf, createsFieldOf, namesExtent}
-use Rattle.scripthash_fields.specs.Page.{streamOff, streamCap}
+use Rattle.scripthash_fields.specs.Page.{countOf, streamOff, streamCap}
 use Rattle.scripthash_fields.specs.Page.{isLastLink, linkOffset, linkTo, extentNamed}
 use Rattle.scripthash_fields.proofs.LawsPage.{length-setField, field-set, field-apart, drop-setField, link-fits}
 use Rattle.scripthash_fields.proofs.LawsFields.{stream-off-within}
-use Rattle.scripthash_pages.specs.Entries.{streamPlace, pageScan, lastOf, Spot, spotBehind, withAppended}
+use Rattle.scripthash_pages.specs.Entries.{streamPlace, pageScan, pagePadded, lastOf, Spot, spotBehind, withAppended}
 use Rattle.scripthash_pages.proofs.LawsEntries.{scan-placed, place-accepted, scan-yes}
 use Rattle.scripthash_pages.proofs.LawsAppend.{Roomy, scan-ends, spot-full, spot-room}
 use Rattle.scripthash_pages.proofs.LawsAppended.{withLast, appended-long, appended-version, appended-header, appended-scan}
+use Rattle.scripthash_pages.proofs.LawsAppended.{appended-padded}
 use Rattle.book_blocks.specs.Blocks.{totalWith, pageWith, pageBefore}
 use Rattle.book_blocks.proofs.LawsTotals.{total-fits}
 use Rattle.book_blocks.proofs.LawsReadsPage.{link-told, LastReads, LinkReads}
@@ -54,6 +55,18 @@ scan-kept page o k n s behind before scans =
 -- and whether the page names an extent
 names-kept : (page : List ℕ) (o k n : ℕ) → 3 ≤ o → o + k ≤ length page → namesExtent (setField page o k n) ≡ namesExtent page
 names-kept page o k n behind inside = ap (λ (v : ℕ). eqb v 2) (field-apart page o k n inside 0 1 (inl (omega arith)))
+
+-- and how many numbers are padded
+pub padded-kept : (page : List ℕ) (o k n : ℕ) → 3 ≤ o → o + k ≤ streamOff page → streamOff page ≤ length page
+    → pagePadded (setField page o k n) ≡ pagePadded page
+unfolding pagePadded
+padded-kept page o k n behind before long =
+    let after = setField page o k n in
+    let inside : o + k ≤ length page = omega arith in
+    let off : streamOff after ≡ streamOff page = ap (λ (b : Bool). cond b 24 8) (names-kept page o k n behind inside) in
+    ap (λ (m : ℕ). paddedIn m (drop (streamOff after) after)) (field-apart page o k n inside 1 2 (inl (omega arith)))
+    ∙ ap (λ (i : ℕ). paddedIn (countOf page) (drop i after)) off
+    ∙ ap (paddedIn (countOf page)) (drop-setField page o k n inside (streamOff page) (omega arith))
 
 -- the stream of a page that names an extent starts at byte 24
 pub extent-start : (page : List ℕ) → namesExtent page ≡ true → streamOff page ≡ 24
@@ -95,6 +108,7 @@ pub record MoreReads (page after : List ℕ) (s : Scan) (creates : ℕ) : Type 0
   pub extents : extentCountOf after ≡ extentCountOf page
   pub counts : createsFieldOf after ≡ totalWith creates
   pub room : streamCap after ≡ streamCap page
+  pub padded : pagePadded after ≡ pagePadded page
 
 module _ (page : List ℕ) (n creates : ℕ) (s : Scan) (w : Spot) (scans : pageScan page ≡ accepted s) (names : namesExtent page ≡ true)
     (above : lastOf s < n) (below : n < 2 ^ 63) (spot : spotBehind page n s ≡ some w) where
@@ -149,6 +163,8 @@ module _ (page : List ℕ) (n creates : ℕ) (s : Scan) (w : Spot) (scans : page
         extents = header 16 4 (omega arith) (omega arith);
         counts = field-set grown 20 4 (totalWith creates) inside (total-fits creates);
         room = ap (λ (b : Bool). pageSize - cond b 24 8) (after-names ∙ sym names);
+        padded = padded-kept grown 20 4 (totalWith creates) (omega arith) (omega (arith, extent-start grown grown-names))
+            (omega (arith, stream-off-within grown, grown-long)) ∙ appended-padded page n w roomy;
       }
 
 -- so a key's last page stays one
@@ -211,3 +227,11 @@ module _ (page : List ℕ) (next : ℕ) (s : Scan) (scans : pageScan page ≡ ac
         to = told .1;
         room = ap (λ (o : ℕ). pageSize - o) (extent-start (pageBefore page next) page-before-names);
       }
+
+  -- and has as many padded numbers
+  pub page-before-padded : pagePadded (pageBefore page next) ≡ pagePadded page
+  unfolding pageBefore
+  page-before-padded =
+      padded-kept tied 20 4 0 (omega arith) (omega (arith, extent-start tied tied-names)) (omega (arith, extent-start tied tied-names, tied-long))
+      ∙ padded-kept page 3 5 (linkTo false next) (omega arith) (omega (arith, extent-start page names))
+      (omega (arith, extent-start page names, page-long))

@@ -16,8 +16,8 @@ use Rattle.scripthash_fields.proofs.LawsPage.{link-last, link-offset, link-fits
 use Rattle.scripthash_fields.proofs.LawsPage.{length-delta, delta-version, delta-link, length-extent, extent-version, extent-link}
 use Rattle.scripthash_fields.proofs.LawsPage.{extent-base, extent-pages, extent-creates}
 use Rattle.scripthash_fields.proofs.LawsFields.{extent-good, stream-off-extent, stream-off-other}
-use Rattle.scripthash_pages.specs.Entries.{pageScan}
-use Rattle.scripthash_pages.proofs.LawsPacked.{delta-scan, extent-scan}
+use Rattle.scripthash_pages.specs.Entries.{pageScan, pagePadded}
+use Rattle.scripthash_pages.proofs.LawsPacked.{delta-scan, extent-scan, delta-padded, extent-padded}
 use Rattle.book_blocks.specs.Blocks.{lastPageOf, pageTo}
 
 -- ---- links
@@ -89,3 +89,11 @@ page-to-reads next ns rises fits aligned named =
       to = told .1;
       room = ap (λ (o : ℕ). pageSize - o) (stream-off-other page (λ (e : versionOf page ≡ 2). omega arith));
     }
+
+-- neither has a padded number
+pub last-page-padded : (first base extents creates : ℕ) (ns : List ℕ) → Rising (2 ^ 63) 0 ns → streamLen ns ≤ 4072
+    → pagePadded (lastPageOf first base extents creates ns) ≡ 0
+last-page-padded first base extents creates ns rises fits = extent-padded ns rises fits (linkTo true first) base extents creates
+
+pub page-to-padded : (next : ℕ) (ns : List ℕ) → Rising (2 ^ 63) 0 ns → streamLen ns ≤ 4088 → pagePadded (pageTo next ns) ≡ 0
+page-to-padded next ns rises fits = delta-padded ns rises fits (linkTo false next)

@@ -1,7 +1,7 @@
 -- What a slab reads as once it is written: a whole payload, and one number more behind what it held. Assumes nothing.
 use Prim.Native.Nat.{ℕ, _+_, _-_, _^_, _≤_, _<_}
 use mathlib.Core.List.{List, _++_, append-assoc}
-use mathlib.Core.Path.{_≡_, sym, ap, _∙_}
+use mathlib.Core.Path.{_≡_, refl, sym, ap, _∙_}
 use native.Mathlib.Numerals.{add-one}
 use native.Mathlib.Omega.{arith}
 use lib.ListN.{length, take, drop, take-append-drop}
@@ -14,10 +14,11 @@ use Rattle.buffer.proofs.LawsOverwrite.{part-before}
 use Rattle.buffer.proofs.LawsLittleEndian.{littleEndian-bytesOf}
 use Rattle.compact.specs.Uleb128.{ulebLen, shortest}
 use Rattle.compact.proofs.LawsLength.{length-shortest}
-use Rattle.scripthash_stream.specs.Stream.{maxOffered, Rising, Scan, streamLen, scan, decodeStream}
+use Rattle.scripthash_stream.specs.Stream.{maxOffered, Rising, Scan, streamLen, scan, paddedIn, decodeStream}
 use Rattle.scripthash_stream.proofs.LawsScan.{scan-accepted}
 use Rattle.scripthash_stream.proofs.LawsDecode.{decode-fits, decode-accepted}
-use Rattle.scripthash_slabs.specs.Slab.{slabPayload, slabUsed, decodeSlab}
+use Rattle.scripthash_stream.proofs.LawsPadded.{padded-written, padded-more}
+use Rattle.scripthash_slabs.specs.Slab.{slabPayload, slabUsed, slabPadded, decodeSlab}
 use Rattle.scripthash_slabs.proofs.LawsSlab.{unslab-as-stream, unslab-payload}
 use Rattle.scripthash_fields.specs.Page.{field, setField}
 use Rattle.scripthash_fields.proofs.LawsPage.{length-setField, field-set, drop-setField}
@@ -41,6 +42,16 @@ slab-written block ns starts rises few =
       counts = ap slabUsed (sym whole) ∙ littleEndian-bytesOf 2 (length ns) (omega arith);
       reads = ap (decodeSlab (length ns)) (sym whole) ∙ unslab-payload (length ns) ns rest rises few (omega arith);
     }
+
+-- and has no padded number
+pub slab-written-padded : (block ns : List ℕ) → part block 0 (2 + streamLen ns) ≡ slabPayload ns → Rising (2 ^ 63) 0 ns
+    → length ns ≤ maxOffered → slabPadded block ≡ 0
+unfolding part slabPayload slabPadded
+slab-written-padded block ns starts rises few =
+    let rest = drop (2 + streamLen ns) block in
+    let whole : slabPayload ns ++ rest ≡ block = ap (λ (b : List ℕ). b ++ rest) (sym starts) ∙ take-append-drop (2 + streamLen ns) block in
+    ap (λ (m : ℕ). paddedIn m (drop 2 block)) (slab-written block ns starts rises few .counts)
+    ∙ ap (λ (b : List ℕ). paddedIn (length ns) (drop 2 b)) (sym whole) ∙ padded-written ns rest rises
 
 -- a slab with a form written behind its numbers is as long as before
 pub slab-with-long : (block : List ℕ) (used taken difference : ℕ) → 2 + taken + ulebLen difference ≤ length block
@@ -105,17 +116,30 @@ module _ (block : List ℕ) (used n : ℕ) (s : Scan) (r : SlabReads block used 
       ∙ ap (λ (b : List ℕ). take (s .taken) b ++ (form ++ rest))
       (drop-setField block 0 2 (used + 1) (omega (arith, fits)) 2 (omega arith))
 
-  -- a slab with one number more written behind its numbers reads as them and that one
-  pub slab-more : SlabReads after (used + 1) (withLast 0 s n)
-  slab-more =
+  -- which scans as its numbers and that one
+  more-scanned : scan (used + 1) (drop 2 after) ≡ accepted (withLast 0 s n)
+  more-scanned =
       let known = slab-scans r (omega (arith, fits)) in
-      let long : 2 ≤ length after = omega (arith, slab-with-long block used (s .taken) (n - lastOf s) fits, fits) in
-      let scanned : scan (used + 1) (drop 2 after) ≡ accepted (withLast 0 s n) =
       ap (scan (used + 1)) more-stream
       ∙ ap (λ (k : ℕ). scan k (take (s .taken) (drop 2 block) ++ (form ++ rest))) (add-one used)
-      ∙ scan-snoc 0 used (drop 2 block) rest s n (known .1) above below in
+      ∙ scan-snoc 0 used (drop 2 block) rest s n (known .1) above below
+
+  -- a slab with one number more written behind its numbers has as many padded ones as before
+  pub slab-more-padded : slabPadded after ≡ slabPadded block
+  unfolding slabPadded
+  slab-more-padded =
+      let known = slab-scans r (omega (arith, fits)) in
+      ap (λ (m : ℕ). paddedIn m (drop 2 after)) more-counts
+      ∙ padded-more used (used + 1) (n - lastOf s) (drop 2 block) (drop 2 after) rest s (withLast 0 s n) (omega (arith, above)) (known .1)
+      more-scanned refl more-stream
+      ∙ ap (λ (m : ℕ). paddedIn m (drop 2 block)) (sym (r .counts))
+
+  -- and reads as them and that one
+  pub slab-more : SlabReads after (used + 1) (withLast 0 s n)
+  slab-more =
+      let long : 2 ≤ length after = omega (arith, slab-with-long block used (s .taken) (n - lastOf s) fits, fits) in
       record {
         counts = more-counts;
         reads = unslab-as-stream (used + 1) after long ∙ ap (λ (k : ℕ). decodeStream (used + 1) k (drop 2 after)) more-counts
-            ∙ decode-fits (used + 1) (used + 1) (drop 2 after) scanned (omega arith);
+            ∙ decode-fits (used + 1) (used + 1) (drop 2 after) more-scanned (omega arith);
       }

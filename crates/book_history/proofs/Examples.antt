@@ -7,14 +7,14 @@ use Rattle.scripthash_layout.specs.declared.head.ShHeadValue.{ShHeadValue}
 use Rattle.scripthash_layout.specs.declared.head.ShHeadValue.the-variants.{Inline, Slab, Extent}
 use Rattle.error.specs.Refusal.{Answer, accepted, refused, refuseIf, andThen, answered}
 use Rattle.buffer.specs.Bytes.{part, overwrite}
-use Rattle.compact.specs.Uleb128.{isForm, value, formAt, overflows, readForm, readUleb, divided, ulebLen, shortest}
+use Rattle.compact.specs.Uleb128.{isForm, value, formAt, overflows, readForm, readUleb, divided, ulebLen, shortest, padded as isPadded}
 use Rattle.scripthash_layout.specs.Head.{slabWord, packHead, unpackHead}
-use Rattle.scripthash_stream.specs.Stream.{lastFrom, streamFrom, streamLenFrom, storedNumber, nextNumber, scanFrom, decodeStream}
+use Rattle.scripthash_stream.specs.Stream.{lastFrom, streamFrom, streamLenFrom, storedNumber, nextNumber, scanFrom, paddedIn, decodeStream}
 use Rattle.scripthash_slabs.specs.Class.{firstClass, classFor, classWithSlack}
-use Rattle.scripthash_slabs.specs.Slab.{slabPayload, decodeSlab}
+use Rattle.scripthash_slabs.specs.Slab.{slabPayload, slabPadded, decodeSlab}
 use Rattle.scripthash_cutting.specs.Cutting.{fitting, firstPart, greedyParts, replaceLast}
 use Rattle.scripthash_fields.specs.Page.{field, setField, createsFieldOf, nextOff, deltaHeader, extentHeader, pageOf}
-use Rattle.scripthash_pages.specs.Entries.{streamPlace, pageScan, spotBehind, oneMore, withAppended}
+use Rattle.scripthash_pages.specs.Entries.{streamPlace, pageScan, pagePadded, spotBehind, oneMore, withAppended}
 use Rattle.scripthash_free.specs.FreeList.{isBlock, pushed, popFree, largestUpTo, blockThen, carve, pushAll}
 use Rattle.book_rules.specs.declared.places.SlabFit.the-variants.{Spare}
 use Rattle.book_rules.specs.Outcomes.{Loaded, Appended, Listed, bookAfter, appendedTo, droppedOf, listing, loadedIn}
@@ -35,10 +35,10 @@ use Rattle.book_history.specs.Calls.{asks, serves, after, does}
 
 -- The answers to some calls of a book that does so with each, so that they can be computed.
 unfoldable pub computed : Serves Book → Book → (cs : List Call) → Answers cs
-unfolding refuseIf andThen answered part overwrite isForm value formAt overflows readForm readUleb divided ulebLen shortest packHead
-    unpackHead lastFrom streamFrom streamLenFrom storedNumber nextNumber scanFrom decodeStream firstClass classFor classWithSlack
+unfolding refuseIf andThen answered part overwrite isForm value formAt overflows readForm readUleb divided ulebLen shortest isPadded packHead
+    unpackHead lastFrom streamFrom streamLenFrom storedNumber nextNumber scanFrom paddedIn decodeStream firstClass classFor classWithSlack
     slabPayload
-    decodeSlab fitting firstPart greedyParts replaceLast field setField nextOff deltaHeader extentHeader pageOf streamPlace pageScan
+    decodeSlab fitting firstPart greedyParts replaceLast field setField nextOff deltaHeader extentHeader pageOf slabPadded streamPlace pageScan pagePadded
     spotBehind oneMore withAppended isBlock pushed popFree largestUpTo blockThen carve pushAll bookAfter answersTo outOfShape offeredNumber
     offeredList stays larger movesTo loadsTo markBad shapeBroken takeMark takeSlab popEnd rounded runAtMark takeFresh takePopped takeBlock release soundly
     sure
@@ -60,8 +60,8 @@ abbrev loads-in : ℕ → Answer Loaded
 loads-in pages = accepted (loadedIn pages)
 
 -- A read that is accepted.
-abbrev lists-as : List ℕ → ℕ → Answer Listed
-lists-as ns pages = accepted (listing ns pages)
+abbrev lists-as : List ℕ → ℕ → ℕ → Answer Listed
+lists-as ns pages padded = accepted (listing ns pages padded)
 
 -- k numbers in a row, from n on.
 unfoldable pub inARow : ℕ → ℕ → List ℕ
@@ -75,7 +75,7 @@ bodyOf size = replicate size 165
 -- 5, 300, 301, 302, 303 to key 0 move at 300 and at 303; 9, 10 to key 1 take the block that was freed.
 pub run-case : runs (fresh (bodyOf 8192) 2)
     (change (append 0 5) ∷ change (append 0 300) ∷ change (append 0 301) ∷ change (append 0 302) ∷ change (append 0 303) ∷ change (append 1 9) ∷ change (append 1 10) ∷ ask (read 0 5) ∷ ask (read 1 2) ∷ [])
-    ≡ changed (at (Inline 5 1) 0) (changed (at (Slab 0 2 4096) 1) (changed (at (Slab 0 3 4096) 0) (changed (at (Slab 0 4 4096) 0) (changed (at (Slab 1 5 4112) 4) (changed (at (Inline 9 1) 0) (changed (at (Slab 0 2 4096) 1) (asked (lists-as (5 ∷ 300 ∷ 301 ∷ 302 ∷ 303 ∷ []) 0) (asked (lists-as (9 ∷ 10 ∷ []) 0) done))))))))
+    ≡ changed (at (Inline 5 1) 0) (changed (at (Slab 0 2 4096) 1) (changed (at (Slab 0 3 4096) 0) (changed (at (Slab 0 4 4096) 0) (changed (at (Slab 1 5 4112) 4) (changed (at (Inline 9 1) 0) (changed (at (Slab 0 2 4096) 1) (asked (lists-as (5 ∷ 300 ∷ 301 ∷ 302 ∷ 303 ∷ []) 0 0) (asked (lists-as (9 ∷ 10 ∷ []) 0 0) done))))))))
 unfolding computed
 run-case = refl
 
@@ -83,21 +83,21 @@ run-case = refl
 pub turned-back : (runs (fresh (bodyOf 4096) 1) (ask (read 0 0) ∷ [])
     ≡ asked (refused 1) done)
     × (runs (fresh (bodyOf 8192) 1) (change (append 1 5) ∷ change (append 0 0) ∷ change (append 0 (2 ^ 63)) ∷ change (append 0 (2 ^ 62)) ∷ change (append 0 5) ∷ change (append 0 5) ∷ change (load Spare 0 []) ∷ ask (read 0 0) ∷ change (drop 0) ∷ ask (read 0 0) ∷ [])
-    ≡ changed (refused 2) (changed (refused 12) (changed (refused 13) (changed (refused 14) (changed (at (Inline 5 1) 0) (changed (refused 32) (changed (refused 3) (asked (refused 34) (changed (accepted (droppedOf 1)) (asked (lists-as [] 0) done))))))))))
+    ≡ changed (refused 2) (changed (refused 12) (changed (refused 13) (changed (refused 14) (changed (at (Inline 5 1) 0) (changed (refused 32) (changed (refused 3) (asked (refused 34) (changed (accepted (droppedOf 1)) (asked (lists-as [] 0 0) done))))))))))
 unfolding computed
 turned-back = (refl, refl)
 
 -- A page of 4,072 bytes is full, so that the next number begins another. A drop frees the first page first, so that the last one is taken
 -- again, here by a list that moves out of its slab.
 pub full-page : runs (fresh (bodyOf 16384) 2) (change (load Spare 0 (inARow 1 4072)) ∷ change (append 0 4073) ∷ change (append 0 4074) ∷ ask (read 0 4074) ∷ change (drop 0) ∷ change (load Spare 1 (inARow 1 256)) ∷ change (append 1 257) ∷ ask (read 1 257) ∷ [])
-    ≡ changed (loads-in 1) (changed (at (Extent 8192) 0) (changed (at (Extent 8192) 0) (asked (lists-as (inARow 1 4074) 2) (changed (accepted (droppedOf 4074)) (changed (loads-in 0) (changed (at (Extent 8192) 256) (asked (lists-as (inARow 1 257) 1) done)))))))
+    ≡ changed (loads-in 1) (changed (at (Extent 8192) 0) (changed (at (Extent 8192) 0) (asked (lists-as (inARow 1 4074) 2 0) (changed (accepted (droppedOf 4074)) (changed (loads-in 0) (changed (at (Extent 8192) 256) (asked (lists-as (inARow 1 257) 1 0) done)))))))
 unfolding computed inARow
 full-page = refl
 
 -- A list of 4,073 goes to a run of two pages, behind the mark rounded up; the body is full then, but the gap before the run was carved.
 pub loaded-run : runs (fresh (bodyOf 16384) 3)
     (change (append 0 1) ∷ change (append 0 2) ∷ change (load Spare 1 (inARow 1 4073)) ∷ change (append 1 4074) ∷ change (load Spare 2 (inARow 1 300)) ∷ change (load Spare 2 (inARow 1 256)) ∷ ask (read 1 4074) ∷ [])
-    ≡ changed (at (Inline 1 1) 0) (changed (at (Slab 0 2 4096) 1) (changed (loads-in 2) (changed (at (Extent 12288) 0) (changed (refused 36) (changed (loads-in 0) (asked (lists-as (inARow 1 4074) 2) done))))))
+    ≡ changed (at (Inline 1 1) 0) (changed (at (Slab 0 2 4096) 1) (changed (loads-in 2) (changed (at (Extent 12288) 0) (changed (refused 36) (changed (loads-in 0) (asked (lists-as (inARow 1 4074) 2 0) done))))))
 unfolding computed inARow
 loaded-run = refl
 
@@ -109,7 +109,7 @@ pub damaged : (runs (book (bodyOf 8192) (slabWord 0 2 4096 ∷ []) 4112 (replica
     × (runs (book (bodyOf 8192) (5 ∷ []) 4112 (4104 ∷ replicate 8 0)) (change (append 0 6) ∷ change (append 0 5) ∷ [])
     ≡ changed (refused 35) (changed (refused 32) done))
     × (runs (book (bodyOf 8192) (5 ∷ []) 8192 (replicate 9 0)) (change (append 0 6) ∷ ask (read 0 1) ∷ [])
-    ≡ changed (refused 36) (asked (lists-as (5 ∷ []) 0) done))
+    ≡ changed (refused 36) (asked (lists-as (5 ∷ []) 0 0) done))
     × (runs (book (bodyOf 8192) (5 ∷ []) 8200 (replicate 9 0)) (ask (read 0 1) ∷ [])
     ≡ asked (refused 1) done)
 unfolding computed
@@ -129,7 +129,7 @@ totalAfter b cs = createsFieldOf (part (after b cs .space .body) 4096 4096)
 -- counts on, and another is no sound key's for a read or a drop, while an append looks at the last page only.
 pub never-counted :
     (runs (pageBook 0 (5 ∷ 9 ∷ [])) (ask (read 0 2) ∷ change (append 0 300) ∷ ask (read 0 3) ∷ change (drop 0) ∷ [])
-    ≡ asked (lists-as (5 ∷ 9 ∷ []) 1) (changed (at (Extent 4096) 0) (asked (lists-as (5 ∷ 9 ∷ 300 ∷ []) 1) (changed (accepted (droppedOf 3)) done))))
+    ≡ asked (lists-as (5 ∷ 9 ∷ []) 1 0) (changed (at (Extent 4096) 0) (asked (lists-as (5 ∷ 9 ∷ 300 ∷ []) 1 0) (changed (accepted (droppedOf 3)) done))))
     × (totalAfter (pageBook 0 (5 ∷ 9 ∷ [])) (change (append 0 300) ∷ []) ≡ 0)
     × (totalAfter (pageBook 2 (5 ∷ 9 ∷ [])) (change (append 0 300) ∷ []) ≡ 3)
     × (runs (pageBook 1 (5 ∷ 9 ∷ [])) (ask (read 0 2) ∷ change (drop 0) ∷ change (append 0 300) ∷ [])
@@ -138,10 +138,10 @@ unfolding computed totalAfter
 never-counted = (refl, refl, refl, refl)
 
 -- Two numbers in padded forms, 13 bytes in a slab of 16: a third fits, and a fourth moves the list, which shortest forms would leave there;
--- its class is by shortest forms.
+-- its class is by shortest forms. Reads tell two padded numbers until then, and none afterwards.
 pub padded :
     let slab : List ℕ = 2 ∷ 0 ∷ 133 ∷ 128 ∷ 128 ∷ 128 ∷ 128 ∷ 128 ∷ 0 ∷ 129 ∷ 128 ∷ 128 ∷ 128 ∷ 128 ∷ 0 ∷ [] in
-    runs (book (overwrite (bodyOf 8192) 4096 slab) (slabWord 0 2 4096 ∷ []) 4112 (replicate 9 0)) (change (append 0 7) ∷ change (append 0 8) ∷ ask (read 0 4) ∷ [])
-    ≡ changed (at (Slab 0 3 4096) 0) (changed (at (Slab 1 4 4112) 3) (asked (lists-as (5 ∷ 6 ∷ 7 ∷ 8 ∷ []) 0) done))
+    runs (book (overwrite (bodyOf 8192) 4096 slab) (slabWord 0 2 4096 ∷ []) 4112 (replicate 9 0)) (ask (read 0 4) ∷ change (append 0 7) ∷ ask (read 0 4) ∷ change (append 0 8) ∷ ask (read 0 4) ∷ [])
+    ≡ asked (lists-as (5 ∷ 6 ∷ []) 0 2) (changed (at (Slab 0 3 4096) 0) (asked (lists-as (5 ∷ 6 ∷ 7 ∷ []) 0 2) (changed (at (Slab 1 4 4112) 3) (asked (lists-as (5 ∷ 6 ∷ 7 ∷ 8 ∷ []) 0 0) done))))
 unfolding computed
 padded = refl

@@ -7,12 +7,12 @@ use lib.ListN.{replicate}
 use Rattle.error.specs.Refusal.{refuseIf, andThen}
 use Rattle.buffer.specs.Bytes.{part, overwrite}
 use Rattle.buffer.specs.LittleEndian.{bytesOf}
-use Rattle.compact.specs.Uleb128.{isForm, value, formAt, overflows, readForm, readUleb, divided, ulebLen, shortest}
+use Rattle.compact.specs.Uleb128.{isForm, value, formAt, overflows, readForm, readUleb, divided, ulebLen, shortest, padded as isPadded}
 use Rattle.scripthash_layout.specs.Head.{slabWord, extentWord, unpackHead}
-use Rattle.scripthash_stream.specs.Stream.{lastFrom, streamFrom, storedNumber, nextNumber, scanFrom, decodeStream}
-use Rattle.scripthash_slabs.specs.Slab.{decodeSlab}
+use Rattle.scripthash_stream.specs.Stream.{lastFrom, streamFrom, storedNumber, nextNumber, scanFrom, paddedIn, decodeStream}
+use Rattle.scripthash_slabs.specs.Slab.{slabPadded, decodeSlab}
 use Rattle.scripthash_fields.specs.Page.{field, extentHeader, pageOf}
-use Rattle.scripthash_pages.specs.Entries.{streamPlace, pageScan}
+use Rattle.scripthash_pages.specs.Entries.{streamPlace, pageScan, pagePadded}
 use Rattle.scripthash_free.specs.FreeList.{isBlock}
 use Rattle.plain_book.specs.Key.{Kept, written, Place, inline, slab, pages, Key, emptyKey}
 use Rattle.plain_book.specs.Book.{Book as PlainBook}
@@ -26,8 +26,8 @@ use Rattle.book_history.specs.PlainOf.{plainOf}
 
 -- The plain book of a book.
 unfoldable pub plainly : Book → PlainBook
-unfolding refuseIf andThen part overwrite isForm value formAt overflows readForm readUleb divided ulebLen shortest unpackHead lastFrom
-    streamFrom storedNumber nextNumber scanFrom decodeStream decodeSlab field extentHeader pageOf streamPlace pageScan isBlock written
+unfolding refuseIf andThen part overwrite isForm value formAt overflows readForm readUleb divided ulebLen shortest isPadded unpackHead lastFrom
+    streamFrom storedNumber nextNumber scanFrom paddedIn decodeStream decodeSlab field extentHeader pageOf slabPadded streamPlace pageScan pagePadded isBlock written
     soundly
     sure goOn slabScan linkScan goodExtent lastAt pageThen walk totalGood chainAt pageBlocks contentAt content followed keptBy pageFrom
     pagesFrom
@@ -38,9 +38,9 @@ plainly b = plainOf b
 abbrev blank : List ℕ
 blank = replicate 8192 165
 
--- The stream of 5 and 300 in so many bytes.
-abbrev kept : ℕ → Kept
-kept bytes = record { numbers = 5 ∷ 300 ∷ []; bytes = bytes }
+-- The stream of 5 and 300 in so many bytes, so many of the numbers padded.
+abbrev kept : ℕ → ℕ → Kept
+kept bytes padded = record { numbers = 5 ∷ 300 ∷ []; bytes = bytes; padded = padded }
 
 -- A key that holds 5 and 300.
 abbrev pair : Place → Bool → Key
@@ -53,15 +53,15 @@ bytes-at bytes word mark = book (overwrite blank 4096 bytes) (word ∷ []) mark 
 abbrev one-key : Key → ℕ → PlainBook
 one-key k mark = record { size = 8192; keys = k ∷ []; space = record { mark = mark; stacks = replicate 9 [] } }
 
--- A slab in which 5 stands in two bytes: its stream takes 4 bytes, not 3.
+-- A slab in which 5 stands in two bytes: its stream takes 4 bytes, not 3, and one number is padded.
 pub padded-slab : plainly (bytes-at (2 ∷ 0 ∷ 133 ∷ 0 ∷ 167 ∷ 2 ∷ []) (slabWord 0 2 4096) 4112)
-    ≡ one-key (pair (slab 0 4096 (kept 4)) true) 4112
+    ≡ one-key (pair (slab 0 4096 (kept 4 1)) true) 4112
 unfolding plainly
 padded-slab = refl
 
 -- A page of 5 and 300.
 abbrev one-page : Place
-one-page = pages (record { off = 4096; room = 4072; part = kept 3 } ∷ [])
+one-page = pages (record { off = 4096; room = 4072; part = kept 3 0 } ∷ [])
 
 -- A page that tells its total, 2, and one whose total is 0, unknown.
 pub known-total : plainly (bytes-at (lastPageOf 4096 4096 1 2 (5 ∷ 300 ∷ [])) (extentWord 4096) 8192) ≡ one-key (pair one-page true) 8192

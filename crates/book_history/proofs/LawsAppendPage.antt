@@ -40,7 +40,7 @@ use Rattle.book_keys.specs.Keys.{goodExtent, Tail}
 use Rattle.book_keys.specs.Keys.{pageAt as pageBytes}
 use Rattle.book_blocks.specs.Blocks.{lastPageOf, totalWith, pageWith, pageBefore}
 use Rattle.book_blocks.proofs.LawsTotals.{total-fits}
-use Rattle.book_blocks.proofs.LawsReadsMore.{spot-fits, spot-none, page-more, page-before}
+use Rattle.book_blocks.proofs.LawsReadsMore.{spot-fits, spot-none, page-more, page-before, page-before-padded}
 use Rattle.book.specs.Book.{Book, seen}
 use Rattle.book_append.specs.Appends.{appending, growChain, appendPage, appendAt, appends}
 use Rattle.book_history.specs.Agrees.{scanOf, PageReads, LastReads, NextReads, ChainReads, firstPageOff, SlabIn, PageIn, BlockReads}
@@ -221,7 +221,7 @@ more-reads p page first creates n w r l above low spot =
     let m = page-more page n creates (scanOf (p .part)) w (r .reads) (l .extent) above (omega arith) spot in (
       m .long,
       (
-        record { reads = m .scans; room = m .room ∙ r .room },
+        record { reads = m .scans; room = m .room ∙ r .room; padded = m .padded ∙ r .padded },
         record {
           extent = m .names;
           last = rw (m .link) (l .last);
@@ -242,7 +242,13 @@ next-reads p page first creates mark next r l room high stands =
     let s = block-stands pageClass next mark stands in
     let se = s .ends in
     let m = page-before page next (scanOf (p .part)) (r .reads) (l .extent) (s .aligned) (omega arith) in
-    (m .long, (record { reads = m .scans; room = m .room ∙ sym room }, record { more = m .not-last; next = m .to }))
+    let same = page-before-padded page next (scanOf (p .part)) (r .reads) (l .extent) in (
+      m .long,
+      (
+        record { reads = m .scans; room = m .room ∙ sym room; padded = same ∙ r .padded },
+        record { more = m .not-last; next = m .to },
+      ),
+    )
 
 -- ---- a number behind a key's pages
 

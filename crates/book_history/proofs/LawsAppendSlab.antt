@@ -43,7 +43,7 @@ use Rattle.plain_book.proofs.LawsChain.{mark-most}
 use Rattle.book_space.specs.Space.{space, Taken, release}
 use Rattle.book_keys.specs.Keys.{blockAt}
 use Rattle.book_blocks.specs.Blocks.{lastPageOf, slabWith}
-use Rattle.book_blocks.proofs.LawsReadsSlab.{slab-with-long, slab-more}
+use Rattle.book_blocks.proofs.LawsReadsSlab.{SlabReads as StoredReads, slab-with-long, slab-more, slab-more-padded}
 use Rattle.book.specs.Book.{Book, Outcome, filled, seen}
 use Rattle.book_append.specs.Appends.{movesInto, moves, appendSlab, appendAt, appends}
 use Rattle.book_history.specs.Agrees.{scanOf, SlabReads, PageReads, LastReads, SlabIn, BlockReads, contentsOf, AgreesSpace}
@@ -251,11 +251,13 @@ module _ (plain : PlainBook) (b : Book) (key n : ℕ) (g : GoodPlain plain) (a :
           let r : SlabReads kept before = subst (λ (p : Place). SlabIn p before) is (h .space .stored (slabOf key) y mine) in
           let over : lastFrom 0 (kept .numbers) < n = rw keeps above in
           let few = stays-holds class (length grown) (longer n kept .bytes) stay .0 in
-          let m = slab-more before (length (kept .numbers)) n (scanOf kept) (record { counts = r .used; reads = r .reads }) over
-          (omega arith) (rw before-long room)
+          let stored : StoredReads before (length (kept .numbers)) (scanOf kept) = record { counts = r .used; reads = r .reads } in
+          let m = slab-more before (length (kept .numbers)) n (scanOf kept) stored over (omega arith) (rw before-long room)
+          (omega (arith, numbers-more)) in
+          let same = slab-more-padded before (length (kept .numbers)) n (scanOf kept) stored over (omega arith) (rw before-long room)
           (omega (arith, numbers-more)) in
           let count : length (kept .numbers ++ (n ∷ [])) ≡ length (kept .numbers) + 1 = length-append (kept .numbers) (n ∷ []) in
-          record { used = rw count (m .counts); reads = rw count (m .reads) }
+          record { used = rw count (m .counts); reads = rw count (m .reads); padded = same ∙ r .padded }
 
       -- The spaces agree once it is written.
       stay-space : AgreesSpace (plain .space) (space (overwrite (b .space .body) off after) (b .space .mark) (b .space .free))

@@ -1,8 +1,9 @@
 -- What a key over bytes reads as, where the book stands for a good plain book: its head word, its slab, its last page, and its whole
 -- content. Assumes nothing.
 use Prim.Native.Nat.{ℕ, zero, suc, _+_, _-_, _/_, _^_, _≤_, _<_}
+use native.Mathlib.Nat.{add-zero}
 use mathlib.Core.Bool.{Bool, true, false, cond, not, _||_}
-use mathlib.Core.List.{List, [], _∷_, append-nil}
+use mathlib.Core.List.{List, [], _∷_, append-nil, _++_}
 use mathlib.Core.Logic.{⊎-elim, _≢_}
 use mathlib.Core.Option.{none, some}
 use mathlib.Core.Path.{_≡_, refl, sym, ap, subst, _∙_}
@@ -23,7 +24,7 @@ use Rattle.scripthash_free.proofs.LawsBlock.{block-stands}
 use Rattle.book_rules.specs.Outcomes.{appendedTo, Appended}
 use Rattle.book_limits.specs.Limits.{outOfShape, mostBody, mostCounted, totalTold}
 use Rattle.plain_book.specs.Space.{Space as PlainSpace}
-use Rattle.plain_book.specs.Key.{Kept, written, Page, Place, empty, inline, slab, pages, lastPage, noPage, totalOf, headOf, pagesOf, countedAfter, keyIn}
+use Rattle.plain_book.specs.Key.{Kept, written, Page, Place, empty, inline, slab, pages, lastPage, noPage, totalOf, headOf, pagesOf, paddedPages, paddedOf, countedAfter, keyIn}
 use Rattle.plain_book.specs.Key.{Placed, appendPlace}
 use Rattle.plain_book.specs.Book.{Book as PlainBook, Outcome as PlainOutcome, keyOf, withKey, extended, appends as plainAppends}
 use Rattle.plain_book.specs.Book.{reads as plainReads}
@@ -40,7 +41,7 @@ use Rattle.book_keys.specs.Keys.{pageBlocks, contentAt, content, tailAt}
 use Rattle.book_keys.specs.Keys.{pageAt as pageBytes}
 use Rattle.book_blocks.specs.Blocks.{lastPageOf, totalWith}
 use Rattle.book_blocks.proofs.LawsTotals.{total-unknown, total-known}
-use Rattle.book_blocks.proofs.LawsReadsPage.{last-page-reads}
+use Rattle.book_blocks.proofs.LawsReadsPage.{last-page-reads, last-page-padded}
 use Rattle.book.specs.Book.{Book, wordOf, seen}
 use Rattle.book_append.specs.Appends.{appending, appendAt, appends}
 use Rattle.book_read.specs.Reads.{reads}
@@ -111,14 +112,14 @@ walks : (k : ℕ) (s : Space) (first creates last prev : ℕ) (page : Page) (ps 
     → FitPages ps
     → RisesFrom prev ps
     → ((i off : ℕ) → pageNo i ps ≡ some (record { class = pageClass; off = off }) → Stands s first creates last i ps off)
-    → walk k (seen s) last prev (firstPageOff ps) ≡ accepted (record { numbers = held ps; offs = offsOf ps })
-unfolding walk FitPages RisesFrom held offsOf pageNo ChainReads lastPage pageThen
+    → walk k (seen s) last prev (firstPageOff ps) ≡ accepted (record { numbers = held ps; offs = offsOf ps; padded = paddedPages ps })
+unfolding walk FitPages RisesFrom held offsOf paddedPages pageNo ChainReads lastPage pageThen
 walks k s first creates last prev page [] few is fit rises at = absurd fit
 walks zero s first creates last prev page (p ∷ ps) few is fit rises at = absurd (omega arith)
 walks (suc k) s first creates last prev page (p ∷ []) few is fit (some', rises, rest) at =
     let h = at 0 (p .off) refl in
     then-yes _ _ (link-scans s prev (p .off) p (h .block) (h .reads .0) rises some')
-    ∙ rw (eq-eqb (p .off) last is, append-nil (p .part .numbers))
+    ∙ rw (eq-eqb (p .off) last is, append-nil (p .part .numbers), h .reads .0 .padded, add-zero (p .part .padded))
 walks (suc k) s first creates last prev page (p ∷ q ∷ ps) few is (fit, fits) (some', rises, rest) at =
     let h = at 0 (p .off) refl in
     let others = walks k s first creates last (lastFrom prev (p .part .numbers)) p (q ∷ ps) (omega arith) is fits
@@ -127,7 +128,12 @@ walks (suc k) s first creates last prev page (p ∷ q ∷ ps) few is (fit, fits)
     in
     then-yes _ _ (link-scans s prev (p .off) p (h .block) (h .reads .0) rises some')
     ∙ rw (ne-eqb (p .off) last (λ e. let z = h .only e in omega arith))
-    (sure-yes _ _ (ap not (h .reads .1 .more)) ∙ then-yes _ _ (rw (h .reads .1 .next) others))
+    (sure-yes _ _ (ap not (h .reads .1 .more)) ∙ then-yes _ _ (rw (h .reads .1 .next) others)
+    ∙ ap (λ (m : ℕ). accepted (record {
+      numbers = p .part .numbers ++ held (q ∷ ps);
+      offs = p .off ∷ offsOf (q ∷ ps);
+      padded = m + paddedPages (q ∷ ps);
+    })) (h .reads .0 .padded))
 
 -- There are as many offsets as pages.
 offs-many : (ps : List Page) → length (offsOf ps) ≡ length ps
@@ -228,6 +234,14 @@ module _ (plain : PlainBook) (b : Book) (g : GoodPlain plain) (shape : outOfShap
   head-agrees = h .heads key ∙ stored-told (head-told key g (omega (arith, mark-most g shape)))
 
   -- A key's slab reads as what it keeps.
+  slab-reads : (class off : ℕ) (kept : Kept) → keyOf key plain .place ≡ slab class off kept
+      → SlabReads kept (blockAt (seen (b .space)) class off)
+  unfolding has
+  slab-reads class off kept is =
+      subst (λ (p : Place). SlabIn p (blockAt (seen (b .space)) class off)) is
+      (h .space .stored (slabOf key) (record { class = class; off = off }) (ap slabAt is))
+
+  -- So it scans.
   slab-read : (class off : ℕ) (kept : Kept) → keyOf key plain .place ≡ slab class off kept
       → slabScan (seen (b .space)) class (length (keyOf key plain .list)) off ≡ accepted (scanOf kept)
   unfolding has Fits
@@ -236,8 +250,7 @@ module _ (plain : PlainBook) (b : Book) (g : GoodPlain plain) (shape : outOfShap
       rw (← same)
       (slab-scans (b .space) class off kept c (rw (h .space .mark)
       (g .space .apart .stands (slabOf key) (record { class = class; off = off }) (ap slabAt is)))
-      (rw same few) (subst (λ (p : Place). SlabIn p (blockAt (seen (b .space)) class off)) is
-      (h .space .stored (slabOf key) (record { class = class; off = off }) (ap slabAt is)))
+      (rw same few) (slab-reads class off kept is)
       (rising-goes-on 0 (kept .numbers) (rw same (g .keys key .rises)) (rw same (omega arith))))
 
   -- What is known of the pages of a key.
@@ -315,7 +328,7 @@ module _ (plain : PlainBook) (b : Book) (g : GoodPlain plain) (shape : outOfShap
 
   -- A key's chain gives its list, and its pages' offsets.
   chain-agrees : (ps : List Page) → keyOf key plain .place ≡ pages ps
-      → chainAt (seen (b .space)) (lastPage noPage ps .off) ≡ accepted (record { numbers = keyOf key plain .list; offs = offsOf ps })
+      → chainAt (seen (b .space)) (lastPage noPage ps .off) ≡ accepted (record { numbers = keyOf key plain .list; offs = offsOf ps; padded = paddedPages ps })
   unfolding chainAt
   chain-agrees ps is =
       let c = chain key ps g is in
@@ -328,17 +341,17 @@ module _ (plain : PlainBook) (b : Book) (g : GoodPlain plain) (shape : outOfShap
   -- What the place that a key's head word tells holds.
   place-agrees : (place : Place) → keyOf key plain .place ≡ place
       → contentAt (seen (b .space)) (headOf (keyOf key plain .list) place)
-      ≡ accepted (record { numbers = keyOf key plain .list; blocks = blocksOf place; pages = pagesOf place })
+      ≡ accepted (record { numbers = keyOf key plain .list; blocks = blocksOf place; pages = pagesOf place; padded = paddedOf place })
   unfolding contentAt headOf Fits
   place-agrees empty is =
       let e : length (keyOf key plain .list) ≡ 0 = rw is at (g .keys key .fits) in
-      ap (λ (l : List ℕ). accepted (record { numbers = l; blocks = []; pages = 0 })) (none-listed (keyOf key plain .list) e)
+      ap (λ (l : List ℕ). accepted (record { numbers = l; blocks = []; pages = 0; padded = 0 })) (none-listed (keyOf key plain .list) e)
   place-agrees inline is =
       let e : length (keyOf key plain .list) ≡ 1 = rw is at (g .keys key .fits) in
-      ap (λ (l : List ℕ). accepted (record { numbers = l; blocks = []; pages = 0 })) (one-listed (keyOf key plain .list) e)
+      ap (λ (l : List ℕ). accepted (record { numbers = l; blocks = []; pages = 0; padded = 0 })) (one-listed (keyOf key plain .list) e)
   place-agrees (slab class off kept) is =
       let f : Fits (keyOf key plain .list) (slab class off kept) = rw is at (g .keys key .fits) in
-      then-yes _ _ (slab-read class off kept is) ∙ rw (f .0)
+      then-yes _ _ (slab-read class off kept is) ∙ rw (f .0, slab-reads class off kept is .padded)
   place-agrees (pages ps) is = then-yes _ _ (chain-agrees ps is) ∙ rw (offs-many ps)
 
   -- A key holds its list, in its place's blocks.
@@ -346,8 +359,8 @@ module _ (plain : PlainBook) (b : Book) (g : GoodPlain plain) (shape : outOfShap
       ≡ accepted (record {
         numbers = keyOf key plain .list;
         blocks = blocksOf (keyOf key plain .place);
-        pages =
-            pagesOf (keyOf key plain .place);
+        pages = pagesOf (keyOf key plain .place);
+        padded = paddedOf (keyOf key plain .place);
       })
   unfolding content
   content-agrees = soundly-yes _ (then-yes _ _ head-agrees ∙ place-agrees (keyOf key plain .place) refl)
@@ -378,12 +391,13 @@ last-written mark off first base extents creates ns high f b some' few low rises
     let ta = t .aligned in
     let te = t .ends in
     let tb = t .begins in
-    let r = last-page-reads first base extents creates ns (rising-below (2 ^ 62) (2 ^ 63) 0 ns (omega arith) rises) fits sa (omega arith)
+    let below = rising-below (2 ^ 62) (2 ^ 63) 0 ns (omega arith) rises in
+    let r = last-page-reads first base extents creates ns below fits sa (omega arith)
     (omega arith) ta
     (λ (z : base ≡ 0). omega arith) some' few low in (
       r .long,
       (
-        record { reads = r .scans; room = r .room },
+        record { reads = r .scans; room = r .room; padded = last-page-padded first base extents creates ns below fits },
         record {
           extent = r .names;
           last = r .last;

@@ -26,7 +26,7 @@ use Rattle.plain_book.specs.Owners.{Owner, hand, stack, slabOf, pageOf, pageNo,
 use Rattle.plain_book.specs.Good.{Good}
 use Rattle.plain_book.proofs.LawsOwners.{some-inj, none-some, kindOf, atKey, key-slab, key-page, page-behind}
 use Rattle.book_space.specs.Space.{Space, space}
-use Rattle.book_blocks.proofs.LawsReadsSlab.{slab-written}
+use Rattle.book_blocks.proofs.LawsReadsSlab.{slab-written, slab-written-padded}
 use Rattle.book_history.specs.Agrees.{SlabReads, PageReads, LastReads, ChainReads, SlabIn, PageIn, Contents, BlockReads, AgreesSpace}
 use Rattle.book_history.specs.Agrees.{contentsOf}
 use Rattle.book_history.proofs.LawsFrame.{blockOf, block-ends, stored-same, stored-written}
@@ -151,8 +151,10 @@ pub filled-slab : (class : ℕ) (ns block : List ℕ) → Rising (2 ^ 62) 0 ns �
     → SlabReads (written ns) block
 unfolding written
 filled-slab class ns block rises few f =
-    let r = slab-written block ns (rw (payload-long ns) at (f .begins)) (rising-below (2 ^ 62) (2 ^ 63) 0 ns (omega arith) rises) few in
-    record { used = r .counts; reads = r .reads }
+    let starts = rw (payload-long ns) at (f .begins) in
+    let below = rising-below (2 ^ 62) (2 ^ 63) 0 ns (omega arith) rises in
+    let r = slab-written block ns starts below few in
+    record { used = r .counts; reads = r .reads; padded = slab-written-padded block ns starts below few }
 
 -- ---- placing
 

@@ -54,8 +54,8 @@ use Rattle.plain_book.proofs.LawsTaking.{good-taken, good-rounded, rounded-mark
 use Rattle.book_space.specs.Space.{Space, space, Taken, takeBlock as takes, takeRun}
 use Rattle.book_keys.specs.Keys.{goodExtent}
 use Rattle.book_blocks.specs.Blocks.{lastPageOf, pageTo, writeRun}
-use Rattle.book_blocks.proofs.LawsReadsSlab.{slab-written}
-use Rattle.book_blocks.proofs.LawsReadsPage.{last-page-reads, page-to-reads}
+use Rattle.book_blocks.proofs.LawsReadsSlab.{slab-written, slab-written-padded}
+use Rattle.book_blocks.proofs.LawsReadsPage.{last-page-reads, page-to-reads, last-page-padded, page-to-padded}
 use Rattle.book.specs.Book.{Book, Outcome, wordOf, filled}
 use Rattle.book_load.specs.Loads.{loading, lastOfRun, loadInto, loadAt, loads}
 use Rattle.book_history.specs.Calls.{does}
@@ -125,7 +125,7 @@ module _ (start count creates : ℕ) (aligned : start % 4096 ≡ 0) (from : 4096
       let r = last-page-reads start start count creates ns rises room aligned (omega arith) (omega arith) aligned (λ z. omega arith)
       some' few fits in (
         r .long,
-        record { reads = r .scans; room = r .room },
+        record { reads = r .scans; room = r .room; padded = last-page-padded start start count creates ns rises room },
         record { extent = r .names; last = r .last; first = r .from; good = r .extent; creates = r .counts },
       )
 
@@ -136,7 +136,11 @@ module _ (start count creates : ℕ) (aligned : start % 4096 ≡ 0) (from : 4096
   unfolding written
   next-of-run off next ns rises room at-page in-body =
       let r = page-to-reads next ns rises room at-page (omega arith) in
-      (r .long, record { reads = r .scans; room = r .room }, record { more = r .not-last; next = r .to })
+      (
+        r .long,
+        record { reads = r .scans; room = r .room; padded = page-to-padded next ns rises room },
+        record { more = r .not-last; next = r .to },
+      )
 
   -- Parts that fit their pages are written from an offset on.
   run-written : (parts : List (List ℕ)) (body : List ℕ) (off : ℕ) → off % 4096 ≡ 0 → off + length parts * pageSize ≤ length body
@@ -292,9 +296,10 @@ pub payload-reads : (class : ℕ) (ns block : List ℕ) → Rising (2 ^ 62) 0 ns
     → SlabReads (written ns) block
 unfolding written
 payload-reads class ns block rises few f =
-    let r = slab-written block ns (ap (part block 0) (sym (payload-long ns)) ∙ f .begins)
-    (rising-below (2 ^ 62) (2 ^ 63) 0 ns (omega arith) rises) few in
-    record { used = r .counts; reads = r .reads }
+    let starts : part block 0 (2 + streamLen ns) ≡ slabPayload ns = ap (part block 0) (sym (payload-long ns)) ∙ f .begins in
+    let below = rising-below (2 ^ 62) (2 ^ 63) 0 ns (omega arith) rises in
+    let r = slab-written block ns starts below few in
+    record { used = r .counts; reads = r .reads; padded = slab-written-padded block ns starts below few }
 
 module _ (plain : PlainBook) (b : Book) (key : ℕ) (ns : List ℕ) (g : GoodPlain plain) (a : Agrees plain b)
     (shape : outOfShape (plain .size) (length (plain .keys)) ≡ false)

@@ -23,7 +23,7 @@ use Rattle.error.specs.Refusal.{accepted}
 use Rattle.error.proofs.LawsAnswer.{refuse-no, then-yes}
 use Rattle.book_rules.specs.Outcomes.{listing}
 use Rattle.book_limits.specs.Limits.{outOfShape}
-use Rattle.plain_book.specs.Key.{pagesOf}
+use Rattle.plain_book.specs.Key.{pagesOf, paddedOf}
 use Rattle.plain_book.specs.Book.{Book as PlainBook, keyOf}
 use Rattle.plain_book.specs.Good.{GoodPlain}
 use Rattle.plain_book.specs.Owners.{places}
@@ -100,7 +100,7 @@ free-list-is plain s at c g a class =
 reads-list : (plain : PlainBook) (b : Book) (key room : ℕ) → GoodPlain plain → Agrees plain b
     → outOfShape (plain .size) (length (plain .keys)) ≡ false
     → key < length (plain .keys) → length (keyOf key plain .list) ≤ room
-    → reads b key room ≡ accepted (listing (keyOf key plain .list) (pagesOf (keyOf key plain .place)))
+    → reads b key room ≡ accepted (listing (keyOf key plain .list) (pagesOf (keyOf key plain .place)) (paddedOf (keyOf key plain .place)))
 unfolding reads
 reads-list plain b key room g a shape l fits =
     on-key-passes plain b key _ g a shape l

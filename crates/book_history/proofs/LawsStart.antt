@@ -54,7 +54,7 @@ beyond (x ∷ xs) (suc i) l = beyond xs i (omega arith)
 
 module _ (s : Space) where
   -- The word 0 holds nothing, and its key is empty.
-  pub word-none : content (seen s) 0 ≡ accepted (record { numbers = []; blocks = []; pages = 0 })
+  pub word-none : content (seen s) 0 ≡ accepted (record { numbers = []; blocks = []; pages = 0; padded = 0 })
   unfolding content soundly andThen unpackHead contentAt
   word-none = refl
 

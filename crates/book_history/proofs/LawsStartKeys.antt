@@ -19,7 +19,7 @@ use Rattle.scripthash_layout.specs.declared.head.ShHeadValue.{ShHeadValue}
 use Rattle.scripthash_layout.specs.declared.head.ShHeadValue.the-variants.{Empty, Inline, Slab, Extent}
 use Rattle.scripthash_stream.specs.Stream.{Rising, Scan, lastFrom}
 use Rattle.scripthash_stream.proofs.LawsScan.{scan-accepted}
-use Rattle.scripthash_slabs.specs.Slab.{slabUsed}
+use Rattle.scripthash_slabs.specs.Slab.{slabUsed, slabPadded}
 use Rattle.scripthash_fields.specs.Page.{createsFieldOf}
 use Rattle.scripthash_pages.proofs.LawsAppended.{count-least}
 use Rattle.scripthash_free.specs.FreeList.{Block}
@@ -91,9 +91,13 @@ module _ (s : Space) where
       let fits = k .taken-fits in
       let each = scan-accepted 0 (slabUsed (blockAt (seen s) class off)) (drop 2 (blockAt (seen s) class off)) c (k .payload .scanned) .at-least in
       let least = count-least 0 (c .numbers) in
-      let kept : Kept = keptAs (c .numbers) (c .taken) in
+      let kept : Kept = keptAs (c .numbers) (c .taken) (slabPadded (blockAt (seen s) class off)) in
       let reads : SlabReads kept (blockAt (seen s) class off) =
-      record { used = k .stored ∙ sym n; reads = k .payload .into (length (c .numbers)) (le-refl (length (c .numbers))) } in
+      record {
+        used = k .stored ∙ sym n;
+        reads = k .payload .into (length (c .numbers)) (le-refl (length (c .numbers)));
+        padded = refl;
+      } in
       let fit : Fits (c .numbers) (slab class off kept) = (refl, omega arith, k .class-to-7, omega arith, omega arith, omega arith, low) in
       rw is
       (record {

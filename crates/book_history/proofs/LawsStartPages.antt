@@ -18,6 +18,7 @@ use Rattle.scripthash_cutting.specs.Cutting.{pageRoom, lastPageRoom}
 use Rattle.scripthash_fields.specs.Page.{linkOf, countOf, namesExtent, streamOf, streamCap, isLastLink, linkOffset}
 use Rattle.scripthash_pages.proofs.LawsAppended.{count-least}
 use Rattle.scripthash_free.specs.FreeList.{Block, isBlock}
+use Rattle.scripthash_pages.specs.Entries.{pagePadded}
 use Rattle.plain_book.specs.Key.{Kept, Page, lastPage, keptAs}
 use Rattle.plain_book.specs.Sound.{held, FitsPage, FitPages}
 use Rattle.plain_book.specs.Owners.{pageNo}
@@ -50,7 +51,7 @@ cap-last page e = rw e
 
 module _ (s : Space) (prev off : ℕ) (c : Scan) (is : linkScan (seen s) prev off ≡ accepted c) where
   -- What a page of a sound chain keeps.
-  part-is : pageFrom s off .part ≡ keptAs (c .numbers) (c .taken)
+  part-is : pageFrom s off .part ≡ keptAs (c .numbers) (c .taken) (pagePadded (pageBytes (seen s) off))
   unfolding pageFrom keptBy
   part-is = rw (link-sound (seen s) prev off c is .scanned)
 
@@ -58,7 +59,11 @@ module _ (s : Space) (prev off : ℕ) (c : Scan) (is : linkScan (seen s) prev of
   page-reads : PageReads (pageFrom s off) (pageBytes (seen s) off)
   unfolding pageFrom
   page-reads =
-      record { reads = link-sound (seen s) prev off c is .scanned ∙ ap (λ (k : Kept). accepted (scanOf k)) (sym part-is); room = refl }
+      record {
+        reads = link-sound (seen s) prev off c is .scanned ∙ ap (λ (k : Kept). accepted (scanOf k)) (sym part-is);
+        room = refl;
+        padded = ap (λ (k : Kept). k .padded) (sym part-is);
+      }
 
   -- It fits.
   page-fits : FitsPage (pageFrom s off)
@@ -88,7 +93,7 @@ unfolding walk pageThen
 walk-offs zero s last prev off c e = absurd (refused≢accepted e)
 walk-offs (suc k) s last prev off c e =
     let w = walk-step k (seen s) last prev off c e in
-    ⊎-elim (λ (d : Ends last off (w .page) c). ([], ap (λ (x : Chain). x .offs) (d .whole)))
+    ⊎-elim (λ (d : Ends (seen s) last off (w .page) c). ([], ap (λ (x : Chain). x .offs) (d .whole)))
     (λ (g : GoesOn k (seen s) last prev off (w .page) c). (g .rest .offs, ap (λ (x : Chain). x .offs) (g .whole))) (w .goes)
 
 module _ (s : Space) (first total last : ℕ) (header : LastReads first total (pageBytes (seen s) last)) (prev off : ℕ) (c : Scan)
@@ -146,7 +151,7 @@ pages-read zero s first total last header prev off c e = absurd (refused≢accep
 pages-read (suc k) s first total last header prev off c e =
     let w = walk-step k (seen s) last prev off c e in
     ⊎-elim
-    (λ (d : Ends last off (w .page) c). rw (d .whole) (one-read s first total last header prev off (w .page) (w .is) (d .there)))
+    (λ (d : Ends (seen s) last off (w .page) c). rw (d .whole) (one-read s first total last header prev off (w .page) (w .is) (d .there)))
     (λ (g : GoesOn k (seen s) last prev off (w .page) c).
     let next = linkOffset (linkOf (pageBytes (seen s) off)) in
     let (os, offs) = walk-offs k s last (lastFrom prev (w .page .numbers)) next (g .rest) (g .walks) in

@@ -13,9 +13,9 @@ use Rattle.buffer.specs.LittleEndian.{littleEndian}
 use Rattle.scripthash_layout.specs.Sizes.{slabBytes}
 use Rattle.scripthash_layout.specs.Head.{unpackHead}
 use Rattle.scripthash_stream.specs.Stream.{Scan}
-use Rattle.scripthash_slabs.specs.Slab.{slabUsed, decodeSlab}
+use Rattle.scripthash_slabs.specs.Slab.{slabUsed, slabPadded, decodeSlab}
 use Rattle.scripthash_fields.specs.Page.{linkOf, createsFieldOf, namesExtent, streamCap, isLastLink, linkOffset}
-use Rattle.scripthash_pages.specs.Entries.{pageScan}
+use Rattle.scripthash_pages.specs.Entries.{pageScan, pagePadded}
 use Rattle.scripthash_free.specs.FreeList.{Block}
 use Rattle.book_limits.specs.Limits.{outOfShape, mostBody}
 use Rattle.plain_book.specs.Space.{Space as PlainSpace, stackOf}
@@ -42,15 +42,17 @@ under depth (o ∷ os) = cond (eqb depth (length os)) (top os) (under depth os)
 abbrev pub scanOf : Kept → Scan
 scanOf k = record { numbers = k .numbers; taken = k .bytes }
 
--- A slab reads as a kept stream: its count, and its numbers in so many bytes; whatever lies behind them.
+-- A slab reads as a kept stream: its count, and its numbers in so many bytes, so many of them padded; whatever lies behind them.
 pub record SlabReads (k : Kept) (block : List ℕ) : Type 0 where
   pub used : slabUsed block ≡ length (k .numbers)
   pub reads : decodeSlab (length (k .numbers)) block ≡ accepted (scanOf k)
+  pub padded : slabPadded block ≡ k .padded
 
--- A page reads as its part of a list, and has so much room for a stream.
+-- A page reads as its part of a list, with so many padded numbers, and has so much room for a stream.
 pub record PageReads (p : Page) (block : List ℕ) : Type 0 where
   pub reads : pageScan block ≡ accepted (scanOf (p .part))
   pub room : streamCap block ≡ p .room
+  pub padded : pagePadded block ≡ p .part .padded
 
 -- A last page names an extent, is LAST with the first page's offset, and tells how many numbers the key has, or 0, unknown.
 pub record LastReads (start total : ℕ) (block : List ℕ) : Type 0 where

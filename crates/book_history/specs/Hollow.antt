@@ -26,7 +26,7 @@ always number = record { asks = λ b q. refused number; does = λ b c. refused n
 
 -- What a book answers where all keys read empty.
 unfoldable pub emptyAnswer : Book → (q : Enquiry) → Answer (Said q)
-emptyAnswer b (read key room) = accepted (listing [] 0)
+emptyAnswer b (read key room) = accepted (listing [] 0 0)
 
 -- One where all keys read empty.
 abbrev pub readsEmpty : Serves Book

@@ -10,25 +10,31 @@ use Rattle.scripthash_layout.specs.Head.{unpackHead}
 use Rattle.scripthash_layout.specs.declared.head.ShHeadValue.{ShHeadValue}
 use Rattle.scripthash_layout.specs.declared.head.ShHeadValue.the-variants.{Empty, Inline, Slab, Extent}
 use Rattle.scripthash_stream.specs.Stream.{Scan}
+use Rattle.scripthash_slabs.specs.Slab.{slabPadded}
 use Rattle.scripthash_fields.specs.Page.{createsFieldOf, streamCap}
-use Rattle.scripthash_pages.specs.Entries.{pageScan}
+use Rattle.scripthash_pages.specs.Entries.{pageScan, pagePadded}
 use Rattle.plain_book.specs.Key.{Kept, written, Page, Place, empty, inline, slab, pages, Key, keptAs}
 use Rattle.plain_book.specs.Book.{Book as PlainBook}
 use Rattle.book_space.specs.Space.{Space}
-use Rattle.book_keys.specs.Keys.{pageAt, slabScan, chainAt, content}
+use Rattle.book_keys.specs.Keys.{blockAt, pageAt, slabScan, chainAt, content}
 use Rattle.book.specs.Book.{Book, wordOf, seen}
 use Rattle.book_start.specs.Start.{followedFrom}
 
 -- ---- keys
 
--- What a stream that was scanned keeps: its numbers, and the bytes that it takes as it is stored.
-unfoldable pub keptBy : Answer Scan → Kept
-keptBy (accepted c) = keptAs (c .numbers) (c .taken)
-keptBy (refused number) = written []
+-- What a stream that was scanned keeps: its numbers, the bytes that it takes as it is stored, and so many padded numbers.
+unfoldable pub keptBy : ℕ → Answer Scan → Kept
+keptBy padded (accepted c) = keptAs (c .numbers) (c .taken) padded
+keptBy padded (refused number) = written []
 
 -- The page at an offset, with the room that its version leaves for a stream.
 unfoldable pub pageFrom : Space → ℕ → Page
-pageFrom s off = record { off = off; room = streamCap (pageAt (seen s) off); part = keptBy (pageScan (pageAt (seen s) off)) }
+pageFrom s off =
+    record {
+      off = off;
+      room = streamCap (pageAt (seen s) off);
+      part = keptBy (pagePadded (pageAt (seen s) off)) (pageScan (pageAt (seen s) off));
+    }
 
 -- The pages at some offsets.
 unfoldable pub pagesFrom : Space → List ℕ → List Page
@@ -39,7 +45,7 @@ pagesFrom s (o ∷ os) = pageFrom s o ∷ pagesFrom s os
 unfoldable pub placeFrom : Space → ShHeadValue → Place
 placeFrom s Empty = empty
 placeFrom s (Inline entry used) = inline
-placeFrom s (Slab class used off) = slab class off (keptBy (slabScan (seen s) class used off))
+placeFrom s (Slab class used off) = slab class off (keptBy (slabPadded (blockAt (seen s) class off)) (slabScan (seen s) class used off))
 placeFrom s (Extent last) = pages (pagesFrom s (valueOr (λ c. c .offs) (chainAt (seen s) last) []))
 
 -- Whether the place that a head word tells says how many numbers it has: a last page with creates 0 doesn't.

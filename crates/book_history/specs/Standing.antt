@@ -10,7 +10,7 @@ use Rattle.scripthash_free.specs.FreeList.{IsFreeList}
 use Rattle.book_rules.specs.Outcomes.{listing}
 use Rattle.book_limits.specs.Limits.{outOfShape}
 use Rattle.plain_book.specs.Space.{stackOf}
-use Rattle.plain_book.specs.Key.{headOf, pagesOf}
+use Rattle.plain_book.specs.Key.{headOf, pagesOf, paddedOf}
 use Rattle.plain_book.specs.Book.{Book as PlainBook, keyOf}
 use Rattle.book.specs.Book.{Book, wordOf}
 use Rattle.book_read.specs.Reads.{reads}
@@ -29,4 +29,4 @@ pub record Standing (plain : PlainBook) (b : Book) : Type 0 where
   -- Each key reads as the list that is held there, save where 1 applies; a long enough list is lent.
   pub reads : (key room : ℕ) → outOfShape (plain .size) (length (plain .keys)) ≡ false → key < length (plain .keys)
       → length (keyOf key plain .list) ≤ room
-      → reads b key room ≡ accepted (listing (keyOf key plain .list) (pagesOf (keyOf key plain .place)))
+      → reads b key room ≡ accepted (listing (keyOf key plain .list) (pagesOf (keyOf key plain .place)) (paddedOf (keyOf key plain .place)))

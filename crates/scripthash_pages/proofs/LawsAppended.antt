@@ -22,10 +22,11 @@ use Rattle.scripthash_layout.specs.Sizes.{pageSize}
 use Rattle.scripthash_stream.specs.Stream.{Rising, lastFrom, streamFrom, streamLenFrom, nextNumber, Scan, scanFrom, scan}
 use Rattle.scripthash_stream.proofs.LawsScan.{next-accepted, next-same, scan-step, scan-cons, scan-accepted}
 use Rattle.scripthash_stream.proofs.LawsStream.{scan-stream}
+use Rattle.scripthash_stream.proofs.LawsPadded.{padded-more}
 use Rattle.scripthash_fields.specs.Page.{field, setField, versionOf, countOf, namesExtent, streamOff}
-use Rattle.scripthash_pages.specs.Entries.{StreamAt, streamPlace, pageScan, lastOf, Spot, oneMore, withAppended}
+use Rattle.scripthash_pages.specs.Entries.{StreamAt, streamPlace, pageScan, pagePadded, lastOf, Spot, oneMore, withAppended}
 use Rattle.scripthash_pages.proofs.LawsEntries.{version-byte, placeBy, place-by, extent-place, delta-place, place-accepted}
-use Rattle.scripthash_pages.proofs.LawsEntries.{scan-placed, scan-yes}
+use Rattle.scripthash_pages.proofs.LawsEntries.{scan-placed, scan-yes, padded-at}
 use Rattle.scripthash_pages.proofs.LawsAppend.{eitherOf, count-read, length-one-more, Roomy, scan-ends}
 
 -- ---- streams
@@ -231,3 +232,12 @@ module _ (page : List ℕ) (fk : ℕ) (w : Spot) (r : Roomy page fk w) where
       ∙ ap (λ (m : ℕ). scan m (drop (streamOff page) (withAppended page w))) (add-one (countOf page))
       ∙ ap (scan (suc (countOf page))) appended-stream
       ∙ scan-snoc 0 (countOf page) (drop (streamOff page) page) rest s fk known (r .above) (r .below)
+
+  -- and the new one isn't padded
+  pub appended-padded : pagePadded (withAppended page w) ≡ pagePadded page
+  unfolding pagePadded
+  appended-padded =
+      let after = withAppended page w in
+      sym (padded-at after place appended-place)
+      ∙ padded-more (countOf page) (countOf page + 1) (fk - lastOf s) (drop (streamOff page) page) (drop (streamOff page) after) rest s
+      (withLast 0 s fk) (omega (arith, r .above)) known (sym (scan-yes after place appended-place) ∙ appended-scan) refl appended-stream

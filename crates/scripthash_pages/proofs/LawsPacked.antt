@@ -9,10 +9,11 @@ use lib.Dec.{eqb}
 use lib.ListN.{length, drop}
 use Rattle.error.specs.Refusal.{accepted}
 use Rattle.scripthash_layout.specs.Sizes.{pageSize}
-use Rattle.scripthash_stream.specs.Stream.{Rising, stream, streamLen}
+use Rattle.scripthash_stream.specs.Stream.{Rising, paddedIn, stream, streamLen}
 use Rattle.scripthash_stream.proofs.LawsStream.{length-stream}
 use Rattle.scripthash_stream.proofs.LawsEncode.{encode-fits}
-use Rattle.scripthash_fields.specs.Page.{linkTo, deltaHeader, extentHeader, pageOf}
+use Rattle.scripthash_stream.proofs.LawsPadded.{padded-written}
+use Rattle.scripthash_fields.specs.Page.{streamOf, linkTo, deltaHeader, extentHeader, pageOf}
 use Rattle.scripthash_fields.specs.Fields.{readLink, firstOff, nextOffOf, extentOf, createsOf, nFks}
 use Rattle.scripthash_fields.proofs.LawsWhole.{whole-link, whole-first, whole-next, delta-nFks, delta-link-is, delta-extent, delta-creates}
 use Rattle.scripthash_fields.proofs.LawsWhole.{extent-nFks, extent-link-is, extent-extent, extent-creates-is}
@@ -20,7 +21,7 @@ use Rattle.scripthash_fields.proofs.LawsPage.{page-yes}
 use Rattle.scripthash_fields.proofs.LawsPage.{length-delta, delta-version, delta-count, delta-stream, length-extent, extent-version}
 use Rattle.scripthash_fields.proofs.LawsPage.{extent-count, extent-stream}
 use Rattle.scripthash_fields.proofs.LawsFields.{link-good, extent-good}
-use Rattle.scripthash_pages.specs.Entries.{pageScan}
+use Rattle.scripthash_pages.specs.Entries.{pageScan, pagePadded}
 use Rattle.scripthash_pages.specs.Pack.{packed, packPage, linked, packExtent}
 use Rattle.scripthash_pages.proofs.LawsAppended.{count-least}
 use Rattle.scripthash_pages.proofs.LawsPack.{packed-fits}
@@ -51,6 +52,23 @@ module _ (ns : List ℕ) (rises : Rising (2 ^ 63) 0 ns) where
       held-scan true page ns _ (length-extent (length ns) link base extents creates (stream ns) (omega arith)) version
       (extent-count (length ns) link base extents creates (stream ns) (omega (arith, count-least 0 ns)))
       (ap (λ (o : ℕ). drop o page) (sym start) ∙ extent-stream (length ns) link base extents creates (stream ns)) rises fits
+
+  -- neither has a padded number
+  pub delta-padded : streamLen ns ≤ 4088 → (link : ℕ) → pagePadded (pageOf (deltaHeader (length ns) link) (stream ns)) ≡ 0
+  unfolding pagePadded
+  delta-padded fits link =
+      let page = pageOf (deltaHeader (length ns) link) (stream ns) in
+      ap (λ (m : ℕ). paddedIn m (streamOf page)) (delta-count (length ns) link (stream ns) (omega (arith, count-least 0 ns)))
+      ∙ ap (paddedIn (length ns)) (delta-stream (length ns) link (stream ns)) ∙ padded-written ns _ rises
+
+  pub extent-padded : streamLen ns ≤ 4072 → (link base extents creates : ℕ)
+      → pagePadded (pageOf (extentHeader (length ns) link base extents creates) (stream ns)) ≡ 0
+  unfolding pagePadded
+  extent-padded fits link base extents creates =
+      let page = pageOf (extentHeader (length ns) link base extents creates) (stream ns) in
+      ap (λ (m : ℕ). paddedIn m (streamOf page))
+      (extent-count (length ns) link base extents creates (stream ns) (omega (arith, count-least 0 ns)))
+      ∙ ap (paddedIn (length ns)) (extent-stream (length ns) link base extents creates (stream ns)) ∙ padded-written ns _ rises
 
   -- a list that fits behind a header is packed
   packed-behind : (header : List ℕ) → streamLen ns ≤ pageSize - length header → packed header ns ≡ accepted (pageOf header (stream ns))
