@@ -127,7 +127,7 @@ one-kind (pages ps) i x y e f = none-some e
 -- ---- a good start
 
 -- A key of the plain book of any book, and its list.
-key-is : (b : Book) (key : ℕ) → keyOf key (plainOf b) ≡ keyFrom (b .space) (wordOf key b)
+pub key-is : (b : Book) (key : ℕ) → keyOf key (plainOf b) ≡ keyFrom (b .space) (wordOf key b)
 unfolding plainOf
 key-is b key = keys-at (b .space) (b .heads) key
 

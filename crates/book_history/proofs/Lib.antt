@@ -23,6 +23,7 @@ pub mod LawsStartKept
 pub mod ExamplesStart
 pub mod Demand3
 pub mod Licence
+pub mod Padded
 pub mod Ceilings
 pub mod Totals
 pub mod LawsOnly

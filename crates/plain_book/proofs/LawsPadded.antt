@@ -3,18 +3,18 @@
 use Prim.Native.Nat.{ℕ, _+_, _<_}
 use mathlib.Core.List.{List, [], _∷_, _++_}
 use mathlib.Core.Logic.{_⊎_, inl, inr, ⊎-elim}
-use mathlib.Core.Path.{_≡_, refl, sym, ap, _∙_}
+use mathlib.Core.Path.{_≡_, refl, ap, _∙_, subst}
 use native.Mathlib.Nat.{add-zero}
 use native.Mathlib.Omega.{arith}
 use lib.ListN.{length, getD}
 use lib.Seq.{getD-set-same}
-use Rattle.error.specs.Refusal.{Answer, accepted, refused}
+use Rattle.error.specs.Refusal.{Answer, accepted, refused, answered}
 use Rattle.scripthash_layout.specs.Sizes.{pageSize}
 use Rattle.scripthash_cutting.specs.Cutting.{cutting, replaceLast}
 use Rattle.book_rules.specs.declared.places.SlabFit.{SlabFit}
-use Rattle.book_rules.specs.Outcomes.{Loaded, Appended, Listed, Dropped, bookAfter}
-use Rattle.book_statements.specs.Calls.{Enquiry, read, ask, change, drop, Call, afterCalls, answersTo}
-use Rattle.book_statements.specs.Padded.{NonePadded, ReportsNone}
+use Rattle.book_rules.specs.Outcomes.{Loaded, Appended, Listed, Dropped, bookAfter, answerOf}
+use Rattle.book_statements.specs.Calls.{Enquiry, read, Change, load, append, drop, Made, Call, ask, change, Answers, changed, answersTo}
+use Rattle.book_statements.specs.Padded.{NonePadded, ReportsNone, Renews, NoneOnceRenewed}
 use Rattle.book_statements.specs.Moves.{noMoves}
 use Rattle.plain_book.specs.Space.{Space}
 use Rattle.plain_book.specs.Key.{Key, emptyKey, Kept, written, longer, Page, Place, empty, paddedPages, paddedOf, onePage, longerPage}
@@ -149,3 +149,25 @@ after-move b key n cs {o} e some =
     let same : o .told .rewritten ≡ p .rewritten = ap (λ (x : Outcome Appended). x .told .rewritten) is in
     changed-none b key _ _ (o .book) cs within (ap (λ (x : Outcome Appended). x .book) is)
     (⊎-elim (λ (kept, none). absurd (omega (arith, same, none, some))) (λ none. none) (append-padded (b .size) _ _ n (b .space) got))
+
+-- From any change on that writes the list anew.
+renewed-none : (b : Book) (key : ℕ) (c : Change) (cs : List Call) {o : Outcome (Made c)} → does b c ≡ accepted o → Renews key c (o .told)
+    → ReportsNone key (answers (o .book) cs)
+unfolding does Renews
+renewed-none b key (load fit k ns) cs {o} e is =
+    subst (λ (i : ℕ). ReportsNone i (answers (o .book) cs)) is (after-load fit b k ns cs e)
+renewed-none b key (append k n) cs {o} e (is, some) =
+    subst (λ (i : ℕ). ReportsNone i (answers (o .book) cs)) is (after-move b k n cs e some)
+renewed-none b key (drop k) cs {o} e is = subst (λ (i : ℕ). ReportsNone i (answers (o .book) cs)) is (after-drop b k cs e)
+
+-- Take any book and any list of calls: once a key's list is written anew, the key reports none.
+pub renewed-unpadded : (b : Book) (key : ℕ) (cs : List Call) → NoneOnceRenewed key (answers b cs)
+unfolding answersTo NoneOnceRenewed bookAfter answered
+renewed-unpadded b key [] = tt
+renewed-unpadded b key (ask q ∷ cs) = renewed-unpadded b key cs
+renewed-unpadded b key (change c ∷ cs) = step (does b c) refl (renewed-unpadded (bookAfter b (does b c)) key cs)
+  where
+    step : (a : Answer (Outcome (Made c))) → does b c ≡ a → NoneOnceRenewed key (answers (bookAfter b a) cs)
+        → NoneOnceRenewed key (changed {c = c} (answerOf a) (answers (bookAfter b a) cs))
+    step (accepted o) e rest = (λ r. renewed-none b key c cs e r, rest)
+    step (refused number) e rest = rest
