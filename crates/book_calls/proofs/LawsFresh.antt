@@ -16,6 +16,7 @@ use Rattle.book_limits.specs.Limits.{outOfShape}
 use Rattle.book_statements.specs.Recorded.{recorded}
 use Rattle.plain_book.specs.Key.{pagesOf}
 use Rattle.plain_book.specs.Book.{fresh as plainFresh, answers as plainAnswers, after as plainAfter, keyOf}
+use Rattle.plain_book.proofs.LawsPadded.{unpadded-fresh}
 use Rattle.plain_book.proofs.LawsRecorded.{recorded-fresh}
 use Rattle.plain_book.proofs.LawsGood.{shapes-kept}
 use Rattle.book_space.specs.declared.State.{State}
@@ -94,7 +95,7 @@ module _ (body heads : List ℕ) (s : State) (made : Book)
       → length (recorded key (plainAnswers (plainFresh (length body) (length heads)) cs) []) ≤ room
       → (pages : ℕ)
       × (reads left key room
-      ≡ accepted (listing (recorded key (plainAnswers (plainFresh (length body) (length heads)) cs) []) pages))
+      ≡ accepted (listing (recorded key (plainAnswers (plainFresh (length body) (length heads)) cs) []) pages 0))
   made-records cs left l e key room within fits =
       let plain = plainFresh (length body) (length heads) in
       let then = plainAfter plain cs in
@@ -104,7 +105,7 @@ module _ (body heads : List ℕ) (s : State) (made : Book)
       let (size, keys) = shapes-kept plain cs in
       let count : length (then .keys) ≡ length heads = keys ∙ length-replicate (length heads) _ in
       let told = stands .reads key room (rw (size, count) e) (rw count within) (rw list fits) in
-      (pagesOf (keyOf key then .place), told ∙ rw list)
+      (pagesOf (keyOf key then .place), told ∙ rw (list, unpadded-fresh (length body) (length heads) key cs))
 
 -- ---- the three ways out
 

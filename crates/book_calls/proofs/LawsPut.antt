@@ -31,6 +31,18 @@ four-words b x y z w h =
     sym (overwrite-step b 0 x (y ∷ z ∷ w ∷ []) (omega arith) ∙ overwrite-step (set b 0 x) 1 y (z ∷ w ∷ []) (omega arith)
     ∙ overwrite-step (set (set b 0 x) 1 y) 2 z (w ∷ []) (omega arith) ∙ overwrite-one (set (set (set b 0 x) 1 y) 2 z) 3 w (omega arith))
 
+pub five-words : (b : List ℕ) (x y z w v : ℕ) → 5 ≤ length b
+    → set (set (set (set (set b 0 x) 1 y) 2 z) 3 w) 4 v ≡ overwrite b 0 (x ∷ y ∷ z ∷ w ∷ v ∷ [])
+five-words b x y z w v h =
+    let one = length-set b 0 x in
+    let two = length-set (set b 0 x) 1 y in
+    let three = length-set (set (set b 0 x) 1 y) 2 z in
+    let four = length-set (set (set (set b 0 x) 1 y) 2 z) 3 w in
+    sym (overwrite-step b 0 x (y ∷ z ∷ w ∷ v ∷ []) (omega arith) ∙ overwrite-step (set b 0 x) 1 y (z ∷ w ∷ v ∷ []) (omega arith)
+    ∙ overwrite-step (set (set b 0 x) 1 y) 2 z (w ∷ v ∷ []) (omega arith)
+    ∙ overwrite-step (set (set (set b 0 x) 1 y) 2 z) 3 w (v ∷ []) (omega arith)
+    ∙ overwrite-one (set (set (set (set b 0 x) 1 y) 2 z) 3 w) 4 v (omega arith))
+
 -- the same answer, and the same words
 pub re-said : {a other : Answer SpelledTold} {b out : List ℕ} {len : ℕ} → other ≡ a → Answered a b out len → Answered other b out len
 re-said {b = b} {out = out} {len = len} e h = subst (λ (x : Answer SpelledTold). Answered x b out len) (sym e) h

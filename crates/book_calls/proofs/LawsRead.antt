@@ -1,4 +1,4 @@
--- A read's answer: its list was lent behind four words, which are written last. Assumes nothing.
+-- A read's answer: its list was lent behind five words, which are written last. Assumes nothing.
 use Prim.Native.Nat.{ℕ, _+_, _-_, _≤_}
 use mathlib.Core.Bool.{Bool, true, false}
 use mathlib.Core.List.{List, [], _∷_, _++_}
@@ -32,16 +32,16 @@ pub data ReadsAs (room : ℕ) : Answer List-told → Type 0 where
 
 -- what a read tells of a key's content, or the refusal of a list that is too short
 abbrev listedIn : ℕ → Content → Answer List-told
-listedIn room c = refuseIf (ltb room (length (c .numbers))) listTooShort (accepted (listing (c .numbers) (c .pages)))
+listedIn room c = refuseIf (ltb room (length (c .numbers))) listTooShort (accepted (listing (c .numbers) (c .pages) (c .padded)))
 
 pub reads-as : (b : Book) (key room : ℕ) → ReadsAs room (reads b key room)
 unfolding reads onKey refuseIf andThen
 reads-as b key room = shape (shapeBroken (b .space) (length (b .heads)))
   where
     fits : (c : Content) (t : Bool) → ltb room (length (c .numbers)) ≡ t
-        → ReadsAs room (refuseIf t listTooShort (accepted (listing (c .numbers) (c .pages))))
+        → ReadsAs room (refuseIf t listTooShort (accepted (listing (c .numbers) (c .pages) (c .padded))))
     fits c true e = turned
-    fits c false e = told (listing (c .numbers) (c .pages)) (ltb-false room (length (c .numbers)) e)
+    fits c false e = told (listing (c .numbers) (c .pages) (c .padded)) (ltb-false room (length (c .numbers)) e)
 
     held : (a : Answer Content) → ReadsAs room (andThen a (λ c. listedIn room c))
     held (accepted c) = fits c (ltb room (length (c .numbers))) refl
@@ -58,53 +58,54 @@ reads-as b key room = shape (shapeBroken (b .space) (length (b .heads)))
     shape false = within (leb (length (b .heads)) key)
 
 -- words written before others that stand behind them
-before-words : (b ns : List ℕ) (x y z w : ℕ) → 4 + length ns ≤ length b
-    → overwrite (overwrite b 4 ns) 0 (x ∷ y ∷ z ∷ w ∷ []) ≡ overwrite b 0 (x ∷ y ∷ z ∷ w ∷ ns)
+before-words : (b ns : List ℕ) (x y z w v : ℕ) → 5 + length ns ≤ length b
+    → overwrite (overwrite b 5 ns) 0 (x ∷ y ∷ z ∷ w ∷ v ∷ []) ≡ overwrite b 0 (x ∷ y ∷ z ∷ w ∷ v ∷ ns)
 unfolding overwrite
-before-words b ns x y z w h =
-    let all : 4 + length ns ≡ 0 + length (x ∷ y ∷ z ∷ w ∷ ns) = omega arith in
-    ap (λ (l : List ℕ). x ∷ y ∷ z ∷ w ∷ l) (drop-at (take 4 b) (ns ++ drop (4 + length ns) b) 4 (length-take-le 4 b (omega arith)))
-    ∙ ap (λ (k : ℕ). x ∷ y ∷ z ∷ w ∷ (ns ++ drop k b)) all
+before-words b ns x y z w v h =
+    let all : 5 + length ns ≡ 0 + length (x ∷ y ∷ z ∷ w ∷ v ∷ ns) = omega arith in
+    ap (λ (l : List ℕ). x ∷ y ∷ z ∷ w ∷ v ∷ l) (drop-at (take 5 b) (ns ++ drop (5 + length ns) b) 5 (length-take-le 5 b (omega arith)))
+    ∙ ap (λ (k : ℕ). x ∷ y ∷ z ∷ w ∷ v ∷ (ns ++ drop k b)) all
 
--- A read into the part of a list behind its first four words.
-module _ (b : Book) (key room : ℕ) (out : List ℕ) (h : 4 + room ≤ length out) where
+-- A read into the part of a list behind its first five words.
+module _ (b : Book) (key room : ℕ) (out : List ℕ) (h : 5 + room ≤ length out) where
   abbrev mid : List ℕ
-  mid = midOf 4 (4 + room - 4) out
+  mid = midOf 5 (5 + room - 5) out
 
   pub mid-room : length mid ≡ room
   mid-room = simp (length-take, length-drop) (omega arith)
 
   -- what is known of the list and of the answer, by what the read answers
   pub record Put (a : Answer List-told) (answer : BookRead) (part : List ℕ) : Type 0 where
-    pub same : length (putMid 4 (4 + room - 4) out part) ≡ length out
-    pub long : readLen answer ≤ 4 + room
+    pub same : length (putMid 5 (5 + room - 5) out part) ≡ length out
+    pub long : readLen answer ≤ 5 + room
     pub said : (len : ℕ) → len ≡ readLen answer
-        → Answered (answered listed a) out (overwrite (putMid 4 (4 + room - 4) out part) 0 (readWords answer)) len
+        → Answered (answered listed a) out (overwrite (putMid 5 (5 + room - 5) out part) 0 (readWords answer)) len
 
   put-turned : (number : ℕ) (answer : BookRead) (part : List ℕ) → readAnswer answer ≡ refused number → part ≡ mid
       → Put (refused number) answer part
   unfolding answered spellAnswer
-  put-turned number (Listed count pages) part e p = let z : _≡_ {A = ℕ} 0 1 = cc in absurd (omega arith)
+  put-turned number (Listed count pages padded) part e p = let z : _≡_ {A = ℕ} 0 1 = cc in absurd (omega arith)
   put-turned number (NotRead m) part e p =
       let same : m ≡ number = cc in
-      let whole : putMid 4 (4 + room - 4) out part ≡ out = ap (putMid 4 (4 + room - 4) out) p ∙ put-same 4 (4 + room - 4) out in
+      let whole : putMid 5 (5 + room - 5) out part ≡ out = ap (putMid 5 (5 + room - 5) out) p ∙ put-same 5 (5 + room - 5) out in
       record { same = ap length whole; long = omega arith; said = λ len l. record { words = rw (whole, same); count = l } }
 
   put-told : (l : List-told) (answer : BookRead) (part : List ℕ) → length (l .numbers) ≤ room
-      → readAnswer answer ≡ accepted (record { length = length (l .numbers); pages = l .pages })
+      → readAnswer answer ≡ accepted (record { length = length (l .numbers); pages = l .pages; padded = l .padded })
       → part ≡ overwrite mid 0 (l .numbers) → Put (accepted l) answer part
   unfolding answered spellAnswer spellTold
-  put-told l (Listed count pages) part fits e p =
+  put-told l (Listed count pages padded) part fits e p =
       let counts : count ≡ length (l .numbers) = ap (λ (x : Counted). x .length) (accepted-inj e) in
       let walked : pages ≡ l .pages = ap (λ (x : Counted). x .pages) (accepted-inj e) in
-      let all : 4 + count ≡ length (0 ∷ 2 ∷ l .pages ∷ length (l .numbers) ∷ l .numbers) = omega (arith, counts) in
-      let placed : putMid 4 (4 + room - 4) out part ≡ overwrite out 4 (l .numbers) =
-      ap (putMid 4 (4 + room - 4) out) p ∙ overwrite-part out 4 (4 + room - 4) 0 (l .numbers) (omega arith) (omega arith) in
-      let spelled = before-words out (l .numbers) 0 2 (l .pages) (length (l .numbers)) (omega arith) in
+      let more : padded ≡ l .padded = ap (λ (x : Counted). x .padded) (accepted-inj e) in
+      let all : 5 + count ≡ length (0 ∷ 2 ∷ l .pages ∷ l .padded ∷ length (l .numbers) ∷ l .numbers) = omega (arith, counts) in
+      let placed : putMid 5 (5 + room - 5) out part ≡ overwrite out 5 (l .numbers) =
+      ap (putMid 5 (5 + room - 5) out) p ∙ overwrite-part out 5 (5 + room - 5) 0 (l .numbers) (omega arith) (omega arith) in
+      let spelled = before-words out (l .numbers) 0 2 (l .pages) (l .padded) (length (l .numbers)) (omega arith) in
       record {
-        same = ap length placed ∙ length-overwrite out 4 (l .numbers) (omega arith);
+        same = ap length placed ∙ length-overwrite out 5 (l .numbers) (omega arith);
         long = omega (arith, counts);
-        said = λ len s. record { words = rw (placed, counts, walked) spelled; count = s ∙ all };
+        said = λ len s. record { words = rw (placed, counts, walked, more) spelled; count = s ∙ all };
       }
   put-told l (NotRead m) part fits e p = let z : _≡_ {A = ℕ} 0 1 = cc in absurd (omega arith)
 

@@ -58,11 +58,11 @@ unfolding spellAnswer spellTold
 drop-short (Dropped length) = omega arith
 drop-short (NotDropped number) = omega arith
 
-pub read-short : (b : Book) (key room : ℕ) → length (spellAnswer (answered listed (reads b key room))) ≤ 4 + room
+pub read-short : (b : Book) (key room : ℕ) → length (spellAnswer (answered listed (reads b key room))) ≤ 5 + room
 unfolding answered spellAnswer spellTold
 read-short b key room = by (reads b key room) (reads-as b key room)
   where
-    by : (a : Answer List-told) → ReadsAs room a → length (spellAnswer (answered listed a)) ≤ 4 + room
+    by : (a : Answer List-told) → ReadsAs room a → length (spellAnswer (answered listed a)) ≤ 5 + room
     by (refused number) turned = omega arith
     by (accepted l) (told _ fits) = omega arith
 
@@ -147,7 +147,7 @@ module _ {calls : List ℕ} {at room : ℕ} (h : CallHere calls at room) where
   unfolding answerRoom
   here-append-room e = here-room _ (here-append e)
 
-  pub here-read-room : kind ≡ 2 → 4 + third ≤ room
+  pub here-read-room : kind ≡ 2 → 5 + third ≤ room
   unfolding answerRoom
   here-read-room e = here-room _ (here-read e)
 

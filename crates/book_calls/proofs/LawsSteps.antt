@@ -190,11 +190,11 @@ room-of k key third rest b e = go (isLoad k) refl
 
 -- the room that is left, by the kind of the call
 module _ (k third left : ℕ) where
-  pub read-short : k ≡ 2 → left < 4 + third → RoomIs (needOf k third) left TooLittle
+  pub read-short : k ≡ 2 → left < 5 + third → RoomIs (needOf k third) left TooLittle
   unfolding RoomIs needOf
   read-short e l = rw e l
 
-  pub read-fits : k ≡ 2 → 4 + third ≤ left → RoomIs (needOf k third) left (Words (left - 4 - third))
+  pub read-fits : k ≡ 2 → 5 + third ≤ left → RoomIs (needOf k third) left (Words (left - 5 - third))
   unfolding RoomIs needOf
   read-fits e l = rw e (omega arith)
 

@@ -67,9 +67,9 @@ pub record Runs (body heads calls out : List ℕ) (r : AfterRun) (body' heads' o
   -- It stands as the plain book does: places, mark, freed blocks, and what each key reads as.
   pub stands : (cs : List SpelledCall) → callsOf calls ≡ some cs → answersRoom cs ≤ length out → outOfShape (length body) (length heads) ≡ false
       → Standing (plainAfter (plainFresh (length body) (length heads)) (callsIn cs)) (bookOf body' heads' (r .state))
-  -- Afterwards each key reads as what is recorded for it, by calls and answers alone, where the book is in shape; a long enough list is
-  -- lent.
+  -- Afterwards each key reads as what is recorded for it, by calls and answers alone, with no padded number, where the book is in shape; a
+  -- long enough list is lent.
   pub records : (cs : List SpelledCall) → callsOf calls ≡ some cs → answersRoom cs ≤ length out → outOfShape (length body) (length heads) ≡ false
       → (key room : ℕ) → key < length heads → length (recordedFor key (length body) (length heads) cs) ≤ room
       → (pages : ℕ)
-      × (reads (bookOf body' heads' (r .state)) key room ≡ accepted (listing (recordedFor key (length body) (length heads) cs) pages))
+      × (reads (bookOf body' heads' (r .state)) key room ≡ accepted (listing (recordedFor key (length body) (length heads) cs) pages 0))

@@ -36,7 +36,7 @@ NextIs calls at (some b) Nowhere = ⊥
 
 -- The words that the answer to a call may have, by its kind and its third word.
 unfoldable pub needOf : ℕ → ℕ → ℕ
-needOf kind third = cond (eqb kind 2) (4 + third) (cond (eqb kind 1) 7 3)
+needOf kind third = cond (eqb kind 2) (5 + third) (cond (eqb kind 1) 7 3)
 
 -- What is known of the room that is left when some words are needed.
 unfoldable pub RoomIs : ℕ → ℕ → RoomLeft → Type 0
@@ -50,12 +50,12 @@ pub record Answered (a : Answer SpelledTold) (before after : List ℕ) (len : �
 
 -- The words of a read's answer before its list.
 abbrev pub readWords : BookRead → List ℕ
-readWords (Listed count pages) = 0 ∷ 2 ∷ pages ∷ count ∷ []
+readWords (Listed count pages padded) = 0 ∷ 2 ∷ pages ∷ padded ∷ count ∷ []
 readWords (NotRead number) = number ∷ []
 
 -- How many words a read's answer has, with its list.
 abbrev pub readLen : BookRead → ℕ
-readLen (Listed count pages) = 4 + count
+readLen (Listed count pages padded) = 5 + count
 readLen (NotRead number) = 1
 
 -- A call was done on a book: it is the book after it, and the answer's words were written.

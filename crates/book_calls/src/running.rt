@@ -100,12 +100,12 @@ fn run_read(
     room: usize,
     out: &mut [u64],
 ) -> usize
-    requires { ⌜ 4 + room ≤ length (now out) ⌝ }
+    requires { ⌜ 5 + room ≤ length (now out) ⌝ }
     ensures { λ r. ⌜ Answered (answered listed (reads (bookOf (now (body .entry)) (now (heads .entry)) state) key room)) (now (out .entry))
         (now (out .exit)) r ⌝ }
 {
-    let end = 4 + room;
-    let answer = book_read::read(body, heads, state, key, &mut out[4..end]);
+    let end = 5 + room;
+    let answer = book_read::read(body, heads, state, key, &mut out[5..end]);
     put_read(out, answer)
 }
 

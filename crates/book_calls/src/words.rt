@@ -104,13 +104,13 @@ fn room_behind(kind: u64, third: u64, left: u64) -> RoomLeft
     ensures { λ r. ⌜ RoomIs (needOf kind third) left r ⌝ }
 {
     if kind == READ {
-        if left < 4 {
+        if left < 5 {
             return RoomLeft::TooLittle;
         }
-        if left - 4 < third {
+        if left - 5 < third {
             return RoomLeft::TooLittle;
         }
-        return RoomLeft::Words(left - 4 - third);
+        return RoomLeft::Words(left - 5 - third);
     }
     if kind == APPEND {
         if left < 7 {

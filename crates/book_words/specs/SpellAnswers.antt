@@ -23,7 +23,7 @@ spellPlace (Extent last) = 3 ∷ 0 ∷ 0 ∷ last ∷ []
 unfoldable pub spellTold : SpelledTold → List ℕ
 spellTold (loaded l) = 0 ∷ l .pages ∷ []
 spellTold (appended a) = 1 ∷ a .rewritten ∷ spellPlace (a .place)
-spellTold (listed l) = 2 ∷ l .pages ∷ length (l .numbers) ∷ l .numbers
+spellTold (listed l) = 2 ∷ l .pages ∷ l .padded ∷ length (l .numbers) ∷ l .numbers
 spellTold (dropped d) = 3 ∷ d .length ∷ []
 
 -- The words of an answer: the refusal's number, or 0 and what is told.
@@ -51,9 +51,9 @@ appendedAt ws =
 
 unfoldable pub listedAt : List ℕ → Option (Begins (Answer SpelledTold))
 listedAt ws =
-    word ws (λ pages ws. word ws (λ count rest.
-    cond (leb count (length rest)) (begins (accepted (listed (listing (firstOf count rest) pages))) (behind count rest))
-    none))
+    word ws (λ pages ws. word ws (λ padded ws. word ws (λ count rest.
+    cond (leb count (length rest)) (begins (accepted (listed (listing (firstOf count rest) pages padded))) (behind count rest))
+    none)))
 
 unfoldable pub droppedAt : List ℕ → Option (Begins (Answer SpelledTold))
 droppedAt ws = word ws (λ length rest. begins (accepted (dropped (droppedOf length))) rest)

@@ -57,7 +57,7 @@ callsOf ws = readAll callAt (length ws) ws
 unfoldable pub answerRoom : SpelledCall → ℕ
 answerRoom (load fit key ns) = 3
 answerRoom (append key n) = 7
-answerRoom (read key room) = 4 + room
+answerRoom (read key room) = 5 + room
 answerRoom (drop key) = 3
 
 -- The most words that the answers to a list of calls have.

@@ -19,10 +19,10 @@ use Rattle.book_statements.specs.Moves.{noMoves}
 use Rattle.plain_book.specs.Space.{Space}
 use Rattle.plain_book.specs.Key.{Key, emptyKey, Kept, written, longer, Page, Place, empty, paddedPages, paddedOf, onePage, longerPage}
 use Rattle.plain_book.specs.Key.{Placed, runPages}
-use Rattle.plain_book.specs.Book.{Book, fresh, keyOf, extended, answers, asks, does, reads, loads, appends, drops, Outcome, withKey}
+use Rattle.plain_book.specs.Book.{Book, fresh, keyOf, extended, after, answers, asks, does, reads, loads, appends, drops, Outcome, withKey}
 use Rattle.plain_book.specs.Sound.{Unpadded}
 use Rattle.plain_book.specs.Did.{LoadDid, loaded-none, loaded-one, loaded-slab, loaded-run, AppendDid, began, stayed, moved-slab, moved-page, joined-page, begun-page}
-use Rattle.plain_book.proofs.LawsHistory.{KeptByCalls, kept-call, fresh-key, load-did, append-did, drop-did, read-did}
+use Rattle.plain_book.proofs.LawsHistory.{KeptByCalls, kept-call, kept-fresh, fresh-key, load-did, append-did, drop-did, read-did}
 
 -- ---- pages
 
@@ -91,6 +91,11 @@ unpadded-kept =
           ⊎-elim (λ (same, r). same ∙ h) (λ none. none) (append-padded end (length (k .list)) (extended (k .list) n) n s e);
       drops = refl;
     }
+
+-- After any list of calls on a fresh book no key has one.
+pub unpadded-fresh : (size heads key : ℕ) (cs : List Call) → paddedOf (keyOf key (after (fresh size heads) cs) .place) ≡ 0
+unfolding Unpadded
+unpadded-fresh size heads key cs = kept-fresh _ unpadded-kept size heads key cs
 
 -- A read of a key without padded numbers reports none.
 ask-none : (b : Book) (key : ℕ) (q : Enquiry) → Unpadded (keyOf key b .place) → NonePadded key q (asks b q)

@@ -20,8 +20,8 @@ as-told b e words count = (words ∙ ap (λ (a : BookRead). overwrite b 0 (readW
 enum-known-answer : tie.Need-enum-known-answer
 enum-known-answer c = search needs
 
-put-four-requires : tie.Need-put-four-requires
-put-four-requires c κs = search needs
+put-five-requires : tie.Need-put-five-requires
+put-five-requires c κs = search needs
 
 add-result : tie.Need-add-result
 add-result c =
@@ -38,7 +38,7 @@ same-length : tie.Need-same-length
 same-length c = search needs
 
 returns : tie.Need-returns
-returns c = as-told _ (c .before .before .before .before .before .answer .given .1) (c .before .before .put-four .ensures) refl
+returns c = as-told _ (c .before .before .before .before .before .answer .given .1) (c .before .before .put-five .ensures) refl
 
 same-length-2 : tie.Need-same-length-2
 same-length-2 c = search needs
@@ -54,7 +54,7 @@ put-read-spec =
     tie.close
     (tie.spec
     enum-known-answer
-    put-four-requires
+    put-five-requires
     add-result
     enum-known-answer-2
     put-refusal-requires
