@@ -114,21 +114,28 @@ fn put_appended(
     }
 }
 
-// Hands out how many numbers were read, and the pages walked.
-fn put_listed(answer: BookRead, count: &mut u64, walked: &mut u64) -> u32
+// Hands out how many numbers were read, the pages walked, and how many of the numbers are padded.
+fn put_listed(answer: BookRead, count: &mut u64, walked: &mut u64, longer: &mut u64) -> u32
     ensures number { λ r. ⌜ r ≡ refusalOf (readAnswer answer) ⌝ }
     ensures count { λ r. ⌜ now (count .exit) ≡ valueOr (λ c. c .length) (readAnswer answer) 0 ⌝ }
     ensures walked { λ r. ⌜ now (walked .exit) ≡ valueOr (λ c. c .pages) (readAnswer answer) 0 ⌝ }
+    ensures longer { λ r. ⌜ now (longer .exit) ≡ valueOr (λ c. c .padded) (readAnswer answer) 0 ⌝ }
 {
     match answer {
-        BookRead::Listed { length, pages } => {
+        BookRead::Listed {
+            length,
+            pages,
+            padded,
+        } => {
             *count = length;
             *walked = pages;
+            *longer = padded;
             0
         }
         BookRead::Refused(number) => {
             *count = 0;
             *walked = 0;
+            *longer = 0;
             number
         }
     }
@@ -299,8 +306,9 @@ pub extern "C" fn ouriscado_book_append(
 }
 
 // Reads the list of a key into the start of out; what stands behind it there stays. Hands out length, how many record numbers the list
-// has, and pages, how many pages of 4,096 bytes were walked. A read that is accepted with length 0 means that nothing is recorded for the
-// key; of one that is refused length is 0 too, and says nothing of the key. Refuses 1, 2, 31, 34.
+// has, pages, how many pages of 4,096 bytes were walked, and padded, how many of the numbers are stored in a longer form than the shortest:
+// 0 of a key that this book's own calls filled. A read that is accepted with length 0 means that nothing is recorded for the key; of one
+// that is refused length is 0 too, and says nothing of the key. Refuses 1, 2, 31, 34.
 #[no_mangle]
 pub extern "C" fn ouriscado_book_read(
     body: &[u8],
@@ -310,6 +318,7 @@ pub extern "C" fn ouriscado_book_read(
     out: &mut [u64],
     length: &mut u64,
     pages: &mut u64,
+    padded: &mut u64,
 ) -> u32
     ensures number { λ r. ⌜ r
         ≡ refusalOf (reads (bookIn (now (body .entry)) (now (heads .entry)) (now (state .entry))) key (lengthOfList (now (out .entry)))) ⌝ }
@@ -324,11 +333,15 @@ pub extern "C" fn ouriscado_book_read(
         ≡ valueOr (λ t. countedOf t .pages)
         (reads (bookIn (now (body .entry)) (now (heads .entry)) (now (state .entry))) key (lengthOfList (now (out .entry))))
         0 ⌝ }
+    ensures padded { λ r. ⌜ now (padded .exit)
+        ≡ valueOr (λ t. countedOf t .padded)
+        (reads (bookIn (now (body .entry)) (now (heads .entry)) (now (state .entry))) key (lengthOfList (now (out .entry))))
+        0 ⌝ }
     ensures kept { λ r. ⌜ (r ≢ 0 → now (out .exit) ≡ now (out .entry)) ⌝ }
 {
     let words = *state;
     let answer = book_read::read(body, heads, state_of(words), key, out);
-    put_listed(answer, length, pages)
+    put_listed(answer, length, pages, padded)
 }
 
 // Drops the list of a key: the key is empty then, and the book can use the list's slab or pages again. Hands out length, how many record

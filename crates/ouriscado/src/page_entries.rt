@@ -5,7 +5,7 @@ ghost use lib.ListN.{length};
 ghost use Rattle.error.specs.Refusal.{refusalOf, valueOr};
 ghost use Rattle.scripthash_stream.specs.Stream.{afterDecode};
 ghost use Rattle.scripthash_fields.specs.Page.{nextOff};
-ghost use Rattle.scripthash_pages.specs.Entries.{pageScan, lastOf, pageEntries, readCount, appendSpot, hasSpot, afterAppend, writeStream};
+ghost use Rattle.scripthash_pages.specs.Entries.{pageScan, lastOf, pageEntries, readCount, pagePadded, appendSpot, hasSpot, afterAppend, writeStream};
 ghost use Rattle.scripthash_pages.specs.Entries.{afterWriteStream};
 ghost use Rattle.scripthash_pages.specs.EntryAnswers.{tryAnswer};
 use crate::stream::put_bytes;
@@ -52,49 +52,68 @@ pub extern "C" fn ouriscado_sh_page_last_fk(page: &[u8], last: &mut u64) -> u32
     0
 }
 
-// Reads the numbers of a page into the start of out, and tells how many. Refuses 4, 15 to 18, 20 to 23, 34.
+// Reads the numbers of a page into the start of out, and tells how many, and how many of them are padded. Refuses 4, 15 to 18, 20 to 23, 34.
 #[no_mangle]
 pub extern "C" fn ouriscado_sh_page_entries_into(
     page: &[u8],
     out: &mut [u64],
     count: &mut usize,
+    padded: &mut usize,
 ) -> u32
     ensures number { λ r. ⌜ r ≡ refusalOf (pageEntries (length (now (out .entry))) (now (page .entry))) ⌝ }
     ensures list { λ r. ⌜ now (out .exit) ≡ afterDecode (now (out .entry)) (pageEntries (length (now (out .entry))) (now (page .entry))) ⌝ }
     ensures count { λ r. ⌜ now (count .exit) ≡ valueOr readCount (pageEntries (length (now (out .entry))) (now (page .entry))) 0 ⌝ }
+    ensures padded { λ r. ⌜ now (padded .exit)
+        ≡ valueOr (λ _. pagePadded (now (page .entry))) (pageEntries (length (now (out .entry))) (now (page .entry))) 0 ⌝ }
 {
     let got = scripthash_pages::sh_page_entries_into(page, out);
-    let PageEntries::Entries(n) = got else {
+    let PageEntries::Entries {
+        count: n,
+        padded: p,
+    } = got
+    else {
         *count = 0;
+        *padded = 0;
         return got.refusal();
     };
     *count = n;
+    *padded = p;
     0
 }
 
-// Reads the numbers of a page into the start of out, and tells how many and the next page's offset, 0 where the page is LAST. Refuses 4, 15
-// to 18, 20 to 23, 34.
+// Reads the numbers of a page into the start of out, and tells how many, the next page's offset, 0 where the page is LAST, and how many of
+// the numbers are padded. Refuses 4, 15 to 18, 20 to 23, 34.
 #[no_mangle]
 pub extern "C" fn ouriscado_sh_page_decode_slice_into(
     page: &[u8],
     out: &mut [u64],
     count: &mut usize,
     next: &mut u64,
+    padded: &mut usize,
 ) -> u32
     ensures number { λ r. ⌜ r ≡ refusalOf (pageEntries (length (now (out .entry))) (now (page .entry))) ⌝ }
     ensures list { λ r. ⌜ now (out .exit) ≡ afterDecode (now (out .entry)) (pageEntries (length (now (out .entry))) (now (page .entry))) ⌝ }
     ensures count { λ r. ⌜ now (count .exit) ≡ valueOr readCount (pageEntries (length (now (out .entry))) (now (page .entry))) 0 ⌝ }
     ensures next { λ r. ⌜ now (next .exit)
         ≡ valueOr (λ _. nextOff (now (page .entry))) (pageEntries (length (now (out .entry))) (now (page .entry))) 0 ⌝ }
+    ensures padded { λ r. ⌜ now (padded .exit)
+        ≡ valueOr (λ _. pagePadded (now (page .entry))) (pageEntries (length (now (out .entry))) (now (page .entry))) 0 ⌝ }
 {
     let got = scripthash_pages::sh_page_decode_slice_into(page, out);
-    let PageSlice::Decoded { count: n, next: o } = got else {
+    let PageSlice::Decoded {
+        count: n,
+        next: o,
+        padded: p,
+    } = got
+    else {
         *count = 0;
         *next = 0;
+        *padded = 0;
         return got.refusal();
     };
     *count = n;
     *next = o;
+    *padded = p;
     0
 }
 

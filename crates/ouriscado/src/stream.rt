@@ -2,9 +2,10 @@
 ghost use mathlib.Core.Path.{_≡_};
 ghost use lib.ListN.{length};
 ghost use Rattle.error.specs.Refusal.{refusalOf, valueOr};
-ghost use Rattle.scripthash_stream.specs.Stream.{encodeStream, afterEncode, decodeStream, afterDecode};
-ghost use Rattle.scripthash_stream.specs.Answers.{bytesAnswer};
+ghost use Rattle.scripthash_stream.specs.Stream.{encodeStream, afterEncode, paddedIn, decodeStream, afterDecode};
+ghost use Rattle.scripthash_stream.specs.Answers.{bytesAnswer, readAnswer};
 use scripthash_stream::StreamBytes;
+use scripthash_stream::StreamRead;
 
 // Hands out how many bytes a stream takes.
 pub fn put_bytes(got: StreamBytes, len: &mut usize) -> u32
@@ -18,6 +19,29 @@ pub fn put_bytes(got: StreamBytes, len: &mut usize) -> u32
         }
         StreamBytes::Refused(number) => {
             *len = 0;
+            number
+        }
+    }
+}
+
+// Hands out how many bytes a stream takes that was read, and how many of its numbers are padded.
+fn put_read(got: StreamRead, taken: &mut usize, padded: &mut usize) -> u32
+    ensures number { λ r. ⌜ r ≡ refusalOf (readAnswer got) ⌝ }
+    ensures taken { λ r. ⌜ now (taken .exit) ≡ valueOr (λ x. x .taken) (readAnswer got) 0 ⌝ }
+    ensures padded { λ r. ⌜ now (padded .exit) ≡ valueOr (λ x. x .padded) (readAnswer got) 0 ⌝ }
+{
+    match got {
+        StreamRead::Read {
+            taken: t,
+            padded: p,
+        } => {
+            *taken = t;
+            *padded = p;
+            0
+        }
+        StreamRead::Refused(number) => {
+            *taken = 0;
+            *padded = 0;
             number
         }
     }
@@ -39,19 +63,23 @@ pub extern "C" fn ouriscado_encode_fk_delta_stream_into(
     put_bytes(got, len)
 }
 
-// Reads a stream of n numbers at the start of buf into the start of out, and tells how many bytes it takes. Refuses 17, 18, 20 to 23, 34.
+// Reads a stream of n numbers at the start of buf into the start of out, and tells how many bytes it takes and how many of the numbers are
+// padded: stored in a longer form than the shortest. Refuses 17, 18, 20 to 23, 34.
 #[no_mangle]
 pub extern "C" fn ouriscado_decode_fk_delta_stream_into(
     buf: &[u8],
     n: usize,
     out: &mut [u64],
     taken: &mut usize,
+    padded: &mut usize,
 ) -> u32
     ensures number { λ r. ⌜ r ≡ refusalOf (decodeStream (length (now (out .entry))) n (now (buf .entry))) ⌝ }
     ensures list { λ r. ⌜ now (out .exit)
         ≡ afterDecode (now (out .entry)) (decodeStream (length (now (out .entry))) n (now (buf .entry))) ⌝ }
     ensures taken { λ r. ⌜ now (taken .exit) ≡ valueOr (λ s. s .taken) (decodeStream (length (now (out .entry))) n (now (buf .entry))) 0 ⌝ }
+    ensures padded { λ r. ⌜ now (padded .exit)
+        ≡ valueOr (λ _. paddedIn n (now (buf .entry))) (decodeStream (length (now (out .entry))) n (now (buf .entry))) 0 ⌝ }
 {
     let got = scripthash_scan::decode_fk_delta_stream_into(buf, n, out);
-    put_bytes(got, taken)
+    put_read(got, taken, padded)
 }

@@ -25,7 +25,7 @@ same-length c = search needs
 
 returns : tie.Need-returns
 returns c =
-    let r = c .before .before .before .before .before in
+    let r = c .before .before .before .before .before .before in
     let s = r .before .before in
     let a = s .before .before .before .before .before .args in
     let room = length (a .out .now) in
@@ -40,8 +40,11 @@ returns c =
         (
           h .1 .0 ∙ value-same (λ (x : Counted). x .length) _ e ∙ value-answered (λ (x : Counted). x .length) countedOf _ _,
           (
-            h .1 .1 ∙ value-same (λ (x : Counted). x .pages) _ e ∙ value-answered (λ (x : Counted). x .pages) countedOf _ _,
-            kept-list (a .out .now) _ number list,
+            h .1 .1 .0 ∙ value-same (λ (x : Counted). x .pages) _ e ∙ value-answered (λ (x : Counted). x .pages) countedOf _ _,
+            (
+              h .1 .1 .1 ∙ value-same (λ (x : Counted). x .padded) _ e ∙ value-answered (λ (x : Counted). x .padded) countedOf _ _,
+              kept-list (a .out .now) _ number list,
+            ),
           ),
         ),
       ),

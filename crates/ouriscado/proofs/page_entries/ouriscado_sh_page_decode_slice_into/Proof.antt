@@ -34,8 +34,10 @@ returns c =
         e .1,
         (
           value-refused (λ r. r .count) _ no ∙ value-answered (λ r. r .count) (pageReadOf _) _ _,
-          value-refused (λ r. r .next) _ no
-              ∙ value-answered (λ r. r .next) (pageReadOf _) _ _,
+          (
+            value-refused (λ r. r .next) _ no ∙ value-answered (λ r. r .next) (pageReadOf _) _ _,
+            value-refused (λ r. r .padded) _ no ∙ value-answered (λ r. r .padded) (pageReadOf _) _ _,
+          ),
         ),
       ),
     )
@@ -54,8 +56,10 @@ returns-2 c =
         e .1,
         (
           value-accepted (λ r. r .count) _ yes ∙ value-answered (λ r. r .count) (pageReadOf _) _ _,
-          value-accepted (λ r. r .next) _ yes
-              ∙ value-answered (λ r. r .next) (pageReadOf _) _ _,
+          (
+            value-accepted (λ r. r .next) _ yes ∙ value-answered (λ r. r .next) (pageReadOf _) _ _,
+            value-accepted (λ r. r .padded) _ yes ∙ value-answered (λ r. r .padded) (pageReadOf _) _ _,
+          ),
         ),
       ),
     )

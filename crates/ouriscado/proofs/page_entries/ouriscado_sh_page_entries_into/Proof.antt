@@ -2,7 +2,7 @@
 use mathlib.Core.Path.{sym, _∙_, ap}
 use Rattle.error.specs.Refusal.{refusalOf}
 use Rattle.error.proofs.LawsOut.{number-accepted, number-answered, value-accepted, value-answered, value-refused}
-use Rattle.scripthash_pages.specs.Entries.{readCount}
+use Rattle.scripthash_pages.specs.Entries.{entriesReadOf}
 use Rattle.scripthash_pages.specs.EntryAnswers.{entriesAnswer}
 use borrow.Author.Needs.{needs}
 use Rattle.ouriscado.proofs.page_entries.ouriscado_sh_page_entries_into.Statement.{statement}
@@ -28,8 +28,14 @@ returns c =
     let e = c .before .before .before .before .before .sh-page-entries-into .ensures in
     let no = sym (e .0) ∙ ap entriesAnswer (c .before .enum-told .given .1) in (
       c .refusal .ensures ∙ ap refusalOf (e .0)
-          ∙ number-answered readCount _,
-      (e .1, value-refused (λ x. x) _ no ∙ value-answered (λ x. x) readCount _ _),
+          ∙ number-answered (entriesReadOf _) _,
+      (
+        e .1,
+        (
+          value-refused (λ r. r .count) _ no ∙ value-answered (λ r. r .count) (entriesReadOf _) _ _,
+          value-refused (λ r. r .padded) _ no ∙ value-answered (λ r. r .padded) (entriesReadOf _) _ _,
+        ),
+      ),
     )
 
 same-length-2 : tie.Need-same-length-2
@@ -38,8 +44,16 @@ same-length-2 c = search needs
 returns-2 : tie.Need-returns-2
 returns-2 c =
     let e = c .before .before .before .before .before .sh-page-entries-into .ensures in
-    let yes = sym (e .0) ∙ ap entriesAnswer (c .before .got .given .1) in
-    (number-accepted yes ∙ number-answered readCount _, (e .1, value-accepted (λ x. x) _ yes ∙ value-answered (λ x. x) readCount _ _))
+    let yes = sym (e .0) ∙ ap entriesAnswer (c .before .got .given .1) in (
+      number-accepted yes ∙ number-answered (entriesReadOf _) _,
+      (
+        e .1,
+        (
+          value-accepted (λ r. r .count) _ yes ∙ value-answered (λ r. r .count) (entriesReadOf _) _ _,
+          value-accepted (λ r. r .padded) _ yes ∙ value-answered (λ r. r .padded) (entriesReadOf _) _ _,
+        ),
+      ),
+    )
 
 pub ouriscado-sh-page-entries-into-spec : {M : Type 1} → statement M
 ouriscado-sh-page-entries-into-spec =

@@ -29,13 +29,15 @@ returns c =
     let e = c .before .before .before .before .before .decode-slab-payload-into .ensures in
     let no = sym (e .0) ∙ ap slabAnswer (c .before .enum-told .given .1) in (
       c .refusal .ensures ∙ ap refusalOf (e .0)
-          ∙ number-answered slabListOf _,
+          ∙ number-answered (slabListOf _) _,
       (
         e .1,
         (
-          value-refused (λ l. l .used) _ no ∙ value-answered (λ l. l .used) slabListOf _ _,
-          value-refused (λ l. l .len) _ no
-              ∙ value-answered (λ l. l .len) slabListOf _ _,
+          value-refused (λ l. l .used) _ no ∙ value-answered (λ l. l .used) (slabListOf _) _ _,
+          (
+            value-refused (λ l. l .len) _ no ∙ value-answered (λ l. l .len) (slabListOf _) _ _,
+            value-refused (λ l. l .padded) _ no ∙ value-answered (λ l. l .padded) (slabListOf _) _ _,
+          ),
         ),
       ),
     )
@@ -48,13 +50,15 @@ returns-2 c =
     let e = c .before .before .before .before .before .decode-slab-payload-into .ensures in
     let yes = sym (e .0) ∙ ap slabAnswer (c .before .got .given .1) in (
       number-accepted yes
-          ∙ number-answered slabListOf _,
+          ∙ number-answered (slabListOf _) _,
       (
         e .1,
         (
-          value-accepted (λ l. l .used) _ yes ∙ value-answered (λ l. l .used) slabListOf _ _,
-          value-accepted (λ l. l .len) _ yes
-              ∙ value-answered (λ l. l .len) slabListOf _ _,
+          value-accepted (λ l. l .used) _ yes ∙ value-answered (λ l. l .used) (slabListOf _) _ _,
+          (
+            value-accepted (λ l. l .len) _ yes ∙ value-answered (λ l. l .len) (slabListOf _) _ _,
+            value-accepted (λ l. l .padded) _ yes ∙ value-answered (λ l. l .padded) (slabListOf _) _ _,
+          ),
         ),
       ),
     )
