@@ -60,24 +60,34 @@ pub fn appended(to: ShHeadValue, rewritten: u64) {
     counted(rewritten, b" record rewritten\n", b" records rewritten\n");
 }
 
+// Writes how many numbers are padded, where some are, and a colon.
+fn padded_some(padded: u64) {
+    if padded != 0 {
+        text::named(b", ", padded);
+        text::words(b" padded");
+    }
+    text::words(b":");
+}
+
 // A list with numbers was read, and stands at the start of another.
-fn listed_some(list: &[u64], length: u64, pages: u64) {
+fn listed_some(list: &[u64], length: u64, pages: u64, padded: u64) {
     text::words(b"read: ");
     numbers_and(length);
-    counted(pages, b" page:", b" pages:");
+    counted(pages, b" page", b" pages");
+    padded_some(padded);
     if length <= list.len() as u64 {
         text::numbers(&list[0..length as usize]);
     }
     text::end();
 }
 
-// A list was read, and stands at the start of another.
-pub fn listed(list: &[u64], length: u64, pages: u64) {
+// A list was read, and stands at the start of another; so many of its numbers are padded.
+pub fn listed(list: &[u64], length: u64, pages: u64, padded: u64) {
     if length == 0 {
         text::words(b"read: nothing is recorded\n");
         return;
     }
-    listed_some(list, length, pages);
+    listed_some(list, length, pages, padded);
 }
 
 // A list was dropped.

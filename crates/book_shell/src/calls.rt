@@ -95,8 +95,12 @@ pub fn append(body: &mut [u8], heads: &mut [u64], state: State, key: u64, n: u64
 // Says what a read answered, whose list stands in another, and tells whether it was refused.
 fn say_read(answer: BookRead, list: &[u64]) -> bool {
     match answer {
-        BookRead::Listed { length, pages } => {
-            book_script::listed(list, length, pages);
+        BookRead::Listed {
+            length,
+            pages,
+            padded,
+        } => {
+            book_script::listed(list, length, pages, padded);
             false
         }
         BookRead::Refused(number) => {

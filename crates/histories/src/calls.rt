@@ -93,7 +93,7 @@ fn lists(s: &[u8], list: &[u64; memory::NUMBERS]) -> bool {
     hex_fields::same_numbers(&wanted, list)
 }
 
-// Reads into a list.
+// Reads into a list. A line doesn't tell how many numbers are padded, so that this isn't compared.
 fn read_into(
     key: u64,
     body: &[u8],
@@ -103,6 +103,7 @@ fn read_into(
 ) -> [u64; 9] {
     let mut length = BEFORE;
     let mut pages = BEFORE;
+    let mut padded = BEFORE;
     let number = ouriscado::ouriscado_book_read(
         body,
         heads,
@@ -111,6 +112,7 @@ fn read_into(
         list,
         &mut length,
         &mut pages,
+        &mut padded,
     );
     answer(length, pages, number)
 }

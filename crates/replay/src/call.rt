@@ -58,11 +58,12 @@ fn on_numbers(function: u64, given: [u64; 4]) -> [u64; 5] {
     }
 }
 
-// Reads a number.
+// Reads a number. Whether its form is the shortest isn't told by the source, and isn't compared.
 fn read_uleb128(bytes: &[u8]) -> [u64; 5] {
     let mut value = BEFORE;
     let mut len = BEFORE as usize;
-    let number = ouriscado::ouriscado_read_uleb128(bytes, &mut value, &mut len);
+    let mut shortest = false;
+    let number = ouriscado::ouriscado_read_uleb128(bytes, &mut value, &mut len, &mut shortest);
     tells_two(value, len as u64, number)
 }
 
@@ -116,14 +117,16 @@ fn writing(function: u64, given: [u64; 4], bytes: &mut [u8], list: &[u64]) -> [u
     }
 }
 
-// Reads a stream.
+// Reads a stream. The source doesn't count padded numbers, here or below, so that they aren't compared.
 fn decode_fk_delta_stream_into(bytes: &[u8], n: u64, list: &mut [u64]) -> [u64; 5] {
     let mut taken = BEFORE as usize;
+    let mut padded = BEFORE as usize;
     let number = ouriscado::ouriscado_decode_fk_delta_stream_into(
         bytes,
         n as usize,
         list,
         &mut taken,
+        &mut padded,
     );
     tells(taken as u64, number)
 }
@@ -132,7 +135,14 @@ fn decode_fk_delta_stream_into(bytes: &[u8], n: u64, list: &mut [u64]) -> [u64; 
 fn decode_slab_payload_into(bytes: &[u8], list: &mut [u64]) -> [u64; 5] {
     let mut used = BEFORE as usize;
     let mut len = BEFORE as usize;
-    let number = ouriscado::ouriscado_decode_slab_payload_into(bytes, list, &mut used, &mut len);
+    let mut padded = BEFORE as usize;
+    let number = ouriscado::ouriscado_decode_slab_payload_into(
+        bytes,
+        list,
+        &mut used,
+        &mut len,
+        &mut padded,
+    );
     tells_two(used as u64, len as u64, number)
 }
 

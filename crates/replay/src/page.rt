@@ -65,10 +65,11 @@ fn stream_tail(page: &[u8]) -> [u64; 5] {
     tells_two(taken as u64, last, number)
 }
 
-// Reads the numbers of a page.
+// Reads the numbers of a page. The source doesn't count padded ones, here or below, so that they aren't compared.
 pub fn entries_into(page: &[u8], list: &mut [u64]) -> [u64; 5] {
     let mut n = BEFORE as usize;
-    let number = ouriscado::ouriscado_sh_page_entries_into(page, list, &mut n);
+    let mut padded = BEFORE as usize;
+    let number = ouriscado::ouriscado_sh_page_entries_into(page, list, &mut n, &mut padded);
     tells(n as u64, number)
 }
 
@@ -76,7 +77,14 @@ pub fn entries_into(page: &[u8], list: &mut [u64]) -> [u64; 5] {
 pub fn decode_slice_into(page: &[u8], list: &mut [u64]) -> [u64; 5] {
     let mut n = BEFORE as usize;
     let mut next = BEFORE;
-    let number = ouriscado::ouriscado_sh_page_decode_slice_into(page, list, &mut n, &mut next);
+    let mut padded = BEFORE as usize;
+    let number = ouriscado::ouriscado_sh_page_decode_slice_into(
+        page,
+        list,
+        &mut n,
+        &mut next,
+        &mut padded,
+    );
     tells_two(n as u64, next, number)
 }
 
