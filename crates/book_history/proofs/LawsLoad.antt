@@ -135,8 +135,7 @@ module _ (start count creates : ℕ) (aligned : start % 4096 ≡ 0) (from : 4096
       (pageTo next ns) × NextReads next (pageTo next ns)
   unfolding written
   next-of-run off next ns rises room at-page in-body =
-      let r = page-to-reads next ns rises room at-page (omega arith) in
-      (
+      let r = page-to-reads next ns rises room at-page (omega arith) in (
         r .long,
         record { reads = r .scans; room = r .room; padded = page-to-padded next ns rises room },
         record { more = r .not-last; next = r .to },

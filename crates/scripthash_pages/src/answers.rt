@@ -34,7 +34,10 @@ impl PageEntries {
         ensures { λ r. ⌜ r ≡ refusalOf (entriesAnswer self) ⌝ }
     {
         match self {
-            PageEntries::Entries { count: _, padded: _ } => 0,
+            PageEntries::Entries {
+                count: _,
+                padded: _,
+            } => 0,
             PageEntries::Refused(number) => number,
         }
     }

@@ -81,7 +81,10 @@ impl StreamRead {
         ensures { λ r. ⌜ r ≡ refusalOf (readAnswer self) ⌝ }
     {
         match self {
-            StreamRead::Read { taken: _, padded: _ } => 0,
+            StreamRead::Read {
+                taken: _,
+                padded: _,
+            } => 0,
             StreamRead::Refused(number) => number,
         }
     }

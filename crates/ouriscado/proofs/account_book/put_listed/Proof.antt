@@ -14,8 +14,7 @@ enum-known-answer-2 c = search needs
 
 returns : tie.Need-returns
 returns c =
-    let yes = ap readAnswer (c .before .answer .given .1) in
-    (
+    let yes = ap readAnswer (c .before .answer .given .1) in (
       number-accepted yes,
       (
         value-accepted (λ (x : Counted). x .length) _ yes,
@@ -25,8 +24,7 @@ returns c =
 
 returns-2 : tie.Need-returns-2
 returns-2 c =
-    let no = ap readAnswer (c .before .answer2 .given .1) in
-    (
+    let no = ap readAnswer (c .before .answer2 .given .1) in (
       number-refused no,
       (
         value-refused (λ (x : Counted). x .length) _ no,

@@ -80,7 +80,7 @@ returns-2 c =
     let r = read d len (ap bytesAnswer (k .before .got .given .1)) in (
       ap (λ (m : ℕ). accepted (record { taken = len; padded = m })) (c .count-padded .ensures (r .scanned) (r .scans) (r .taken))
           ∙ ap (λ (t : ℕ). accepted (record { taken = t; padded = streamTold (args d .args .n) (args d .args .buf .now) (r .scanned) .padded }))
-              (sym (r .taken))
+          (sym (r .taken))
           ∙ sym (answered-yes (streamTold (args d .args .n) (args d .args .buf .now)) (decoded d) (r .is)),
       d .read-stream .ensures .1,
     )
