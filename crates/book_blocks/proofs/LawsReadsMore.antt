@@ -232,6 +232,7 @@ module _ (page : List ℕ) (next : ℕ) (s : Scan) (scans : pageScan page ≡ ac
   pub page-before-padded : pagePadded (pageBefore page next) ≡ pagePadded page
   unfolding pageBefore
   page-before-padded =
-      padded-kept tied 20 4 0 (omega arith) (omega (arith, extent-start tied tied-names)) (omega (arith, extent-start tied tied-names, tied-long))
+      padded-kept tied 20 4 0 (omega arith) (omega (arith, extent-start tied tied-names))
+      (omega (arith, extent-start tied tied-names, tied-long))
       ∙ padded-kept page 3 5 (linkTo false next) (omega arith) (omega (arith, extent-start page names))
       (omega (arith, extent-start page names, page-long))

@@ -328,7 +328,8 @@ module _ (plain : PlainBook) (b : Book) (g : GoodPlain plain) (shape : outOfShap
 
   -- A key's chain gives its list, and its pages' offsets.
   chain-agrees : (ps : List Page) → keyOf key plain .place ≡ pages ps
-      → chainAt (seen (b .space)) (lastPage noPage ps .off) ≡ accepted (record { numbers = keyOf key plain .list; offs = offsOf ps; padded = paddedPages ps })
+      → chainAt (seen (b .space)) (lastPage noPage ps .off)
+      ≡ accepted (record { numbers = keyOf key plain .list; offs = offsOf ps; padded = paddedPages ps })
   unfolding chainAt
   chain-agrees ps is =
       let c = chain key ps g is in

@@ -61,7 +61,8 @@ aloneAs off c page = record { numbers = c .numbers; offs = off ∷ []; padded = 
 then-same : (s t : Ground) (off : ℕ) (c : Scan) (rest : Chain) → pageAt t off ≡ pageAt s off → pageThen t off c rest ≡ pageThen s off c rest
 unfolding pageThen
 then-same s t off c rest page =
-    ap (λ (p : List ℕ). record { numbers = c .numbers ++ rest .numbers; offs = off ∷ rest .offs; padded = pagePadded p + rest .padded }) page
+    ap (λ (p : List ℕ). record { numbers = c .numbers ++ rest .numbers; offs = off ∷ rest .offs; padded = pagePadded p + rest .padded })
+    page
 
 -- a chain that is walked in a space is walked in another one that has the same behind the number before it
 pub walk-same : (k : ℕ) (s t : Ground) (last prev off : ℕ) (c : Chain) → SameBehind s t prev → walk k s last prev off ≡ accepted c
@@ -83,5 +84,6 @@ walk-same (suc k) s t last prev off c b e =
     = ap (λ (p : List ℕ). walk k t last next (linkOffset (linkOf p))) page
     ∙ walk-same k s t last next (linkOffset (linkOf (pageAt s off))) (g .rest) (same-later prev next (omega arith) b) (g .walks) in
     walk-more k t last prev off (w .page) is (g .not-there) flag
-    ∙ then-yes (walk k t last next (linkOffset (linkOf (pageAt t off)))) _ rest ∙ ap accepted (then-same s t off (w .page) (g .rest) page ∙ sym (g .whole)))
+    ∙ then-yes (walk k t last next (linkOffset (linkOf (pageAt t off)))) _ rest
+    ∙ ap accepted (then-same s t off (w .page) (g .rest) page ∙ sym (g .whole)))
     (w .goes)

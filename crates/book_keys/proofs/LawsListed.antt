@@ -100,7 +100,8 @@ module _ (s : Ground) (class used off : ℕ) (slab out after : List ℕ) (at : s
 
     -- and else they are in the list
     pub slab-listed : length (c .numbers) ≤ length out → after ≡ overwrite out 0 (c .numbers)
-        → KeyRead (accepted (record { length = used; pages = 0; padded = slabPadded slab })) out after (soundly (contentAt s (Slab class used off)))
+        → KeyRead (accepted (record { length = used; pages = 0; padded = slabPadded slab })) out after
+        (soundly (contentAt s (Slab class used off)))
     slab-listed h f =
         read-listed out after _ (inSlab s class off c) holds _
         (ap (λ (n : ℕ). record { length = n; pages = 0; padded = slabPadded (blockAt s class off) }) slab-counted

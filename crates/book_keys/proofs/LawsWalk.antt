@@ -136,7 +136,8 @@ module _ (count pages padded most : ℕ) (s : Ground) (last prev off : ℕ) (h :
   pub told-refused : {number : ℕ} → soundly (linkScan s prev off) ≡ refused number
       → refused keyUnsound ≡ told count pages padded (most - pages) s last prev off
   unfolding told
-  told-refused e = rw left (turned-back (walkedFrom count pages padded) _ (walk-refused (most - (pages + 1)) s last prev off (was-unsound _ e .1)))
+  told-refused e =
+      rw left (turned-back (walkedFrom count pages padded) _ (walk-refused (most - (pages + 1)) s last prev off (was-unsound _ e .1)))
 
   module _ (c : Scan) (is : linkScan s prev off ≡ accepted c) where
     -- it is the last one
@@ -157,8 +158,8 @@ module _ (count pages padded most : ℕ) (s : Ground) (last prev off : ℕ) (h :
 
     -- the walk goes on behind it
     pub told-more : (off ≡ last → ⊥) → isLastLink (linkOf (pageAt s off)) ≡ false
-        → told (count + length (c .numbers)) (pages + 1) (padded + pagePadded (pageAt s off)) (most - (pages + 1)) s last (lastFrom 0 (c .numbers))
-        (linkOffset (linkOf (pageAt s off)))
+        → told (count + length (c .numbers)) (pages + 1) (padded + pagePadded (pageAt s off)) (most - (pages + 1)) s last
+        (lastFrom 0 (c .numbers)) (linkOffset (linkOf (pageAt s off)))
         ≡ told count pages padded (most - pages) s last prev off
     unfolding told
     told-more n e =

@@ -13,7 +13,8 @@ ghost use Rattle.book_keys.specs.Keys.{soundly, pageAt, linkScan, lastAt
 ghost use Rattle.book_keys.specs.Keys.{tailAt, contentAt, ground};
 ghost use Rattle.book_keys.specs.Steps.{linkRead, lastRead, tailRead, tailEndOf, linkEndOf, walkedFrom, chainEndOf};
 ghost use Rattle.book_keys.specs.Steps.{pageInto, PageFilled, Written, KeyRead};
-ghost use Rattle.book_keys.specs.Answers.{lastPageAnswer, tailAnswer, linkEndAnswer, walkAnswer, chainAnswer, fillAnswer, countsAnswer};
+ghost use Rattle.book_keys.specs.Answers.{lastPageAnswer, tailAnswer, linkEndAnswer, walkAnswer, chainAnswer};
+ghost use Rattle.book_keys.specs.Answers.{fillAnswer, countsAnswer};
 use crate::key::KeyCounts;
 use crate::slab::sound_last;
 use compact::ReadUleb128;

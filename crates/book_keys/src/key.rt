@@ -73,8 +73,8 @@ fn read_place(body: &[u8], mark: u64, place: ShHeadValue, out: &mut [u64]) -> Ke
     }
 }
 
-// Reads the list of a head word's key into the start of out, and tells how long it is, how many pages it has and how many of its numbers are
-// padded: all of the key is judged (31) before the lent list (34), which is left where the read is refused.
+// Reads the list of a head word's key into the start of out, and tells how long it is, how many pages it has and how many of its
+// numbers are padded: all of the key is judged (31) before the lent list (34), which is left where the read is refused.
 pub fn read_key(body: &[u8], mark: u64, word: u64, out: &mut [u64]) -> KeyCounts
     requires { ⌜ mark ≤ length (now body) ⌝ }
     ensures answer { λ r. ⌜ countsAnswer r

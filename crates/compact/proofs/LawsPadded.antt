@@ -156,7 +156,8 @@ pub read-last : (bs : List ℕ) (r : Reading) → readUleb bs ≡ accepted r →
 unfolding padded
 read-last bs r e =
     let a = read-accepted bs r e in
-    let last : getD (take (r .len) bs) (r .len - 1) 0 ≡ getD bs (r .len - 1) 0 = getD-take (r .len) bs (r .len - 1) 0 (omega (arith, a .len-pos)) in
+    let last : getD (take (r .len) bs) (r .len - 1) 0 ≡ getD bs (r .len - 1) 0 =
+    getD-take (r .len) bs (r .len - 1) 0 (omega (arith, a .len-pos)) in
     rw (a .value-is, a .len-is, a .starts, last) at (padded-last (formAt bs) (a .form))
 
 -- what is told of a number is told of its reading

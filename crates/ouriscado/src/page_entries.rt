@@ -52,7 +52,8 @@ pub extern "C" fn ouriscado_sh_page_last_fk(page: &[u8], last: &mut u64) -> u32
     0
 }
 
-// Reads the numbers of a page into the start of out, and tells how many, and how many of them are padded. Refuses 4, 15 to 18, 20 to 23, 34.
+// Reads the numbers of a page into the start of out, and tells how many, and how many of them are padded. Refuses 4, 15 to 18, 20 to 23,
+// 34.
 #[no_mangle]
 pub extern "C" fn ouriscado_sh_page_entries_into(
     page: &[u8],

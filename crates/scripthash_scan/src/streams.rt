@@ -36,8 +36,8 @@ fn read_stream(buf: &[u8], n: usize, out: &mut [u64]) -> StreamBytes
     scripthash_stream::decode_in_two_passes(buf, n, out)
 }
 
-// Reads a stream of n numbers at the start of buf into the start of out: how many bytes it takes, and how many numbers are padded. These are
-// counted once the stream is read; where every form has one byte there is nothing to count.
+// Reads a stream of n numbers at the start of buf into the start of out: how many bytes it takes, and how many numbers are padded. These
+// are counted once the stream is read; where every form has one byte there is nothing to count.
 pub fn decode_fk_delta_stream_into(buf: &[u8], n: usize, out: &mut [u64]) -> StreamRead
     ensures answer { λ r. ⌜ readAnswer r
         ≡ answered (streamTold n (now (buf .entry))) (decodeStream (length (now (out .entry))) n (now (buf .entry))) ⌝ }

@@ -61,7 +61,8 @@ pub fn encode_slab_payload_into(out: &mut [u8], fks: &[u64]) -> StreamBytes
 
 // Reads a slab's payload into the start of out; bytes after the payload are ignored.
 pub fn decode_slab_payload_into(buf: &[u8], out: &mut [u64]) -> SlabPayload
-    ensures answer { λ r. ⌜ slabAnswer r ≡ answered (slabListOf (now (buf .entry))) (decodeSlab (length (now (out .entry))) (now (buf .entry))) ⌝ }
+    ensures answer { λ r. ⌜ slabAnswer r
+        ≡ answered (slabListOf (now (buf .entry))) (decodeSlab (length (now (out .entry))) (now (buf .entry))) ⌝ }
     ensures list { λ r. ⌜ now (out .exit) ≡ afterDecode (now (out .entry)) (decodeSlab (length (now (out .entry))) (now (buf .entry))) ⌝ }
 {
     if buf.len() < 2 {

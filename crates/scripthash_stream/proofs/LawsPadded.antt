@@ -120,7 +120,8 @@ padded-most (suc k) bs = first (readUleb bs) (λ cs. padded-most k cs)
 pub padded-written : (ns rest : List ℕ) → Rising (2 ^ 63) 0 ns → paddedIn (length ns) (stream ns ++ rest) ≡ 0
 padded-written ns rest h =
     padded-zeros 0 (length ns) (stream ns ++ rest) _ (scan-stream 0 ns rest h)
-    ∙ ap (λ (n : ℕ). zeros (take n (stream ns ++ rest))) (sym (length-stream 0 ns)) ∙ ap zeros (take-at (stream ns) rest (length (stream ns)) refl)
+    ∙ ap (λ (n : ℕ). zeros (take n (stream ns ++ rest))) (sym (length-stream 0 ns))
+    ∙ ap zeros (take-at (stream ns) rest (length (stream ns)) refl)
     ∙ zeros-stream (2 ^ 63) 0 ns h
 
 -- one number more behind a stream, in its shortest form, is not padded
@@ -131,7 +132,8 @@ padded-more k j d bs cs rest s t h e f taken whole =
     let front : length (take (s .taken) bs) ≡ s .taken = length-take-le (s .taken) bs within in
     let size : t .taken ≡ length (take (s .taken) bs ++ shortest d) =
     taken ∙ sym (length-append (take (s .taken) bs) (shortest d) ∙ rw (front, length-shortest d)) in
-    padded-zeros 0 j cs t f ∙ ap (λ (b : List ℕ). zeros (take (t .taken) b)) (whole ∙ sym (append-assoc (take (s .taken) bs) (shortest d) rest))
+    padded-zeros 0 j cs t f
+    ∙ ap (λ (b : List ℕ). zeros (take (t .taken) b)) (whole ∙ sym (append-assoc (take (s .taken) bs) (shortest d) rest))
     ∙ ap (λ (n : ℕ). zeros (take n ((take (s .taken) bs ++ shortest d) ++ rest))) size
     ∙ ap zeros (take-at (take (s .taken) bs ++ shortest d) rest (length (take (s .taken) bs ++ shortest d)) refl)
     ∙ zeros-append (take (s .taken) bs) (shortest d) ∙ rw (zeros-shortest d h) (add-zero _)

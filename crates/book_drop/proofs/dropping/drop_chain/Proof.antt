@@ -31,7 +31,13 @@ module _ (c : tie.After-end) where
   at = c .before .before .before .before .before .before
 
   abbrev end : ChainEndOf
-  end = record { first = c .end .given .0 .0; length = c .end .given .0 .1 .0; pages = c .end .given .0 .1 .1 .0; padded = c .end .given .0 .1 .1 .1 .0 }
+  end =
+      record {
+        first = c .end .given .0 .0;
+        length = c .end .given .0 .1 .0;
+        pages = c .end .given .0 .1 .1 .0;
+        padded = c .end .given .0 .1 .1 .1 .0;
+      }
 
   walked : (x : Chain) × (chainAt (seen (book at .space)) (at .args .last) ≡ accepted x) × (chainEndOf x ≡ end)
   walked =

@@ -90,7 +90,8 @@ returns-2 c =
     let t = at d in
     let a = t .args in
     does-same
-    (drop-yes (book t) (a .key) (Slab (a .class) (a .used) (a .off)) (inSlab (seen (book t .space)) (a .class) (a .off) (scanned d .0)) (a .used)
+    (drop-yes (book t) (a .key) (Slab (a .class) (a .used) (a .off))
+    (inSlab (seen (book t .space)) (a .class) (a .off) (scanned d .0)) (a .used)
     (spaceOf (r .release-block .last .0) (r .release-block .result))
     (content-slab (seen (book t .space)) (a .class) (a .used) (a .off) (scanned d .0) (scanned d .1)) (sound d .counted)
     (r .release-block .ensures))

@@ -24,7 +24,13 @@ module _ (c : tie.After-got) where
   s = ground (start .args .body .now) (start .args .mark)
 
   abbrev told : ChainEndOf
-  told = record { first = c .got .given .0 .0; length = c .got .given .0 .1 .0; pages = c .got .given .0 .1 .1 .0; padded = c .got .given .0 .1 .1 .1 .0 }
+  told =
+      record {
+        first = c .got .given .0 .0;
+        length = c .got .given .0 .1 .0;
+        pages = c .got .given .0 .1 .1 .0;
+        padded = c .got .given .0 .1 .1 .1 .0;
+      }
 
   held : (k : Chain) × (soundly (chainAt s (start .args .last)) ≡ accepted k) × (chainEndOf k ≡ told)
   held = was-accepted chainEndOf _ (sym (c .before .before .chain-end .ensures) ∙ ap chainAnswer (c .got .given .1))

@@ -60,7 +60,8 @@ module _ (c : tie.After-read-uleb128) where
   read : readUlebAnswer (c .read-uleb128 .result)
       ≡ accepted (numberRead (record { value = getD (got (back .before) .0 .numbers) 0 0; len = first back .0 }))
   read =
-      c .read-uleb128 .ensures ∙ ap (λ (bs : List ℕ). answered numberRead (readUleb bs)) (part-to-end (page (back .before)) (c .before .before .stream-off .result))
+      c .read-uleb128 .ensures ∙ ap (λ (bs : List ℕ). answered numberRead (readUleb bs))
+      (part-to-end (page (back .before)) (c .before .before .stream-off .result))
       ∙ ap (λ (o : ℕ). answered numberRead (readUleb (drop o (page (back .before))))) (c .before .before .stream-off .ensures)
       ∙ answered-yes numberRead _ (first back .1)
 

@@ -150,7 +150,8 @@ loop-again c =
     let t = turn d in
     let last = at t .args .last in
     let more =
-    told-more (count t) (pages t) (padded t) (most t) (s t) last (prev t) (off t) (t .loop-test .taken) (page d .0) (is d) (c .before .if1 .left)
+    told-more (count t) (pages t) (padded t) (most t) (s t) last (prev t) (off t) (t .loop-test .taken) (page d .0) (is d)
+    (c .before .if1 .left)
     (ap (λ (e : LinkEndOf). e .last) (page d .2) ∙ c .if2 .left) in (
       omega arith,
       let h = few d in omega arith,

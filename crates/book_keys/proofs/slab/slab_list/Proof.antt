@@ -108,7 +108,8 @@ returns-3 c s class off here bytes =
     let g = c .before .before in
     let d = try g in
     let stays = kept d (judged g .before .if1 .left) in
-    slab-too-long s class (used d) off (slab d) (out d) _ here bytes (found g .0) (is g) (omega (arith, c .if2 .taken, ap length stays)) stays
+    slab-too-long s class (used d) off (slab d) (out d) _ here bytes (found g .0) (is g)
+    (omega (arith, c .if2 .taken, ap length stays)) stays
 
 fill-slab-requires : tie.Need-fill-slab-requires
 fill-slab-requires c κs = search needs

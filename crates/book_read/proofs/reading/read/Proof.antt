@@ -112,7 +112,8 @@ returns-4 c =
     let r = d .before .before .before .before in
     let t = call r in
     read-accepted _ (held t) (countsAnswer (r .read-key .result)) (t .args .out .now) _ (is r) (r .read-key .ensures)
-    (record { length = d .counts .given .0 .0; pages = d .counts .given .0 .1 .0; padded = d .counts .given .0 .1 .1 .0 }) (ap countsAnswer (d .counts .given .1))
+    (record { length = d .counts .given .0 .0; pages = d .counts .given .0 .1 .0; padded = d .counts .given .0 .1 .1 .0 })
+    (ap countsAnswer (d .counts .given .1))
 
 pub read-spec : {M : Type 1} → statement M
 read-spec =

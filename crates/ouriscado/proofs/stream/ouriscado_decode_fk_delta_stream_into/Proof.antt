@@ -26,7 +26,8 @@ returns c =
         e .1,
         (
           h .1 .0 ∙ value-same (λ (x : StreamTold). x .taken) _ (e .0) ∙ value-answered (λ (x : StreamTold). x .taken) (streamTold _ _) _ _,
-          h .1 .1 ∙ value-same (λ (x : StreamTold). x .padded) _ (e .0) ∙ value-answered (λ (x : StreamTold). x .padded) (streamTold _ _) _ _,
+          h .1 .1 ∙ value-same (λ (x : StreamTold). x .padded) _ (e .0)
+              ∙ value-answered (λ (x : StreamTold). x .padded) (streamTold _ _) _ _,
         ),
       ),
     )

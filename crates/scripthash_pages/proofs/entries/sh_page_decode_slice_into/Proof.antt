@@ -35,7 +35,8 @@ module _ (c : tie.After-known-told) where
 
   found : (s : Scan) × (entries ≡ accepted s) × (entriesReadOf page s ≡ record { count = count; padded = padded })
   found =
-      was-accepted (entriesReadOf page) entries (sym (called .sh-page-entries-into .ensures .0) ∙ ap entriesAnswer (c .before .got .given .1))
+      was-accepted (entriesReadOf page) entries
+      (sym (called .sh-page-entries-into .ensures .0) ∙ ap entriesAnswer (c .before .got .given .1))
 
   long : length page ≡ pageSize
   long = entries-long (length (called .before .before .before .before .args .out .now)) page (found .0) (found .1)
@@ -68,7 +69,8 @@ returns c =
     let told = c .before .enum-told .given in
     let d = c .before .before .before .before .before in
     let a = d .before .before .before .before .args in
-    let stop = was-refused (entriesReadOf (a .page .now)) (pageEntries (length (a .out .now)) (a .page .now)) (sym (d .sh-page-entries-into .ensures .0)
+    let stop = was-refused (entriesReadOf (a .page .now)) (pageEntries (length (a .out .now)) (a .page .now))
+    (sym (d .sh-page-entries-into .ensures .0)
     ∙ ap entriesAnswer (told .1)) in (
       ap refused (c .refusal .ensures ∙ ap (λ (g : PageEntries). refusalOf (entriesAnswer g)) (told .1))
           ∙ sym (answered-no (pageReadOf (a .page .now)) (pageEntries (length (a .out .now)) (a .page .now)) stop),

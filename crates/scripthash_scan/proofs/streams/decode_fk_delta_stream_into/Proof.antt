@@ -8,7 +8,7 @@ use borrow.Author.Needs.{needs}
 use lib.ListN.{length}
 use Rattle.error.specs.Refusal.{Answer, accepted, refused, refusalOf}
 use Rattle.error.proofs.LawsAnswer.{answered-yes, answered-no, was-accepted, was-refused}
-use Rattle.scripthash_stream.specs.Stream.{Scan, scan, decodeStream, streamTold}
+use Rattle.scripthash_stream.specs.Stream.{Scan, scan, paddedIn, decodeStream, streamTold}
 use Rattle.scripthash_stream.specs.Answers.{bytesAnswer}
 use Rattle.scripthash_stream.specs.declared.stream.StreamBytes.{StreamBytes}
 use Rattle.scripthash_stream.proofs.LawsScan.{scan-accepted}
@@ -79,7 +79,7 @@ returns-2 c =
     let len = k .before .got .given .0 .0 in
     let r = read d len (ap bytesAnswer (k .before .got .given .1)) in (
       ap (λ (m : ℕ). accepted (record { taken = len; padded = m })) (c .count-padded .ensures (r .scanned) (r .scans) (r .taken))
-          ∙ ap (λ (t : ℕ). accepted (record { taken = t; padded = streamTold (args d .args .n) (args d .args .buf .now) (r .scanned) .padded }))
+          ∙ ap (λ (t : ℕ). accepted (record { taken = t; padded = paddedIn (args d .args .n) (args d .args .buf .now) }))
           (sym (r .taken))
           ∙ sym (answered-yes (streamTold (args d .args .n) (args d .args .buf .now)) (decoded d) (r .is)),
       d .read-stream .ensures .1,

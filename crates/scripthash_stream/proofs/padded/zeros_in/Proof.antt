@@ -40,7 +40,8 @@ loop-again : tie.Need-loop-again Inv-loop μ-loop
 loop-again c =
     let l = c .before .before .before .loop in
     let next = zeros-next (c .before .before .before .before .before .args .buf .now) (l .i) (omega arith) in
-    (search needs, search needs, l .inv .2, l .inv .3, omega (arith, c .zero-byte .ensures .1), omega (arith, next, c .zero-byte .ensures .0))
+    let told = c .zero-byte .ensures in
+    (search needs, search needs, l .inv .2, l .inv .3, omega (arith, told .1), omega (arith, next, told .0))
 
 returns : tie.Need-returns Inv-loop μ-loop
 returns c =
