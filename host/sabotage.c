@@ -7,7 +7,7 @@
 #include <string.h>
 
 /* Whether a stream of n numbers has a form that is five bytes longer than it need be, or more. */
-static bool padded(const uint8_t *buf, size_t len, size_t n) {
+static bool padded_by_five(const uint8_t *buf, size_t len, size_t n) {
     for (size_t at = 0; n > 0 && at < len; n--) {
         size_t start = at, last = at;
         for (; at < len && buf[at] >= 0x80; at++)
@@ -26,10 +26,10 @@ size_t ouriscado_uleb128_len(uint64_t n) { return n >> 63 ? 9 : real_ouriscado_u
 
 #elif SABOTAGE == 2
 /* 2 read_uleb128: a form that is padded by five bytes and more is a byte shorter */
-uint32_t real_ouriscado_read_uleb128(const uint8_t *buf, size_t n, uint64_t *value, size_t *len);
-uint32_t ouriscado_read_uleb128(const uint8_t *buf, size_t n, uint64_t *value, size_t *len) {
-    uint32_t number = real_ouriscado_read_uleb128(buf, n, value, len);
-    if (number == 0 && padded(buf, n, 1)) *len -= 1;
+uint32_t real_ouriscado_read_uleb128(const uint8_t *buf, size_t n, uint64_t *value, size_t *len, bool *shortest);
+uint32_t ouriscado_read_uleb128(const uint8_t *buf, size_t n, uint64_t *value, size_t *len, bool *shortest) {
+    uint32_t number = real_ouriscado_read_uleb128(buf, n, value, len, shortest);
+    if (number == 0 && padded_by_five(buf, n, 1)) *len -= 1;
     return number;
 }
 
@@ -84,18 +84,18 @@ uint32_t ouriscado_encode_fk_delta_stream_into(uint8_t *out, size_t room, const 
 
 #elif SABOTAGE == 9
 /* 9 decode_fk_delta_stream_into: the last number is one off where a form is padded by five bytes and more */
-uint32_t real_ouriscado_decode_fk_delta_stream_into(const uint8_t *buf, size_t len, size_t n, uint64_t *out, size_t room, size_t *taken);
-uint32_t ouriscado_decode_fk_delta_stream_into(const uint8_t *buf, size_t len, size_t n, uint64_t *out, size_t room, size_t *taken) {
-    uint32_t number = real_ouriscado_decode_fk_delta_stream_into(buf, len, n, out, room, taken);
-    if (number == 0 && n > 1 && padded(buf, len, n)) out[n - 1] += 1;
+uint32_t real_ouriscado_decode_fk_delta_stream_into(const uint8_t *buf, size_t len, size_t n, uint64_t *out, size_t room, size_t *taken, size_t *padded);
+uint32_t ouriscado_decode_fk_delta_stream_into(const uint8_t *buf, size_t len, size_t n, uint64_t *out, size_t room, size_t *taken, size_t *padded) {
+    uint32_t number = real_ouriscado_decode_fk_delta_stream_into(buf, len, n, out, room, taken, padded);
+    if (number == 0 && n > 1 && padded_by_five(buf, len, n)) out[n - 1] += 1;
     return number;
 }
 
 #elif SABOTAGE == 10
 /* 10 decode_slab_payload_into: of 256 numbers one is not counted */
-uint32_t real_ouriscado_decode_slab_payload_into(const uint8_t *buf, size_t n, uint64_t *out, size_t room, size_t *used, size_t *len);
-uint32_t ouriscado_decode_slab_payload_into(const uint8_t *buf, size_t n, uint64_t *out, size_t room, size_t *used, size_t *len) {
-    uint32_t number = real_ouriscado_decode_slab_payload_into(buf, n, out, room, used, len);
+uint32_t real_ouriscado_decode_slab_payload_into(const uint8_t *buf, size_t n, uint64_t *out, size_t room, size_t *used, size_t *len, size_t *padded);
+uint32_t ouriscado_decode_slab_payload_into(const uint8_t *buf, size_t n, uint64_t *out, size_t room, size_t *used, size_t *len, size_t *padded) {
+    uint32_t number = real_ouriscado_decode_slab_payload_into(buf, n, out, room, used, len, padded);
     if (number == 0 && *used == 256) *used = 255;
     return number;
 }
@@ -144,11 +144,11 @@ uint32_t ouriscado_sh_page_set_last(uint8_t *page, size_t n, uint64_t off) {
 
 #elif SABOTAGE == 16
 /* 16 sh_page_entries_into: the byte behind a page is read */
-uint32_t real_ouriscado_sh_page_entries_into(const uint8_t *page, size_t n, uint64_t *out, size_t room, size_t *count);
-uint32_t ouriscado_sh_page_entries_into(const uint8_t *page, size_t n, uint64_t *out, size_t room, size_t *count) {
+uint32_t real_ouriscado_sh_page_entries_into(const uint8_t *page, size_t n, uint64_t *out, size_t room, size_t *count, size_t *padded);
+uint32_t ouriscado_sh_page_entries_into(const uint8_t *page, size_t n, uint64_t *out, size_t room, size_t *count, size_t *padded) {
     volatile uint8_t behind = n == 4096 ? ((volatile const uint8_t *)page)[n] : 0;
     (void)behind;
-    return real_ouriscado_sh_page_entries_into(page, n, out, room, count);
+    return real_ouriscado_sh_page_entries_into(page, n, out, room, count, padded);
 }
 
 #elif SABOTAGE == 17
@@ -230,9 +230,9 @@ uint32_t ouriscado_book_append(uint8_t *body, size_t n, uint64_t *heads, size_t 
 
 #elif SABOTAGE == 25
 /* 25 book: a read of an unsound key into no list answers 34 */
-uint32_t real_ouriscado_book_read(const uint8_t *body, size_t n, const uint64_t *heads, size_t keys, const uint64_t *state, uint64_t key, uint64_t *out, size_t room, uint64_t *length, uint64_t *pages);
-uint32_t ouriscado_book_read(const uint8_t *body, size_t n, const uint64_t *heads, size_t keys, const uint64_t *state, uint64_t key, uint64_t *out, size_t room, uint64_t *length, uint64_t *pages) {
-    uint32_t number = real_ouriscado_book_read(body, n, heads, keys, state, key, out, room, length, pages);
+uint32_t real_ouriscado_book_read(const uint8_t *body, size_t n, const uint64_t *heads, size_t keys, const uint64_t *state, uint64_t key, uint64_t *out, size_t room, uint64_t *length, uint64_t *pages, uint64_t *padded);
+uint32_t ouriscado_book_read(const uint8_t *body, size_t n, const uint64_t *heads, size_t keys, const uint64_t *state, uint64_t key, uint64_t *out, size_t room, uint64_t *length, uint64_t *pages, uint64_t *padded) {
+    uint32_t number = real_ouriscado_book_read(body, n, heads, keys, state, key, out, room, length, pages, padded);
     return number == 31 && room == 0 ? 34 : number;
 }
 
@@ -353,6 +353,90 @@ uint32_t ouriscado_book_load(uint8_t *body, size_t n, uint64_t *heads, size_t ke
     if (number != 0 || *pages == 0 || mark < UINT64_C(1) << 40 || mark % 4096 == 0) return number;
     memcpy(body + mark, state + 1, 8);
     state[1] = mark;
+    return number;
+}
+
+#elif SABOTAGE == 37
+/* 37 read_uleb128: every form is the shortest */
+uint32_t real_ouriscado_read_uleb128(const uint8_t *buf, size_t n, uint64_t *value, size_t *len, bool *shortest);
+uint32_t ouriscado_read_uleb128(const uint8_t *buf, size_t n, uint64_t *value, size_t *len, bool *shortest) {
+    uint32_t number = real_ouriscado_read_uleb128(buf, n, value, len, shortest);
+    if (number == 0) *shortest = true;
+    return number;
+}
+
+#elif SABOTAGE == 38
+/* 38 read_uleb128: a refused form is told to be the shortest */
+uint32_t real_ouriscado_read_uleb128(const uint8_t *buf, size_t n, uint64_t *value, size_t *len, bool *shortest);
+uint32_t ouriscado_read_uleb128(const uint8_t *buf, size_t n, uint64_t *value, size_t *len, bool *shortest) {
+    uint32_t number = real_ouriscado_read_uleb128(buf, n, value, len, shortest);
+    if (number != 0) *shortest = true;
+    return number;
+}
+
+#elif SABOTAGE == 39
+/* 39 decode_fk_delta_stream_into: a padded first number isn't counted */
+uint32_t real_ouriscado_decode_fk_delta_stream_into(const uint8_t *buf, size_t len, size_t n, uint64_t *out, size_t room, size_t *taken, size_t *padded);
+uint32_t ouriscado_decode_fk_delta_stream_into(const uint8_t *buf, size_t len, size_t n, uint64_t *out, size_t room, size_t *taken, size_t *padded) {
+    uint32_t number = real_ouriscado_decode_fk_delta_stream_into(buf, len, n, out, room, taken, padded);
+    size_t last = 0;
+    while (last < len && buf[last] >= 0x80) last++;
+    if (number == 0 && n > 0 && last > 0 && buf[last] == 0) *padded -= 1;
+    return number;
+}
+
+#elif SABOTAGE == 40
+/* 40 decode_slab_payload_into: of padded numbers one more is counted */
+uint32_t real_ouriscado_decode_slab_payload_into(const uint8_t *buf, size_t n, uint64_t *out, size_t room, size_t *used, size_t *len, size_t *padded);
+uint32_t ouriscado_decode_slab_payload_into(const uint8_t *buf, size_t n, uint64_t *out, size_t room, size_t *used, size_t *len, size_t *padded) {
+    uint32_t number = real_ouriscado_decode_slab_payload_into(buf, n, out, room, used, len, padded);
+    if (*padded > 0) *padded += 1;
+    return number;
+}
+
+#elif SABOTAGE == 41
+/* 41 sh_page_entries_into: no more than 255 padded numbers are counted */
+uint32_t real_ouriscado_sh_page_entries_into(const uint8_t *page, size_t n, uint64_t *out, size_t room, size_t *count, size_t *padded);
+uint32_t ouriscado_sh_page_entries_into(const uint8_t *page, size_t n, uint64_t *out, size_t room, size_t *count, size_t *padded) {
+    uint32_t number = real_ouriscado_sh_page_entries_into(page, n, out, room, count, padded);
+    if (*padded > 255) *padded = 255;
+    return number;
+}
+
+#elif SABOTAGE == 42
+/* 42 sh_page_decode_slice_into: no number is padded */
+uint32_t real_ouriscado_sh_page_decode_slice_into(const uint8_t *page, size_t n, uint64_t *out, size_t room, size_t *count, uint64_t *next, size_t *padded);
+uint32_t ouriscado_sh_page_decode_slice_into(const uint8_t *page, size_t n, uint64_t *out, size_t room, size_t *count, uint64_t *next, size_t *padded) {
+    uint32_t number = real_ouriscado_sh_page_decode_slice_into(page, n, out, room, count, next, padded);
+    *padded = 0;
+    return number;
+}
+
+#elif SABOTAGE == 43
+/* 43 book: a read of several pages counts one padded number less */
+uint32_t real_ouriscado_book_read(const uint8_t *body, size_t n, const uint64_t *heads, size_t keys, const uint64_t *state, uint64_t key, uint64_t *out, size_t room, uint64_t *length, uint64_t *pages, uint64_t *padded);
+uint32_t ouriscado_book_read(const uint8_t *body, size_t n, const uint64_t *heads, size_t keys, const uint64_t *state, uint64_t key, uint64_t *out, size_t room, uint64_t *length, uint64_t *pages, uint64_t *padded) {
+    uint32_t number = real_ouriscado_book_read(body, n, heads, keys, state, key, out, room, length, pages, padded);
+    if (*pages > 1 && *padded > 0) *padded -= 1;
+    return number;
+}
+
+#elif SABOTAGE == 44
+/* 44 book: a read of a slab says that no number is padded */
+uint32_t real_ouriscado_book_read(const uint8_t *body, size_t n, const uint64_t *heads, size_t keys, const uint64_t *state, uint64_t key, uint64_t *out, size_t room, uint64_t *length, uint64_t *pages, uint64_t *padded);
+uint32_t ouriscado_book_read(const uint8_t *body, size_t n, const uint64_t *heads, size_t keys, const uint64_t *state, uint64_t key, uint64_t *out, size_t room, uint64_t *length, uint64_t *pages, uint64_t *padded) {
+    uint32_t number = real_ouriscado_book_read(body, n, heads, keys, state, key, out, room, length, pages, padded);
+    if (*pages == 0) *padded = 0;
+    return number;
+}
+
+#elif SABOTAGE == 45
+/* 45 book: a read into a list that is too short leaves the padded count as it was */
+uint32_t real_ouriscado_book_read(const uint8_t *body, size_t n, const uint64_t *heads, size_t keys, const uint64_t *state, uint64_t key, uint64_t *out, size_t room, uint64_t *length, uint64_t *pages, uint64_t *padded);
+uint32_t ouriscado_book_read(const uint8_t *body, size_t n, const uint64_t *heads, size_t keys, const uint64_t *state, uint64_t key, uint64_t *out, size_t room, uint64_t *length, uint64_t *pages, uint64_t *padded) {
+    uint64_t before = *padded;
+    uint32_t number = real_ouriscado_book_read(body, n, heads, keys, state, key, out, room, length, pages, padded);
+    if (number == 34) *padded = before;
     return number;
 }
 

@@ -26,8 +26,8 @@ static uint8_t *before; /* the stack pointer where a case makes its call */
 /* What a call hands out. */
 static uint8_t kind, class_;
 static uint16_t used;
-static uint64_t a, b, place;
-static size_t s, t;
+static uint64_t a, b, c, place;
+static size_t s, t, u;
 static uint32_t n;
 static bool flag;
 
@@ -39,21 +39,21 @@ static void fresh(void) { CALL(ouriscado_book_fresh(BOOK)); }
 static void load(void) { CALL(ouriscado_book_load(BOOK, 1, list, count, &a)); }
 static void load_tight(void) { CALL(ouriscado_book_load_tight(BOOK, 1, list, count, &a)); }
 static void append(void) { CALL(ouriscado_book_append(BOOK, 0, list[count], &kind, &class_, &used, &place, &a)); }
-static void read_all(void) { CALL(ouriscado_book_read(BOOK, 0, out, MOST + 1, &a, &b)); }
-static void read_short(void) { CALL(ouriscado_book_read(BOOK, 0, out, count - 1, &a, &b)); }
+static void read_all(void) { CALL(ouriscado_book_read(BOOK, 0, out, MOST + 1, &a, &b, &c)); }
+static void read_short(void) { CALL(ouriscado_book_read(BOOK, 0, out, count - 1, &a, &b, &c)); }
 static void drop(void) { CALL(ouriscado_book_drop(BOOK, 0, &a)); }
 static void check(void) { CALL(ouriscado_book_check(BOOK, work, sizeof work, &n, &a, &b)); }
-static void uleb(void) { CALL(ouriscado_read_uleb128(bytes, byte_count, &a, &s)); }
+static void uleb(void) { CALL(ouriscado_read_uleb128(bytes, byte_count, &a, &s, &flag)); }
 static void put_uleb(void) { CALL(ouriscado_write_uleb128_into(bytes, sizeof bytes, list[0], &s)); }
 static void encode(void) { CALL(ouriscado_encode_fk_delta_stream_into(bytes, sizeof bytes, list, count, &s)); }
-static void decode(void) { CALL(ouriscado_decode_fk_delta_stream_into(bytes, byte_count, count, out, MOST + 1, &s)); }
+static void decode(void) { CALL(ouriscado_decode_fk_delta_stream_into(bytes, byte_count, count, out, MOST + 1, &s, &u)); }
 static void encode_slab(void) { CALL(ouriscado_encode_slab_payload_into(bytes, sizeof bytes, list, count, &s)); }
-static void decode_slab(void) { CALL(ouriscado_decode_slab_payload_into(bytes, byte_count, out, MOST + 1, &s, &t)); }
+static void decode_slab(void) { CALL(ouriscado_decode_slab_payload_into(bytes, byte_count, out, MOST + 1, &s, &t, &u)); }
 static void unpack(void) { CALL(ouriscado_unpack8(heads[0], &kind, &class_, &used, &place)); }
 static void tail(void) { CALL(ouriscado_sh_page_stream_tail(PAGE, &s, &a)); }
 static void last(void) { CALL(ouriscado_sh_page_last_fk(PAGE, &a)); }
-static void entries(void) { CALL(ouriscado_sh_page_entries_into(PAGE, out, MOST + 1, &s)); }
-static void slice(void) { CALL(ouriscado_sh_page_decode_slice_into(PAGE, out, MOST + 1, &s, &a)); }
+static void entries(void) { CALL(ouriscado_sh_page_entries_into(PAGE, out, MOST + 1, &s, &u)); }
+static void slice(void) { CALL(ouriscado_sh_page_decode_slice_into(PAGE, out, MOST + 1, &s, &a, &u)); }
 static void try_append(void) { CALL(ouriscado_sh_page_try_append(PAGE, list[count], &flag)); }
 static void write_stream(void) { CALL(ouriscado_sh_page_write_stream(PAGE, list, count, &s)); }
 static void pack(void) { CALL(ouriscado_sh_page_pack_fks(PAGE, list, count, 8192)); }
@@ -91,6 +91,16 @@ static void padded(void)
         bytes[byte_count - 1] |= 0x80;
         bytes[byte_count++] = 0;
     }
+}
+
+/* A slab of class 7 with such a stream, in account 0. */
+static void padded_slab(void)
+{
+    padded();
+    body[4096] = (uint8_t)count;
+    memcpy(body + 4098, bytes, byte_count);
+    heads[0] = UINT64_C(1) << 62 | UINT64_C(7) << 56 | (uint64_t)count << 40 | 4096;
+    state[0] = 4096 + 2048;
 }
 
 struct test {
@@ -134,6 +144,7 @@ static const struct test TESTS[] = {
     { "book_read", "100 numbers in a slab, appended", 100, appended, read_all, BOOK_CALL },
     { "book_read", "200 numbers in a slab", 200, loaded, read_all, BOOK_CALL },
     { "book_read", "256 numbers in a slab", 256, appended, read_all, BOOK_CALL },
+    { "book_read", "200 padded numbers in a slab", 200, padded_slab, read_all, BOOK_CALL },
     { "book_read", "a list that is too short for a slab", 200, loaded, read_short, BOOK_CALL },
     { "book_read", "a damaged slab", 100, damaged, read_all, BOOK_CALL },
     { "book_read", "257 numbers in a page", 257, loaded, read_all, BOOK_CALL },
@@ -148,6 +159,7 @@ static const struct test TESTS[] = {
     { "book_check", "65,535 numbers in pages", MOST, loaded, check, BOOK_CALL },
     { "book_check", "damaged pages", MOST, damaged, check, BOOK_CALL },
     { "read_uleb128", "a form", 1, stream, uleb, BOOK_CALL },
+    { "read_uleb128", "a padded form", 1, padded, uleb, BOOK_CALL },
     { "write_uleb128_into", "a form", 1, nothing, put_uleb, BOOK_CALL },
     { "encode_fk_delta_stream_into", "65,535 numbers", MOST, nothing, encode, BOOK_CALL },
     { "decode_fk_delta_stream_into", "2 numbers", 2, stream, decode, BOOK_CALL },

@@ -71,9 +71,9 @@
    LOOK AT THE RESULT FIRST. A refused read also leaves 0 in its length: that says nothing about the account.
    Only a result of 0 together with a length of 0 says that nothing is recorded.
 
-       uint64_t list[64], length, pages;
+       uint64_t list[64], length, pages, padded;
        uint32_t refusal = ouriscado_book_read(body, body_len, heads, heads_len, state, key,
-                                              list, 64, &length, &pages);
+                                              list, 64, &length, &pages, &padded);
        if (refusal == OURISCADO_ACCEPTED) use(list, length);         length 0: nothing is recorded
        else if (refusal == OURISCADO_LIST_TOO_SHORT) ask_again();    with more room; this is no empty account
        else tell_the_operator(refusal);                              nor is this
@@ -93,8 +93,9 @@
    THREADS
 
    There are no global variables. One book is for one call at a time: while a call runs, no other thread may
-   write its body, heads or state, nor use a list that was lent. Reads write only their list, length and
-   pages, so several may run at once on a book that nobody writes. Different books are independent.
+   write its body, heads or state, nor use a list that was lent. Reads write only their list and the
+   numbers that they hand out, so several may run at once on a book that nobody writes. Different books are
+   independent.
 
    PLATFORM
 
@@ -356,21 +357,27 @@ uint32_t ouriscado_book_append(
     uint64_t *rewritten);
 
 /* Reads the list of a key into the start of out; what stands behind it there stays. Hands out length, how
-   many record numbers the list has, and pages, how many pages of 4,096 bytes were walked. A read that is
-   accepted with length 0 means that nothing is recorded for the key; of one that is refused length is 0 too,
-   and says nothing of the key. Refuses 1, 2, 31, 34.
+   many record numbers the list has, pages, how many pages of 4,096 bytes were walked, and padded, how many of
+   the numbers are stored in a longer form than the shortest: 0 of a key that this book's own calls filled. A
+   read that is accepted with length 0 means that nothing is recorded for the key; of one that is refused
+   length is 0 too, and says nothing of the key. Refuses 1, 2, 31, 34.
 
    How long the list must be that you lend: an inline number needs 1; a slab needs the number that an append
    told as used, at most OURISCADO_MOST_IN_SLAB; a list in pages has at most OURISCADO_MOST_IN_PAGE numbers
    for each OURISCADO_PAGE_BYTES of the body. Without such knowledge, begin with any room, and while the call
    is refused with 34, ask again with twice the room.
 
+   Padded numbers aren't wrong, only longer than needed: the list is the one that was recorded. Other software
+   wrote them, and this book's calls never do; an append leaves them as they are, unless it moves the list. To
+   be rid of them, load the list that was read for a key that is empty, as in a fresh book, or drop the key
+   and load it anew; keep the list until that load is accepted, since it may lack room.
+
    Refusals: OURISCADO_SHAPE_BAD (1), OURISCADO_KEY_BEYOND (2), OURISCADO_KEY_UNSOUND (31),
    OURISCADO_LIST_TOO_SHORT (34). */
 uint32_t ouriscado_book_read(
     const uint8_t *body, size_t body_len, const uint64_t *heads, size_t heads_len,
     const uint64_t state[OURISCADO_STATE_WORDS], uint64_t key, uint64_t *out, size_t out_len,
-    uint64_t *length, uint64_t *pages);
+    uint64_t *length, uint64_t *pages, uint64_t *padded);
 
 /* Drops the list of a key: the key is empty then, and the book can use the list's slab or pages again. Hands
    out length, how many record numbers the list had. Refuses 1, 2, 31.

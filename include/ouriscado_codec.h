@@ -9,7 +9,7 @@
    As in ouriscado.h, a slice is a pointer and then its length in elements; no pointer is kept; what two
    parameters of a call point to must not overlap; a pointer is null only for a slice of length 0; there are
    no global variables. Where the comment names refusals, the result is 0 or the number of one, and after a
-   refusal every buffer holds what it held and every number that goes out is 0.
+   refusal every buffer holds what it held and every number that goes out is 0, every bool false.
 
    STACK: functions that read out more than 256 numbers of a stream, a slab or a page need at most
    OURISCADO_STACK_LONG bytes; all others OURISCADO_STACK_BOOK. */
@@ -100,13 +100,16 @@ enum ouriscado_codec_refusal {
 
 /* ---- ULEB128 ----
    A form of a number: groups of seven bits, the lowest first, one to a byte, with bit 7 set in every byte but
-   the last. The shortest form is written; longer ones, whose last groups are 0, are read too. */
+   the last. The shortest form is written; longer ones, whose last groups are 0, are read too. A number in such
+   a longer form is padded: it isn't wrong, only longer than needed, and other software wrote it. */
 
 /* The length of the shortest form of n, in bytes. */
 size_t ouriscado_uleb128_len(uint64_t n);
 
-/* Reads the number at the start of buf: its value, and the length of its form. Refuses 17, 18. */
-uint32_t ouriscado_read_uleb128(const uint8_t *buf, size_t buf_len, uint64_t *value, size_t *len);
+/* Reads the number at the start of buf: its value, the length of its form, and whether that is the shortest
+   form of the value. Refuses 17, 18. */
+uint32_t ouriscado_read_uleb128(
+    const uint8_t *buf, size_t buf_len, uint64_t *value, size_t *len, bool *shortest);
 
 /* Writes the shortest form of n to the start of dst, and tells its length. Refuses 33. */
 uint32_t ouriscado_write_uleb128_into(uint8_t *dst, size_t dst_len, uint64_t n, size_t *len);
@@ -119,10 +122,12 @@ uint32_t ouriscado_write_uleb128_into(uint8_t *dst, size_t dst_len, uint64_t n, 
 uint32_t ouriscado_encode_fk_delta_stream_into(
     uint8_t *out, size_t out_len, const uint64_t *fks, size_t fks_len, size_t *len);
 
-/* Reads a stream of n numbers at the start of buf into the start of out, and tells how many bytes it takes.
-   Refuses 17, 18, 20 to 23, 34. */
+/* Reads a stream of n numbers at the start of buf into the start of out, and tells how many bytes it takes
+   and how many of the numbers are padded: stored in a longer form than the shortest. Refuses 17, 18, 20 to
+   23, 34. */
 uint32_t ouriscado_decode_fk_delta_stream_into(
-    const uint8_t *buf, size_t buf_len, size_t n, uint64_t *out, size_t out_len, size_t *taken);
+    const uint8_t *buf, size_t buf_len, size_t n, uint64_t *out, size_t out_len, size_t *taken,
+    size_t *padded);
 
 /* ---- Slabs ----
    A slab is a block for a short list: 2 bytes with the count of numbers, then the stream; both are its
@@ -134,10 +139,11 @@ uint32_t ouriscado_decode_fk_delta_stream_into(
 uint32_t ouriscado_encode_slab_payload_into(
     uint8_t *out, size_t out_len, const uint64_t *fks, size_t fks_len, size_t *len);
 
-/* Reads the payload at the start of buf into the start of out, and tells how many numbers it has and how many
-   bytes it takes. Refuses 11, 17, 18, 20 to 23, 34. */
+/* Reads the payload at the start of buf into the start of out, and tells how many numbers it has, how many
+   bytes it takes and how many of the numbers are padded. Refuses 11, 17, 18, 20 to 23, 34. */
 uint32_t ouriscado_decode_slab_payload_into(
-    const uint8_t *buf, size_t buf_len, uint64_t *out, size_t out_len, size_t *used, size_t *len);
+    const uint8_t *buf, size_t buf_len, uint64_t *out, size_t out_len, size_t *used, size_t *len,
+    size_t *padded);
 
 /* How many numbers a slab of a class has slots for, or 0 where that passes 32 bits. */
 uint32_t ouriscado_slab_cap(uint8_t class_);
@@ -269,15 +275,16 @@ uint32_t ouriscado_sh_page_stream_tail(const uint8_t *page, size_t page_len, siz
 /* The last number of a page, 0 where it has none. Refuses 4, 15 to 18, 20 to 23. */
 uint32_t ouriscado_sh_page_last_fk(const uint8_t *page, size_t page_len, uint64_t *last);
 
-/* Reads the numbers of a page into the start of out, and tells how many. Refuses 4, 15 to 18, 20 to 23,
-   34. */
+/* Reads the numbers of a page into the start of out, and tells how many, and how many of them are padded.
+   Refuses 4, 15 to 18, 20 to 23, 34. */
 uint32_t ouriscado_sh_page_entries_into(
-    const uint8_t *page, size_t page_len, uint64_t *out, size_t out_len, size_t *count);
+    const uint8_t *page, size_t page_len, uint64_t *out, size_t out_len, size_t *count, size_t *padded);
 
-/* Reads the numbers of a page into the start of out, and tells how many and the next page's offset, 0 where
-   the page is LAST. Refuses 4, 15 to 18, 20 to 23, 34. */
+/* Reads the numbers of a page into the start of out, and tells how many, the next page's offset, 0 where the
+   page is LAST, and how many of the numbers are padded. Refuses 4, 15 to 18, 20 to 23, 34. */
 uint32_t ouriscado_sh_page_decode_slice_into(
-    const uint8_t *page, size_t page_len, uint64_t *out, size_t out_len, size_t *count, uint64_t *next);
+    const uint8_t *page, size_t page_len, uint64_t *out, size_t out_len, size_t *count, uint64_t *next,
+    size_t *padded);
 
 /* Appends a number to a page, and tells whether it was: it isn't where the page is full. Refuses 4, 12, 13,
    15 to 18, 20 to 23, 32.

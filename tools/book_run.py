@@ -32,7 +32,7 @@ def calls_of(words):
 
 def room(call):
     """The most words that the answer to a call has."""
-    return {APPEND: lambda: 7, READ: lambda: 4 + call[2]}.get(call[0], lambda: 3)()
+    return {APPEND: lambda: 7, READ: lambda: 5 + call[2]}.get(call[0], lambda: 3)()
 
 
 def place(book, key):
@@ -52,8 +52,8 @@ def answer(book, kind, key, third):
             rewritten = book.append(key, third)
             return [0, APPEND, rewritten] + place(book, key)
         if kind == READ:
-            ns, pages = book.read(key, third)
-            return [0, READ, pages, len(ns)] + ns
+            ns, pages, padded = book.read(key, third)
+            return [0, READ, pages, padded, len(ns)] + ns
         return [0, DROP, book.drop(key)]
     except Refused as number:
         return [number.args[0]]
@@ -70,6 +70,11 @@ def run(size, heads, most, *words):
     return "".join(["ran:"] + [f" {word}" for call in calls for word in answer(book, *call)])
 
 
-for line in sys.stdin:
-    words = line.split()
-    print(run(*map(int, words)) if all(map(str.isdigit, words)) else line.rstrip("\n"))
+def main():
+    for line in sys.stdin:
+        words = line.split()
+        print(run(*map(int, words)) if all(map(str.isdigit, words)) else line.rstrip("\n"))
+
+
+if __name__ == "__main__":
+    main()

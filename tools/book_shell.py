@@ -118,10 +118,11 @@ class Shell:
         return f"appended: {place(self.book, key)}; {counted(rewritten, 'record')} rewritten"
 
     def read(self, key, room=NUMBERS):
-        ns, pages = self.book.read(key, room)
+        ns, pages, padded = self.book.read(key, room)
         if not ns:
             return "read: nothing is recorded"
-        return f"read: {counted(len(ns), 'number')}, {counted(pages, 'page')}:" + "".join(f" {n}" for n in ns)
+        some = f", {padded} padded" if padded else ""
+        return f"read: {counted(len(ns), 'number')}, {counted(pages, 'page')}{some}:" + "".join(f" {n}" for n in ns)
 
     def drop(self, key):
         return f"dropped: {counted(self.book.drop(key), 'number')}"
@@ -193,4 +194,5 @@ def main():
     print(f"{counted(turned_back, 'line')} refused, {counted(unread, 'line')} not understood")
 
 
-main()
+if __name__ == "__main__":
+    main()

@@ -11,8 +11,18 @@ def form_len(n):
     return 1 if n < 128 else 1 + form_len(n // 128)
 
 
+def form_lens(ns):
+    """The lengths of the shortest forms of a stream."""
+    return [form_len(n - p) for p, n in zip([0] + ns, ns)]
+
+
 def stream_len(ns):
-    return sum(form_len(n - p) for p, n in zip([0] + ns, ns))
+    return sum(form_lens(ns))
+
+
+def padding(ns, stored):
+    """The numbers of a stream whose stored form is padded, longer than the shortest, each with the bytes that it is longer by."""
+    return {n: length - least for n, length, least in zip(ns, stored, form_lens(ns)) if length > least}
 
 
 def class_for(n, size, least, most):
@@ -77,11 +87,11 @@ def past_slabs(c, off):
 
 
 class Book:
-    """The plain book: lists, places, a mark and nine stacks."""
+    """The plain book: lists, places, padded numbers, a mark and nine stacks."""
 
     def __init__(self, size, heads):
         self.size, self.mark, self.stacks = size, START, [[] for _ in range(9)]
-        self.lists, self.places = [[] for _ in range(heads)], [("empty",)] * heads
+        self.lists, self.places, self.padded = [[] for _ in range(heads)], [("empty",)] * heads, [{} for _ in range(heads)]
 
     def rounded(self):
         """Where a page begins at the mark, and the blocks of the gap before it: none past the end of slabs."""
@@ -133,6 +143,10 @@ class Book:
         """The total in a key's last page, none of a key that isn't in pages."""
         return total_told(len(self.lists[key])) if self.places[key][0] == "pages" else None
 
+    def stored_len(self, key, ns):
+        """The bytes that a stream of a key takes as it is stored."""
+        return stream_len(ns) + sum(self.padded[key].get(n, 0) for n in ns)
+
     def append(self, key, n):
         self.on(key)
         old, place = self.lists[key], self.places[key]
@@ -142,19 +156,19 @@ class Book:
             place = ("inline",)
         elif place[0] == "pages":
             pages = [list(p) for p in place[1]]
-            if stream_len(pages[-1][2] + [n]) <= pages[-1][1]:
+            if self.stored_len(key, pages[-1][2] + [n]) <= pages[-1][1]:
                 pages[-1][2] = pages[-1][2] + [n]
             else:
                 pages.append([self.take(8), PAGE - 24, [n]])
             place = ("pages", pages)
-        elif place[0] == "inline" or not (len(new) <= min(256, 4 * 2 ** place[1]) and 2 + stream_len(new) <= 16 * 2 ** place[1]):
+        elif place[0] == "inline" or not (len(new) <= min(256, 4 * 2 ** place[1]) and 2 + self.stored_len(key, new) <= 16 * 2 ** place[1]):
             to, rewritten = moves_to(new), len(old)
             if to is None:
                 moved = ("pages", [[self.take(8), PAGE - 24, new]])
             else:
                 moved = ("slab", to, self.take(to))
             self.free(place)
-            place = moved
+            place, self.padded[key] = moved, {}
         self.lists[key], self.places[key] = new, place
         return rewritten
 
@@ -185,13 +199,13 @@ class Book:
         ns, place = self.lists[key], self.places[key]
         if room < len(ns):
             raise Refused(34)
-        return ns, len(place[1]) if place[0] == "pages" else 0
+        return ns, len(place[1]) if place[0] == "pages" else 0, len(self.padded[key])
 
     def drop(self, key):
         self.on(key)
         self.free(self.places[key])
         length = len(self.lists[key])
-        self.lists[key], self.places[key] = [], ("empty",)
+        self.lists[key], self.places[key], self.padded[key] = [], ("empty",), {}
         return length
 
     def free(self, place):

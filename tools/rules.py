@@ -45,6 +45,15 @@ def scan_stream(bs, count):
     return numbers, taken
 
 
+def padded(bs, count):
+    """How many numbers of a stream that can be read are in a longer form than the shortest. The calls below don't tell it: the source doesn't."""
+    longer, taken = 0, 0
+    for _ in range(count):
+        value, length = read_form(bs[taken:taken + 11])
+        longer, taken = longer + (length > len(form(value))), taken + length
+    return longer
+
+
 def stream(ns, room):
     """The bytes of a list's stream, at most so many."""
     last, out = 0, []

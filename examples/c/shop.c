@@ -59,10 +59,11 @@ static void deposit(struct book *b, uint64_t account, uint64_t record)
 static uint64_t *enquire(const struct book *b, uint64_t account, uint64_t *length)
 {
     for (size_t room = 64;; room *= 2) {
-        uint64_t pages, *list = malloc(room * sizeof *list);
+        uint64_t pages, padded, *list = malloc(room * sizeof *list);
         if (!list)
             stop("no memory");
-        uint32_t refusal = ouriscado_book_read(b->body, BODY_BYTES, b->heads, ACCOUNTS, b->state, account, list, room, length, &pages);
+        uint32_t refusal =
+            ouriscado_book_read(b->body, BODY_BYTES, b->heads, ACCOUNTS, b->state, account, list, room, length, &pages, &padded);
         if (refusal == OURISCADO_ACCEPTED)
             return list;
         free(list);
@@ -74,8 +75,9 @@ static uint64_t *enquire(const struct book *b, uint64_t account, uint64_t *lengt
 /* One enquiry with a list of so many numbers, and what it says. */
 static void ask(const struct book *b, uint64_t account, size_t room)
 {
-    uint64_t list[512], length, pages;
-    uint32_t refusal = ouriscado_book_read(b->body, BODY_BYTES, b->heads, ACCOUNTS, b->state, account, list, room, &length, &pages);
+    uint64_t list[512], length, pages, padded;
+    uint32_t refusal =
+        ouriscado_book_read(b->body, BODY_BYTES, b->heads, ACCOUNTS, b->state, account, list, room, &length, &pages, &padded);
     printf("enquiry for the %s, with room for %zu: ", NAMES[account], room);
     if (refusal != OURISCADO_ACCEPTED)
         printf("refused with %" PRIu32 ", this is no empty account: %s\n", refusal, ouriscado_refusal_text(refusal));

@@ -45,8 +45,8 @@ static void append_book(size_t key, uint64_t number)
 
 static size_t read_book(size_t key, uint64_t *out, size_t room)
 {
-    uint64_t length, pages;
-    check(ouriscado_book_read(body, BODY_BYTES, heads, heads_len, state, key, out, room, &length, &pages), "read");
+    uint64_t length, pages, padded;
+    check(ouriscado_book_read(body, BODY_BYTES, heads, heads_len, state, key, out, room, &length, &pages, &padded), "read");
     return length;
 }
 

@@ -119,8 +119,8 @@ fn numbers(cases: &mut Vec<Case>) {
             format!("read a number, {len} bytes"),
             move || {
                 forms.chunks(16).for_each(|f| {
-                    let (mut value, mut len) = (0, 0);
-                    black_box((sys::read_uleb128(f, &mut value, &mut len), value, len));
+                    let (mut value, mut len, mut shortest) = (0, 0, false);
+                    black_box((sys::read_uleb128(f, &mut value, &mut len, &mut shortest), value, len, shortest));
                 })
             },
             move || {
@@ -163,7 +163,7 @@ fn streams(cases: &mut Vec<Case>) {
         let (theirs, mut ours_to, mut theirs_to) = (bytes.clone(), vec![0u64; n], Vec::<Fk>::with_capacity(n));
         cases.push(case(
             format!("decode {name}"),
-            move || seen(sys::decode_fk_delta_stream_into(&bytes, n, &mut ours_to, &mut 0)),
+            move || seen(sys::decode_fk_delta_stream_into(&bytes, n, &mut ours_to, &mut 0, &mut 0)),
             move || {
                 theirs_to.clear();
                 seen(slabs::decode_fk_delta_stream_into(&theirs, n, &mut theirs_to));
@@ -188,7 +188,7 @@ fn slab_payloads(cases: &mut Vec<Case>) {
         let (theirs, mut ours_to, mut theirs_to) = (bytes.clone(), vec![0u64; n], Vec::<Fk>::with_capacity(n));
         cases.push(case(
             format!("decode a slab of {name}"),
-            move || seen(sys::decode_slab_payload_into(&bytes, &mut ours_to, &mut 0, &mut 0)),
+            move || seen(sys::decode_slab_payload_into(&bytes, &mut ours_to, &mut 0, &mut 0, &mut 0)),
             move || {
                 theirs_to.clear();
                 seen(slabs::decode_slab_payload_into(&theirs, &mut theirs_to));

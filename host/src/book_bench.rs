@@ -45,7 +45,8 @@ enum Call {
 /// Makes a call of ours, and tells its refusal's number.
 fn call_ours(b: &mut Book, call: &Call, list: &mut [u64]) -> u32 {
     let (body, body_len, heads, heads_len) = (b.body.as_mut_ptr(), b.body.len(), b.heads.as_mut_ptr(), b.heads.len());
-    let (mut a, mut c, mut kind, mut class, mut used) = (0, 0, 0, 0, 0);
+    let (mut a, mut c, mut d, mut kind, mut class, mut used) = (0, 0, 0, 0, 0, 0);
+    let (out, room) = (list.as_mut_ptr(), list.len());
     unsafe {
         match call {
             Call::Load(key, fks, Fit::Spare) => {
@@ -69,7 +70,7 @@ fn call_ours(b: &mut Book, call: &Call, list: &mut [u64]) -> u32 {
                 &mut c,
             ),
             Call::Read(key) => {
-                sys::ouriscado_book_read(body, body_len, heads, heads_len, &b.state, *key, list.as_mut_ptr(), list.len(), &mut a, &mut c)
+                sys::ouriscado_book_read(body, body_len, heads, heads_len, &b.state, *key, out, room, &mut a, &mut c, &mut d)
             }
             Call::Drop(key) => sys::ouriscado_book_drop(body, body_len, heads, heads_len, &mut b.state, *key, &mut a),
         }

@@ -50,6 +50,7 @@ extern "C" {
         out_len: usize,
         length: &mut u64,
         pages: &mut u64,
+        padded: &mut u64,
     ) -> u32;
     pub fn ouriscado_book_drop(
         body: *mut u8,

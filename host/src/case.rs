@@ -10,11 +10,12 @@ pub struct Input {
 }
 
 /// What a call answers: the refusal's number or 0, values, and what the buffer and the lists hold afterwards. A list of theirs that grew
-/// beyond the one that was lent is longer here.
+/// beyond the one that was lent is longer here. Values that we alone tell are apart: they come behind the others, and the host makes them.
 #[derive(Clone, Debug, Default, PartialEq, Eq)]
 pub struct Output {
     pub refusal: u32,
     pub numbers: Vec<u64>,
+    pub apart: Vec<u64>,
     pub bytes: Vec<u8>,
     pub list: Vec<u64>,
     pub ranges: Vec<[usize; 2]>,
@@ -73,6 +74,7 @@ impl Output {
     pub fn start(&mut self, input: &Input) {
         self.refusal = 0;
         self.numbers.clear();
+        self.apart.clear();
         self.bytes.clone_from(&input.bytes);
         self.list.clone_from(&input.list);
         self.ranges.clone_from(&input.ranges);

@@ -5,6 +5,7 @@ use crate::judge::{expected, wrong};
 use crate::lent::{Lent, Placing};
 use crate::lockstep::large::Large;
 use crate::lockstep::Lockstep;
+use crate::padded_inputs;
 use crate::rng::Rng;
 use crate::table::{functions, Function};
 use std::collections::BTreeMap;
@@ -125,7 +126,9 @@ impl Part {
             Round::Function(function, place) => {
                 let mut rng = Rng(run.seed ^ place << 56 ^ round << 24);
                 let mut wanted = Output::default();
-                (function.inputs)(&mut rng, round, &mut |input| compare_input(function, input, round, &memory.lent, &mut wanted, found));
+                let mut each = |input: &Input| compare_input(function, input, round, &memory.lent, &mut wanted, found);
+                (function.inputs)(&mut rng, round, &mut each);
+                padded_inputs::inputs(function.name, &mut rng, round, &mut each);
             }
             Round::Huge => crate::huge::compare(found),
             Round::Book => memory.books.compare(run.seed, round, found),

@@ -4,7 +4,9 @@ use crate::book_sys as book;
 use crate::compare::{Found, Smallest};
 use crate::errors::{of_pack, of_store, Side};
 use crate::fault::{during, Saying};
+use crate::forms::{is_shortest, padded, padded_in_page};
 use crate::lent::{Area, Placing, NONE, PAGE, READ, READ_WRITE};
+use crate::second_book::space::State;
 use crate::second_book::MOST_BODY;
 use oracle::error::StoreError;
 use oracle::file::TableFile;
@@ -98,13 +100,17 @@ fn offered(answer: Result<usize, StoreError>) -> Result<Vec<u64>, u32> {
 
 /// One number, read from far bytes and written to them.
 fn numbers(judge: &mut Judge) {
-    for bytes in [&[0x80, 0x01][..], &[0x80; 40], &[0xff; 9], &[5]] {
+    for bytes in [&[0x80, 0x01][..], &[0x80; 40], &[0xff; 9], &[5], &[0x85, 0x80, 0]] {
         let buf = Far::<u8>::new(0);
         buf.slice()[..bytes.len()].copy_from_slice(bytes);
-        let (mut value, mut len) = (BEFORE, BEFORE as usize);
-        let ours = during(&Named("read_uleb128"), || unsafe { raw::ouriscado_read_uleb128(buf.first, COUNT, &mut value, &mut len) });
-        let theirs = compact::read_uleb128(buf.slice()).map(|(v, l)| vec![v, l as u64]).map_err(of_pack);
-        judge.same("read_uleb128", (ours, &[value, len as u64]), theirs, true);
+        let theirs = compact::read_uleb128(buf.slice()).map(|(v, l)| vec![v, l as u64, is_shortest(v, l) as u64]).map_err(of_pack);
+        for before in [false, true] {
+            let (mut value, mut len, mut shortest) = (BEFORE, BEFORE as usize, before);
+            let ours = during(&Named("read_uleb128"), || unsafe {
+                raw::ouriscado_read_uleb128(buf.first, COUNT, &mut value, &mut len, &mut shortest)
+            });
+            judge.same("read_uleb128", (ours, &[value, len as u64, shortest as u64]), theirs.clone(), true);
+        }
     }
     for n in [0, 300, u64::MAX] {
         let (a, b) = (Far::<u8>::new(0), Far::<u8>::new(0));
@@ -115,19 +121,21 @@ fn numbers(judge: &mut Judge) {
     }
 }
 
-/// Streams and slabs: written to far bytes, of far lists, and read from far bytes into far lists.
-fn streams(judge: &mut Judge) {
-    let fks = [5u64, 300, 301];
+/// The list that is written to far streams and slabs, and read from them.
+const FKS: [u64; 3] = [5, 300, 301];
+
+/// Streams and slabs written to far bytes, and of far lists.
+fn streams_written(judge: &mut Judge) {
     let (a, b, mut len) = (Far::<u8>::new(0), Far::<u8>::new(0), BEFORE as usize);
     let ours = during(&Named("encode_fk_delta_stream_into"), || unsafe {
-        raw::ouriscado_encode_fk_delta_stream_into(a.first, COUNT, fks.as_ptr(), 3, &mut len)
+        raw::ouriscado_encode_fk_delta_stream_into(a.first, COUNT, FKS.as_ptr(), 3, &mut len)
     });
-    let theirs = offered(slabs::encode_fk_delta_stream_into(b.slice(), &fks));
+    let theirs = offered(slabs::encode_fk_delta_stream_into(b.slice(), &FKS));
     judge.same("encode_fk_delta_stream_into", (ours, &[len as u64]), theirs, a.windows() == b.windows());
     let ours = during(&Named("encode_slab_payload_into"), || unsafe {
-        raw::ouriscado_encode_slab_payload_into(a.first, COUNT, fks.as_ptr(), 3, &mut len)
+        raw::ouriscado_encode_slab_payload_into(a.first, COUNT, FKS.as_ptr(), 3, &mut len)
     });
-    let theirs = offered(slabs::encode_slab_payload_into(b.slice(), &fks));
+    let theirs = offered(slabs::encode_slab_payload_into(b.slice(), &FKS));
     judge.same("encode_slab_payload_into", (ours, &[len as u64]), theirs, a.windows() == b.windows());
     let (list, far) = (Far::<u64>::untouchable(3), Far::<u8>::untouchable(0));
     len = BEFORE as usize;
@@ -136,19 +144,27 @@ fn streams(judge: &mut Judge) {
     });
     let theirs = offered(slabs::encode_slab_payload_into(far.slice(), list.slice()));
     judge.same("encode_slab_payload_into", (ours, &[len as u64]), theirs, true);
-    let (out, mut read) = (Far::<u64>::new(0), Vec::new());
-    let (mut used, mut taken) = (BEFORE as usize, BEFORE as usize);
-    let ours = during(&Named("decode_slab_payload_into"), || unsafe {
-        raw::ouriscado_decode_slab_payload_into(a.first, COUNT, out.first, COUNT, &mut used, &mut taken)
-    });
-    let theirs = stored(slabs::decode_slab_payload_into(a.slice(), &mut read), |()| vec![3, 6]);
-    let left = |out: &Far<u64>| out.slice()[..3] == fks && out.windows()[3..].iter().all(|n| *n == 0) && read == fks.map(Fk);
-    judge.same("decode_slab_payload_into", (ours, &[used as u64, taken as u64]), theirs, left(&out));
-    let (out, mut taken) = (Far::<u64>::new(0), BEFORE as usize);
-    let ours = during(&Named("decode_fk_delta_stream_into"), || unsafe {
-        raw::ouriscado_decode_fk_delta_stream_into(a.first.add(2), COUNT - 2, 3, out.first, COUNT, &mut taken)
-    });
-    judge.same("decode_fk_delta_stream_into", (ours, &[taken as u64]), Ok(vec![4]), left(&out));
+}
+
+/// Streams and slabs read from far bytes into far lists, in the shortest forms and in padded ones.
+fn streams_read(judge: &mut Judge) {
+    for slab in [&[3, 0, 5, 0xa7, 2, 1][..], &[3, 0, 0x85, 0, 0xa7, 2, 0x81, 0x80, 0]] {
+        let (buf, mut read) = (Far::<u8>::new(0), Vec::new());
+        buf.slice()[..slab.len()].copy_from_slice(slab);
+        let (len, apart) = (slab.len() as u64, padded(&slab[2..], 3));
+        let theirs = stored(slabs::decode_slab_payload_into(buf.slice(), &mut read), |()| vec![3, len, apart]);
+        let left = |out: &Far<u64>| out.slice()[..3] == FKS && out.windows()[3..].iter().all(|n| *n == 0) && read == FKS.map(Fk);
+        let (out, [mut used, mut taken, mut padded]) = (Far::<u64>::new(0), [BEFORE as usize; 3]);
+        let ours = during(&Named("decode_slab_payload_into"), || unsafe {
+            raw::ouriscado_decode_slab_payload_into(buf.first, COUNT, out.first, COUNT, &mut used, &mut taken, &mut padded)
+        });
+        judge.same("decode_slab_payload_into", (ours, &[used as u64, taken as u64, padded as u64]), theirs, left(&out));
+        let (out, [mut taken, mut padded]) = (Far::<u64>::new(0), [BEFORE as usize; 2]);
+        let ours = during(&Named("decode_fk_delta_stream_into"), || unsafe {
+            raw::ouriscado_decode_fk_delta_stream_into(buf.first.add(2), COUNT - 2, 3, out.first, COUNT, &mut taken, &mut padded)
+        });
+        judge.same("decode_fk_delta_stream_into", (ours, &[taken as u64, padded as u64]), Ok(vec![len - 2, apart]), left(&out));
+    }
 }
 
 /// Buffers of 2^32 bytes and of a page more aren't pages, by their length alone.
@@ -211,13 +227,14 @@ fn pages_and_lists(judge: &mut Judge) {
         raw::ouriscado_sh_page_pack_extent_last_fks(at, PAGE, list.first, list.len, 4096, 1, 0)
     });
     judge.same("sh_page_pack_extent_last_fks", (ours, &[]), Err(10), page == [0; PAGE]);
-    pages::sh_page_pack_fks(&mut page, &[5, 300, 301], 8192).unwrap();
-    let (out, mut count, mut next) = (Far::<u64>::new(0), BEFORE as usize, BEFORE);
+    pages::sh_page_pack_fks(&mut page, &FKS, 8192).unwrap();
+    let (out, mut next, [mut count, mut padded]) = (Far::<u64>::new(0), BEFORE, [BEFORE as usize; 2]);
     let ours = during(&Named("sh_page_decode_slice_into"), || unsafe {
-        raw::ouriscado_sh_page_decode_slice_into(page.as_ptr(), PAGE, out.first, COUNT, &mut count, &mut next)
+        raw::ouriscado_sh_page_decode_slice_into(page.as_ptr(), PAGE, out.first, COUNT, &mut count, &mut next, &mut padded)
     });
-    let left = out.slice()[..3] == [5, 300, 301] && out.windows()[3..].iter().all(|n| *n == 0);
-    judge.same("sh_page_decode_slice_into", (ours, &[count as u64, next]), Ok(vec![3, 8192]), left);
+    let left = out.slice()[..3] == FKS && out.windows()[3..].iter().all(|n| *n == 0);
+    let wanted = Ok(vec![3, 8192, padded_in_page(&page)]);
+    judge.same("sh_page_decode_slice_into", (ours, &[count as u64, next, padded as u64]), wanted, left);
 }
 
 /// Ranges in lists of 2^32: a list is cut, and the last of so many ranges stays, as it fits.
@@ -274,8 +291,7 @@ fn books_by_length(judge: &mut Judge) {
         println!("huge: books by their lengths left out, since this machine refuses a range of 2^42 bytes");
         return;
     };
-    let heads = Far::<u64>::untouchable(1);
-    let (most, more) = (MOST_BODY, MOST_BODY + COUNT);
+    let (heads, most, more) = (Far::<u64>::untouchable(1), MOST_BODY, MOST_BODY + COUNT);
     let lengths = [
         (most + 4096, 1),
         (more + 8192, 1),
@@ -305,15 +321,20 @@ fn books_by_length(judge: &mut Judge) {
             book::ouriscado_book_append(at, b, words, h, &mut state, 0, 5, &mut kind, &mut class, &mut used, &mut place, other)
         });
         judge.same("book_append", (ours, &[kind as u64, class as u64, used as u64, place, *other]), Err(1), state[0] == 4096);
-        told = [BEFORE; 2];
-        let [length, pages] = &mut told;
-        let ours =
-            during(&Named("book_read"), || unsafe { book::ouriscado_book_read(at, b, words, h, &state, 0, words, COUNT, length, pages) });
-        judge.same("book_read", (ours, &[*length, *pages]), Err(1), true);
-        *length = BEFORE;
-        let ours = during(&Named("book_drop"), || unsafe { book::ouriscado_book_drop(at, b, words, h, &mut state, 0, length) });
-        judge.same("book_drop", (ours, &[*length]), Err(1), state[0] == 4096);
+        read_by_length(judge, (at, b), (words, h), &state);
+        *pages = BEFORE;
+        let ours = during(&Named("book_drop"), || unsafe { book::ouriscado_book_drop(at, b, words, h, &mut state, 0, pages) });
+        judge.same("book_drop", (ours, &[*pages]), Err(1), state[0] == 4096);
     }
+}
+
+/// A read of such a book into a list of 2^32 numbers.
+fn read_by_length(judge: &mut Judge, (body, b): (*mut u8, usize), (words, h): (*mut u64, usize), state: &State) {
+    let [mut length, mut pages, mut padded] = [BEFORE; 3];
+    let ours = during(&Named("book_read"), || unsafe {
+        book::ouriscado_book_read(body, b, words, h, state, 0, words, COUNT, &mut length, &mut pages, &mut padded)
+    });
+    judge.same("book_read", (ours, &[length, pages, padded]), Err(1), true);
 }
 
 /// A small book that is offered 2^32 numbers, and one that is read into a list of so many.
@@ -330,18 +351,17 @@ fn books_and_lists(judge: &mut Judge) {
         book::ouriscado_book_load_tight(at, 8192, heads.as_mut_ptr(), 2, &mut state, 0, list.first, list.len, &mut pages)
     });
     judge.same("book_load_tight", (ours, &[pages]), Err(10), heads == [0, 7] && state[0] == 4096);
-    let mut length = BEFORE;
-    pages = BEFORE;
+    let [mut length, mut pages, mut padded] = [BEFORE; 3];
     let ours = during(&Named("book_read"), || unsafe {
-        book::ouriscado_book_read(at, 8192, heads.as_ptr(), 2, &state, 1, out.first, COUNT, &mut length, &mut pages)
+        book::ouriscado_book_read(at, 8192, heads.as_ptr(), 2, &state, 1, out.first, COUNT, &mut length, &mut pages, &mut padded)
     });
-    judge.same("book_read", (ours, &[length, pages]), Ok(vec![1, 0]), out.slice()[..2] == [7, 0]);
+    judge.same("book_read", (ours, &[length, pages, padded]), Ok(vec![1, 0, 0]), out.slice()[..2] == [7, 0]);
 }
 
 /// Compares all of them.
 pub fn compare(found: &mut Found) {
     let mut judge = Judge(found);
-    for part in [numbers, streams, pages_by_length, pages_and_lists, cuts, free, books_by_length, books_and_lists] {
+    for part in [numbers, streams_written, streams_read, pages_by_length, pages_and_lists, cuts, free, books_by_length, books_and_lists] {
         part(&mut judge);
     }
 }

@@ -108,9 +108,10 @@ pub fn wrong(expected: &Output, refusal: u32, lent: &Lent) -> Option<String> {
         return Some(format!("answers {refusal} in place of {}", expected.refusal));
     }
     let told = lent.told();
-    let right = if refusal == 0 { told == expected.numbers } else { told.iter().all(|n| *n == 0) };
+    let values = [&expected.numbers[..], &expected.apart].concat();
+    let right = if refusal == 0 { told == values } else { told.iter().all(|n| *n == 0) };
     if !right {
-        let wanted = if refusal == 0 { format!("{:x?}", expected.numbers) } else { "zeros".into() };
+        let wanted = if refusal == 0 { format!("{values:x?}") } else { "zeros".into() };
         return Some(format!("answers {refusal} and hands out {told:x?} in place of {wanted}"));
     }
     let (bytes, list, ranges) = lent.held();

@@ -57,7 +57,7 @@ fn whole(cases: &mut Vec<Case>, name: &str, list: &[u64]) {
     let (mut ours_to, mut theirs_to) = (vec![0u64; n], Vec::<Fk>::with_capacity(n));
     cases.push(case(
         format!("read a full page, {name} differences"),
-        move || seen(sys::sh_page_entries_into(&page, &mut ours_to, &mut 0)),
+        move || seen(sys::sh_page_entries_into(&page, &mut ours_to, &mut 0, &mut 0)),
         move || {
             theirs_to.clear();
             seen(pages::sh_page_entries_into(&page, &mut theirs_to));
@@ -211,7 +211,7 @@ fn pages_of_a_book(cases: &mut Vec<Case>, name: &str, lists: &[Vec<u64>]) {
     let (theirs, mut ours_to, mut theirs_to) = (ours.clone(), vec![0u64; 4096], Vec::<Fk>::with_capacity(4096));
     cases.push(case(
         format!("read pages of {name}"),
-        move || ours.iter().for_each(|(p, _, _)| seen(sys::sh_page_entries_into(p, &mut ours_to, &mut 0))),
+        move || ours.iter().for_each(|(p, _, _)| seen(sys::sh_page_entries_into(p, &mut ours_to, &mut 0, &mut 0))),
         move || {
             theirs.iter().for_each(|(p, _, _)| {
                 theirs_to.clear();
@@ -253,7 +253,7 @@ fn slabs_of_a_book(cases: &mut Vec<Case>, name: &str, lists: &[Vec<u64>]) {
     let (theirs, mut ours_to, mut theirs_to) = (ours.clone(), vec![0u64; 256], Vec::<Fk>::with_capacity(256));
     cases.push(case(
         format!("decode slabs of {name}"),
-        move || ours.iter().for_each(|b| seen(sys::decode_slab_payload_into(b, &mut ours_to, &mut 0, &mut 0))),
+        move || ours.iter().for_each(|b| seen(sys::decode_slab_payload_into(b, &mut ours_to, &mut 0, &mut 0, &mut 0))),
         move || {
             theirs.iter().for_each(|b| {
                 theirs_to.clear();

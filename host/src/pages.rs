@@ -1,6 +1,7 @@
 //! The functions on pages that are compared. Their pages are arrays: an input of another length is a listed difference.
 use crate::case::{Input, Output};
 use crate::errors::{of_store, Side};
+use crate::forms::padded_in_page;
 use crate::lent::Lent;
 use crate::table::{list_theirs, Function};
 use crate::{page_inputs as headers, page_stream_inputs as streams};
@@ -132,13 +133,14 @@ pub const FUNCTIONS: &[Function] = &[
         name: "sh_page_entries_into",
         ours: |_, c| {
             let (out, room) = c.list();
-            page(c, |p, n| unsafe { raw::ouriscado_sh_page_entries_into(p, n, out, room, c.out()) })
+            page(c, |p, n| unsafe { raw::ouriscado_sh_page_entries_into(p, n, out, room, c.out(), c.out()) })
         },
         theirs: |i, o| {
             let mut read = Vec::new();
             let answer = sh_page_as_array(&i.bytes).and_then(|page| pages::sh_page_entries_into(page, &mut read));
             if list_theirs(o, answer, &read) {
                 o.numbers.push(read.len() as u64);
+                padded_apart(i, o);
             }
         },
         inputs: streams::pages_and_room,
@@ -147,7 +149,7 @@ pub const FUNCTIONS: &[Function] = &[
         name: "sh_page_decode_slice_into",
         ours: |_, c| {
             let (out, room) = c.list();
-            page(c, |p, n| unsafe { raw::ouriscado_sh_page_decode_slice_into(p, n, out, room, c.out(), c.out()) })
+            page(c, |p, n| unsafe { raw::ouriscado_sh_page_decode_slice_into(p, n, out, room, c.out(), c.out(), c.out()) })
         },
         theirs: |i, o| {
             let mut read = Vec::new();
@@ -155,6 +157,7 @@ pub const FUNCTIONS: &[Function] = &[
             let next = *answer.as_ref().unwrap_or(&0);
             if list_theirs(o, answer.map(drop), &read) {
                 o.numbers.extend([read.len() as u64, next]);
+                padded_apart(i, o);
             }
         },
         inputs: streams::pages_and_room,
@@ -242,6 +245,11 @@ fn put_theirs(o: &mut Output, call: impl FnOnce(&mut Page)) {
         call(page);
         Ok([])
     });
+}
+
+/// How many numbers are padded of the page that they read.
+fn padded_apart(i: &Input, o: &mut Output) {
+    o.apart.push(padded_in_page(sh_page_as_array(&i.bytes).expect("a page that was read")));
 }
 
 /// Tells the two refusals apart for which they have one text: too many numbers, and a stream that doesn't fit.

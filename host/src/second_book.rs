@@ -280,6 +280,12 @@ impl SecondBook {
         Ok(Listed { length: self.key.fks.len() as u64, pages: self.key.pages.len() as u64 })
     }
 
+    /// How many numbers are padded of the key that was read last. A read doesn't count them itself: the published functions don't, and it
+    /// is by them that ours is measured.
+    pub fn padded(&self, body: &[u8], heads: &[u64], key: u64) -> u64 {
+        self.key.padded(body, heads[key as usize])
+    }
+
     /// Drops a key, and tells how many numbers it had.
     pub fn drop(&mut self, body: &mut [u8], heads: &mut [u64], state: &mut State, key: u64) -> Result<u64, Refused> {
         shape(body, heads, state, key)?;

@@ -2,6 +2,7 @@
 //! numbers, head words, classes, streams and slabs.
 use crate::case::{lay_over, Input, Output};
 use crate::errors::{of_pack, of_store, Side};
+use crate::forms::{is_shortest, padded, taken};
 use crate::lent::Lent;
 use crate::rng::Rng;
 use crate::{inputs, stream_inputs};
@@ -38,10 +39,13 @@ const FUNCTIONS: &[Function] = &[
         name: "read_uleb128",
         ours: |_, c| {
             let (buf, n) = c.bytes();
-            unsafe { raw::ouriscado_read_uleb128(buf, n, c.out(), c.out()) }
+            unsafe { raw::ouriscado_read_uleb128(buf, n, c.out(), c.out(), c.flag()) }
         },
         theirs: |i, o| match compact::read_uleb128(&i.bytes) {
-            Ok((value, len)) => o.theirs(Ok(&[value, len as u64])),
+            Ok((value, len)) => {
+                o.theirs(Ok(&[value, len as u64]));
+                o.apart.push(is_shortest(value, len) as u64);
+            }
             Err(e) => o.theirs(Err(of_pack(e))),
         },
         inputs: inputs::forms,
@@ -161,13 +165,14 @@ const FUNCTIONS: &[Function] = &[
         name: "decode_fk_delta_stream_into",
         ours: |i, c| {
             let ((buf, len), (out, room)) = (c.bytes(), c.list());
-            unsafe { raw::ouriscado_decode_fk_delta_stream_into(buf, len, i.numbers[0] as usize, out, room, c.out()) }
+            unsafe { raw::ouriscado_decode_fk_delta_stream_into(buf, len, i.numbers[0] as usize, out, room, c.out(), c.out()) }
         },
         theirs: |i, o| {
             let mut read = Vec::new();
             let answer = slabs::decode_fk_delta_stream_into(&i.bytes, i.numbers[0] as usize, &mut read);
             if list_theirs(o, answer, &read) {
-                o.numbers.push(taken_theirs(&i.bytes, read.len()) as u64);
+                o.numbers.push(taken(&i.bytes, read.len()) as u64);
+                o.apart.push(padded(&i.bytes, read.len()));
             }
         },
         inputs: stream_inputs::streams,
@@ -188,13 +193,14 @@ const FUNCTIONS: &[Function] = &[
         name: "decode_slab_payload_into",
         ours: |_, c| {
             let ((buf, len), (out, room)) = (c.bytes(), c.list());
-            unsafe { raw::ouriscado_decode_slab_payload_into(buf, len, out, room, c.out(), c.out()) }
+            unsafe { raw::ouriscado_decode_slab_payload_into(buf, len, out, room, c.out(), c.out(), c.out()) }
         },
         theirs: |i, o| {
             let mut read = Vec::new();
             let answer = slabs::decode_slab_payload_into(&i.bytes, &mut read);
             if list_theirs(o, answer, &read) {
-                o.numbers.extend([read.len() as u64, 2 + taken_theirs(&i.bytes[2..], read.len()) as u64]);
+                o.numbers.extend([read.len() as u64, 2 + taken(&i.bytes[2..], read.len()) as u64]);
+                o.apart.push(padded(&i.bytes[2..], read.len()));
             }
         },
         inputs: stream_inputs::slabs,
@@ -249,7 +255,39 @@ pub fn list_theirs(o: &mut Output, answer: Result<(), StoreError>, read: &[Fk]) 
     o.refusal == 0
 }
 
-/// How many bytes a count of numbers takes, by their reader.
-fn taken_theirs(bytes: &[u8], count: usize) -> usize {
-    (0..count).fold(0, |at, _| at + compact::read_uleb128(&bytes[at..]).map_or(0, |r| r.1))
+#[cfg(test)]
+mod tests {
+    use super::*;
+    use crate::judge::expected;
+    use crate::padded_inputs;
+    use std::collections::BTreeSet;
+
+    /// What the host makes apart of the first round of a function's inputs, where they are accepted.
+    fn made_apart(name: &str) -> BTreeSet<u64> {
+        let function = functions().find(|f| f.name == name).unwrap();
+        let (mut out, mut wanted) = (BTreeSet::new(), Output::default());
+        let mut each = |input: &Input| {
+            expected(function, input, &mut wanted);
+            assert_eq!(wanted.apart.len(), usize::from(wanted.refusal == 0), "{name}");
+            out.extend(&wanted.apart);
+        };
+        (function.inputs)(&mut Rng(1), 0, &mut each);
+        padded_inputs::inputs(name, &mut Rng(1), 0, &mut each);
+        out
+    }
+
+    /// Forms of both kinds are compared, and streams with no padded number, with one, and with many.
+    #[test]
+    fn padded_numbers_are_compared() {
+        assert_eq!(made_apart("read_uleb128"), BTreeSet::from([0, 1]));
+        for (name, many) in [
+            ("decode_fk_delta_stream_into", 65_535),
+            ("decode_slab_payload_into", 2044),
+            ("sh_page_entries_into", 1000),
+            ("sh_page_decode_slice_into", 1000),
+        ] {
+            let counts = made_apart(name);
+            assert!([0, 1, 2].iter().all(|n| counts.contains(n)) && counts.last() >= Some(&many), "{name}: {counts:?}");
+        }
+    }
 }

@@ -48,7 +48,7 @@ fn ask(book: &ShopBook, account: usize, room: usize) {
     match book.read_into(account as u64, &mut list) {
         Err(refusal) => println!("refused with {}, this is no empty account: {}", refusal.number(), refusal.text()),
         Ok(Listed { length: 0, .. }) => println!("nothing was received"),
-        Ok(Listed { length, pages }) => println!("{length} from {} to {}, pages {pages}", list[0], list[length - 1]),
+        Ok(Listed { length, pages, .. }) => println!("{length} from {} to {}, pages {pages}", list[0], list[length - 1]),
     }
 }
 

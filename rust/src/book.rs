@@ -48,6 +48,9 @@ pub struct Listed {
     pub length: usize,
     /// How many pages they stand in.
     pub pages: u64,
+    /// How many of them are padded: stored in a longer form than the shortest. They aren't wrong, and only other software writes them: the
+    /// count is 0 of an account that this book's calls filled. A list that is dropped and loaded anew has none.
+    pub padded: u64,
 }
 
 /// An account book over a body of bytes and one head word for each account, which it owns or borrows.
@@ -225,6 +228,25 @@ impl<B: AsRef<[u8]>, H: AsRef<[u64]>> Book<B, H> {
     ///
     /// [`Refusal::ShapeBad`], [`Refusal::KeyBeyond`] and [`Refusal::KeyUnsound`]. None of them says that the account is empty.
     pub fn read(&self, key: u64) -> Result<Vec<u64>, Refusal> {
+        self.read_told(key).map(|(list, _)| list)
+    }
+
+    /// The list of an account as [`Book::read`] gives it, with what [`Book::read_into`] tells of it.
+    ///
+    /// ```
+    /// use ouriscado::{Book, Refusal};
+    ///
+    /// let mut book = Book::fresh(vec![0; 8192], vec![0; 1])?;
+    /// book.load(0, &[7, 9])?;
+    /// let (list, told) = book.read_told(0)?;
+    /// assert_eq!((list, told.pages, told.padded), (vec![7, 9], 0, 0));
+    /// # Ok::<(), Refusal>(())
+    /// ```
+    ///
+    /// # Errors
+    ///
+    /// Those of [`Book::read`].
+    pub fn read_told(&self, key: u64) -> Result<(Vec<u64>, Listed), Refusal> {
         let likely = self.likely_length(key);
         if likely > MOST_GUESSED {
             self.judge_key(key)?;
@@ -241,15 +263,15 @@ impl<B: AsRef<[u8]>, H: AsRef<[u64]>> Book<B, H> {
         }
     }
 
-    /// The list of an account, with room for so many numbers at first. Each number takes at least a byte of the body.
-    fn read_with(&self, key: u64, room: usize) -> Result<Vec<u64>, Refusal> {
+    /// An account's list and what its read tells, with room for so many numbers at first. Each number takes at least a byte of the body.
+    fn read_with(&self, key: u64, room: usize) -> Result<(Vec<u64>, Listed), Refusal> {
         let most = self.body().len();
         let mut list = vec![0; room.min(most)];
         loop {
             match self.read_into(key, &mut list) {
                 Ok(listed) => {
                     list.truncate(listed.length);
-                    return Ok(list);
+                    return Ok((list, listed));
                 }
                 Err(Refusal::ListTooShort) if list.len() < most => list.resize((2 * list.len()).clamp(256.min(most), most), 0),
                 Err(refusal) => return Err(refusal),
@@ -292,9 +314,9 @@ impl<B: AsRef<[u8]>, H: AsRef<[u64]>> Book<B, H> {
     /// [`Refusal::ShapeBad`]; [`Refusal::KeyBeyond`]; [`Refusal::KeyUnsound`]; and [`Refusal::ListTooShort`] where `out` doesn't hold the
     /// whole list: the account isn't empty then, and `out` is as it was.
     pub fn read_into(&self, key: u64, out: &mut [u64]) -> Result<Listed, Refusal> {
-        let (mut length, mut pages) = (0, 0);
-        let number = sys::book_read(self.body(), self.heads(), &self.state.0, key, out, &mut length, &mut pages);
-        answer(number, Listed { length: length as usize, pages })
+        let (mut length, mut pages, mut padded) = (0, 0, 0);
+        let number = sys::book_read(self.body(), self.heads(), &self.state.0, key, out, &mut length, &mut pages, &mut padded);
+        answer(number, Listed { length: length as usize, pages, padded })
     }
 
     /// Where the list of an account stands, by its head word alone: what is at that place is judged by a read.
@@ -445,8 +467,8 @@ mod tests {
         let day: Vec<u64> = (1..=10_000).collect();
         book.load(0, &day).unwrap();
         for room in [0, 1, 255, 9_999, 10_000, usize::MAX] {
-            assert_eq!(book.read_with(0, room).as_deref(), Ok(&day[..]), "{room}");
-            assert_eq!(book.read_with(1, room).as_deref(), Ok(&[][..]), "{room}");
+            assert_eq!(book.read_with(0, room), Ok((day.clone(), Listed { length: 10_000, pages: 3, padded: 0 })), "{room}");
+            assert_eq!(book.read_with(1, room), Ok((vec![], Listed { length: 0, pages: 0, padded: 0 })), "{room}");
         }
     }
 

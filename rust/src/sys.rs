@@ -60,8 +60,9 @@ pub mod raw {
             rewritten: &mut u64,
         ) -> u32;
         /// Reads the list of a key into the start of out; what stands behind it there stays. Hands out length, how many record numbers the
-        /// list has, and pages, how many pages of 4,096 bytes were walked. A read that is accepted with length 0 means that nothing is
-        /// recorded for the key; of one that is refused length is 0 too, and says nothing of the key. Refuses 1, 2, 31, 34.
+        /// list has, pages, how many pages of 4,096 bytes were walked, and padded, how many of the numbers are stored in a longer form than
+        /// the shortest: 0 of a key that this book's own calls filled. A read that is accepted with length 0 means that nothing is recorded
+        /// for the key; of one that is refused length is 0 too, and says nothing of the key. Refuses 1, 2, 31, 34.
         pub fn ouriscado_book_read(
             body: *const u8,
             body_len: usize,
@@ -73,6 +74,7 @@ pub mod raw {
             out_len: usize,
             length: &mut u64,
             pages: &mut u64,
+            padded: &mut u64,
         ) -> u32;
         /// Drops the list of a key: the key is empty then, and the book can use the list's slab or pages again. Hands out length, how many
         /// record numbers the list had. Refuses 1, 2, 31.
@@ -165,10 +167,18 @@ pub mod raw {
         pub fn ouriscado_sh_page_stream_tail(page: *const u8, page_len: usize, taken: &mut usize, last: &mut u64) -> u32;
         /// The last number of a page, 0 where it has none. Refuses 4, 15 to 18, 20 to 23.
         pub fn ouriscado_sh_page_last_fk(page: *const u8, page_len: usize, last: &mut u64) -> u32;
-        /// Reads the numbers of a page into the start of out, and tells how many. Refuses 4, 15 to 18, 20 to 23, 34.
-        pub fn ouriscado_sh_page_entries_into(page: *const u8, page_len: usize, out: *mut u64, out_len: usize, count: &mut usize) -> u32;
-        /// Reads the numbers of a page into the start of out, and tells how many and the next page's offset, 0 where the page is LAST.
-        /// Refuses 4, 15 to 18, 20 to 23, 34.
+        /// Reads the numbers of a page into the start of out, and tells how many, and how many of them are padded. Refuses 4, 15 to 18, 20
+        /// to 23, 34.
+        pub fn ouriscado_sh_page_entries_into(
+            page: *const u8,
+            page_len: usize,
+            out: *mut u64,
+            out_len: usize,
+            count: &mut usize,
+            padded: &mut usize,
+        ) -> u32;
+        /// Reads the numbers of a page into the start of out, and tells how many, the next page's offset, 0 where the page is LAST, and how
+        /// many of the numbers are padded. Refuses 4, 15 to 18, 20 to 23, 34.
         pub fn ouriscado_sh_page_decode_slice_into(
             page: *const u8,
             page_len: usize,
@@ -176,6 +186,7 @@ pub mod raw {
             out_len: usize,
             count: &mut usize,
             next: &mut u64,
+            padded: &mut usize,
         ) -> u32;
         /// Appends a number to a page, and tells whether it was: it isn't where the page is full. Refuses 4, 12, 13, 15 to 18, 20 to 23,
         /// 32.
@@ -239,8 +250,8 @@ pub mod raw {
         pub fn ouriscado_payload_start(file_header_len: usize) -> u64;
         /// Writes the payload of a rising list to the start of out, and tells its length. Refuses 10 to 13, 32, 33.
         pub fn ouriscado_encode_slab_payload_into(out: *mut u8, out_len: usize, fks: *const u64, fks_len: usize, len: &mut usize) -> u32;
-        /// Reads the payload at the start of buf into the start of out, and tells how many numbers it has and how many bytes it takes.
-        /// Refuses 11, 17, 18, 20 to 23, 34.
+        /// Reads the payload at the start of buf into the start of out, and tells how many numbers it has, how many bytes it takes and how
+        /// many of the numbers are padded. Refuses 11, 17, 18, 20 to 23, 34.
         pub fn ouriscado_decode_slab_payload_into(
             buf: *const u8,
             buf_len: usize,
@@ -248,11 +259,12 @@ pub mod raw {
             out_len: usize,
             used: &mut usize,
             len: &mut usize,
+            padded: &mut usize,
         ) -> u32;
         /// Writes the stream of a rising list to the start of out, and tells its length. Refuses 12, 13, 32, 33.
         pub fn ouriscado_encode_fk_delta_stream_into(out: *mut u8, out_len: usize, fks: *const u64, fks_len: usize, len: &mut usize) -> u32;
-        /// Reads a stream of n numbers at the start of buf into the start of out, and tells how many bytes it takes. Refuses 17, 18, 20 to
-        /// 23, 34.
+        /// Reads a stream of n numbers at the start of buf into the start of out, and tells how many bytes it takes and how many of the
+        /// numbers are padded: stored in a longer form than the shortest. Refuses 17, 18, 20 to 23, 34.
         pub fn ouriscado_decode_fk_delta_stream_into(
             buf: *const u8,
             buf_len: usize,
@@ -260,11 +272,13 @@ pub mod raw {
             out: *mut u64,
             out_len: usize,
             taken: &mut usize,
+            padded: &mut usize,
         ) -> u32;
         /// The length of the shortest form of n, in bytes.
         pub fn ouriscado_uleb128_len(n: u64) -> usize;
-        /// Reads the number at the start of buf: its value, and the length of its form. Refuses 17, 18.
-        pub fn ouriscado_read_uleb128(buf: *const u8, buf_len: usize, value: &mut u64, len: &mut usize) -> u32;
+        /// Reads the number at the start of buf: its value, the length of its form, and whether that is the shortest form of the value.
+        /// Refuses 17, 18.
+        pub fn ouriscado_read_uleb128(buf: *const u8, buf_len: usize, value: &mut u64, len: &mut usize, shortest: &mut bool) -> u32;
         /// Writes the shortest form of n to the start of dst, and tells its length. Refuses 33.
         pub fn ouriscado_write_uleb128_into(dst: *mut u8, dst_len: usize, n: u64, len: &mut usize) -> u32;
     }
@@ -350,11 +364,21 @@ pub fn book_append(
 }
 
 /// Reads the list of a key into the start of out; what stands behind it there stays. Hands out length, how many record numbers the list
-/// has, and pages, how many pages of 4,096 bytes were walked. A read that is accepted with length 0 means that nothing is recorded for the
+/// has, pages, how many pages of 4,096 bytes were walked, and padded, how many of the numbers are stored in a longer form than the
+/// shortest: 0 of a key that this book's own calls filled. A read that is accepted with length 0 means that nothing is recorded for the
 /// key; of one that is refused length is 0 too, and says nothing of the key. Refuses 1, 2, 31, 34.
 #[inline]
 #[must_use]
-pub fn book_read(body: &[u8], heads: &[u64], state: &[u64; 10], key: u64, out: &mut [u64], length: &mut u64, pages: &mut u64) -> u32 {
+pub fn book_read(
+    body: &[u8],
+    heads: &[u64],
+    state: &[u64; 10],
+    key: u64,
+    out: &mut [u64],
+    length: &mut u64,
+    pages: &mut u64,
+    padded: &mut u64,
+) -> u32 {
     unsafe {
         raw::ouriscado_book_read(
             body.as_ptr(),
@@ -367,6 +391,7 @@ pub fn book_read(body: &[u8], heads: &[u64], state: &[u64; 10], key: u64, out: &
             out.len(),
             length,
             pages,
+            padded,
         )
     }
 }
@@ -566,19 +591,20 @@ pub fn sh_page_last_fk(page: &[u8], last: &mut u64) -> u32 {
     unsafe { raw::ouriscado_sh_page_last_fk(page.as_ptr(), page.len(), last) }
 }
 
-/// Reads the numbers of a page into the start of out, and tells how many. Refuses 4, 15 to 18, 20 to 23, 34.
+/// Reads the numbers of a page into the start of out, and tells how many, and how many of them are padded. Refuses 4, 15 to 18, 20 to 23,
+/// 34.
 #[inline]
 #[must_use]
-pub fn sh_page_entries_into(page: &[u8], out: &mut [u64], count: &mut usize) -> u32 {
-    unsafe { raw::ouriscado_sh_page_entries_into(page.as_ptr(), page.len(), out.as_mut_ptr(), out.len(), count) }
+pub fn sh_page_entries_into(page: &[u8], out: &mut [u64], count: &mut usize, padded: &mut usize) -> u32 {
+    unsafe { raw::ouriscado_sh_page_entries_into(page.as_ptr(), page.len(), out.as_mut_ptr(), out.len(), count, padded) }
 }
 
-/// Reads the numbers of a page into the start of out, and tells how many and the next page's offset, 0 where the page is LAST. Refuses 4,
-/// 15 to 18, 20 to 23, 34.
+/// Reads the numbers of a page into the start of out, and tells how many, the next page's offset, 0 where the page is LAST, and how many of
+/// the numbers are padded. Refuses 4, 15 to 18, 20 to 23, 34.
 #[inline]
 #[must_use]
-pub fn sh_page_decode_slice_into(page: &[u8], out: &mut [u64], count: &mut usize, next: &mut u64) -> u32 {
-    unsafe { raw::ouriscado_sh_page_decode_slice_into(page.as_ptr(), page.len(), out.as_mut_ptr(), out.len(), count, next) }
+pub fn sh_page_decode_slice_into(page: &[u8], out: &mut [u64], count: &mut usize, next: &mut u64, padded: &mut usize) -> u32 {
+    unsafe { raw::ouriscado_sh_page_decode_slice_into(page.as_ptr(), page.len(), out.as_mut_ptr(), out.len(), count, next, padded) }
 }
 
 /// Appends a number to a page, and tells whether it was: it isn't where the page is full. Refuses 4, 12, 13, 15 to 18, 20 to 23, 32.
@@ -758,12 +784,12 @@ pub fn encode_slab_payload_into(out: &mut [u8], fks: &[u64], len: &mut usize) ->
     unsafe { raw::ouriscado_encode_slab_payload_into(out.as_mut_ptr(), out.len(), fks.as_ptr(), fks.len(), len) }
 }
 
-/// Reads the payload at the start of buf into the start of out, and tells how many numbers it has and how many bytes it takes. Refuses 11,
-/// 17, 18, 20 to 23, 34.
+/// Reads the payload at the start of buf into the start of out, and tells how many numbers it has, how many bytes it takes and how many of
+/// the numbers are padded. Refuses 11, 17, 18, 20 to 23, 34.
 #[inline]
 #[must_use]
-pub fn decode_slab_payload_into(buf: &[u8], out: &mut [u64], used: &mut usize, len: &mut usize) -> u32 {
-    unsafe { raw::ouriscado_decode_slab_payload_into(buf.as_ptr(), buf.len(), out.as_mut_ptr(), out.len(), used, len) }
+pub fn decode_slab_payload_into(buf: &[u8], out: &mut [u64], used: &mut usize, len: &mut usize, padded: &mut usize) -> u32 {
+    unsafe { raw::ouriscado_decode_slab_payload_into(buf.as_ptr(), buf.len(), out.as_mut_ptr(), out.len(), used, len, padded) }
 }
 
 /// Writes the stream of a rising list to the start of out, and tells its length. Refuses 12, 13, 32, 33.
@@ -773,11 +799,12 @@ pub fn encode_fk_delta_stream_into(out: &mut [u8], fks: &[u64], len: &mut usize)
     unsafe { raw::ouriscado_encode_fk_delta_stream_into(out.as_mut_ptr(), out.len(), fks.as_ptr(), fks.len(), len) }
 }
 
-/// Reads a stream of n numbers at the start of buf into the start of out, and tells how many bytes it takes. Refuses 17, 18, 20 to 23, 34.
+/// Reads a stream of n numbers at the start of buf into the start of out, and tells how many bytes it takes and how many of the numbers are
+/// padded: stored in a longer form than the shortest. Refuses 17, 18, 20 to 23, 34.
 #[inline]
 #[must_use]
-pub fn decode_fk_delta_stream_into(buf: &[u8], n: usize, out: &mut [u64], taken: &mut usize) -> u32 {
-    unsafe { raw::ouriscado_decode_fk_delta_stream_into(buf.as_ptr(), buf.len(), n, out.as_mut_ptr(), out.len(), taken) }
+pub fn decode_fk_delta_stream_into(buf: &[u8], n: usize, out: &mut [u64], taken: &mut usize, padded: &mut usize) -> u32 {
+    unsafe { raw::ouriscado_decode_fk_delta_stream_into(buf.as_ptr(), buf.len(), n, out.as_mut_ptr(), out.len(), taken, padded) }
 }
 
 /// The length of the shortest form of n, in bytes.
@@ -787,11 +814,12 @@ pub fn uleb128_len(n: u64) -> usize {
     unsafe { raw::ouriscado_uleb128_len(n) }
 }
 
-/// Reads the number at the start of buf: its value, and the length of its form. Refuses 17, 18.
+/// Reads the number at the start of buf: its value, the length of its form, and whether that is the shortest form of the value. Refuses 17,
+/// 18.
 #[inline]
 #[must_use]
-pub fn read_uleb128(buf: &[u8], value: &mut u64, len: &mut usize) -> u32 {
-    unsafe { raw::ouriscado_read_uleb128(buf.as_ptr(), buf.len(), value, len) }
+pub fn read_uleb128(buf: &[u8], value: &mut u64, len: &mut usize, shortest: &mut bool) -> u32 {
+    unsafe { raw::ouriscado_read_uleb128(buf.as_ptr(), buf.len(), value, len, shortest) }
 }
 
 /// Writes the shortest form of n to the start of dst, and tells its length. Refuses 33.

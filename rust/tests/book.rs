@@ -45,7 +45,7 @@ fn chains() {
         assert!(matches!(book.append(0, n), Ok(Appended { place: Place::Pages { .. }, rewritten: 0 })));
     }
     let mut list = vec![7; 20_001];
-    assert_eq!(book.read_into(0, &mut list), Ok(Listed { length: 20_000, pages: 5 }));
+    assert_eq!(book.read_into(0, &mut list), Ok(Listed { length: 20_000, pages: 5, padded: 0 }));
     assert_eq!((&list[..20_000], list[20_000]), (&numbers(20_000)[..], 7));
     assert_eq!(book.read(0), Ok(numbers(20_000)));
     assert_eq!(book.drop_key(0), Ok(20_000));

@@ -7,8 +7,10 @@ fn numbers() {
     let mut dst = [0; 10];
     assert_eq!(write_uleb128_into(&mut dst, 128), Ok(2));
     assert_eq!(dst[..2], [0x80, 0x01]);
-    assert_eq!(read_uleb128(&[0xb9, 0x64]), Ok(Reading { value: 12857, len: 2 }));
-    assert_eq!(read_uleb128(&[0x80, 0x00]), Ok(Reading { value: 0, len: 2 }));
+    assert_eq!(read_uleb128(&[0xb9, 0x64]), Ok(Reading { value: 12857, len: 2, shortest: true }));
+    assert_eq!(read_uleb128(&[0x00]), Ok(Reading { value: 0, len: 1, shortest: true }));
+    assert_eq!(read_uleb128(&[0x80, 0x00]), Ok(Reading { value: 0, len: 2, shortest: false }));
+    assert_eq!(read_uleb128(&[0x80, 0x01]), Ok(Reading { value: 128, len: 2, shortest: true }));
     let mut nine = [0xff; 10];
     nine[9] = 0x02;
     assert_eq!(read_uleb128(&nine), Err(Refusal::UlebOverflow));
@@ -22,10 +24,38 @@ fn streams() {
     assert_eq!(encode_fk_delta_stream_into(&mut out, &[5, 300, 301]), Ok(4));
     assert_eq!(out[..4], [0x05, 0xa7, 0x02, 0x01]);
     let mut list = [0; 3];
-    assert_eq!(decode_fk_delta_stream_into(&out, 3, &mut list), Ok(4));
+    assert_eq!(decode_fk_delta_stream_into(&out, 3, &mut list), Ok(StreamRead { taken: 4, padded: 0 }));
     assert_eq!(list, [5, 300, 301]);
     assert_eq!(decode_fk_delta_stream_into(&[5, 0], 2, &mut list), Err(Refusal::StoredDifferenceZero));
     assert_eq!(list, [5, 300, 301]);
+}
+
+/// 1, 3 and 300, the first two padded, as a stream, a slab's payload and a page; a refusal tells no count.
+#[test]
+fn padded_numbers() {
+    let stream = [0x81, 0x00, 0x82, 0x80, 0x00, 0xa9, 0x02];
+    let mut list = [0; 3];
+    assert_eq!(decode_fk_delta_stream_into(&stream, 3, &mut list), Ok(StreamRead { taken: 7, padded: 2 }));
+    assert_eq!(list, [1, 3, 300]);
+    assert_eq!(decode_fk_delta_stream_into(&stream, 1, &mut list), Ok(StreamRead { taken: 2, padded: 1 }));
+
+    let mut slab = [0; 16];
+    slab[0] = 3;
+    slab[2..9].copy_from_slice(&stream);
+    assert_eq!(decode_slab_payload_into(&slab, &mut list), Ok(SlabPayload { used: 3, len: 9, padded: 2 }));
+
+    let mut page = [0; 4096];
+    page[..3].copy_from_slice(&[1, 3, 0]);
+    page[8..15].copy_from_slice(&stream);
+    assert_eq!(sh_page_entries_into(&page, &mut list), Ok(PageEntries { count: 3, padded: 2 }));
+    assert_eq!(sh_page_set_next(&mut page, 8192), Ok(()));
+    assert_eq!(sh_page_decode_slice_into(&page, &mut list), Ok(PageSlice { count: 3, next: 8192, padded: 2 }));
+    assert_eq!(sh_page_try_append(&mut page, 301), Ok(PageAppend::Appended));
+    assert_eq!(sh_page_entries_into(&page, &mut [0; 4]), Ok(PageEntries { count: 4, padded: 2 }));
+
+    let (mut taken, mut padded) = (9, 9);
+    assert_eq!(ouriscado::sys::decode_fk_delta_stream_into(&stream, 3, &mut list[..2], &mut taken, &mut padded), 34);
+    assert_eq!((taken, padded), (0, 0));
 }
 
 #[test]
@@ -78,12 +108,12 @@ fn page_entries() {
     assert_eq!(sh_page_try_append(&mut page, 301), Err(Refusal::OfferedNotRising));
     assert_eq!(sh_page_stream_tail(&page), Ok(StreamTail { taken: 4, last: 301 }));
     let mut list = [0; 4096];
-    assert_eq!(sh_page_decode_slice_into(&page, &mut list), Ok(PageSlice { count: 3, next: 0 }));
+    assert_eq!(sh_page_decode_slice_into(&page, &mut list), Ok(PageSlice { count: 3, next: 0, padded: 0 }));
     assert_eq!(list[..4], [5, 300, 301, 0]);
     let full: Vec<u64> = (1..=4088).collect();
     assert_eq!(sh_page_write_stream(&mut page, &full), Ok(4088));
     assert_eq!(sh_page_try_append(&mut page, 4089), Ok(PageAppend::Full));
-    assert_eq!(sh_page_entries_into(&page, &mut list), Ok(4088));
+    assert_eq!(sh_page_entries_into(&page, &mut list), Ok(PageEntries { count: 4088, padded: 0 }));
     assert_eq!(list[..4088], full[..]);
     assert_eq!(sh_page_write_stream(&mut page, &list), Err(Refusal::OfferedNotRising));
 }

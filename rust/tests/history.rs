@@ -1,4 +1,5 @@
-//! A long history of random calls through the crate, beside lists that are kept in vectors: what is read is what was recorded.
+//! A long history of random calls through the crate, beside lists that are kept in vectors: what is read is what was recorded, and none of
+//! it is padded.
 use ouriscado::{Appended, Book, Place, Refusal};
 
 const KEYS: usize = 24;
@@ -75,7 +76,8 @@ fn reads_are_what_was_recorded() {
             Err(refusal) => panic!("{refusal}"),
         }
         if random.below(20) == 0 {
-            assert_eq!(book.read(key).as_deref(), Ok(&plain[key as usize][..]));
+            let (list, told) = book.read_told(key).unwrap();
+            assert_eq!((&list, told.length, told.padded), (&plain[key as usize], list.len(), 0));
         }
     }
     assert!(refused > 1_000, "{refused}");

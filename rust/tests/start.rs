@@ -1,7 +1,7 @@
 //! Books that are judged before they are opened: fresh ones, after calls, damaged ones for each ground, and many random ones beside a
 //! second judge, which claims byte by byte.
 use ouriscado::limits::*;
-use ouriscado::{sys, Book, Place, Refusal, StartError, State};
+use ouriscado::{codec, sys, Book, Listed, Place, Refusal, StartError, State};
 
 type Owned = Book<Vec<u8>, Vec<u64>>;
 
@@ -130,6 +130,41 @@ fn an_unknown_total_is_good() {
     let mut book = Book::open(body, heads, state).unwrap();
     assert_eq!(book.append(3, 9_001).unwrap().rewritten, 0);
     assert_eq!((book.read(3).unwrap().len(), book.check()), (9_001, Ok(0)));
+}
+
+/// A book of other software, whose account 0 has 1 and 3 in a slab, the first padded, and account 1 the same in a page.
+fn padded() -> Owned {
+    let mut body = vec![0x77; 4 * PAGE_BYTES];
+    body[4096..4101].copy_from_slice(&[2, 0, 0x81, 0x00, 2]);
+    let page = 2 * PAGE_BYTES;
+    let extent = codec::Extent { base: page as u64, n: 1 };
+    codec::sh_page_pack_extent_last_fks(&mut body[page..page + PAGE_BYTES], &[1, 3], extent, 0).unwrap();
+    body[page + 24..page + 27].copy_from_slice(&[0x81, 0x00, 2]);
+    let heads = [codec::Head::Slab { class: 0, used: 2, off: 4096 }, codec::Head::Extent { last_page: page as u64 }];
+    let mut state = State::default();
+    state.0[0] = 3 * PAGE_BYTES as u64;
+    Book::open(body, heads.map(|head| codec::pack8(head).unwrap()).to_vec(), state).unwrap()
+}
+
+#[test]
+fn padded_numbers_are_told() {
+    let mut book = padded();
+    let told = |book: &Owned, key| book.read_told(key).map(|(list, told)| (list, told.pages, told.padded)).unwrap();
+    assert_eq!((told(&book, 0), told(&book, 1)), ((vec![1, 3], 0, 1), (vec![1, 3], 1, 1)));
+    let (mut length, mut pages, mut padded) = (9, 9, 9);
+    let number = sys::book_read(book.body(), book.heads(), &book.state().0, 1, &mut [0], &mut length, &mut pages, &mut padded);
+    assert_eq!((number, length, pages, padded), (34, 0, 0, 0), "a refused read tells no count");
+    for key in [0, 1] {
+        assert_eq!(book.append(key, 5).unwrap().rewritten, 0);
+    }
+    assert_eq!((told(&book, 0), told(&book, 1)), ((vec![1, 3, 5], 0, 1), (vec![1, 3, 5], 1, 1)), "an append in place leaves it");
+    book.append(0, 6).unwrap();
+    assert_eq!(book.append(0, 7).unwrap().rewritten, 4);
+    assert_eq!(told(&book, 0), (vec![1, 3, 5, 6, 7], 0, 0), "a list that moved is written anew");
+    let list = book.read(1).unwrap();
+    book.drop_key(1).unwrap();
+    book.load(1, &list).unwrap();
+    assert_eq!(book.read_into(1, &mut [0; 3]), Ok(Listed { length: 3, pages: 0, padded: 0 }), "a list that is loaded anew");
 }
 
 /// A word that is lost leaves a good start, and shows by the units of its blocks: a slab, pages, nothing of one number, and freed blocks.

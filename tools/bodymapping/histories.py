@@ -52,7 +52,7 @@ def life(library):
         if until is None:
             book.drop(0)
         else:
-            held = len(book.read(0))
+            held = len(book.read(0)[0])
             for k in range(held, until):
                 book.append(0, 100 + 50 * k)
         yield title, Book(library, bytes(book.body), list(book.heads), list(book.state))

@@ -119,13 +119,14 @@ class Book:
         return length.value
 
     def read(self, key):
-        """The key's list, read into a lent list that is long enough."""
+        """The key's list, read into a lent list that is long enough, and how many of its numbers are padded."""
         room = 1024
         while True:
-            out, length, pages = (c_uint64 * room)(), c_uint64(), c_uint64()
+            out, length, pages, padded = (c_uint64 * room)(), c_uint64(), c_uint64(), c_uint64()
             try:
-                self.library.call("book_read", *self.lent_body(), *self.lent_heads(), self.state, c_uint64(key), out, c_size_t(room), byref(length), byref(pages))
-                return list(out[:length.value])
+                self.library.call("book_read", *self.lent_body(), *self.lent_heads(), self.state, c_uint64(key), out, c_size_t(room),
+                                  byref(length), byref(pages), byref(padded))
+                return list(out[:length.value]), padded.value
             except Refused as refused:
                 if refused.number != LIST_TOO_SHORT:
                     raise

@@ -2,7 +2,7 @@
 from itertools import groupby
 
 from library import PAGE_BYTES, PAGE_CLASS
-from survey import plural
+from survey import padded_some, plural
 
 MOST_ROWS = 40  # of keys, before they are folded
 PLACES = {"empty": "empty", "inline": "inline", "slab": "in slabs", "pages": "in pages"}
@@ -24,9 +24,9 @@ def key_row(key, marked):
 
 
 def numbers_of(keys):
-    """How many numbers some keys have, behind a comma, or nothing of empty ones."""
+    """How many numbers some keys have, behind a comma, or nothing of empty ones; and how many are padded, where some are."""
     count = sum(key.count for key in keys)
-    return f", {plural(count, 'number')}" if count else ""
+    return f", {plural(count, 'number')}{padded_some(sum(key.padded for key in keys))}" if count else ""
 
 
 def folded(keys):

@@ -10,10 +10,12 @@ class Block:
 
 
 class Key:
-    """A key: its kind of place, how many numbers it has, its place in words, its blocks in order, and the refusal of a read, or 0."""
+    """A key: its kind of place, how many numbers it has, its place in words, its blocks in order, the refusal of a read, or 0, and how many of its
+    numbers are padded."""
 
-    def __init__(self, index, kind, count, text, blocks, refusal=0):
+    def __init__(self, index, kind, count, text, blocks, refusal=0, padded=0):
         self.index, self.kind, self.count, self.text, self.blocks, self.refusal = index, kind, count, text, blocks, refusal
+        self.padded = padded
 
 
 class Survey:
@@ -49,6 +51,11 @@ def plural(count, thing):
     return f"{count:,} {thing}{'' if count == 1 else 's'}"
 
 
+def padded_some(count):
+    """How many numbers are padded, behind a comma, or nothing where none is."""
+    return f", {count:,} padded" if count else ""
+
+
 def chain(book, index, last):
     """The pages of a sound key, the first first."""
     offsets = [book.first_page(last)]
@@ -79,7 +86,7 @@ def unsound(book, index, number):
 def key_of(book, index):
     """A key as the library reads it: its list decides whether it is sound, its head word where it is."""
     try:
-        numbers = book.read(index)
+        numbers, padded = book.read(index)
     except Refused as refused:
         return unsound(book, index, refused.number)
     place, blocks = book.place(index), []
@@ -89,7 +96,7 @@ def key_of(book, index):
     if place.kind == "pages":
         blocks = chain(book, index, place.place)
         text = f"{plural(len(blocks), 'page')}, the last at {place.place:,}, {plural(len(numbers), 'number')}"
-    return Key(index, place.kind, len(numbers), text, blocks)
+    return Key(index, place.kind, len(numbers), text + padded_some(padded), blocks, padded=padded)
 
 
 def survey(book):

@@ -9,6 +9,7 @@ from unittest import mock
 import paths
 import boundaries
 from boundaries import CALLS, DATA, ROOM, Text, expected, files, numbers, runs
+from rules import padded
 
 
 def line(name, given=(), bs=(), ns=()):
@@ -48,6 +49,13 @@ class TestCalls(unittest.TestCase):
         for bs, count, refusal in (([0], 1, 20), ([5, 0], 2, 21), ([5], 2, 17), ([0x80] * 11, 1, 18), ([5, 1], 2, 0), ([5, 1], 2, 34)):
             room = 1 if refusal == 34 else 4
             self.assertEqual(int(line("decode_stream", [count], bs, [9] * room)[0][2:4], 16), refusal)
+
+    def test_padded_numbers(self):
+        for bs, count, wanted in (
+            ([], 0, 0), ([5, 1], 2, 0), ([0], 1, 0), ([0x80, 0], 1, 1), ([0x81, 0, 2], 2, 1), ([5, 0x81, 0], 1, 0),
+            ([0x85, 0, 0x81, 0x80, 0, 0x63], 3, 2), ([0xFF, 0, 0x80, 1], 2, 1), ([0x85] + [0x80] * 8 + [0], 1, 1),
+        ):
+            self.assertEqual(padded(bs, count), wanted, bs)
 
     def test_full_pages(self):
         ones = list(range(1, 4089))

@@ -2,9 +2,12 @@
 import subprocess
 import sys
 import unittest
+from copy import deepcopy
 
 from paths import ROOT
-from plain_book import MOST_BODY, SLABS_END, Book, Refused, by_bytes, cutting, form_len, loads_to, stream_len, total_told, with_slack
+import book_run
+import book_shell
+from plain_book import MOST_BODY, SLABS_END, Book, Refused, by_bytes, cutting, form_len, loads_to, padding, stream_len, total_told, with_slack
 
 
 def ones(count, first=1):
@@ -15,11 +18,11 @@ def ones(count, first=1):
 class TestPlainBook(unittest.TestCase):
     def refused(self, number, call, *words):
         """A call is refused with a number, and changes nothing."""
-        before = [list(ns) for ns in self.book.lists], list(self.book.places), self.book.mark, [list(s) for s in self.book.stacks]
+        before = deepcopy(vars(self.book))
         with self.assertRaises(Refused) as caught:
             call(*words)
         self.assertEqual(caught.exception.args, (number,))
-        self.assertEqual(before, (self.book.lists, self.book.places, self.book.mark, self.book.stacks))
+        self.assertEqual(before, vars(self.book))
 
     def setUp(self):
         self.book = Book(65536, 4)
@@ -28,7 +31,7 @@ class TestPlainBook(unittest.TestCase):
         told = [(self.book.append(0, n), self.book.places[0]) for n in (5, 300, 301, 302, 303)]
         slab, larger = ("slab", 0, 4096), ("slab", 1, 4112)
         self.assertEqual(told, [(0, ("inline",)), (1, slab), (0, slab), (0, slab), (4, larger)])
-        self.assertEqual(self.book.read(0, 5), ([5, 300, 301, 302, 303], 0))
+        self.assertEqual(self.book.read(0, 5), ([5, 300, 301, 302, 303], 0, 0))
         self.assertEqual((self.book.mark, self.book.stacks[0]), (4144, [4096]))
 
     def test_a_freed_slab_is_taken_again(self):
@@ -76,7 +79,7 @@ class TestPlainBook(unittest.TestCase):
     def test_load_of_pages(self):
         self.assertEqual(self.book.load(2, ones(4089)), 2)
         self.assertEqual([(off, room, len(part)) for off, room, part in self.book.places[2][1]], [(4096, 4088, 4088), (8192, 4072, 1)])
-        self.assertEqual(self.book.read(2, 4089), (ones(4089), 2))
+        self.assertEqual(self.book.read(2, 4089), (ones(4089), 2, 0))
         self.assertEqual(self.book.drop(2), 4089)
         self.assertEqual(self.book.stacks[8], [4096, 8192])
 
@@ -115,7 +118,7 @@ class TestPlainBook(unittest.TestCase):
             self.book = Book(size, heads)
             self.refused(1, self.book.read, 0, 9)
         for size in (8192, 2**30 + 4096, 2**41):
-            self.assertEqual(Book(size, 1).read(0, 0), ([], 0))
+            self.assertEqual(Book(size, 1).read(0, 0), ([], 0, 0))
 
     def begin(self, mark):
         """The largest book, from a mark on."""
@@ -156,13 +159,60 @@ class TestPlainBook(unittest.TestCase):
     def test_a_slab_across_2_40(self):
         self.begin(SLABS_END + 16)
         self.book.lists[0], self.book.places[0] = ones(3), ("slab", 1, SLABS_END - 16)
-        self.assertEqual((self.book.append(0, 4), self.book.read(0, 4), self.book.drop(0)), (0, (ones(4), 0), 4))
+        self.assertEqual((self.book.append(0, 4), self.book.read(0, 4), self.book.drop(0)), (0, (ones(4), 0, 0), 4))
         self.refused(35, self.book.load, 1, ones(4))
         self.refused(35, self.book.load_tight, 1, ones(20))
         self.book.stacks[8].append(SLABS_END)
         self.book.load_tight(2, [5])
         self.refused(36, self.book.append, 2, 6)
         self.assertEqual(self.book.take(8), SLABS_END)
+
+    def hold(self, place, ns, stored):
+        """Key 0 as another program left it: so many bytes in each form."""
+        self.book.lists[0], self.book.places[0], self.book.padded[0] = ns, place, padding(ns, stored)
+
+    def test_padded_forms(self):
+        self.assertEqual(padding([1, 3], [2, 1]), {1: 1})
+        self.assertEqual(padding([127, 255, 383], [1, 2, 3]), {383: 1})
+        self.assertEqual(padding([5, 300, 301], [10, 2, 9]), {5: 9, 301: 8})
+
+    def test_padded_numbers_stay_until_a_move(self):
+        self.book.mark = 4112
+        self.hold(("slab", 0, 4096), [1, 3], [2, 1])
+        self.refused(34, self.book.read, 0, 1)
+        self.assertEqual(self.book.read(0, 2), ([1, 3], 0, 1))
+        self.assertEqual(book_run.answer(self.book, book_run.READ, 0, 2), [0, book_run.READ, 0, 1, 2, 1, 3])
+        shell = book_shell.Shell()
+        shell.book = self.book
+        self.assertEqual(shell.read(0), "read: 2 numbers, 0 pages, 1 padded: 1 3")
+        self.assertEqual((self.book.append(0, 4), self.book.append(0, 5), self.book.read(0, 4)), (0, 0, ([1, 3, 4, 5], 0, 1)))
+        self.assertEqual((self.book.append(0, 6), self.book.places[0], self.book.read(0, 5)), (4, ("slab", 1, 4112), ([1, 3, 4, 5, 6], 0, 0)))
+
+    def test_padded_bytes_count_for_room(self):
+        for length, rewritten in ((9, 0), (10, 3)):
+            self.setUp()
+            self.hold(("slab", 0, 4096), [1, 2, 3], [length, 2, 2])
+            self.book.mark = 4112
+            self.assertEqual((self.book.append(0, 4), self.book.places[0]), (rewritten, ("slab", 1, 4112) if rewritten else ("slab", 0, 4096)))
+
+    def test_padded_pages(self):
+        for last, pages in ((2036, 1), (2037, 2)):
+            self.setUp()
+            self.book.mark = 8192
+            self.hold(("pages", [[4096, 4072, ones(last - 1)]]), ones(last - 1), [2] * (last - 1))
+            self.book.append(0, last)
+            self.assertEqual(self.book.read(0, last), (ones(last), pages, last - 1))
+            self.assertEqual(self.book.drop(0), last)
+            self.book.load(0, ones(last))
+            self.assertEqual(self.book.read(0, last), (ones(last), 1, 0))
+
+    def test_own_lists_have_no_padded_number(self):
+        for n in ones(300):
+            self.book.append(0, 200 * n)
+            self.assertEqual(self.book.read(0, n)[2], 0)
+        self.book.load(1, ones(5000))
+        self.book.load_tight(2, ones(20))
+        self.assertEqual([self.book.read(key, 5000)[2] for key in range(4)], [0] * 4)
 
     def test_totals(self):
         self.assertEqual([total_told(n) for n in (257, 2**32 - 1, 2**32, 2**32 + 1)], [257, 2**32 - 1, 0, 0])

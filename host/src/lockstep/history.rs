@@ -87,6 +87,7 @@ struct Kept {
     state: State,
     lasts: Vec<(u64, usize)>,
     good: bool,
+    own: bool,
     when: &'static str,
 }
 
@@ -111,6 +112,8 @@ pub struct History<'a> {
     /// Where the book comes from, and whether it is known to be a good start.
     when: &'static str,
     good: bool,
+    /// Whether calls alone filled every key.
+    own: bool,
     /// Chances of judgements, which are apart so that calls don't depend on them, and whether the book was just
     /// made fresh or damaged.
     checks: Rng,
@@ -163,6 +166,7 @@ impl<'a> History<'a> {
             record: None,
             when: FRESH_BOOK,
             good: false,
+            own: false,
             checks,
             due: false,
         }
@@ -220,6 +224,9 @@ impl<'a> History<'a> {
         if self.good && matches!(answer.refusal, 31 | 35) {
             return Err(format!("{call:?}: on a good book answers {}", answer.refusal));
         }
+        if self.own && matches!(call, Call::Read { .. }) && answer.told[2] != 0 {
+            return Err(format!("{call:?}: of a key that calls alone filled {} numbers are padded", answer.told[2]));
+        }
         if answer.refusal == 0 {
             if self.when == FRESH_BOOK {
                 self.when = USED_BOOK;
@@ -227,7 +234,7 @@ impl<'a> History<'a> {
             match call {
                 Call::Fresh => {
                     // Heads that it wasn't lent name blocks of the book before.
-                    self.good = heads == self.plan.keys;
+                    (self.good, self.own) = (heads == self.plan.keys, heads == self.plan.keys);
                     (self.when, self.due) = (FRESH_BOOK, true);
                     self.lasts.fill((0, 0));
                 }
@@ -282,7 +289,7 @@ impl<'a> History<'a> {
         }
         if let Some(kept) = self.kept.take() {
             (self.pair.body, self.pair.heads, self.pair.state, self.lasts) = (kept.body, kept.heads, kept.state, kept.lasts);
-            (self.good, self.when) = (kept.good, kept.when);
+            (self.good, self.own, self.when) = (kept.good, kept.own, kept.when);
             self.rewritten();
         }
         if self.plan.damaged == 0 || self.rng.below(self.plan.damaged) != 0 {
@@ -290,8 +297,8 @@ impl<'a> History<'a> {
         }
         if self.rng.below(8) != 0 {
             let (body, heads) = (self.pair.body.clone(), self.pair.heads.clone());
-            let (good, when) = (self.good, self.when);
-            self.kept = Some(Kept { body, heads, state: self.pair.state, lasts: self.lasts.clone(), good, when });
+            let (good, own, when) = (self.good, self.own, self.when);
+            self.kept = Some(Kept { body, heads, state: self.pair.state, lasts: self.lasts.clone(), good, own, when });
         } else {
             // It stays damaged, and soon there isn't much to see.
             self.left = self.left.min(200);
@@ -311,7 +318,7 @@ impl<'a> History<'a> {
         }
         self.aimed = (key, 1 + self.rng.below(6));
         self.run.1 = 0;
-        (self.good, self.when, self.due) = (false, DAMAGED_BOOK, true);
+        (self.good, self.own, self.when, self.due) = (false, false, DAMAGED_BOOK, true);
     }
 
     /// Gives ours what was written into the second book's memory.

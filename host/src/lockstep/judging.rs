@@ -48,7 +48,8 @@ impl Judging<'_> {
         Ok(judged)
     }
 
-    /// A start that was built good: it is judged so, also by less than all of it, and each key reads as the list that was written.
+    /// A start that was built good: it is judged so, also by less than all of it, and each key reads as the list that was written, with as
+    /// many padded numbers.
     fn good(&mut self, start: &Start, placing: Placing) -> Result<(), String> {
         let judged = self.whole(start, FOREIGN_START, placing)?;
         if judged.is_ok_and(|v| v.ground == 0) {
@@ -64,9 +65,10 @@ impl Judging<'_> {
             self.calls += 1;
             let call = Call::Read { key: key as u64, room: list.len() };
             let answer = self.pair.call(&call, start.body.len(), start.heads.len(), self.name)?;
-            if answer.refusal != 0 || self.pair.list != *list {
-                return Err(format!("{call:?}: a good start answers {}, and another list than was written", answer.refusal));
+            if answer.refusal != 0 || self.pair.list != *list || answer.told[2] != start.padded[key] {
+                return Err(format!("{call:?}: a good start answers {}, and another list or padding than was written", answer.refusal));
             }
+            self.tally.padded(&answer);
         }
         Ok(())
     }

@@ -151,8 +151,10 @@ impl Ours {
                 (answer, &[1, 1, 2, 8, 8])
             }
             Call::Read { key, .. } => {
-                let (length, pages) = (self.out(0), self.out(1));
-                (unsafe { sys::ouriscado_book_read(body, body_len, heads, heads_len, state, key, list, lent, length, pages) }, &[8, 8])
+                let (length, pages, padded) = (self.out(0), self.out(1), self.out(2));
+                let answer =
+                    unsafe { sys::ouriscado_book_read(body, body_len, heads, heads_len, state, key, list, lent, length, pages, padded) };
+                (answer, &[8, 8, 8])
             }
             Call::Drop { key } => (unsafe { sys::ouriscado_book_drop(body, body_len, heads, heads_len, state, key, self.out(0)) }, &[8]),
         };
@@ -235,7 +237,10 @@ pub fn call_second(
             let [kind, class, used, place] = numbers_theirs(&a.place);
             [kind, class, used, place, a.rewritten]
         }),
-        Call::Read { key, .. } => second.read(body, heads, state, *key, list).map(|listed| [listed.length, listed.pages, 0, 0, 0]),
+        Call::Read { key, .. } => {
+            let listed = second.read(body, heads, state, *key, list)?;
+            Ok([listed.length, listed.pages, second.padded(body, heads, *key), 0, 0])
+        }
         Call::Drop { key } => second.drop(body, heads, state, *key).map(|length| [length, 0, 0, 0, 0]),
     }
 }

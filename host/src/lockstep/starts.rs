@@ -29,13 +29,15 @@ pub const FOREIGN: &[Foreign] =
 const PAGE: usize = 4096;
 const PAGE_CLASS: usize = 8;
 
-/// A start, with the lists that were written into it, its blocks by class and offset, and what is foreign about it.
+/// A start, with the lists that were written into it and how many numbers of each are padded, its blocks by class and offset, and what is
+/// foreign about it.
 #[derive(Clone)]
 pub struct Start {
     pub body: Vec<u8>,
     pub heads: Vec<u64>,
     pub state: State,
     pub lists: Vec<Vec<u64>>,
+    pub padded: Vec<u64>,
     /// Blocks that keys hold: class, offset, key, and how many bytes at its end nothing is written to.
     pub held: Vec<(usize, u64, usize, usize)>,
     /// The blocks of each free list, from the top.
@@ -43,12 +45,12 @@ pub struct Start {
     pub met: BTreeSet<Foreign>,
 }
 
-/// A stream: its bytes, its numbers, and whether a form is longer than it need be.
+/// A stream: its bytes, its numbers, and how many of them are padded.
 #[derive(Default)]
 struct Stream {
     bytes: Vec<u8>,
     fks: Vec<u64>,
-    padded: bool,
+    padded: u64,
 }
 
 impl Stream {
@@ -60,34 +62,36 @@ impl Stream {
         if self.bytes.len() + bytes.len() > room {
             return false;
         }
-        self.padded |= padding > 0;
+        self.padded += u64::from(padding > 0);
         self.bytes.extend(bytes);
         self.fks.push(fk);
         true
     }
 }
 
-/// How the streams of a list go: the bits of its differences, the most bytes by which a form is padded, and whether it ends with the
-/// largest number.
+/// How the streams of a list go: the bits of its differences, the least and the most bytes by which a form is padded, and whether it ends
+/// with the largest number.
 struct Style {
     bits: u32,
-    padding: u64,
+    padding: (u64, u64),
     largest: bool,
 }
 
 impl Style {
     fn draw(rng: &mut Rng) -> Style {
-        Style { bits: rng.pick(&[0, 3, 6, 7, 14, 28, 40]), padding: rng.pick(&[0, 0, 1, 3, 9]), largest: rng.below(16) == 0 }
+        let padding = [(0, 0), (0, 0), (0, 1), (0, 3), (1, 9)];
+        Style { bits: rng.pick(&[0, 3, 6, 7, 14, 28, 40]), padding: rng.pick(&padding), largest: rng.below(16) == 0 }
     }
 
     /// A stream of numbers above one, of at most so many bytes and numbers; the last of its list or not.
     fn stream(&self, rng: &mut Rng, before: u64, room: usize, most: usize, last: bool) -> Stream {
         let (mut out, mut fk) = (Stream::default(), before);
+        let (least, most_padding) = self.padding;
         let left = if last && self.largest { room.saturating_sub(9) } else { room };
         while out.fks.len() < most {
             let next = fk + 1 + rng.bits(self.bits);
-            let padding = rng.below(self.padding + 1) as usize;
-            if next >= LIMIT - 1 || !(out.push(next, padding, left) || out.push(next, 0, left)) {
+            let padding = least + rng.below(most_padding - least + 1);
+            if next >= LIMIT - 1 || !(out.push(next, padding as usize, left) || out.push(next, least as usize, left)) {
                 break;
             }
             fk = next;
@@ -135,8 +139,8 @@ impl Start {
             0 => rng.bytes(len),
             _ => vec![rng.pick(&[0, 0xff]); len],
         };
-        let (lists, held, freed) = (vec![Vec::new(); keys], Vec::new(), Default::default());
-        let mut out = Start { body, heads: vec![0; keys], state: [0; 10], lists, held, freed, met: BTreeSet::new() };
+        let (lists, padded, held, freed) = (vec![Vec::new(); keys], vec![0; keys], Vec::new(), Default::default());
+        let mut out = Start { body, heads: vec![0; keys], state: [0; 10], lists, padded, held, freed, met: BTreeSet::new() };
         let (mut slabs, mut pages) = out.lay(rng);
         let mut order: Vec<usize> = (0..keys).collect();
         shuffle(rng, &mut order);
@@ -221,7 +225,7 @@ impl Start {
         slab[2..2 + stream.bytes.len()].copy_from_slice(&stream.bytes);
         self.heads[key] = slab_word(class, used, off);
         self.held.push((class, off, key, room - stream.bytes.len()));
-        self.note(&stream, PADDED_SLAB);
+        self.note(key, &stream, PADDED_SLAB);
         // A move goes to the class of one number more, or to that of its bytes.
         if class > 0 && used < 4 << (class - 1) && 2 + stream.bytes.len() <= size_of(class - 1) {
             self.met.insert(LARGE_SLAB);
@@ -229,9 +233,10 @@ impl Start {
         self.lists[key] = stream.fks;
     }
 
-    /// Notes what is foreign about a stream.
-    fn note(&mut self, stream: &Stream, padded: Foreign) {
-        if stream.padded {
+    /// Notes what is foreign about a stream of a key.
+    fn note(&mut self, key: usize, stream: &Stream, padded: Foreign) {
+        self.padded[key] += stream.padded;
+        if stream.padded > 0 {
             self.met.insert(padded);
         }
         if stream.fks.last() == Some(&(LIMIT - 1)) {
@@ -258,7 +263,7 @@ impl Start {
             page[3..8].copy_from_slice(&link.to_le_bytes()[..5]);
             page[PAGE - room..][..stream.bytes.len()].copy_from_slice(&stream.bytes);
             self.held.push((PAGE_CLASS, off, key, room - stream.bytes.len()));
-            self.note(&stream, PADDED_PAGE);
+            self.note(key, &stream, PADDED_PAGE);
             fks.extend(stream.fks);
             if version == 2 {
                 self.fields(rng, chain, k, fks.len() as u32);
@@ -328,7 +333,8 @@ mod tests {
     use super::*;
     use crate::second_book::SecondBook;
 
-    /// What is built is a good start by the second book, which reads the lists that were written; together they meet all that is foreign.
+    /// What is built is a good start by the second book, which reads the lists that were written, and counts as many padded numbers;
+    /// together they meet all that is foreign.
     #[test]
     fn starts_are_good() {
         let (mut book, mut met) = (SecondBook::default(), BTreeSet::new());
@@ -339,7 +345,8 @@ mod tests {
             for (key, list) in start.lists.iter().enumerate() {
                 let mut out = vec![0; list.len()];
                 let listed = book.read(&start.body, &start.heads, &start.state, key as u64, &mut out).unwrap();
-                assert_eq!((listed.length as usize, &out), (list.len(), list), "start {number}, key {key}");
+                let padded = book.padded(&start.body, &start.heads, key as u64);
+                assert_eq!((listed.length as usize, &out, padded), (list.len(), list, start.padded[key]), "start {number}, key {key}");
             }
             met.extend(start.met);
         }

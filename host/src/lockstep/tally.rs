@@ -39,6 +39,10 @@ const CHAINS: [u64; 7] = [1, 2, 3, 5, 9, 17, 33];
 /// What is done to a key whose total was never counted.
 const UNKNOWN: [&str; 4] = ["an append that stays in its last page", "an append that begins a page", "a read", "a drop"];
 
+/// What a read can find padded, some of a list or all of it: a slab, a page, a chain of several.
+const PADDED: [&str; 6] =
+    ["some of a slab", "all of a slab", "some of one page", "all of one page", "some of several pages", "all of several pages"];
+
 /// What an append does to the largest total, which four bytes hold.
 const FULL_TOTAL: &str = "a total of 2^32 - 1: an append, after which it is unknown";
 
@@ -95,6 +99,7 @@ pub struct Tally {
     dropped: [u64; 9],
     grown: u64,
     read: BTreeMap<String, u64>,
+    padded: [u64; PADDED.len()],
     loaded: BTreeMap<String, u64>,
     /// Loads by their kind: to slabs by the class of their bytes and the class taken, by counts, and by payloads.
     fitted: BTreeMap<(usize, usize, usize), u64>,
@@ -162,9 +167,22 @@ impl Tally {
                 self.fitted(kind, fks, pair.heads[*key as usize]);
             }
             Call::Append { .. } => self.appended(before, answer),
-            Call::Read { .. } if answer.told[1] > 0 => *self.read.entry(chain_name(answer.told[1])).or_default() += 1,
+            Call::Read { .. } => {
+                self.padded(answer);
+                if answer.told[1] > 0 {
+                    *self.read.entry(chain_name(answer.told[1])).or_default() += 1;
+                }
+            }
             Call::Drop { .. } => self.dropped(before, pair),
             _ => {}
+        }
+    }
+
+    /// Counts a read by what it found padded.
+    pub fn padded(&mut self, read: &Answer) {
+        let [length, pages, padded, ..] = read.told;
+        if padded > 0 {
+            self.padded[2 * pages.min(2) as usize + usize::from(padded == length)] += 1;
         }
     }
 
@@ -316,6 +334,11 @@ impl Tally {
         out
     }
 
+    /// Reads of padded numbers that must be met, with how often each was. Histories that are written down don't tell of them.
+    fn padded_kinds(&self) -> Vec<(String, u64)> {
+        PADDED.iter().zip(self.padded).map(|(what, n)| (format!("padded, by a read: {what}"), n)).collect()
+    }
+
     /// How often each kind of call met a ground.
     fn of_ground<'a>(&'a self, ground: &'a str) -> impl Iterator<Item = (&'static str, u64)> + 'a {
         self.grounds.iter().filter(move |((g, _), _)| *g == ground).map(|((_, kind), n)| (*kind, *n))
@@ -375,6 +398,7 @@ impl Tally {
     pub fn print(&self) -> u64 {
         let mut kinds = self.kinds();
         kinds.extend(self.load_kinds());
+        kinds.extend(self.padded_kinds());
         kinds.extend(self.start_kinds());
         for (name, n) in &kinds {
             let by: Vec<String> = self.of_ground(name.trim_start_matches("31: ")).map(|(kind, n)| format!("{kind} {n}")).collect();

@@ -1,12 +1,13 @@
 //! The keys of the second book: whether a key is sound, on what ground not, and what it holds.
 use crate::errors::{of_store, Side};
+use crate::forms::{padded, padded_in_page, taken};
 use crate::second_book::space::{PAGE, PAGE_CLASS};
 use crate::second_book::LIMIT;
 use oracle::error::StoreError;
 use oracle::scripthash_layout::{slab_bytes, unpack8, ShHeadValue};
 use oracle::scripthash_pages as pages;
 use oracle::scripthash_slabs::decode_slab_payload_into;
-use oracle::{read_uleb128, Fk};
+use oracle::Fk;
 
 /// Why a key isn't sound, in words.
 pub type Ground = &'static str;
@@ -73,11 +74,6 @@ fn page_at(body: &[u8], off: u64) -> &[u8; PAGE] {
     pages::sh_page_as_array(&body[off as usize..off as usize + PAGE]).expect("a page of a body")
 }
 
-/// How many bytes the stream of so many numbers takes, as stored.
-fn taken(stream: &[u8], count: usize) -> usize {
-    (0..count).fold(0, |at, _| at + read_uleb128(&stream[at..]).expect("a stream that was read").1)
-}
-
 /// The last page's header: version 2 and LAST, with a good extent.
 fn last_header(page: &[u8; PAGE]) -> Result<(), Ground> {
     if !pages::sh_page_is_last(page).expect("a link is always read") {
@@ -118,6 +114,14 @@ impl Key {
     /// Reads a whole key, as reads and drops look at it.
     pub fn whole(&mut self, body: &[u8], mark: u64, word: u64) -> Result<Held, Ground> {
         self.held(body, mark, word, Key::chain)
+    }
+
+    /// How many numbers are padded of a key that was read whole, by the forms in its slab or in each of its pages.
+    pub fn padded(&self, body: &[u8], word: u64) -> u64 {
+        match unpack8(word) {
+            Ok(ShHeadValue::Slab { off, .. }) => padded(&body[off as usize + 2..], self.fks.len()),
+            _ => self.pages.iter().map(|&off| padded_in_page(page_at(body, off))).sum(),
+        }
     }
 
     /// Reads a key as appends look at it: of pages the last one alone.

@@ -3,6 +3,9 @@
 //! Whoever keeps accounts needs [`Book`](crate::Book) alone. These functions know nothing of a book: used on parts of its body they can
 //! damage it, and some can make a page read as empty; each says so. Where a function documents what it refuses, the numbers are those of
 //! [`Refusal`]; after a refusal every buffer holds what it held.
+//!
+//! A number is padded where its stored form is longer than the shortest one of its value: it isn't wrong, and is read as any other. Only
+//! other software writes such forms; what is written here is the shortest.
 use crate::{answer, sys, Refusal};
 
 mod pages;
@@ -17,13 +20,16 @@ pub struct Reading {
     pub value: u64,
     /// The length of its form, in bytes.
     pub len: usize,
+    /// Whether its form is the shortest of the number: where it isn't, the number is padded.
+    pub shortest: bool,
 }
 
 /// Reads the ULEB128 number at the start of some bytes; padded forms are read.
 ///
 /// ```
 /// use ouriscado::codec::{read_uleb128, Reading};
-/// assert_eq!(read_uleb128(&[0xb9, 0x64, 0xff]), Ok(Reading { value: 12857, len: 2 }));
+/// assert_eq!(read_uleb128(&[0xb9, 0x64, 0xff]), Ok(Reading { value: 12857, len: 2, shortest: true }));
+/// assert_eq!(read_uleb128(&[0xb9, 0xe4, 0x00]), Ok(Reading { value: 12857, len: 3, shortest: false }));
 /// ```
 ///
 /// # Errors
@@ -31,9 +37,9 @@ pub struct Reading {
 /// Refuses 17, 18.
 #[inline]
 pub fn read_uleb128(buf: &[u8]) -> Result<Reading, Refusal> {
-    let (mut value, mut len) = (0, 0);
-    let number = sys::read_uleb128(buf, &mut value, &mut len);
-    answer(number, Reading { value, len })
+    let (mut value, mut len, mut shortest) = (0, 0, false);
+    let number = sys::read_uleb128(buf, &mut value, &mut len, &mut shortest);
+    answer(number, Reading { value, len, shortest })
 }
 
 /// Writes a number's shortest ULEB128 form to the start of `dst`, and tells its length.
@@ -181,15 +187,31 @@ pub fn encode_fk_delta_stream_into(out: &mut [u8], fks: &[u64]) -> Result<usize,
     answer(number, len)
 }
 
-/// Reads a stream of n numbers into the start of `out`, and tells how many bytes it takes.
+/// A stream that was read.
+#[derive(Clone, Copy, Debug, PartialEq, Eq)]
+pub struct StreamRead {
+    /// How many bytes it takes.
+    pub taken: usize,
+    /// How many of its numbers are padded.
+    pub padded: usize,
+}
+
+/// Reads a stream of n numbers into the start of `out`.
+///
+/// ```
+/// use ouriscado::codec::{decode_fk_delta_stream_into, StreamRead};
+/// let mut list = [0; 2];
+/// assert_eq!(decode_fk_delta_stream_into(&[0x81, 0x00, 0x02], 2, &mut list), Ok(StreamRead { taken: 3, padded: 1 }));
+/// assert_eq!(list, [1, 3]);
+/// ```
 ///
 /// # Errors
 ///
 /// Refuses 17, 18, 20 to 23, 34.
-pub fn decode_fk_delta_stream_into(buf: &[u8], n: usize, out: &mut [u64]) -> Result<usize, Refusal> {
-    let mut taken = 0;
-    let number = sys::decode_fk_delta_stream_into(buf, n, out, &mut taken);
-    answer(number, taken)
+pub fn decode_fk_delta_stream_into(buf: &[u8], n: usize, out: &mut [u64]) -> Result<StreamRead, Refusal> {
+    let (mut taken, mut padded) = (0, 0);
+    let number = sys::decode_fk_delta_stream_into(buf, n, out, &mut taken, &mut padded);
+    answer(number, StreamRead { taken, padded })
 }
 
 /// Writes the slab payload of a rising list to the start of `out`, and tells its length.
@@ -211,6 +233,8 @@ pub struct SlabPayload {
     pub used: usize,
     /// How many bytes it takes.
     pub len: usize,
+    /// How many of its numbers are padded.
+    pub padded: usize,
 }
 
 /// Reads a slab payload into the start of `out`; bytes after the payload are ignored.
@@ -219,9 +243,9 @@ pub struct SlabPayload {
 ///
 /// Refuses 11, 17, 18, 20 to 23, 34.
 pub fn decode_slab_payload_into(buf: &[u8], out: &mut [u64]) -> Result<SlabPayload, Refusal> {
-    let (mut used, mut len) = (0, 0);
-    let number = sys::decode_slab_payload_into(buf, out, &mut used, &mut len);
-    answer(number, SlabPayload { used, len })
+    let (mut used, mut len, mut padded) = (0, 0, 0);
+    let number = sys::decode_slab_payload_into(buf, out, &mut used, &mut len, &mut padded);
+    answer(number, SlabPayload { used, len, padded })
 }
 
 /// A part of a list: the index of its first number, and the one behind its last.

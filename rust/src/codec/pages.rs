@@ -238,23 +238,14 @@ pub fn sh_page_last_fk(page: &[u8]) -> Result<Option<u64>, Refusal> {
     Ok((last != 0).then_some(last))
 }
 
-/// Reads the numbers of a page into the start of `out`, and tells how many.
-///
-/// # Errors
-///
-/// Refuses 4, 15 to 18, 20 to 23, 34.
-pub fn sh_page_entries_into(page: &[u8], out: &mut [u64]) -> Result<usize, Refusal> {
-    handed(|count| sys::sh_page_entries_into(page, out, count))
-}
-
-/// A page that was read.
+/// A page's numbers that were read.
 #[derive(Clone, Copy, Debug, PartialEq, Eq)]
 #[must_use = "only the first `count` numbers of the lent list are the page's"]
-pub struct PageSlice {
+pub struct PageEntries {
     /// How many numbers the page has.
     pub count: usize,
-    /// The next page's offset, 0 where the page is the last.
-    pub next: u64,
+    /// How many of them are padded.
+    pub padded: usize,
 }
 
 /// Reads the numbers of a page into the start of `out`.
@@ -262,10 +253,33 @@ pub struct PageSlice {
 /// # Errors
 ///
 /// Refuses 4, 15 to 18, 20 to 23, 34.
+pub fn sh_page_entries_into(page: &[u8], out: &mut [u64]) -> Result<PageEntries, Refusal> {
+    let (mut count, mut padded) = (0, 0);
+    let number = sys::sh_page_entries_into(page, out, &mut count, &mut padded);
+    answer(number, PageEntries { count, padded })
+}
+
+/// A page's numbers that were read, and its next page.
+#[derive(Clone, Copy, Debug, PartialEq, Eq)]
+#[must_use = "only the first `count` numbers of the lent list are the page's"]
+pub struct PageSlice {
+    /// How many numbers the page has.
+    pub count: usize,
+    /// The next page's offset, 0 where the page is the last.
+    pub next: u64,
+    /// How many of the numbers are padded.
+    pub padded: usize,
+}
+
+/// Reads the numbers of a page into the start of `out`, and tells its next page.
+///
+/// # Errors
+///
+/// Refuses 4, 15 to 18, 20 to 23, 34.
 pub fn sh_page_decode_slice_into(page: &[u8], out: &mut [u64]) -> Result<PageSlice, Refusal> {
-    let (mut count, mut next) = (0, 0);
-    let number = sys::sh_page_decode_slice_into(page, out, &mut count, &mut next);
-    answer(number, PageSlice { count, next })
+    let (mut count, mut next, mut padded) = (0, 0, 0);
+    let number = sys::sh_page_decode_slice_into(page, out, &mut count, &mut next, &mut padded);
+    answer(number, PageSlice { count, next, padded })
 }
 
 /// What an append to a page did.
