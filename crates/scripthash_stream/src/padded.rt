@@ -18,9 +18,9 @@ fn zero_byte(b: u8) -> u8
     0
 }
 
-// How many of at most 240 bytes are 0.
+// How many of at most 128 bytes are 0.
 fn zeros_in(buf: &[u8], from: usize, to: usize) -> u8
-    requires { ⌜ (from ≤ to) × (to ≤ length (now buf)) × (to ≤ from + 240) ⌝ }
+    requires { ⌜ (from ≤ to) × (to ≤ length (now buf)) × (to ≤ from + 128) ⌝ }
     ensures { λ r. ⌜ (zeros (take from (now (buf .entry))) + r ≡ zeros (take to (now (buf .entry)))) × (from + r ≤ to) ⌝ }
 {
     let mut count: u8 = 0;
@@ -46,9 +46,9 @@ pub fn count_zeros(buf: &[u8], n: usize) -> usize
 {
     let mut count: usize = 0;
     let mut at: usize = 0;
-    while 240 < n - at {
-        count += bytes(zeros_in(buf, at, at + 240));
-        at += 240;
+    while 128 < n - at {
+        count += bytes(zeros_in(buf, at, at + 128));
+        at += 128;
     }
     count + bytes(zeros_in(buf, at, n))
 }

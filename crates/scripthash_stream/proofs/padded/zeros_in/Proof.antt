@@ -12,7 +12,7 @@ use Rattle.scripthash_stream.proofs.padded.zeros_in.Tie as tie
 
 abbrev Inv-loop : tie.InvT-loop
 Inv-loop buf from to count₀ i₀ count i =
-    (from ≤ i) × (i ≤ to) × (to ≤ length buf) × (to ≤ from + 240) × (from + count ≤ i)
+    (from ≤ i) × (i ≤ to) × (to ≤ length buf) × (to ≤ from + 128) × (from + count ≤ i)
     × (zeros (take from buf) + count ≡ zeros (take i buf))
 
 abbrev μ-loop : tie.MeasureT-loop
