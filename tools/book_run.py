@@ -1,5 +1,5 @@
 #!/usr/bin/env python3
-"""Writes what the program `book_run` has to write for its lists of calls, computed from document 01's plain book and not from the program:
+"""Writes what the program `book_run` has to write for its lists of calls, computed from the plain book of docs/FORMAT.md and not from the program:
 
     python3 tools/book_run.py < crates/book_run/stdin > crates/book_run/stdout
 """

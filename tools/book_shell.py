@@ -1,5 +1,5 @@
 #!/usr/bin/env python3
-"""Writes what the program `book_shell` has to write for a script, computed from document 01's plain book and not from the program:
+"""Writes what the program `book_shell` has to write for a script, computed from the plain book of docs/FORMAT.md and not from the program:
 
     python3 tools/book_shell.py < crates/book_shell/stdin > crates/book_shell/stdout
 """

@@ -1,5 +1,5 @@
 #!/usr/bin/env python3
-"""Writes what calls at their boundaries answer and leave, computed from document 01 (rules.py) and not from the code: the files b0, b1, …
+"""Writes what calls at their boundaries answer and leave, computed from the rules of docs/FORMAT.md (rules.py) and not from the code: the files b0, b1, …
 of crates/replay/data, which the program `replay` replays, and what it has to write.
 
     python3 tools/boundaries.py [--check]       --check writes nothing and fails where a file differs

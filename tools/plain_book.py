@@ -1,4 +1,4 @@
-"""Document 01's plain book in Python, for what programs have to write: told from 01, and not from the code that is tested."""
+"""The plain book of docs/FORMAT.md in Python, for what programs have to write: apart from the code that is tested."""
 START, PAGE = 4096, 4096
 SLABS_END, MOST_BODY, MOST_COUNTED = 2**40, 2**41, 2**32 - 1
 

@@ -1,4 +1,4 @@
-"""The calls of document 01 below the book, written from it and not from the code.
+"""The calls below the book by the rules of docs/FORMAT.md, apart from the code.
 
 A call takes the numbers given, a buffer and a list, which it changes, and gives the numbers that it tells; where it is refused it raises
 Refused and has changed nothing.

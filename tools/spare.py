@@ -1,5 +1,5 @@
 #!/usr/bin/env python3
-"""Compares loads with a spare slot and tight ones on document 01's plain book: lists of 2 to 200 records, each appended to once after a few more loads.
+"""Compares loads with a spare slot and tight ones on the plain book: lists of 2 to 200 records, each appended to once after a few more loads.
 
 python3 tools/spare.py prints, for differences of one byte to four and each load, how many of the lists moved, how many records these moves rewrote, and how
 many bytes of the body were used then, and by the loads with nothing appended.

@@ -1,4 +1,4 @@
-//! The source's errors, as numbers of document 01.
+//! The source's errors, as numbers of refusals (docs/FORMAT.md, Refusals).
 use oracle::error::StoreError;
 use oracle::PackError;
 
@@ -27,7 +27,7 @@ const TEXTS: &[(&str, u32, u32)] = &[
     ("scripthash page leftover raw-u64; rematerialize", 16, 16),
     ("uleb128 truncated", 17, 17),
     ("uleb128 overflow", 18, 18),
-    // "scripthash page stream overrun" is missing: document 01's 19 is retired, and the comparison stops where the source says it.
+    // "scripthash page stream overrun" is missing: 19 is retired, and the comparison stops where the source says it.
     ("invariant: scripthash fk stream zero delta", 21, 21),
     ("scripthash fk stream delta overflow", 22, 22),
     ("sh pack8: inline cap 1", 24, 24),

@@ -1,4 +1,4 @@
-//! A second account book, to hold ours against: document 01's rules over the published source's functions on head words, streams, slabs,
+//! A second account book, to hold ours against: the rules of docs/FORMAT.md over the published source's functions on head words, streams, slabs,
 //! pages, free lists and cutting. It judges everything before it writes anything, so that a refused call has changed nothing.
 pub mod keys;
 pub mod space;
@@ -29,7 +29,7 @@ pub enum Fit {
     Tight,
 }
 
-/// Why a call is turned back: a number of document 01, and for 31 on what ground.
+/// Why a call is turned back: a refusal's number, and for 31 on what ground.
 #[derive(Clone, Copy, Debug, PartialEq, Eq)]
 pub enum Refused {
     Number(u32),

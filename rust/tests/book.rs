@@ -1,4 +1,4 @@
-//! The book through the safe calls: document 01's run case, each limit tried at and beyond it, each refusal, and damaged books.
+//! The book through the safe calls: the run case of docs/FORMAT.md, each limit tried at and beyond it, each refusal, and damaged books.
 use ouriscado::limits::*;
 use ouriscado::{Appended, Book, Listed, Place, Refusal, State};
 

@@ -1,4 +1,4 @@
-//! Specimens of document 01, through the functions of the module codec.
+//! The specimens of docs/FORMAT.md, through the functions of the module codec.
 use ouriscado::codec::*;
 use ouriscado::Refusal;
 

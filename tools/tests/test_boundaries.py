@@ -1,4 +1,4 @@
-"""The lines of boundaries: how fields are spelled, single calls as document 01 answers them, and that the files in the repository are what is computed."""
+"""The lines of boundaries: how fields are spelled, single calls as docs/FORMAT.md answers them, and that the files in the repository are what is computed."""
 import shutil
 import sys
 import tempfile

@@ -1,4 +1,4 @@
-"""The plain book in Python, held to document 01's run case, moves, cuttings and refusals, and to what its programs have to write."""
+"""The plain book in Python, held to the run case of docs/FORMAT.md, moves, cuttings and refusals, and to what its programs have to write."""
 import subprocess
 import sys
 import unittest

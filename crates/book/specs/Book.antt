@@ -1,4 +1,4 @@
--- A book over bytes (document 01, "The book"): its space, and one head word for each key.
+-- A book over bytes (FORMAT, Body, State and Head word): its space, and one head word for each key.
 use Prim.Native.Nat.{ℕ, _+_}
 use mathlib.Core.List.{List}
 use lib.Dec.{leb}

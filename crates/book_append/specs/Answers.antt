@@ -1,4 +1,4 @@
--- What the answers of an append mean: 01's number, and values, for each of their cases.
+-- What the answers of an append mean: a refusal's number (FORMAT, Refusals) or values for each of their cases.
 use Rattle.error.specs.Refusal.{Answer, accepted, refused}
 use Rattle.book_rules.specs.Outcomes.{appendedTo, Appended}
 use Rattle.book_append.specs.declared.answers.BookAppend.{BookAppend}

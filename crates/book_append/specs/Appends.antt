@@ -1,4 +1,4 @@
--- An append over bytes (document 01, "Append"): a number behind a key's list.
+-- An append over bytes (FORMAT, Append): a number behind a key's list.
 use Prim.Native.Nat.{ℕ, _+_, _-_}
 use mathlib.Core.Bool.{true, cond}
 use mathlib.Core.List.{List, [], _∷_, _++_}

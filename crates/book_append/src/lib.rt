@@ -1,4 +1,4 @@
-// Appending a number to a key (document 01, "Append"). Nothing is allocated, and a refused append leaves everything as it was.
+// Appending a number to a key (FORMAT, Append). Nothing is allocated, and a refused append leaves everything as it was.
 mod answers;
 mod appending;
 

@@ -1,4 +1,4 @@
--- What a book's calls write into blocks (document 01, "Append" and "Load"): a slab that grows, a last page, a page before another, a run.
+-- What a book's calls write into blocks (FORMAT, Load to Move): a slab that grows, a last page, a page before another, a run.
 use Prim.Native.Nat.{ℕ, _+_}
 use mathlib.Core.Bool.{true, false, cond}
 use mathlib.Core.List.{List, [], _∷_}

@@ -1,4 +1,4 @@
--- What the answers of a drop mean: 01's number, and values, for each of their cases.
+-- What the answers of a drop mean: a refusal's number (FORMAT, Refusals) or values for each of their cases.
 use lib.ListN.{length}
 use Rattle.error.specs.Refusal.{Answer, accepted, refused}
 use Rattle.book_rules.specs.Outcomes.{droppedOf, Dropped}

@@ -1,4 +1,4 @@
--- A drop over bytes (document 01, "drop").
+-- A drop over bytes (FORMAT, Drop).
 use Prim.Native.Nat.{ℕ}
 use lib.ListN.{length}
 use Rattle.error.specs.Refusal.{Answer, accepted, andThen}

@@ -1,4 +1,4 @@
-// Dropping a key (document 01, "drop"): its blocks are given back. Nothing is allocated, and a refused drop leaves everything as it was.
+// Dropping a key (FORMAT, Drop): its blocks are given back. Nothing is allocated, and a refused drop leaves everything as it was.
 mod answers;
 mod dropping;
 

@@ -1,4 +1,4 @@
--- Which refusals a history meets: those that document 01 names for the plain book, and never 31. 35 is met only from a good start with a freed
+-- Which refusals a history meets: those of the plain book, and never 31. 35 is met only from a good start with a freed
 -- slab that ends past the end of slabs, so never on a fresh book. Assumes nothing.
 use Prim.Native.Nat.{ℕ}
 use mathlib.Core.List.{List, [], _∷_}

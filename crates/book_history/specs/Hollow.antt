@@ -1,4 +1,4 @@
--- Hollow books (document 01, "How far a promise goes", (c)): books that keep the form of the calls and none of their meaning. Each is told
+-- Hollow books (FORMAT, What is promised, (c)): books that keep the form of the calls and none of their meaning. Each is told
 -- by what it answers to an enquiry and what a change does to it, as our own does where nothing else is said.
 use Prim.Native.Nat.{ℕ, _+_}
 use mathlib.Core.Bool.{cond}

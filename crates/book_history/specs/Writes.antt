@@ -1,4 +1,4 @@
--- What each call may write, which document 01 ("Append" to "drop") names: the bytes of the body, the head words and the free heads that
+-- What each call may write, which FORMAT (The calls) names: the bytes of the body, the head words and the free heads that
 -- may differ after it, and whether the mark may. This is said of any book, a damaged one too.
 use Prim.Native.Nat.{ℕ, _+_, _-_, _*_, _≤_, _<_}
 use mathlib.Core.Bool.{Bool, true, false, cond, _||_}

@@ -1,4 +1,4 @@
--- What the answers of the code about keys mean: 01's number and values for each of their cases.
+-- What the answers of the code about keys mean: a refusal's number (FORMAT, Refusals) or values for each of their cases.
 use Rattle.error.specs.Refusal.{Answer, accepted, refused}
 use Rattle.book_keys.specs.Keys.{Last}
 use Rattle.book_keys.specs.Steps.{TailEndOf, LinkEndOf, Walked, ChainEndOf, FillTold, Counts}

@@ -1,4 +1,4 @@
--- A key over bytes: whether it is sound (document 01 coins the term), what it holds, and where its end is.
+-- A key over bytes: whether it is sound (FORMAT, What a reader checks), what it holds, and where its end is.
 use Prim.Native.Nat.{ℕ, zero, suc, _+_, _-_, _/_, _^_}
 use mathlib.Core.Bool.{Bool, false, cond, not, _&&_, _||_}
 use mathlib.Core.List.{List, [], _∷_, _++_}

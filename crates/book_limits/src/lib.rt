@@ -1,1 +1,1 @@
-// The limits of an account book's body and heads (document 01): definitions and laws, no code.
+// The limits of an account book's body and heads (FORMAT, Limits): definitions and laws, no code.

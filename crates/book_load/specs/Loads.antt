@@ -1,4 +1,4 @@
--- A load over bytes (document 01, "Load"): a list onto an empty key.
+-- A load over bytes (FORMAT, Load): a list onto an empty key.
 use Prim.Native.Nat.{ℕ, _+_, _-_, _*_}
 use mathlib.Core.Bool.{true, not}
 use mathlib.Core.List.{List, [], _∷_}

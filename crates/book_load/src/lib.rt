@@ -1,4 +1,4 @@
-// Loading a list onto an empty key (document 01, "Load"). Nothing is allocated, and a refused load leaves everything as it was.
+// Loading a list onto an empty key (FORMAT, Load). Nothing is allocated, and a refused load leaves everything as it was.
 mod answers;
 mod loading;
 

@@ -1,4 +1,4 @@
--- What the answers of a read mean: 01's number, and values, for each of their cases.
+-- What the answers of a read mean: a refusal's number (FORMAT, Refusals) or values for each of their cases.
 use Prim.Native.Nat.{ℕ}
 use lib.ListN.{length}
 use Rattle.error.specs.Refusal.{Answer, accepted, refused}

@@ -1,4 +1,4 @@
--- A read over bytes (document 01, "Read").
+-- A read over bytes (FORMAT, Read).
 use Prim.Native.Nat.{ℕ}
 use mathlib.Core.List.{List}
 use lib.Dec.{ltb}

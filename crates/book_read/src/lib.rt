@@ -1,4 +1,4 @@
-// Reading a key's list (document 01, "Read"). Nothing is allocated, and a refused read leaves the lent list as it was.
+// Reading a key's list (FORMAT, Read). Nothing is allocated, and a refused read leaves the lent list as it was.
 mod answers;
 mod reading;
 

@@ -1,4 +1,4 @@
-// What every account book has in common (document 01). The code judges what is offered, and has the rules for where a list goes; what calls
+// What books have in common (FORMAT, The calls). The code judges what is offered, and has the rules for where a list goes; what calls
 // tell is a definition (specs/) alone.
 mod offered;
 mod places;

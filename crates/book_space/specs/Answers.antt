@@ -1,4 +1,4 @@
--- What the values of the code mean: the space of a body and a state, and 01's number or value for each case of an answer.
+-- What the values of the code mean: the space of a body and a state, and a refusal's number or the value for each case of an answer.
 use Prim.Native.Nat.{ℕ}
 use mathlib.Core.List.{List}
 use Rattle.error.specs.Refusal.{Answer, accepted, refused}

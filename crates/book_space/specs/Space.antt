@@ -1,4 +1,4 @@
--- The space of a book over bytes (document 01, "The book"): one body, the mark up to which blocks were ever taken, and the free heads of
+-- The space of a book over bytes (FORMAT, Taking a block): one body, the mark up to which blocks were ever taken, and the free heads of
 -- classes 0 to 8, each the offset of the class's first freed block, 0 for none.
 use Prim.Native.Nat.{ℕ, _+_, _*_, _%_, _≤_}
 use mathlib.Core.Bool.{Bool, cond, not, _||_}

@@ -1,4 +1,4 @@
--- What the answers of the code mean: 01's number, or the verdict, for each of their cases.
+-- What the answers of the code mean: a refusal's number (FORMAT, Refusals) or the verdict for each of their cases.
 use Prim.Native.Nat.{ℕ}
 use Rattle.error.specs.Refusal.{Answer, accepted, refused}
 use Rattle.book_start.specs.Start.{Verdict, good, keyUnsound, keyShares, freeStrays, freeShares}

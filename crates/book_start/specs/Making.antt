@@ -1,4 +1,4 @@
--- Making a book fresh (document 01, "Fresh").
+-- Making a book fresh (FORMAT, Fresh).
 use lib.ListN.{length}
 use Rattle.error.specs.Refusal.{Answer, accepted, refused, refuseIf, shapeBad}
 use Rattle.book_limits.specs.Limits.{outOfShape}

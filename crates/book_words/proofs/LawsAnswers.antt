@@ -17,7 +17,7 @@ use Rattle.book_words.specs.SpellAnswers.{spellPlace, spellTold, spellAn
 use Rattle.book_words.specs.SpellAnswers.{droppedAt, toldAt, answerAt, answersOf}
 use Rattle.book_words.proofs.LawsWords.{AllGood, reads-all}
 
--- A refusal has a number above 0, as all of document 01 have.
+-- A refusal has a number above 0, as all have (FORMAT, Refusals).
 unfoldable pub Numbered : Answer SpelledTold → Type 0
 Numbered (accepted t) = Unit {0}
 Numbered (refused number) = 0 < number

@@ -1,4 +1,4 @@
--- What a call answers, and the numbers of its refusals (document 01, "Turned back").
+-- What a call answers, and the numbers of its refusals (FORMAT, Refusals).
 use Prim.Native.Nat.{ℕ}
 use mathlib.Core.Bool.{Bool, cond}
 

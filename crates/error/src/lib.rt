@@ -1,5 +1,5 @@
-// Refusals, in place of the source's StoreError: a call that is turned back answers one number, which document 01
-// ("Turned back") lists. Of several that apply, a call answers the first of that list.
+// Refusals, in place of the source's StoreError: a call that is turned back answers one number, which
+// FORMAT, Refusals, lists. Of several that apply, a call answers the first of that list.
 
 // A refusal is its number.
 pub type Refusal = u32;

@@ -1,4 +1,4 @@
--- Which refusals the plain book gives: those that document 01 names for it, and 35 only where a freed slab ends past the end of slabs; never
+-- Which refusals the plain book gives: those that FORMAT names for it, and 35 only where a freed slab ends past the end of slabs; never
 -- 31. Assumes nothing.
 use Prim.Native.Nat.{ℕ}
 use mathlib.Core.Bool.{Bool, true, false, cond, _||_}

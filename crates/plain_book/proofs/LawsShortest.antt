@@ -1,4 +1,4 @@
--- Lengths are those of shortest forms (document 01, "The book"): every list of calls keeps them so, and in a fresh book they are. Assumes
+-- Lengths are those of shortest forms (FORMAT, The plain book): every list of calls keeps them so, and in a fresh book they are. Assumes
 -- nothing.
 use Prim.Native.Nat.{ℕ, _+_}
 use mathlib.Core.List.{List, [], _∷_, _++_}

@@ -1,4 +1,4 @@
--- The plain book (01 coins the term): what an account book answers to a list of calls, told with no bytes.
+-- The plain book (this project's own term: FORMAT, The plain book): what an account book answers to a list of calls, told with no bytes.
 use Prim.Native.Nat.{ℕ, _+_}
 use mathlib.Core.Bool.{Bool, true, false}
 use mathlib.Core.List.{List, [], _∷_, _++_}

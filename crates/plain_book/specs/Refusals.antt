@@ -8,7 +8,7 @@ use Rattle.error.specs.Refusal.{Answer, accepted, refused, shapeBad, keyBeyond,
 use Rattle.error.specs.Refusal.{offeredTooLarge, offeredNotRising, listTooShort, freeHeadBad, noRoom}
 use Rattle.book_statements.specs.Calls.{Call, Answers, done, asked, changed}
 
--- The numbers that document 01 names for the plain book: 1, 2, 3, 10, 12 to 14, 32, 34 and 36. They are all where no slab ends past the end
+-- The plain book's numbers (FORMAT, The plain book): 1, 2, 3, 10, 12 to 14, 32, 34 and 36. They are all where no slab ends past the end
 -- of slabs.
 unfoldable pub lowRefusals : List ℕ
 lowRefusals =

@@ -1,4 +1,4 @@
--- The space of a plain book (01 coins the term): a mark, up to which blocks were ever taken, and a stack of freed blocks for each class. No
+-- A plain book's space (FORMAT, The plain book): a mark, up to which blocks were ever taken, and a stack of freed blocks for each class. No
 -- byte is read.
 use Prim.Native.Nat.{ℕ, _+_, _*_}
 use mathlib.Core.Bool.{cond}

@@ -1,5 +1,5 @@
-// Replays answers of the published source, which data/ holds, a file for each function, and answers at boundaries, computed from document
-// 01: calls the function on the same input, and compares what it answers and what its buffers then hold. Writes a line for each function or
+// Replays answers of the published source, which data/ holds, a file for each function, and answers at boundaries, computed apart:
+// calls the function on the same input, and compares what it answers and what its buffers then hold. Writes a line for each function or
 // subject.
 mod call;
 mod cut;

@@ -1,4 +1,4 @@
--- What the answers of cutting mean: 01's number and values for each of their cases.
+-- What the answers of cutting mean: a refusal's number (FORMAT, Refusals) or values for each of their cases.
 use Prim.Native.Nat.{ℕ}
 use Rattle.error.specs.Refusal.{Answer, accepted, refused}
 use Rattle.scripthash_cutting.specs.declared.cut.ChunkRanges.{ChunkRanges}

@@ -1,4 +1,4 @@
--- Cutting numbers into the parts that pages hold (document 01, "Cutting"). A part is stored as a stream of its own: its first number, then
+-- Cutting numbers into the parts that pages hold (FORMAT, Cutting). A part is stored as a stream of its own: its first number, then
 -- the differences. The numbers may be any: a difference of a number to a larger one counts as 0.
 use Prim.Native.Nat.{ℕ, zero, suc, _+_, _-_, _≤_, _<_}
 use mathlib.Core.Bool.{Bool, cond, _&&_, _||_}

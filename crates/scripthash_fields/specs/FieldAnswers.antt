@@ -1,4 +1,4 @@
--- What the answers about a page's fields mean: 01's number and values for each of their cases.
+-- What the answers about a page's fields mean: a refusal's number (FORMAT, Refusals) or values for each of their cases.
 use Prim.Native.Nat.{ℕ}
 use mathlib.Core.Bool.{Bool}
 use mathlib.Core.Option.{Option, none, some}

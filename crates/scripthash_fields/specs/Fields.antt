@@ -1,4 +1,4 @@
--- What the calls on a page's fields answer, and what the page holds afterwards (document 01, "Page" and "The rest").
+-- What the calls on a page's fields answer, and what the page holds afterwards (FORMAT, One page by itself).
 use Prim.Native.Nat.{ℕ}
 use mathlib.Core.Bool.{Bool, true, cond, not}
 use mathlib.Core.List.{List, []}

@@ -1,4 +1,4 @@
--- A page: 4,096 bytes (document 01, "Page"). The version stands at byte 0, the count at 1 (2 bytes), the link at 3 (5 bytes: bit 0 LAST,
+-- A page: 4,096 bytes (FORMAT, Page). The version stands at byte 0, the count at 1 (2 bytes), the link at 3 (5 bytes: bit 0 LAST,
 -- the rest a page's index). Version 2 adds the extent's base at 8 (8 bytes), its count at 16 and creates at 20 (4 bytes each). The stream
 -- is the rest.
 use Prim.Native.Nat.{ℕ, _+_, _-_, _*_, _/_, _%_, _^_}

@@ -1,4 +1,4 @@
--- What the answers of the code mean: 01's number and values for each of their cases.
+-- What the answers of the code mean: a refusal's number (FORMAT, Refusals) or values for each of their cases.
 use Prim.Native.Nat.{ℕ}
 use mathlib.Core.Bool.{cond}
 use mathlib.Core.Option.{Option, none, some}

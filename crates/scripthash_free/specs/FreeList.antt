@@ -1,4 +1,4 @@
--- Free lists (document 01, "Free lists"): the freed blocks of a class, each of which names the next in its first 8 bytes.
+-- Free lists (FORMAT, Free lists): the freed blocks of a class, each of which names the next in its first 8 bytes.
 use Prim.Native.Nat.{ℕ, zero, suc, _+_, _-_, _/_, _%_, _≤_, _<_, min}
 use mathlib.Core.Bool.{Bool, true, cond, not, _&&_, _||_}
 use mathlib.Core.List.{List, [], _∷_}

@@ -1,4 +1,4 @@
--- The head word of a key (document 01, "Head word"): 64 bits, of which the top two, the mode, choose what the others are.
+-- The head word of a key (FORMAT, Head word): 64 bits, of which the top two, the mode, choose what the others are.
 use Prim.Native.Nat.{ℕ, _+_, _*_, _/_, _%_, _^_, _<_}
 use mathlib.Core.Bool.{cond, not, _||_}
 use mathlib.Core.List.{List}

@@ -1,4 +1,4 @@
--- Sizes of blocks by class (document 01, "Class" and "Page").
+-- Sizes of blocks by class (FORMAT, Classes).
 use Prim.Native.Nat.{ℕ, _*_, _^_}
 use mathlib.Core.Bool.{cond}
 use lib.Dec.{ltb}

@@ -1,4 +1,4 @@
--- Number 19 of document 01, a page stream that passes its capacity, is retired: no page has one. The stream handed to the reader is just
+-- Number 19 (FORMAT, Refusals), a page stream past its capacity, is retired: no page has one. The stream handed to the reader is just
 -- as long as the capacity, so that a number that would end beyond it is cut short (17) or overflows (18) first. Assumes nothing.
 use Prim.Native.Nat.{ℕ, zero, suc, _+_, _-_, _^_, _≤_, _<_}
 use mathlib.Core.Bool.{Bool, true, false, cond, not, _&&_, _||_}
@@ -44,7 +44,7 @@ unfolding andThen
 idle-test cap number (accepted s) h = refuse-no (ltb cap (s .taken)) _ _ (le-ltb cap (s .taken) (h s refl))
 idle-test cap number (refused other) h = refl
 
--- so the scan of a page with document 01's test for 19 behind it is, on every page, the scan without that test
+-- so the scan of a page with a test for 19 behind it is, on every page, the scan without that test
 pub retired-19 : (page : List ℕ)
     → andThen (streamPlace page)
     (λ p. andThen (scan (p .count) (drop (p .off) page)) (λ s. refuseIf (ltb (pageSize - p .off) (s .taken)) 19 (accepted s)))

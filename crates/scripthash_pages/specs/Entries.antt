@@ -1,4 +1,4 @@
--- The stream of a page (document 01, "Page"): read, with the link's next offset, appended to, and written.
+-- The stream of a page (FORMAT, One page by itself): read, with the link's next offset, appended to, and written.
 use Prim.Native.Nat.{ℕ, _+_, _-_, _^_}
 use mathlib.Core.Bool.{Bool, true, false, cond}
 use mathlib.Core.List.{List}

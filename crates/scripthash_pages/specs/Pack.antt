@@ -1,4 +1,4 @@
--- Packing a whole page (document 01, "Page"): its header, the stream of an offered list, and 0 behind it; or a refusal.
+-- Packing a whole page (FORMAT, One page by itself): its header, the stream of an offered list, and 0 behind it; or a refusal.
 use Prim.Native.Nat.{ℕ, _-_}
 use mathlib.Core.Bool.{cond}
 use mathlib.Core.List.{List}

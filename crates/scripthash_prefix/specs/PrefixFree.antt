@@ -8,7 +8,7 @@ use lib.ListN.{length}
 use Rattle.error.specs.Refusal.{accepted}
 use Rattle.scripthash_stream.specs.Stream.{Rising, stream, scan}
 
--- A list of document 01: its numbers have 64 bits, the first is above 0, and they rise strictly.
+-- A list, as FORMAT has it: its numbers have 64 bits, the first is above 0, and they rise strictly.
 abbrev pub IsList : List ℕ → Type 0
 IsList ns = Rising (2 ^ 64) 0 ns
 

@@ -1,4 +1,4 @@
--- What the answers of the code about slabs and classes mean: 01's number and values for each of their cases.
+-- What the answers of the code about slabs and classes mean: a refusal's number (FORMAT, Refusals) or values for each of their cases.
 use Prim.Native.Nat.{ℕ}
 use mathlib.Core.Option.{Option, none, some}
 use Rattle.error.specs.Refusal.{Answer, accepted, refused}

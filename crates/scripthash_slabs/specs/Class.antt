@@ -1,4 +1,4 @@
--- The class of a slab, chosen for a count of numbers or for a length in bytes (document 01, "Class").
+-- The class of a slab, chosen for a count of numbers or for a length in bytes (FORMAT, Classes).
 use Prim.Native.Nat.{ℕ, zero, suc, _+_}
 use mathlib.Core.Bool.{Bool, cond, _&&_}
 use mathlib.Core.Option.{Option, none, some}

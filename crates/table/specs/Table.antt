@@ -1,4 +1,4 @@
--- The specimens of document 01, as equations about the definitions. Bytes are in decimal: 128 is 80, 167 is A7, 185 is B9, 255 is FF.
+-- The specimens (FORMAT, Worked examples), as equations about definitions. Bytes in decimal: 128 is 80, 167 is A7, 185 is B9, 255 is FF.
 use Prim.Native.Nat.{ℕ, zero, suc, _+_, _-_}
 use mathlib.Core.List.{List, [], _∷_, _++_}
 use mathlib.Core.Path.{_≡_}

@@ -1,4 +1,4 @@
-//! Histories by hand: document 01's run case, pages, what is turned back, and damage.
+//! Histories by hand: the run case of docs/FORMAT.md, pages, what is turned back, and damage.
 use crate::lent::Placing;
 use crate::lockstep::pair::{Call, Pair};
 use crate::lockstep::record::Record;

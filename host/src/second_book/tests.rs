@@ -1,4 +1,4 @@
-//! Document 01's run case on the second book, and what it says of loads, chains and refusals.
+//! The run case of docs/FORMAT.md on the second book, and what that says of loads, chains and refusals.
 use super::*;
 use crate::lent::{Area, Placing, READ_WRITE};
 use crate::second_book::space::SLABS_END;
