@@ -124,8 +124,8 @@ pub fn sum_of_bytes(buf: &[u8], n: usize) -> u64
     sum
 }
 
-// Whether forms of one byte and of two are mixed in 16 bytes, of which so many end forms: read one by one, their lengths are often guessed
-// wrong.
+// Whether forms of one byte and of two are mixed in 16 bytes, of which so many end forms: read one by one, their lengths are often
+// mispredicted.
 fn mixed(ends: usize) -> bool {
     if ends <= 8 {
         return false;
