@@ -1,14 +1,8 @@
 """The plain book of docs/FORMAT.md in Python, for what programs have to write: apart from the code that is tested."""
-START, PAGE = 4096, 4096
+from sizes import LAST_ROOM, PAGE, PAGE_ROOM, Refused, by_bytes, form_len, gap_blocks, page_ranges, slab_bytes, slab_slots, with_slack
+
+START = 4096
 SLABS_END, MOST_BODY, MOST_COUNTED = 2**40, 2**41, 2**32 - 1
-
-
-class Refused(Exception):
-    pass
-
-
-def form_len(n):
-    return 1 if n < 128 else 1 + form_len(n // 128)
 
 
 def form_lens(ns):
@@ -25,19 +19,6 @@ def padding(ns, stored):
     return {n: length - least for n, length, least in zip(ns, stored, form_lens(ns)) if length > least}
 
 
-def class_for(n, size, least, most):
-    return next(c for c in range(8) if n <= size * 2**c) if least <= n <= most else None
-
-
-def by_bytes(n):
-    return class_for(n, 16, 1, 2048)
-
-
-def with_slack(n):
-    spare = class_for(n + 1, 4, 2, 256)
-    return spare if spare is not None else class_for(n, 4, 2, 256)
-
-
 def moves_to(ns):
     """The class of the slab that a list moves to, none where it goes to a page."""
     slack, tight = with_slack(len(ns)), by_bytes(2 + stream_len(ns))
@@ -51,29 +32,9 @@ def loads_to(ns, tight):
     return by_bytes(2 + stream_len(ns)) if len(ns) <= 256 else None
 
 
-def cut(ns, room):
-    parts = []
-    for n in ns:
-        if parts and stream_len(parts[-1] + [n]) <= room:
-            parts[-1].append(n)
-        else:
-            parts.append([n])
-    return parts
-
-
 def cutting(ns):
-    """Greedy for pages; the last part is cut again for a last page."""
-    parts, start = [], 0
-    while start < len(ns):
-        used, end = 0, start
-        while end < len(ns):
-            more = form_len(ns[end] - (ns[end - 1] if end > start else 0))
-            if used + more > PAGE - 8:
-                break
-            used, end = used + more, end + 1
-        parts.append(ns[start:end])
-        start = end
-    return parts[:-1] + cut(parts[-1], PAGE - 24)
+    """The parts of a list for a run of pages."""
+    return [ns[start:end] for start, end in page_ranges(ns)]
 
 
 def total_told(length):
@@ -83,7 +44,7 @@ def total_told(length):
 
 def past_slabs(c, off):
     """Whether a block is a slab that ends past the end of slabs."""
-    return c < 8 and off + 16 * 2**c > SLABS_END
+    return c < 8 and off + slab_bytes(c) > SLABS_END
 
 
 class Book:
@@ -95,12 +56,8 @@ class Book:
 
     def rounded(self):
         """Where a page begins at the mark, and the blocks of the gap before it: none past the end of slabs."""
-        end, off, gap = -(-self.mark // PAGE) * PAGE, self.mark, []
-        while off < end <= SLABS_END:
-            c = max(c for c in range(8) if 16 * 2**c <= end - off)
-            gap.append((c, off))
-            off += 16 * 2**c
-        return end, gap
+        end = -(-self.mark // PAGE) * PAGE
+        return end, gap_blocks(self.mark, end) if end <= SLABS_END else []
 
     def run(self, pages):
         off, gap = self.rounded()
@@ -118,10 +75,10 @@ class Book:
             return self.stacks[c].pop()
         if c == 8:
             return self.run(1)
-        if past_slabs(c, self.mark) or self.mark + 16 * 2**c > self.size:
+        if past_slabs(c, self.mark) or self.mark + slab_bytes(c) > self.size:
             raise Refused(36)
-        self.mark += 16 * 2**c
-        return self.mark - 16 * 2**c
+        self.mark += slab_bytes(c)
+        return self.mark - slab_bytes(c)
 
     def judge(self, ns, prev):
         for i, n in enumerate(ns):
@@ -159,12 +116,12 @@ class Book:
             if self.stored_len(key, pages[-1][2] + [n]) <= pages[-1][1]:
                 pages[-1][2] = pages[-1][2] + [n]
             else:
-                pages.append([self.take(8), PAGE - 24, [n]])
+                pages.append([self.take(8), LAST_ROOM, [n]])
             place = ("pages", pages)
-        elif place[0] == "inline" or not (len(new) <= min(256, 4 * 2 ** place[1]) and 2 + self.stored_len(key, new) <= 16 * 2 ** place[1]):
+        elif place[0] == "inline" or not (len(new) <= min(256, slab_slots(place[1])) and 2 + self.stored_len(key, new) <= slab_bytes(place[1])):
             to, rewritten = moves_to(new), len(old)
             if to is None:
-                moved = ("pages", [[self.take(8), PAGE - 24, new]])
+                moved = ("pages", [[self.take(8), LAST_ROOM, new]])
             else:
                 moved = ("slab", to, self.take(to))
             self.free(place)
@@ -187,7 +144,7 @@ class Book:
             else:
                 parts = cutting(ns)
                 pages, off = len(parts), self.run(len(parts))
-                place = ("pages", [[off + i * PAGE, PAGE - (24 if i == pages - 1 else 8), p] for i, p in enumerate(parts)])
+                place = ("pages", [[off + i * PAGE, LAST_ROOM if i == pages - 1 else PAGE_ROOM, p] for i, p in enumerate(parts)])
         self.lists[key], self.places[key] = list(ns), place
         return pages
 

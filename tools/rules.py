@@ -3,11 +3,10 @@
 A call takes the numbers given, a buffer and a list, which it changes, and gives the numbers that it tells; where it is refused it raises
 Refused and has changed nothing.
 """
-TOP, MOST, PAGE = 2**63, 2**64 - 1, 4096
+import sizes
+from sizes import PAGE, Refused, gap_blocks, slab_bytes
 
-
-class Refused(Exception):
-    """A refusal, by its number."""
+TOP, MOST = 2**63, 2**64 - 1
 
 
 def check(bad, number):
@@ -110,33 +109,28 @@ def decode_slab(given, bs, lent):
 
 # ---- classes: whether there is one, and which, 0 where there is none
 
-def smallest(n, sizes):
-    return next(([1, c] for c, size in enumerate(sizes) if n <= size), [0, 0])
-
-
-def class_of_count(n):
-    return smallest(n, [4 << c for c in range(8)]) if 2 <= n <= 256 else [0, 0]
+def told(c):
+    return [0, 0] if c is None else [1, c]
 
 
 def by_bytes(given, bs, ns):
-    return [0, 0] if given[0] == 0 else smallest(given[0], [16 << c for c in range(8)])
+    return told(sizes.by_bytes(given[0]))
 
 
 def by_count(given, bs, ns):
-    return class_of_count(given[0])
+    return told(sizes.by_count(given[0]))
 
 
 def with_slack(given, bs, ns):
-    spare = class_of_count(given[0] + 1)
-    return spare if spare[0] else class_of_count(given[0])
+    return told(sizes.with_slack(given[0]))
 
 
 def slots(given, bs, ns):
-    return [4 << given[0] if 4 << given[0] < 2**32 else 0]
+    return [sizes.slab_slots(given[0]) if sizes.slab_slots(given[0]) < 2**32 else 0]
 
 
 def size(given, bs, ns):
-    return [16 << given[0] if 16 << given[0] < 2**64 else 0]
+    return [slab_bytes(given[0]) if slab_bytes(given[0]) < 2**64 else 0]
 
 
 # ---- head words: a head value is kind, class, used and place
@@ -180,26 +174,6 @@ def payload_start(given, bs, ns):
 
 # ---- cutting: the ranges of the parts stand over the first numbers of the list, as far as it reaches
 
-def greedy(ns, start, room):
-    """The ranges of the greedy cutting, the first of which starts at an index of a longer list."""
-    ranges, begin, used = [], 0, 0
-    for i, n in enumerate(ns):
-        more = len(form(max(n - ns[i - 1], 0))) if i > begin else len(form(n))
-        if i > begin and used + more > room:
-            ranges.append((start + begin, start + i))
-            begin, used, more = i, 0, len(form(n))
-        used += more
-    return ranges + [(start + begin, start + len(ns))] if len(ns) else ranges
-
-
-def split(ns, ranges):
-    """Some ranges with the last cut again, unless it is empty or leaves the list."""
-    if not ranges or not ranges[-1][0] < ranges[-1][1] <= len(ns):
-        return ranges
-    start, end = ranges[-1]
-    return ranges[:-1] + greedy(ns[start:end], start, 4072)
-
-
 def told_ranges(ranges, first, room, ns):
     """Tells how many ranges there are and where the last ends, and puts those from one on over the list."""
     check(len(ranges) > room, 34)
@@ -209,22 +183,16 @@ def told_ranges(ranges, first, room, ns):
 
 
 def cut(given, bs, ns):
-    return told_ranges(split(ns, greedy(ns, 0, 4088)), 0, given[0], ns)
+    return told_ranges(sizes.page_ranges(ns), 0, given[0], ns)
 
 
 def split_last(given, bs, ns):
     room, count, start, end = given
     check(count > room, 34)
-    return told_ranges(split(ns, [(start, end)] * count), max(count - 1, 0), room, ns)
+    return told_ranges(sizes.recut_last(ns, [(start, end)] * count), max(count - 1, 0), room, ns)
 
 
 # ---- free lists: a buffer is a body from 4,096 on, the list its nine free heads
-
-def gap_blocks(off, end):
-    """The blocks that a gap is carved into, each its class and its offset."""
-    fitting = [c for c in range(8) if 16 << c <= end - off]
-    return [(fitting[-1], off)] + gap_blocks(off + (16 << fitting[-1]), end) if fitting else []
-
 
 def carve(given, body, heads):
     for c, off in gap_blocks(*given):
@@ -237,7 +205,7 @@ def pop(given, body, heads):
     c, mark = given
     if c > 8 or heads[c] == 0:
         return [0]
-    off, (length, unit) = heads[c], (PAGE, PAGE) if c == 8 else (16 << c, 16)
+    off, (length, unit) = heads[c], (PAGE, PAGE) if c == 8 else (slab_bytes(c), 16)
     check(off % unit or off < 4096 or off + length > min(mark, 4096 + len(body)), 35)
     heads[c] = at(body, off - 4096, 8)
     return [off]

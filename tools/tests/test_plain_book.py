@@ -7,7 +7,8 @@ from copy import deepcopy
 from paths import ROOT
 import book_run
 import book_shell
-from plain_book import MOST_BODY, SLABS_END, Book, Refused, by_bytes, cutting, form_len, loads_to, padding, stream_len, total_told, with_slack
+from plain_book import MOST_BODY, SLABS_END, Book, cutting, loads_to, padding, stream_len, total_told
+from sizes import Refused, by_bytes, form_len, with_slack
 
 
 def ones(count, first=1):
