@@ -56,7 +56,7 @@ leftBy s claims = (s .mark - (4096 + bytesTaken claims)) / 16
 
 -- ---- free lists
 
--- The free lists of classes from one on, with these heads, end, and hold only blocks that stand.
+-- Some free lists, by their heads, the first of the given class, end, and hold only blocks that stand.
 abbrev pub ListsEnd : Space → ℕ → List ℕ → Type 0
 ListsEnd s class hs = (i : ℕ) → i < length hs → Ending s (class + i) (getD hs i 0) (followedFrom s (getD hs i 0))
 

@@ -56,7 +56,7 @@ claimed-left units mark lent before want tells work lost taken c e left =
 
 -- ---- free lists
 
--- The free lists of the classes from one on, judged behind what the work list shows, give what is wanted; so many units are left.
+-- Judging the free lists from a class on, after the claims that the work list shows, gives what is wanted; so many units are left.
 pub record ListsGo (units : ℕ) (lent : List ℕ) (want : Verdict) (s : Space) (class : ℕ) (work : List ℕ) (lost : ℕ) : Type 0 where
   pub claims : List Block
   pub shows : Marked units (s .mark) lent claims work
@@ -131,7 +131,7 @@ module _ (units : ℕ) (lent : List ℕ) (want : Verdict) (s : Space) (class : �
 
 -- ---- keys
 
--- The keys from one on, judged behind what the work list shows, give what is wanted; so many units are left.
+-- Judging the keys from a key on, after the claims that the work list shows, gives what is wanted; so many units are left.
 pub record KeysGo (units : ℕ) (lent : List ℕ) (want : Verdict) (s : Space) (heads : List ℕ) (key : ℕ) (work : List ℕ)
     (lost : ℕ) : Type 0 where
   pub claims : List Block

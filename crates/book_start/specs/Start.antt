@@ -71,7 +71,7 @@ freedOf s class = followedFrom s (getD (s .free) class 0)
 abbrev pub listOf : Book → ℕ → List Block
 listOf b class = blocksAt class (freedOf (b .space) class)
 
--- The freed blocks of the classes from one on that have these free heads.
+-- The freed blocks of some free lists, by their free heads: the first is of the given class, each further one of the next class.
 unfoldable pub freedBy : Space → ℕ → List ℕ → List Block
 freedBy s class [] = []
 freedBy s class (h ∷ hs) = blocksAt class (followedFrom s h) ++ freedBy s (class + 1) hs
@@ -155,14 +155,14 @@ onward (claimed bs) ifUnfit ifShared after = after bs
 onward unfit ifUnfit ifShared after = ifUnfit
 onward shared ifUnfit ifShared after = ifShared
 
--- The verdict on the free lists of the classes from one on that have these free heads, behind blocks claimed before. Where nothing is
+-- The verdict on some free lists, by their free heads, the first of the given class, after blocks that are claimed already. If nothing is
 -- left to claim, what lies between 4,096 and the mark, less what the claimed blocks take, belongs to nobody.
 unfoldable pub judgeLists : Space → ℕ → List ℕ → List Block → Verdict
 judgeLists s class [] before = good ((s .mark - (4096 + bytesTaken before)) / 16)
 judgeLists s class (h ∷ hs) before =
     onward (claimFreed (s .mark / 16) s class before h) (freeStrays class) (freeShares class) (λ bs. judgeLists s (class + 1) hs bs)
 
--- The verdict on the keys from one on that have these head words, behind blocks claimed before, and then on all free lists.
+-- The verdict on some keys, by their head words, after blocks that are claimed already, and then on all free lists.
 unfoldable pub judgeKeys : Space → ℕ → List ℕ → List Block → Verdict
 judgeKeys s key [] before = judgeLists s 0 (s .free) before
 judgeKeys s key (w ∷ ws) before =

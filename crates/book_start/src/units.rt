@@ -26,7 +26,7 @@ pub fn block_units(class: u8) -> u64
     slab_bytes(class) / 16
 }
 
-// Tells whether so many bytes from one on are 0.
+// Tells whether `count` bytes are 0, from index `from` on.
 fn bytes_free(work: &[u8], from: usize, count: usize) -> bool
     requires { ⌜ from + count ≤ length (now work) ⌝ }
     ensures { λ r. ⌜ r ≡ allFree (part (now (work .entry)) from count) ⌝ }
@@ -42,7 +42,7 @@ fn bytes_free(work: &[u8], from: usize, count: usize) -> bool
     true
 }
 
-// Gives so many bytes from one on a value.
+// Gives `count` bytes a value, from index `from` on.
 pub fn fill_bytes(work: &mut [u8], from: usize, count: usize, value: u8)
     requires { ⌜ from + count ≤ length (now work) ⌝ }
     ensures { λ _. ⌜ now (work .exit) ≡ overwrite (now (work .entry)) from (replicate count value) ⌝ }
@@ -66,7 +66,7 @@ fn with_bit(w: u8, bit: usize) -> u8
     w + (1 << bit)
 }
 
-// Tells whether so many units from one on are free.
+// Tells whether `count` units are free, from index `from` on.
 fn units_free(work: &[u8], from: usize, count: usize) -> bool
     requires { ⌜ UnitsIn from count (now work) ⌝ }
     ensures { λ r. ⌜ r ≡ allFree (part (unitsOf (now (work .entry))) from count) ⌝ }
@@ -82,7 +82,7 @@ fn units_free(work: &[u8], from: usize, count: usize) -> bool
     true
 }
 
-// Marks so many units from one on.
+// Marks `count` units, from index `from` on.
 fn mark_units(work: &mut [u8], from: usize, count: usize)
     requires { ⌜ UnitsIn from count (now work) ⌝ }
     ensures { λ _. ⌜ unitsOf (now (work .exit)) ≡ overwrite (unitsOf (now (work .entry))) from (replicate count 1) ⌝ }

@@ -26,7 +26,7 @@ enum PutWord {
     Stopped(Numbers),
 }
 
-// The first index from one on where a word begins, or the line's end.
+// The first index, from the given one on, where a word begins, or the line's end.
 pub fn skip_spaces(line: &[u8], from: usize) -> usize
     requires { ⌜ from ≤ length (now line) ⌝ }
     ensures { λ r. ⌜ Skips (now (line .entry)) from r ⌝ }

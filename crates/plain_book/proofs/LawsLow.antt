@@ -227,7 +227,7 @@ never-35 b (ask q ∷ cs) g l = (enquiry-by lowRefusals (λ m e. e) b q, never-3
 never-35 b (change c ∷ cs) g l =
     (told-by lowRefusals (λ m e. e) (does b c) (change-low b c l), never-35 (bookAfter b (does b c)) cs (call-good c g) (low-kept b c g l))
 
--- A top that is past the end of slabs among stacks of the classes from one on, if there is one.
+-- Among some stacks, the first of which is of class k, one whose top is past the end of slabs.
 record Found (st : List (List ℕ)) (k : ℕ) : Type 0 where
   class : ℕ
   off : ℕ

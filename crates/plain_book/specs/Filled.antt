@@ -27,7 +27,7 @@ unfoldable pub bytesOnStack : ℕ → List ℕ → ℕ
 bytesOnStack class [] = 0
 bytesOnStack class (o ∷ os) = slabBytes class + bytesOnStack class os
 
--- The bytes that stacks hold, of the classes from one on.
+-- The bytes that some stacks hold: the first is of the given class, each further one of the next class.
 unfoldable pub bytesFreed : ℕ → List (List ℕ) → ℕ
 bytesFreed class [] = 0
 bytesFreed class (os ∷ st) = bytesOnStack class os + bytesFreed (class + 1) st
