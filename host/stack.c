@@ -18,7 +18,8 @@ static const uint8_t PAINT = 0xa5;
 
 /* What the cases work on. A case's list has `count` numbers and one more, which an append offers. */
 static uint8_t body[BODY], work[BODY / OURISCADO_WORK_UNIT], bytes[10 * MOST], *page;
-static uint64_t heads[KEYS], state[OURISCADO_STATE_WORDS], list[MOST + 1], out[MOST + 1], words[9];
+static uint64_t heads[KEYS], list[MOST + 1], out[MOST + 1], words[9];
+static struct ouriscado_state state;
 static size_t count, byte_count, ranges[256][2];
 static uint32_t result;
 static uint8_t *before; /* the stack pointer where a case makes its call */
@@ -32,17 +33,17 @@ static uint32_t n;
 static bool flag;
 
 #define CALL(call) do { __asm__ volatile("mov %%rsp, %0" : "=r"(before)); result = (uint32_t)(call); } while (0)
-#define BOOK body, BODY, heads, KEYS, state
+#define BOOK body, BODY, heads, KEYS, &state
 #define PAGE page, OURISCADO_PAGE_BYTES
 
-static void fresh(void) { CALL(ouriscado_book_fresh(BOOK)); }
-static void load(void) { CALL(ouriscado_book_load(BOOK, 1, list, count, &a)); }
-static void load_tight(void) { CALL(ouriscado_book_load_tight(BOOK, 1, list, count, &a)); }
-static void append(void) { CALL(ouriscado_book_append(BOOK, 0, list[count], &kind, &class_, &used, &place, &a)); }
-static void read_all(void) { CALL(ouriscado_book_read(BOOK, 0, out, MOST + 1, &a, &b, &c)); }
-static void read_short(void) { CALL(ouriscado_book_read(BOOK, 0, out, count - 1, &a, &b, &c)); }
-static void drop(void) { CALL(ouriscado_book_drop(BOOK, 0, &a)); }
-static void check(void) { CALL(ouriscado_book_check(BOOK, work, sizeof work, &n, &a, &b)); }
+static void fresh(void) { CALL(ouriscado_fresh(BOOK)); }
+static void load(void) { CALL(ouriscado_load(BOOK, 1, list, count, &a)); }
+static void load_tight(void) { CALL(ouriscado_load_tight(BOOK, 1, list, count, &a)); }
+static void append(void) { CALL(ouriscado_append(BOOK, 0, list[count], &kind, &class_, &used, &place, &a)); }
+static void read_all(void) { CALL(ouriscado_read(BOOK, 0, out, MOST + 1, &a, &b, &c)); }
+static void read_short(void) { CALL(ouriscado_read(BOOK, 0, out, count - 1, &a, &b, &c)); }
+static void drop(void) { CALL(ouriscado_drop(BOOK, 0, &a)); }
+static void check(void) { CALL(ouriscado_check(BOOK, work, sizeof work, &n, &a, &b)); }
 static void uleb(void) { CALL(ouriscado_read_uleb128(bytes, byte_count, &a, &s, &flag)); }
 static void put_uleb(void) { CALL(ouriscado_write_uleb128_into(bytes, sizeof bytes, list[0], &s)); }
 static void encode(void) { CALL(ouriscado_encode_fk_delta_stream_into(bytes, sizeof bytes, list, count, &s)); }
@@ -66,12 +67,12 @@ static void pop(void) { CALL(ouriscado_pop_free_head(body, BODY, words, 2, BODY,
 /* What a case needs before its call: a fresh book with the list in account 0, or bytes. The list is put there number by number where it
    is short, so that a slab is one that appends have left. */
 static void nothing(void) { }
-static void loaded(void) { ouriscado_book_load(BOOK, 0, list, count, &a); }
-static void loaded_tight(void) { ouriscado_book_load_tight(BOOK, 0, list, count, &a); }
+static void loaded(void) { ouriscado_load(BOOK, 0, list, count, &a); }
+static void loaded_tight(void) { ouriscado_load_tight(BOOK, 0, list, count, &a); }
 static void appended(void)
 {
     for (size_t i = 0; i < count; i++)
-        ouriscado_book_append(BOOK, 0, list[i], &kind, &class_, &used, &place, &a);
+        ouriscado_append(BOOK, 0, list[i], &kind, &class_, &used, &place, &a);
 }
 static void stream(void) { ouriscado_encode_fk_delta_stream_into(bytes, sizeof bytes, list, count, &byte_count); }
 static void payload(void) { ouriscado_encode_slab_payload_into(bytes, sizeof bytes, list, count, &byte_count); }
@@ -100,7 +101,7 @@ static void padded_slab(void)
     body[4096] = (uint8_t)count;
     memcpy(body + 4098, bytes, byte_count);
     heads[0] = UINT64_C(1) << 62 | UINT64_C(7) << 56 | (uint64_t)count << 40 | 4096;
-    state[0] = 4096 + 2048;
+    state.mark = 4096 + 2048;
 }
 
 struct test {
@@ -206,7 +207,7 @@ static void prepare(const struct test *test, enum numbers how)
     memset(words, 0, sizeof words);
     page = body + 8192;
     count = test->count;
-    ouriscado_book_fresh(BOOK);
+    ouriscado_fresh(BOOK);
     test->prepare();
 }
 

@@ -14,9 +14,9 @@
                 OURISCADO_LEAST_BODY_BYTES and at most OURISCADO_MOST_BODY_BYTES
        heads    one 64-bit word for each account, 1 to OURISCADO_MOST_HEADS words: where its list stands.
                 An account is named by its key, which is the index of its word, from 0
-       state    OURISCADO_STATE_WORDS words of 64 bits: first the mark, which is the offset up to which the
-                body was ever used, then the free heads: for each of nine sizes of block the offset of the
-                block that was freed last, or 0
+       state    OURISCADO_STATE_WORDS words of 64 bits, struct ouriscado_state: first the mark, which is the
+                offset up to which the body was ever used, then the free heads: for each of nine sizes of
+                block the offset of the block that was freed last, or 0
 
    The three belong together. Keep, copy, store and restore them together, as of one moment: a body with the
    heads of another day is a damaged book. They hold no pointers, so a copy elsewhere, or a file, is the same
@@ -42,6 +42,10 @@
        ouriscado_book_drop          takes an account's list out of the book
        ouriscado_book_check         tells whether a body, heads and state from elsewhere are a good book to go
                                     on with
+
+   They take the state as a pointer to its mark and one to its free heads; a read takes the mark alone. Beside
+   each stands an inline function that takes one pointer to a struct ouriscado_state, and hands its parts on:
+   ouriscado_append for ouriscado_book_append, and so for all seven. A program in C calls these.
 
    A whole program is in examples/c/shop.c of the repository, and installed beside NOTICE.
 
@@ -72,8 +76,8 @@
    Only a result of 0 together with a length of 0 says that nothing is recorded.
 
        uint64_t list[64], length, pages, padded;
-       uint32_t refusal = ouriscado_book_read(body, body_len, heads, heads_len, state, key,
-                                              list, 64, &length, &pages, &padded);
+       uint32_t refusal = ouriscado_read(body, body_len, heads, heads_len, &state, key,
+                                         list, 64, &length, &pages, &padded);
        if (refusal == OURISCADO_ACCEPTED) use(list, length);         length 0: nothing is recorded
        else if (refusal == OURISCADO_LIST_TOO_SHORT) ask_again();    with more room; this is no empty account
        else tell_the_operator(refusal);                              nor is this
@@ -129,6 +133,7 @@ static inline const char *ouriscado_version(void)
 
 /* Sizes and limits. */
 #define OURISCADO_STATE_WORDS                  10 /* words of a state: the mark, then nine free heads */
+#define OURISCADO_FREE_HEADS                    9 /* free heads of a state, one for each class from 0 to 8 */
 #define OURISCADO_PAGE_BYTES                 4096 /* bytes of a page, and the unit of a body's length */
 #define OURISCADO_LEAST_BODY_BYTES           8192 /* the least bytes of a body */
 #define OURISCADO_MOST_BODY_BYTES   2199023255552 /* the most bytes of a body */
@@ -143,6 +148,12 @@ static inline const char *ouriscado_version(void)
 #define OURISCADO_PAGE_CLASS                    8 /* the class of a page; slabs have the classes 0 to 7 */
 #define OURISCADO_WORK_UNIT                   128 /* bytes of a body for each byte of the work list that a
                                                      check is lent */
+
+/* A book's state: the mark, and the free heads. Its bytes are those of OURISCADO_STATE_WORDS words. */
+struct ouriscado_state {
+    uint64_t mark;
+    uint64_t free[OURISCADO_FREE_HEADS];
+};
 
 /* Where a list stands: the kinds of place that an append tells. A list is inline with one number, then in a
    slab, which is a block of 16 to 2,048 bytes for up to OURISCADO_MOST_IN_SLAB numbers, then in pages, which
@@ -272,19 +283,24 @@ static inline const char *ouriscado_refusal_text(uint32_t refusal)
     }
 }
 
-/* Makes a fresh book, in which every key is empty: all heads become 0, and state that of a book from which
-   nothing was taken; the body isn't written. A book is these three: a body, whose length is a multiple of
-   4,096 bytes from 8,192 to 2^41; heads, a word for each key, 1 to 65,536 of them; and state, ten words,
-   which are the mark up to which the body was ever used and the first freed block of each of nine sizes. What
-   they held before doesn't matter. Refuses 1.
+/* Makes a fresh book, in which every key is empty: all heads become 0, and mark and free those of a book from
+   which nothing was taken; the body isn't written. A book is these: a body, whose length is a multiple of
+   4,096 bytes from 8,192 to 2^41; heads, a word for each key, 1 to 65,536 of them; and its state, the mark up
+   to which the body was ever used and free, the first freed block of each of nine sizes. What they held
+   before doesn't matter. Refuses 1.
 
    The body may hold anything, since nothing is read of it before it is written: there is no need to clear it.
    Making a book fresh in place of one that is in use forgets all its records.
 
    Refusals: OURISCADO_SHAPE_BAD (1). */
 uint32_t ouriscado_book_fresh(
-    const uint8_t *body, size_t body_len, uint64_t *heads, size_t heads_len,
-    uint64_t state[OURISCADO_STATE_WORDS]);
+    const uint8_t *body, size_t body_len, uint64_t *heads, size_t heads_len, uint64_t *mark,
+    uint64_t free[OURISCADO_FREE_HEADS]);
+static inline uint32_t ouriscado_fresh(
+    const uint8_t *body, size_t body_len, uint64_t *heads, size_t heads_len, struct ouriscado_state *state)
+{
+    return ouriscado_book_fresh(body, body_len, heads, heads_len, &state->mark, state->free);
+}
 
 /* Loads a list of record numbers onto an empty key; keys count from 0. The numbers rise strictly, from 1 to
    2^62 - 1, and there are 65,535 at most; with none, nothing changes. A list of 2 to 255 that goes to a slab
@@ -301,8 +317,15 @@ uint32_t ouriscado_book_fresh(
    OURISCADO_OFFERED_TOO_LARGE (14), OURISCADO_OFFERED_NOT_RISING (32), OURISCADO_FREE_HEAD_BAD (35),
    OURISCADO_NO_ROOM (36). */
 uint32_t ouriscado_book_load(
-    uint8_t *body, size_t body_len, uint64_t *heads, size_t heads_len, uint64_t state[OURISCADO_STATE_WORDS],
-    uint64_t key, const uint64_t *fks, size_t fks_len, uint64_t *pages);
+    uint8_t *body, size_t body_len, uint64_t *heads, size_t heads_len, uint64_t *mark,
+    uint64_t free[OURISCADO_FREE_HEADS], uint64_t key, const uint64_t *fks, size_t fks_len, uint64_t *pages);
+static inline uint32_t ouriscado_load(
+    uint8_t *body, size_t body_len, uint64_t *heads, size_t heads_len, struct ouriscado_state *state,
+    uint64_t key, const uint64_t *fks, size_t fks_len, uint64_t *pages)
+{
+    return ouriscado_book_load(
+        body, body_len, heads, heads_len, &state->mark, state->free, key, fks, fks_len, pages);
+}
 
 /* Loads a list of record numbers onto an empty key as ouriscado_book_load does, but tight: into the smallest
    slab that holds its bytes, for lists that nothing is appended to. Hands out pages as that does. Refuses 1
@@ -317,8 +340,15 @@ uint32_t ouriscado_book_load(
    OURISCADO_OFFERED_TOO_LARGE (14), OURISCADO_OFFERED_NOT_RISING (32), OURISCADO_FREE_HEAD_BAD (35),
    OURISCADO_NO_ROOM (36). */
 uint32_t ouriscado_book_load_tight(
-    uint8_t *body, size_t body_len, uint64_t *heads, size_t heads_len, uint64_t state[OURISCADO_STATE_WORDS],
-    uint64_t key, const uint64_t *fks, size_t fks_len, uint64_t *pages);
+    uint8_t *body, size_t body_len, uint64_t *heads, size_t heads_len, uint64_t *mark,
+    uint64_t free[OURISCADO_FREE_HEADS], uint64_t key, const uint64_t *fks, size_t fks_len, uint64_t *pages);
+static inline uint32_t ouriscado_load_tight(
+    uint8_t *body, size_t body_len, uint64_t *heads, size_t heads_len, struct ouriscado_state *state,
+    uint64_t key, const uint64_t *fks, size_t fks_len, uint64_t *pages)
+{
+    return ouriscado_book_load_tight(
+        body, body_len, heads, heads_len, &state->mark, state->free, key, fks, fks_len, pages);
+}
 
 /* Appends a record number to the list of a key: a number from 1 to 2^62 - 1, above the last of the list.
    Hands out where the list now stands: kind is 1 where its only number stands in the head word, 2 for a slab,
@@ -339,8 +369,8 @@ uint32_t ouriscado_book_load_tight(
            uint8_t kind, class_;
            uint16_t used;
            uint64_t place, rewritten;
-           return ouriscado_book_append(b->body, b->body_len, b->heads, b->heads_len, b->state, to.key,
-                                        of.number, &kind, &class_, &used, &place, &rewritten);
+           return ouriscado_append(b->body, b->body_len, b->heads, b->heads_len, &b->state, to.key,
+                                   of.number, &kind, &class_, &used, &place, &rewritten);
        }
 
    A number that isn't above the last is refused, so that no deposit stands in a list twice. When an append is
@@ -352,9 +382,18 @@ uint32_t ouriscado_book_load_tight(
    OURISCADO_OFFERED_BIT_63 (13), OURISCADO_OFFERED_TOO_LARGE (14), OURISCADO_KEY_UNSOUND (31),
    OURISCADO_OFFERED_NOT_RISING (32), OURISCADO_FREE_HEAD_BAD (35), OURISCADO_NO_ROOM (36). */
 uint32_t ouriscado_book_append(
-    uint8_t *body, size_t body_len, uint64_t *heads, size_t heads_len, uint64_t state[OURISCADO_STATE_WORDS],
+    uint8_t *body, size_t body_len, uint64_t *heads, size_t heads_len, uint64_t *mark,
+    uint64_t free[OURISCADO_FREE_HEADS], uint64_t key, uint64_t fk, uint8_t *kind, uint8_t *class_,
+    uint16_t *used, uint64_t *place, uint64_t *rewritten);
+static inline uint32_t ouriscado_append(
+    uint8_t *body, size_t body_len, uint64_t *heads, size_t heads_len, struct ouriscado_state *state,
     uint64_t key, uint64_t fk, uint8_t *kind, uint8_t *class_, uint16_t *used, uint64_t *place,
-    uint64_t *rewritten);
+    uint64_t *rewritten)
+{
+    return ouriscado_book_append(
+        body, body_len, heads, heads_len, &state->mark, state->free, key, fk, kind, class_, used, place,
+        rewritten);
+}
 
 /* Reads the list of a key into the start of out; what stands behind it there stays. Hands out length, how
    many record numbers the list has, pages, how many pages of 4,096 bytes were walked, and padded, how many of
@@ -375,9 +414,16 @@ uint32_t ouriscado_book_append(
    Refusals: OURISCADO_SHAPE_BAD (1), OURISCADO_KEY_BEYOND (2), OURISCADO_KEY_UNSOUND (31),
    OURISCADO_LIST_TOO_SHORT (34). */
 uint32_t ouriscado_book_read(
+    const uint8_t *body, size_t body_len, const uint64_t *heads, size_t heads_len, uint64_t mark,
+    uint64_t key, uint64_t *out, size_t out_len, uint64_t *length, uint64_t *pages, uint64_t *padded);
+static inline uint32_t ouriscado_read(
     const uint8_t *body, size_t body_len, const uint64_t *heads, size_t heads_len,
-    const uint64_t state[OURISCADO_STATE_WORDS], uint64_t key, uint64_t *out, size_t out_len,
-    uint64_t *length, uint64_t *pages, uint64_t *padded);
+    const struct ouriscado_state *state, uint64_t key, uint64_t *out, size_t out_len, uint64_t *length,
+    uint64_t *pages, uint64_t *padded)
+{
+    return ouriscado_book_read(
+        body, body_len, heads, heads_len, state->mark, key, out, out_len, length, pages, padded);
+}
 
 /* Drops the list of a key: the key is empty then, and the book can use the list's slab or pages again. Hands
    out length, how many record numbers the list had. Refuses 1, 2, 31.
@@ -387,8 +433,14 @@ uint32_t ouriscado_book_read(
 
    Refusals: OURISCADO_SHAPE_BAD (1), OURISCADO_KEY_BEYOND (2), OURISCADO_KEY_UNSOUND (31). */
 uint32_t ouriscado_book_drop(
-    uint8_t *body, size_t body_len, uint64_t *heads, size_t heads_len, uint64_t state[OURISCADO_STATE_WORDS],
-    uint64_t key, uint64_t *length);
+    uint8_t *body, size_t body_len, uint64_t *heads, size_t heads_len, uint64_t *mark,
+    uint64_t free[OURISCADO_FREE_HEADS], uint64_t key, uint64_t *length);
+static inline uint32_t ouriscado_drop(
+    uint8_t *body, size_t body_len, uint64_t *heads, size_t heads_len, struct ouriscado_state *state,
+    uint64_t key, uint64_t *length)
+{
+    return ouriscado_book_drop(body, body_len, heads, heads_len, &state->mark, state->free, key, length);
+}
 
 /* Tells whether a body, heads and state that come from elsewhere, as from a file, are a good start, with
    which the other calls may go on as with a book that began fresh: every key is sound; for each of the nine
@@ -434,9 +486,17 @@ uint32_t ouriscado_book_drop(
 
    Refusals: OURISCADO_SHAPE_BAD (1), OURISCADO_LIST_TOO_SHORT (34). */
 uint32_t ouriscado_book_check(
-    const uint8_t *body, size_t body_len, const uint64_t *heads, size_t heads_len,
-    const uint64_t state[OURISCADO_STATE_WORDS], uint8_t *work, size_t work_len, uint32_t *ground,
+    const uint8_t *body, size_t body_len, const uint64_t *heads, size_t heads_len, uint64_t mark,
+    const uint64_t free[OURISCADO_FREE_HEADS], uint8_t *work, size_t work_len, uint32_t *ground,
     uint64_t *which, uint64_t *lost);
+static inline uint32_t ouriscado_check(
+    const uint8_t *body, size_t body_len, const uint64_t *heads, size_t heads_len,
+    const struct ouriscado_state *state, uint8_t *work, size_t work_len, uint32_t *ground, uint64_t *which,
+    uint64_t *lost)
+{
+    return ouriscado_book_check(
+        body, body_len, heads, heads_len, state->mark, state->free, work, work_len, ground, which, lost);
+}
 
 #ifdef __cplusplus
 }

@@ -20,7 +20,7 @@ static const char *const NAMES[ACCOUNTS] = { "bakery", "florist", "kiosk", "tail
 struct book {
     uint8_t body[BODY_BYTES];
     uint64_t heads[ACCOUNTS];
-    uint64_t state[OURISCADO_STATE_WORDS];
+    struct ouriscado_state state;
 };
 
 /* The amount of a record in cents: a stand-in for the table of records, which the firm keeps elsewhere. */
@@ -41,8 +41,8 @@ static void deposit(struct book *b, uint64_t account, uint64_t record)
     uint8_t kind, class_;
     uint16_t used;
     uint64_t place, rewritten;
-    uint32_t refusal = ouriscado_book_append(b->body, BODY_BYTES, b->heads, ACCOUNTS, b->state, account, record,
-                                             &kind, &class_, &used, &place, &rewritten);
+    uint32_t refusal = ouriscado_append(b->body, BODY_BYTES, b->heads, ACCOUNTS, &b->state, account, record,
+                                        &kind, &class_, &used, &place, &rewritten);
     printf("deposit %" PRIu64 " for the %s: ", record, NAMES[account]);
     if (refusal != OURISCADO_ACCEPTED)
         printf("refused with %" PRIu32 " and not recorded: %s\n", refusal, ouriscado_refusal_text(refusal));
@@ -63,7 +63,7 @@ static uint64_t *enquire(const struct book *b, uint64_t account, uint64_t *lengt
         if (!list)
             stop("no memory");
         uint32_t refusal =
-            ouriscado_book_read(b->body, BODY_BYTES, b->heads, ACCOUNTS, b->state, account, list, room, length, &pages, &padded);
+            ouriscado_read(b->body, BODY_BYTES, b->heads, ACCOUNTS, &b->state, account, list, room, length, &pages, &padded);
         if (refusal == OURISCADO_ACCEPTED)
             return list;
         free(list);
@@ -77,7 +77,7 @@ static void ask(const struct book *b, uint64_t account, size_t room)
 {
     uint64_t list[512], length, pages, padded;
     uint32_t refusal =
-        ouriscado_book_read(b->body, BODY_BYTES, b->heads, ACCOUNTS, b->state, account, list, room, &length, &pages, &padded);
+        ouriscado_read(b->body, BODY_BYTES, b->heads, ACCOUNTS, &b->state, account, list, room, &length, &pages, &padded);
     printf("enquiry for the %s, with room for %zu: ", NAMES[account], room);
     if (refusal != OURISCADO_ACCEPTED)
         printf("refused with %" PRIu32 ", this is no empty account: %s\n", refusal, ouriscado_refusal_text(refusal));
@@ -106,7 +106,7 @@ static void closing(const struct book *b)
    may stand in memory alone until then. Tells whether all went well. */
 static int put_book(const struct book *b, FILE *file)
 {
-    return fwrite(b->state, sizeof b->state, 1, file) == 1 && fwrite(b->heads, sizeof b->heads, 1, file) == 1 &&
+    return fwrite(&b->state, sizeof b->state, 1, file) == 1 && fwrite(b->heads, sizeof b->heads, 1, file) == 1 &&
            fwrite(b->body, sizeof b->body, 1, file) == 1 && fflush(file) == 0 && fsync(fileno(file)) == 0;
 }
 
@@ -145,7 +145,7 @@ static void save_book(const struct book *b, const char *path)
 static void read_book(struct book *b, const char *path)
 {
     FILE *file = fopen(path, "rb");
-    if (!file || fread(b->state, sizeof b->state, 1, file) != 1 || fread(b->heads, sizeof b->heads, 1, file) != 1 ||
+    if (!file || fread(&b->state, sizeof b->state, 1, file) != 1 || fread(b->heads, sizeof b->heads, 1, file) != 1 ||
         fread(b->body, sizeof b->body, 1, file) != 1 || fclose(file) != 0)
         stop("the file can't be read");
 }
@@ -170,7 +170,7 @@ static int go_on(const struct book *b)
     static uint8_t work[BODY_BYTES / OURISCADO_WORK_UNIT];
     uint32_t ground;
     uint64_t which, lost;
-    if (ouriscado_book_check(b->body, BODY_BYTES, b->heads, ACCOUNTS, b->state, work, sizeof work, &ground, &which, &lost)
+    if (ouriscado_check(b->body, BODY_BYTES, b->heads, ACCOUNTS, &b->state, work, sizeof work, &ground, &which, &lost)
         != OURISCADO_ACCEPTED)
         stop("the book can't be judged");
     if (ground != OURISCADO_START_GOOD) {
@@ -194,17 +194,17 @@ int main(int argc, char **argv)
         stop("usage: shop FILE");
 
     printf("Ouriscado %s\n", ouriscado_version());
-    if (ouriscado_book_fresh(today.body, BODY_BYTES, today.heads, ACCOUNTS, today.state) != OURISCADO_ACCEPTED)
+    if (ouriscado_fresh(today.body, BODY_BYTES, today.heads, ACCOUNTS, &today.state) != OURISCADO_ACCEPTED)
         stop("no book can be made");
     for (size_t i = 0; i < 300; i++)
         month[i] = 10 * (i + 1);
-    if (ouriscado_book_load(today.body, BODY_BYTES, today.heads, ACCOUNTS, today.state, BAKERY, month, 300, &pages) != OURISCADO_ACCEPTED)
+    if (ouriscado_load(today.body, BODY_BYTES, today.heads, ACCOUNTS, &today.state, BAKERY, month, 300, &pages) != OURISCADO_ACCEPTED)
         stop("the month can't be loaded");
     printf("loaded for the bakery: 300, pages %" PRIu64 "\n", pages);
     /* The tailor has closed: no deposit will follow, so that the list needs no spare slot. */
     for (size_t i = 0; i < 14; i++)
         year[i] = 10 * i + 5;
-    if (ouriscado_book_load_tight(today.body, BODY_BYTES, today.heads, ACCOUNTS, today.state, TAILOR, year, 14, &pages) != OURISCADO_ACCEPTED)
+    if (ouriscado_load_tight(today.body, BODY_BYTES, today.heads, ACCOUNTS, &today.state, TAILOR, year, 14, &pages) != OURISCADO_ACCEPTED)
         stop("the year can't be loaded");
     printf("loaded tight for the tailor, who has closed: 14, pages %" PRIu64 "\n", pages);
 

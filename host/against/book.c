@@ -8,7 +8,7 @@
 
 static uint8_t *body;
 static uint64_t *heads;
-static uint64_t state[10];
+static struct ouriscado_state state;
 static size_t heads_len;
 
 static void check(uint32_t refusal, const char *what)
@@ -26,13 +26,13 @@ static void open_book(size_t keys, size_t numbers)
     if (body == NULL || heads == NULL)
         fail("book", "no memory");
     memset(body, 0xAA, BODY_BYTES);
-    check(ouriscado_book_fresh(body, BODY_BYTES, heads, keys, state), "fresh");
+    check(ouriscado_fresh(body, BODY_BYTES, heads, keys, &state), "fresh");
 }
 
 static void load_book(size_t key, const uint64_t *numbers, size_t count)
 {
     uint64_t pages;
-    check(ouriscado_book_load(body, BODY_BYTES, heads, heads_len, state, key, numbers, count, &pages), "load");
+    check(ouriscado_load(body, BODY_BYTES, heads, heads_len, &state, key, numbers, count, &pages), "load");
 }
 
 static void append_book(size_t key, uint64_t number)
@@ -40,20 +40,20 @@ static void append_book(size_t key, uint64_t number)
     uint8_t kind, class_;
     uint16_t used;
     uint64_t place, rewritten;
-    check(ouriscado_book_append(body, BODY_BYTES, heads, heads_len, state, key, number, &kind, &class_, &used, &place, &rewritten), "append");
+    check(ouriscado_append(body, BODY_BYTES, heads, heads_len, &state, key, number, &kind, &class_, &used, &place, &rewritten), "append");
 }
 
 static size_t read_book(size_t key, uint64_t *out, size_t room)
 {
     uint64_t length, pages, padded;
-    check(ouriscado_book_read(body, BODY_BYTES, heads, heads_len, state, key, out, room, &length, &pages, &padded), "read");
+    check(ouriscado_read(body, BODY_BYTES, heads, heads_len, &state, key, out, room, &length, &pages, &padded), "read");
     return length;
 }
 
 static void drop_book(size_t key)
 {
     uint64_t length;
-    check(ouriscado_book_drop(body, BODY_BYTES, heads, heads_len, state, key, &length), "drop");
+    check(ouriscado_drop(body, BODY_BYTES, heads, heads_len, &state, key, &length), "drop");
 }
 
 static void settle_book(void)
@@ -63,7 +63,7 @@ static void settle_book(void)
 /* What was ever taken of the body, and the head words. */
 static uint64_t bytes_book(void)
 {
-    return state[0] + 8 * heads_len;
+    return state.mark + 8 * heads_len;
 }
 
 static void close_book(void)

@@ -1,6 +1,7 @@
 """The C headers: their text stands in the templates *.h.in beside this file. A template's line that begins with @ asks for something made:
 
-@call NAME            a function's comment and declaration; indented lines after it join the comment, those of eight spaces or more as they stand
+@call NAME            a function's comment and declaration; indented lines after it join the comment, those of eight spaces or more as they stand.
+                      Behind one of the book's stands the inline function that takes the state as one struct
 @refusals book        an enum's refusals, those that the book's calls name; @refusals others, the rest
 @constants GROUP      constants
 @version              the version's macros
@@ -10,7 +11,7 @@ import re
 import textwrap
 from pathlib import Path
 
-from boundary.exports import CONSTANTS, fail, version
+from boundary.exports import BOOK, CONSTANTS, fail, version
 
 TYPES = {"u8": "uint8_t", "u16": "uint16_t", "u32": "uint32_t", "u64": "uint64_t", "usize": "size_t", "bool": "bool"}
 WIDTH = 110
@@ -31,28 +32,49 @@ def parameter(p):
         pointer = f"(*{name})[{p.each[0]}]" if p.each else f"*{name}"
         return [f"{const}{TYPES[p.number]} {pointer}", f"size_t {name}_len"]
     if p.len:
-        return [f"{const}{TYPES[p.number]} {name}[{'OURISCADO_STATE_WORDS' if name == 'state' else p.len}]"]
+        return [f"{const}{TYPES[p.number]} {name}[{'OURISCADO_FREE_HEADS' if name == 'free' else p.len}]"]
     return [f"{const}{TYPES[p.number]} {'*' if p.ref else ''}{name}"]
+
+
+def listed(indent, start, items, end):
+    """A list in parentheses, on one line where it fits, else filled under its start."""
+    whole = f"{indent}{start}({', '.join(items)}){end}"
+    if len(whole) <= WIDTH:
+        return [whole]
+    lines = [f"{indent}{start}(", f"{indent}    {items[0]}"]
+    for item in items[1:]:
+        if len(f"{lines[-1]}, {item}){end}") <= WIDTH:
+            lines[-1] += f", {item}"
+        else:
+            lines[-1] += ","
+            lines.append(f"{indent}    {item}")
+    return lines[:-1] + [f"{lines[-1]}){end}"]
 
 
 def declaration(function):
     given = [d for p in function.parameters for d in parameter(p)] or ["void"]
-    start = f"{TYPES[function.result] if function.result else 'void'} {function.name}("
-    whole = f"{start}{', '.join(given)});"
-    if len(whole) <= WIDTH:
-        return [whole]
-    lines = [start, f"    {given[0]}"]
-    for d in given[1:]:
-        if len(f"{lines[-1]}, {d});") <= WIDTH:
-            lines[-1] += f", {d}"
+    return listed("", f"{TYPES[function.result] if function.result else 'void'} {function.name}", given, ";")
+
+
+def of_state(function):
+    """The inline function over one of the book's that takes mark and free heads as one struct."""
+    parts = [p for p in function.parameters if p.name in ("mark", "free")]
+    state = f"{'' if any(p.mut for p in parts) else 'const '}struct ouriscado_state *state"
+    given, handed = [], []
+    for p in function.parameters:
+        declared = parameter(p)
+        if p in parts:
+            given += [state] if p is parts[0] else []
+            handed.append(f"{'&' if p.ref and not p.len else ''}state->{p.name}")
         else:
-            lines[-1] += ","
-            lines.append(f"    {d}")
-    return lines[:-1] + [f"{lines[-1]});"]
+            given += declared
+            handed += [re.search(r"\w+$", d)[0] for d in declared]
+    name = function.name.replace(BOOK, "ouriscado_")
+    return listed("", f"static inline {TYPES[function.result]} {name}", given, "") + ["{"] + listed("    ", f"return {function.name}", handed, ";") + ["}"]
 
 
 def call(function, more, names):
-    """A function's comment, with what the template adds, and its declaration. Of the book's calls the refusals are named too."""
+    """A function's comment, with what the template adds, and its declaration. Of the book's calls the refusals are named too, and one with a struct follows."""
     paragraphs = [function.text] + [p.rstrip() for p in re.split(r"\n\s*\n", "\n".join(more)) if p.strip()]
     if function.of_book:
         paragraphs.append("Refusals: " + ", ".join(f"{names[n]} ({n})" for n in function.refuses) + ".")
@@ -60,7 +82,7 @@ def call(function, more, names):
     out = filled("/* ", paragraphs[0])
     for paragraph in paragraphs[1:]:
         out += ([""] if function.of_book else []) + in_comment(paragraph)
-    return out + declaration(function)
+    return out + declaration(function) + (of_state(function) if function.of_book else [])
 
 
 def in_comment(paragraph):

@@ -21,6 +21,7 @@ CONSTANTS = {
     ],
     "sizes": [
         ("STATE_WORDS", 10, "usize", "words of a state: the mark, then nine free heads"),
+        ("FREE_HEADS", 9, "usize", "free heads of a state, one for each class from 0 to 8"),
         ("PAGE_BYTES", 4096, "usize", "bytes of a page, and the unit of a body's length"),
         ("LEAST_BODY_BYTES", 8192, "usize", "the least bytes of a body"),
         ("MOST_BODY_BYTES", 1 << 41, "usize", "the most bytes of a body"),

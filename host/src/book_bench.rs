@@ -47,32 +47,20 @@ fn call_ours(b: &mut Book, call: &Call, list: &mut [u64]) -> u32 {
     let (body, body_len, heads, heads_len) = (b.body.as_mut_ptr(), b.body.len(), b.heads.as_mut_ptr(), b.heads.len());
     let (mut a, mut c, mut d, mut kind, mut class, mut used) = (0, 0, 0, 0, 0, 0);
     let (out, room) = (list.as_mut_ptr(), list.len());
+    let [mark, free @ ..] = &mut b.state;
     unsafe {
         match call {
             Call::Load(key, fks, Fit::Spare) => {
-                sys::ouriscado_book_load(body, body_len, heads, heads_len, &mut b.state, *key, fks.as_ptr(), fks.len(), &mut a)
+                sys::ouriscado_book_load(body, body_len, heads, heads_len, mark, free, *key, fks.as_ptr(), fks.len(), &mut a)
             }
             Call::Load(key, fks, Fit::Tight) => {
-                sys::ouriscado_book_load_tight(body, body_len, heads, heads_len, &mut b.state, *key, fks.as_ptr(), fks.len(), &mut a)
+                sys::ouriscado_book_load_tight(body, body_len, heads, heads_len, mark, free, *key, fks.as_ptr(), fks.len(), &mut a)
             }
             Call::Append(key, fk) => sys::ouriscado_book_append(
-                body,
-                body_len,
-                heads,
-                heads_len,
-                &mut b.state,
-                *key,
-                *fk,
-                &mut kind,
-                &mut class,
-                &mut used,
-                &mut a,
-                &mut c,
+                body, body_len, heads, heads_len, mark, free, *key, *fk, &mut kind, &mut class, &mut used, &mut a, &mut c,
             ),
-            Call::Read(key) => {
-                sys::ouriscado_book_read(body, body_len, heads, heads_len, &b.state, *key, out, room, &mut a, &mut c, &mut d)
-            }
-            Call::Drop(key) => sys::ouriscado_book_drop(body, body_len, heads, heads_len, &mut b.state, *key, &mut a),
+            Call::Read(key) => sys::ouriscado_book_read(body, body_len, heads, heads_len, *mark, *key, out, room, &mut a, &mut c, &mut d),
+            Call::Drop(key) => sys::ouriscado_book_drop(body, body_len, heads, heads_len, mark, free, *key, &mut a),
         }
     }
 }

@@ -1,14 +1,21 @@
-//! The exported calls of the book, until the crate in rust/ declares them. The state is the mark and the nine free heads.
-use crate::second_book::space::State;
+//! The exported calls of the book, until the crate in rust/ declares them. A state is lent as its mark and its nine free heads.
 
 extern "C" {
-    pub fn ouriscado_book_fresh(body: *const u8, body_len: usize, heads: *mut u64, heads_len: usize, state: &mut State) -> u32;
+    pub fn ouriscado_book_fresh(
+        body: *const u8,
+        body_len: usize,
+        heads: *mut u64,
+        heads_len: usize,
+        mark: &mut u64,
+        free: &mut [u64; 9],
+    ) -> u32;
     pub fn ouriscado_book_load(
         body: *mut u8,
         body_len: usize,
         heads: *mut u64,
         heads_len: usize,
-        state: &mut State,
+        mark: &mut u64,
+        free: &mut [u64; 9],
         key: u64,
         fks: *const u64,
         fks_len: usize,
@@ -19,7 +26,8 @@ extern "C" {
         body_len: usize,
         heads: *mut u64,
         heads_len: usize,
-        state: &mut State,
+        mark: &mut u64,
+        free: &mut [u64; 9],
         key: u64,
         fks: *const u64,
         fks_len: usize,
@@ -30,7 +38,8 @@ extern "C" {
         body_len: usize,
         heads: *mut u64,
         heads_len: usize,
-        state: &mut State,
+        mark: &mut u64,
+        free: &mut [u64; 9],
         key: u64,
         fk: u64,
         kind: &mut u8,
@@ -44,7 +53,7 @@ extern "C" {
         body_len: usize,
         heads: *const u64,
         heads_len: usize,
-        state: &State,
+        mark: u64,
         key: u64,
         out: *mut u64,
         out_len: usize,
@@ -57,7 +66,8 @@ extern "C" {
         body_len: usize,
         heads: *mut u64,
         heads_len: usize,
-        state: &mut State,
+        mark: &mut u64,
+        free: &mut [u64; 9],
         key: u64,
         length: &mut u64,
     ) -> u32;
@@ -66,7 +76,8 @@ extern "C" {
         body_len: usize,
         heads: *const u64,
         heads_len: usize,
-        state: &State,
+        mark: u64,
+        free: &[u64; 9],
         work: *mut u8,
         work_len: usize,
         ground: &mut u32,

@@ -6,7 +6,6 @@ use crate::errors::{of_pack, of_store, Side};
 use crate::fault::{during, Saying};
 use crate::forms::{is_shortest, padded, padded_in_page};
 use crate::lent::{Area, Placing, NONE, PAGE, READ, READ_WRITE};
-use crate::second_book::space::State;
 use crate::second_book::MOST_BODY;
 use oracle::error::StoreError;
 use oracle::file::TableFile;
@@ -304,56 +303,57 @@ fn books_by_length(judge: &mut Judge) {
         (more, COUNT + 1),
     ];
     for (b, h) in lengths {
-        let (mut state, mut told) = ([4096, 0, 0, 0, 0, 0, 0, 0, 0, 0], [BEFORE; 2]);
+        let (mut mark, mut free, mut told) = (4096, [0; 9], [BEFORE; 2]);
         let (at, words) = (body.place::<u8>(b, Placing::Start), heads.first);
-        let ours = during(&Named("book_fresh"), || unsafe { book::ouriscado_book_fresh(at, b, words, h, &mut state) });
-        judge.same("book_fresh", (ours, &[]), Err(1), state[0] == 4096);
+        let ours = during(&Named("book_fresh"), || unsafe { book::ouriscado_book_fresh(at, b, words, h, &mut mark, &mut free) });
+        judge.same("book_fresh", (ours, &[]), Err(1), mark == 4096 && free == [0; 9]);
         let [pages, other] = &mut told;
-        let ours = during(&Named("book_load"), || unsafe { book::ouriscado_book_load(at, b, words, h, &mut state, 0, words, 2, pages) });
-        judge.same("book_load", (ours, &[*pages]), Err(1), state[0] == 4096);
+        let ours =
+            during(&Named("book_load"), || unsafe { book::ouriscado_book_load(at, b, words, h, &mut mark, &mut free, 0, words, 2, pages) });
+        judge.same("book_load", (ours, &[*pages]), Err(1), mark == 4096 && free == [0; 9]);
         *pages = BEFORE;
         let ours = during(&Named("book_load_tight"), || unsafe {
-            book::ouriscado_book_load_tight(at, b, words, h, &mut state, 0, words, 2, pages)
+            book::ouriscado_book_load_tight(at, b, words, h, &mut mark, &mut free, 0, words, 2, pages)
         });
-        judge.same("book_load_tight", (ours, &[*pages]), Err(1), state[0] == 4096);
+        judge.same("book_load_tight", (ours, &[*pages]), Err(1), mark == 4096 && free == [0; 9]);
         let (mut kind, mut class, mut used, mut place) = (1, 1, 1, BEFORE);
         let ours = during(&Named("book_append"), || unsafe {
-            book::ouriscado_book_append(at, b, words, h, &mut state, 0, 5, &mut kind, &mut class, &mut used, &mut place, other)
+            book::ouriscado_book_append(at, b, words, h, &mut mark, &mut free, 0, 5, &mut kind, &mut class, &mut used, &mut place, other)
         });
-        judge.same("book_append", (ours, &[kind as u64, class as u64, used as u64, place, *other]), Err(1), state[0] == 4096);
-        read_by_length(judge, (at, b), (words, h), &state);
+        judge.same("book_append", (ours, &[kind as u64, class as u64, used as u64, place, *other]), Err(1), mark == 4096 && free == [0; 9]);
+        read_by_length(judge, (at, b), (words, h), mark);
         *pages = BEFORE;
-        let ours = during(&Named("book_drop"), || unsafe { book::ouriscado_book_drop(at, b, words, h, &mut state, 0, pages) });
-        judge.same("book_drop", (ours, &[*pages]), Err(1), state[0] == 4096);
+        let ours = during(&Named("book_drop"), || unsafe { book::ouriscado_book_drop(at, b, words, h, &mut mark, &mut free, 0, pages) });
+        judge.same("book_drop", (ours, &[*pages]), Err(1), mark == 4096 && free == [0; 9]);
     }
 }
 
 /// A read of such a book into a list of 2^32 numbers.
-fn read_by_length(judge: &mut Judge, (body, b): (*mut u8, usize), (words, h): (*mut u64, usize), state: &State) {
+fn read_by_length(judge: &mut Judge, (body, b): (*mut u8, usize), (words, h): (*mut u64, usize), mark: u64) {
     let [mut length, mut pages, mut padded] = [BEFORE; 3];
     let ours = during(&Named("book_read"), || unsafe {
-        book::ouriscado_book_read(body, b, words, h, state, 0, words, COUNT, &mut length, &mut pages, &mut padded)
+        book::ouriscado_book_read(body, b, words, h, mark, 0, words, COUNT, &mut length, &mut pages, &mut padded)
     });
     judge.same("book_read", (ours, &[length, pages, padded]), Err(1), true);
 }
 
 /// A small book that is offered 2^32 numbers, and one that is read into a list of so many.
 fn books_and_lists(judge: &mut Judge) {
-    let (mut body, mut heads, mut state, mut pages) = (vec![0u8; 8192], [0u64, 7], [4096, 0, 0, 0, 0, 0, 0, 0, 0, 0], BEFORE);
+    let (mut body, mut heads, mut mark, mut free, mut pages) = (vec![0u8; 8192], [0u64, 7], 4096, [0; 9], BEFORE);
     let (list, out) = (Far::<u64>::untouchable(1), Far::<u64>::new(0));
     let at = body.as_mut_ptr();
     let ours = during(&Named("book_load"), || unsafe {
-        book::ouriscado_book_load(at, 8192, heads.as_mut_ptr(), 2, &mut state, 0, list.first, list.len, &mut pages)
+        book::ouriscado_book_load(at, 8192, heads.as_mut_ptr(), 2, &mut mark, &mut free, 0, list.first, list.len, &mut pages)
     });
-    judge.same("book_load", (ours, &[pages]), Err(10), heads == [0, 7] && state[0] == 4096);
+    judge.same("book_load", (ours, &[pages]), Err(10), heads == [0, 7] && mark == 4096 && free == [0; 9]);
     pages = BEFORE;
     let ours = during(&Named("book_load_tight"), || unsafe {
-        book::ouriscado_book_load_tight(at, 8192, heads.as_mut_ptr(), 2, &mut state, 0, list.first, list.len, &mut pages)
+        book::ouriscado_book_load_tight(at, 8192, heads.as_mut_ptr(), 2, &mut mark, &mut free, 0, list.first, list.len, &mut pages)
     });
-    judge.same("book_load_tight", (ours, &[pages]), Err(10), heads == [0, 7] && state[0] == 4096);
+    judge.same("book_load_tight", (ours, &[pages]), Err(10), heads == [0, 7] && mark == 4096 && free == [0; 9]);
     let [mut length, mut pages, mut padded] = [BEFORE; 3];
     let ours = during(&Named("book_read"), || unsafe {
-        book::ouriscado_book_read(at, 8192, heads.as_ptr(), 2, &state, 1, out.first, COUNT, &mut length, &mut pages, &mut padded)
+        book::ouriscado_book_read(at, 8192, heads.as_ptr(), 2, mark, 1, out.first, COUNT, &mut length, &mut pages, &mut padded)
     });
     judge.same("book_read", (ours, &[length, pages, padded]), Ok(vec![1, 0, 0]), out.slice()[..2] == [7, 0]);
 }

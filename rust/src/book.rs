@@ -1,6 +1,6 @@
 //! The account book.
 use crate::limits::{
-    PAGE_BYTES, START_FREE_SHARES, START_FREE_STRAYS, START_GOOD, START_KEY_SHARES, START_KEY_UNSOUND, STATE_WORDS, WORK_UNIT,
+    FREE_HEADS, PAGE_BYTES, START_FREE_SHARES, START_FREE_STRAYS, START_GOOD, START_KEY_SHARES, START_KEY_UNSOUND, STATE_WORDS, WORK_UNIT,
 };
 use crate::walk::{Lists, Places};
 use crate::{answer, codec, sys, OpenError, Place, Refusal, StartError};
@@ -28,6 +28,12 @@ impl State {
     #[must_use]
     pub fn free_heads(&self) -> &[u64] {
         &self.0[1..]
+    }
+
+    /// The mark and the free heads, as they are lent.
+    fn lent(&mut self) -> (&mut u64, &mut [u64; FREE_HEADS]) {
+        let [mark, free @ ..] = &mut self.0;
+        (mark, free)
     }
 }
 
@@ -118,7 +124,8 @@ impl<B: AsRef<[u8]>, H: AsRef<[u64]>> Book<B, H> {
         H: AsMut<[u64]>,
     {
         let mut state = State::default();
-        let number = sys::book_fresh(body.as_ref(), heads.as_mut(), &mut state.0);
+        let (mark, free) = state.lent();
+        let number = sys::book_fresh(body.as_ref(), heads.as_mut(), mark, free);
         answer(number, ()).map(|()| Book { body, heads, state })
     }
 
@@ -187,7 +194,8 @@ impl<B: AsRef<[u8]>, H: AsRef<[u64]>> Book<B, H> {
     pub fn check(&self) -> Result<u64, StartError> {
         let mut work = vec![0; self.body().len() / WORK_UNIT];
         let (mut ground, mut which, mut lost) = (0, 0, 0);
-        let number = sys::book_check(self.body(), self.heads(), &self.state.0, &mut work, &mut ground, &mut which, &mut lost);
+        let State([mark, free @ ..]) = &self.state;
+        let number = sys::book_check(self.body(), self.heads(), *mark, free, &mut work, &mut ground, &mut which, &mut lost);
         answer(number, ()).map_err(StartError::Refused)?;
         match ground {
             START_GOOD => Ok(lost),
@@ -315,7 +323,7 @@ impl<B: AsRef<[u8]>, H: AsRef<[u64]>> Book<B, H> {
     /// whole list: the account isn't empty then, and `out` is as it was.
     pub fn read_into(&self, key: u64, out: &mut [u64]) -> Result<Listed, Refusal> {
         let (mut length, mut pages, mut padded) = (0, 0, 0);
-        let number = sys::book_read(self.body(), self.heads(), &self.state.0, key, out, &mut length, &mut pages, &mut padded);
+        let number = sys::book_read(self.body(), self.heads(), self.state.mark(), key, out, &mut length, &mut pages, &mut padded);
         answer(number, Listed { length: length as usize, pages, padded })
     }
 
@@ -389,7 +397,8 @@ impl<B: AsRef<[u8]> + AsMut<[u8]>, H: AsRef<[u64]> + AsMut<[u64]>> Book<B, H> {
     /// [grows](Book::grow), or of a slab past `SLABS_END` until one of its class is freed.
     pub fn load(&mut self, key: u64, numbers: &[u64]) -> Result<u64, Refusal> {
         let mut pages = 0;
-        let number = sys::book_load(self.body.as_mut(), self.heads.as_mut(), &mut self.state.0, key, numbers, &mut pages);
+        let (mark, free) = self.state.lent();
+        let number = sys::book_load(self.body.as_mut(), self.heads.as_mut(), mark, free, key, numbers, &mut pages);
         answer(number, pages)
     }
 
@@ -414,7 +423,8 @@ impl<B: AsRef<[u8]> + AsMut<[u8]>, H: AsRef<[u64]> + AsMut<[u64]>> Book<B, H> {
     /// Those of [`Book::load`]; [`Refusal::FreeHeadBad`] and [`Refusal::NoRoom`] are of the class that the tight slab has.
     pub fn load_tight(&mut self, key: u64, numbers: &[u64]) -> Result<u64, Refusal> {
         let mut pages = 0;
-        let number = sys::book_load_tight(self.body.as_mut(), self.heads.as_mut(), &mut self.state.0, key, numbers, &mut pages);
+        let (mark, free) = self.state.lent();
+        let number = sys::book_load_tight(self.body.as_mut(), self.heads.as_mut(), mark, free, key, numbers, &mut pages);
         answer(number, pages)
     }
 
@@ -439,8 +449,8 @@ impl<B: AsRef<[u8]> + AsMut<[u8]>, H: AsRef<[u64]> + AsMut<[u64]>> Book<B, H> {
     /// [`Refusal::NoRoom`] as of [`Book::load`].
     pub fn append(&mut self, key: u64, number: u64) -> Result<Appended, Refusal> {
         let (mut kind, mut class, mut used, mut place, mut rewritten) = (0, 0, 0, 0, 0);
-        let (body, heads, state) = (self.body.as_mut(), self.heads.as_mut(), &mut self.state.0);
-        let refusal = sys::book_append(body, heads, state, key, number, &mut kind, &mut class, &mut used, &mut place, &mut rewritten);
+        let (body, heads, (mark, free)) = (self.body.as_mut(), self.heads.as_mut(), self.state.lent());
+        let refusal = sys::book_append(body, heads, mark, free, key, number, &mut kind, &mut class, &mut used, &mut place, &mut rewritten);
         answer(refusal, Appended { place: codec::Head::of_numbers(kind, class, used, place).into(), rewritten })
     }
 
@@ -451,7 +461,8 @@ impl<B: AsRef<[u8]> + AsMut<[u8]>, H: AsRef<[u64]> + AsMut<[u64]>> Book<B, H> {
     /// [`Refusal::ShapeBad`], [`Refusal::KeyBeyond`] and [`Refusal::KeyUnsound`].
     pub fn drop_key(&mut self, key: u64) -> Result<usize, Refusal> {
         let mut length = 0;
-        let number = sys::book_drop(self.body.as_mut(), self.heads.as_mut(), &mut self.state.0, key, &mut length);
+        let (mark, free) = self.state.lent();
+        let number = sys::book_drop(self.body.as_mut(), self.heads.as_mut(), mark, free, key, &mut length);
         answer(number, length as usize)
     }
 }

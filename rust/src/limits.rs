@@ -16,6 +16,9 @@ pub const KIND_PAGES: u8 = 3;
 /// Words of a state: the mark, then nine free heads.
 pub const STATE_WORDS: usize = 10;
 
+/// Free heads of a state, one for each class from 0 to 8.
+pub const FREE_HEADS: usize = 9;
+
 /// Bytes of a page, and the unit of a body's length.
 pub const PAGE_BYTES: usize = 4096;
 

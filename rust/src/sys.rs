@@ -7,11 +7,18 @@
 /// The functions as the library defines them.
 pub mod raw {
     extern "C" {
-        /// Makes a fresh book, in which every key is empty: all heads become 0, and state that of a book from which nothing was taken; the
-        /// body isn't written. A book is these three: a body, whose length is a multiple of 4,096 bytes from 8,192 to 2^41; heads, a word
-        /// for each key, 1 to 65,536 of them; and state, ten words, which are the mark up to which the body was ever used and the first
-        /// freed block of each of nine sizes. What they held before doesn't matter. Refuses 1.
-        pub fn ouriscado_book_fresh(body: *const u8, body_len: usize, heads: *mut u64, heads_len: usize, state: &mut [u64; 10]) -> u32;
+        /// Makes a fresh book, in which every key is empty: all heads become 0, and mark and free those of a book from which nothing was
+        /// taken; the body isn't written. A book is these: a body, whose length is a multiple of 4,096 bytes from 8,192 to 2^41; heads, a
+        /// word for each key, 1 to 65,536 of them; and its state, the mark up to which the body was ever used and free, the first freed
+        /// block of each of nine sizes. What they held before doesn't matter. Refuses 1.
+        pub fn ouriscado_book_fresh(
+            body: *const u8,
+            body_len: usize,
+            heads: *mut u64,
+            heads_len: usize,
+            mark: &mut u64,
+            free: &mut [u64; 9],
+        ) -> u32;
         /// Loads a list of record numbers onto an empty key; keys count from 0. The numbers rise strictly, from 1 to 2^62 - 1, and there
         /// are 65,535 at most; with none, nothing changes. A list of 2 to 255 that goes to a slab has a slot for one number more there, so
         /// that the next append moves it only where its bytes don't fit. Hands out pages: how many pages of 4,096 bytes hold the list, 0
@@ -21,7 +28,8 @@ pub mod raw {
             body_len: usize,
             heads: *mut u64,
             heads_len: usize,
-            state: &mut [u64; 10],
+            mark: &mut u64,
+            free: &mut [u64; 9],
             key: u64,
             fks: *const u64,
             fks_len: usize,
@@ -34,7 +42,8 @@ pub mod raw {
             body_len: usize,
             heads: *mut u64,
             heads_len: usize,
-            state: &mut [u64; 10],
+            mark: &mut u64,
+            free: &mut [u64; 9],
             key: u64,
             fks: *const u64,
             fks_len: usize,
@@ -50,7 +59,8 @@ pub mod raw {
             body_len: usize,
             heads: *mut u64,
             heads_len: usize,
-            state: &mut [u64; 10],
+            mark: &mut u64,
+            free: &mut [u64; 9],
             key: u64,
             fk: u64,
             kind: &mut u8,
@@ -68,7 +78,7 @@ pub mod raw {
             body_len: usize,
             heads: *const u64,
             heads_len: usize,
-            state: &[u64; 10],
+            mark: u64,
             key: u64,
             out: *mut u64,
             out_len: usize,
@@ -83,7 +93,8 @@ pub mod raw {
             body_len: usize,
             heads: *mut u64,
             heads_len: usize,
-            state: &mut [u64; 10],
+            mark: &mut u64,
+            free: &mut [u64; 9],
             key: u64,
             length: &mut u64,
         ) -> u32;
@@ -104,7 +115,8 @@ pub mod raw {
             body_len: usize,
             heads: *const u64,
             heads_len: usize,
-            state: &[u64; 10],
+            mark: u64,
+            free: &[u64; 9],
             work: *mut u8,
             work_len: usize,
             ground: &mut u32,
@@ -284,14 +296,14 @@ pub mod raw {
     }
 }
 
-/// Makes a fresh book, in which every key is empty: all heads become 0, and state that of a book from which nothing was taken; the body
-/// isn't written. A book is these three: a body, whose length is a multiple of 4,096 bytes from 8,192 to 2^41; heads, a word for each key,
-/// 1 to 65,536 of them; and state, ten words, which are the mark up to which the body was ever used and the first freed block of each of
-/// nine sizes. What they held before doesn't matter. Refuses 1.
+/// Makes a fresh book, in which every key is empty: all heads become 0, and mark and free those of a book from which nothing was taken; the
+/// body isn't written. A book is these: a body, whose length is a multiple of 4,096 bytes from 8,192 to 2^41; heads, a word for each key, 1
+/// to 65,536 of them; and its state, the mark up to which the body was ever used and free, the first freed block of each of nine sizes.
+/// What they held before doesn't matter. Refuses 1.
 #[inline]
 #[must_use]
-pub fn book_fresh(body: &[u8], heads: &mut [u64], state: &mut [u64; 10]) -> u32 {
-    unsafe { raw::ouriscado_book_fresh(body.as_ptr(), body.len(), heads.as_mut_ptr(), heads.len(), state) }
+pub fn book_fresh(body: &[u8], heads: &mut [u64], mark: &mut u64, free: &mut [u64; 9]) -> u32 {
+    unsafe { raw::ouriscado_book_fresh(body.as_ptr(), body.len(), heads.as_mut_ptr(), heads.len(), mark, free) }
 }
 
 /// Loads a list of record numbers onto an empty key; keys count from 0. The numbers rise strictly, from 1 to 2^62 - 1, and there are 65,535
@@ -300,9 +312,20 @@ pub fn book_fresh(body: &[u8], heads: &mut [u64], state: &mut [u64; 10]) -> u32 
 /// Refuses 1 to 3, 10, 12 to 14, 32, 35, 36.
 #[inline]
 #[must_use]
-pub fn book_load(body: &mut [u8], heads: &mut [u64], state: &mut [u64; 10], key: u64, fks: &[u64], pages: &mut u64) -> u32 {
+pub fn book_load(body: &mut [u8], heads: &mut [u64], mark: &mut u64, free: &mut [u64; 9], key: u64, fks: &[u64], pages: &mut u64) -> u32 {
     unsafe {
-        raw::ouriscado_book_load(body.as_mut_ptr(), body.len(), heads.as_mut_ptr(), heads.len(), state, key, fks.as_ptr(), fks.len(), pages)
+        raw::ouriscado_book_load(
+            body.as_mut_ptr(),
+            body.len(),
+            heads.as_mut_ptr(),
+            heads.len(),
+            mark,
+            free,
+            key,
+            fks.as_ptr(),
+            fks.len(),
+            pages,
+        )
     }
 }
 
@@ -310,14 +333,23 @@ pub fn book_load(body: &mut [u8], heads: &mut [u64], state: &mut [u64; 10], key:
 /// for lists that nothing is appended to. Hands out pages as that does. Refuses 1 to 3, 10, 12 to 14, 32, 35, 36.
 #[inline]
 #[must_use]
-pub fn book_load_tight(body: &mut [u8], heads: &mut [u64], state: &mut [u64; 10], key: u64, fks: &[u64], pages: &mut u64) -> u32 {
+pub fn book_load_tight(
+    body: &mut [u8],
+    heads: &mut [u64],
+    mark: &mut u64,
+    free: &mut [u64; 9],
+    key: u64,
+    fks: &[u64],
+    pages: &mut u64,
+) -> u32 {
     unsafe {
         raw::ouriscado_book_load_tight(
             body.as_mut_ptr(),
             body.len(),
             heads.as_mut_ptr(),
             heads.len(),
-            state,
+            mark,
+            free,
             key,
             fks.as_ptr(),
             fks.len(),
@@ -336,7 +368,8 @@ pub fn book_load_tight(body: &mut [u8], heads: &mut [u64], state: &mut [u64; 10]
 pub fn book_append(
     body: &mut [u8],
     heads: &mut [u64],
-    state: &mut [u64; 10],
+    mark: &mut u64,
+    free: &mut [u64; 9],
     key: u64,
     fk: u64,
     kind: &mut u8,
@@ -351,7 +384,8 @@ pub fn book_append(
             body.len(),
             heads.as_mut_ptr(),
             heads.len(),
-            state,
+            mark,
+            free,
             key,
             fk,
             kind,
@@ -372,7 +406,7 @@ pub fn book_append(
 pub fn book_read(
     body: &[u8],
     heads: &[u64],
-    state: &[u64; 10],
+    mark: u64,
     key: u64,
     out: &mut [u64],
     length: &mut u64,
@@ -385,7 +419,7 @@ pub fn book_read(
             body.len(),
             heads.as_ptr(),
             heads.len(),
-            state,
+            mark,
             key,
             out.as_mut_ptr(),
             out.len(),
@@ -400,8 +434,8 @@ pub fn book_read(
 /// numbers the list had. Refuses 1, 2, 31.
 #[inline]
 #[must_use]
-pub fn book_drop(body: &mut [u8], heads: &mut [u64], state: &mut [u64; 10], key: u64, length: &mut u64) -> u32 {
-    unsafe { raw::ouriscado_book_drop(body.as_mut_ptr(), body.len(), heads.as_mut_ptr(), heads.len(), state, key, length) }
+pub fn book_drop(body: &mut [u8], heads: &mut [u64], mark: &mut u64, free: &mut [u64; 9], key: u64, length: &mut u64) -> u32 {
+    unsafe { raw::ouriscado_book_drop(body.as_mut_ptr(), body.len(), heads.as_mut_ptr(), heads.len(), mark, free, key, length) }
 }
 
 /// Tells whether a body, heads and state that come from elsewhere, as from a file, are a good start, with which the other calls may go on
@@ -421,7 +455,8 @@ pub fn book_drop(body: &mut [u8], heads: &mut [u64], state: &mut [u64; 10], key:
 pub fn book_check(
     body: &[u8],
     heads: &[u64],
-    state: &[u64; 10],
+    mark: u64,
+    free: &[u64; 9],
     work: &mut [u8],
     ground: &mut u32,
     which: &mut u64,
@@ -433,7 +468,8 @@ pub fn book_check(
             body.len(),
             heads.as_ptr(),
             heads.len(),
-            state,
+            mark,
+            free,
             work.as_mut_ptr(),
             work.len(),
             ground,

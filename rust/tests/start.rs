@@ -152,7 +152,7 @@ fn padded_numbers_are_told() {
     let told = |book: &Owned, key| book.read_told(key).map(|(list, told)| (list, told.pages, told.padded)).unwrap();
     assert_eq!((told(&book, 0), told(&book, 1)), ((vec![1, 3], 0, 1), (vec![1, 3], 1, 1)));
     let (mut length, mut pages, mut padded) = (9, 9, 9);
-    let number = sys::book_read(book.body(), book.heads(), &book.state().0, 1, &mut [0], &mut length, &mut pages, &mut padded);
+    let number = sys::book_read(book.body(), book.heads(), book.state().mark(), 1, &mut [0], &mut length, &mut pages, &mut padded);
     assert_eq!((number, length, pages, padded), (34, 0, 0, 0), "a refused read tells no count");
     for key in [0, 1] {
         assert_eq!(book.append(key, 5).unwrap().rewritten, 0);
@@ -203,7 +203,8 @@ fn the_work_list() {
     for (length, refusal) in [(room - 1, 34), (room, 0), (room + 3, 0)] {
         let mut work = vec![0xee; length];
         let (mut ground, mut which, mut lost) = (9, 9, 9);
-        let number = sys::book_check(book.body(), book.heads(), &book.state().0, &mut work, &mut ground, &mut which, &mut lost);
+        let State([mark, free @ ..]) = book.state();
+        let number = sys::book_check(book.body(), book.heads(), *mark, free, &mut work, &mut ground, &mut which, &mut lost);
         assert_eq!((number, ground, which, lost), (refusal, 0, 0, 0));
         let cleared = if refusal == 0 { room } else { 0 };
         assert!(work[..cleared].iter().all(|&b| b == 0) && work[cleared..].iter().all(|&b| b == 0xee));

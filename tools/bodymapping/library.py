@@ -1,7 +1,7 @@
 """The proved library, called from Python: the calls of the book, and the functions that take a body apart."""
 import ctypes
 import subprocess
-from ctypes import POINTER, byref, c_size_t, c_uint8, c_uint16, c_uint32, c_uint64
+from ctypes import POINTER, byref, c_size_t, c_uint8, c_uint16, c_uint32, c_uint64, sizeof
 from pathlib import Path
 
 PAGE_BYTES = 4096
@@ -90,7 +90,7 @@ class Book:
     def fresh(cls, library, size, keys):
         """A fresh book over a body of so many bytes."""
         book = cls(library, bytes(size), [0] * keys, [0] * 10)
-        library.call("book_fresh", *book.lent_body(), *book.lent_heads(), book.state)
+        library.call("book_fresh", *book.lent_body(), *book.lent_heads(), *book.lent_state())
         return book
 
     def lent_body(self):
@@ -99,23 +99,30 @@ class Book:
     def lent_heads(self):
         return self.heads, c_size_t(len(self.heads))
 
+    def lent_state(self):
+        return self.state, self.free_heads()
+
+    def free_heads(self):
+        """The state's words behind the mark, as they are lent."""
+        return byref(self.state, sizeof(c_uint64))
+
     def mark(self):
         return self.state[0]
 
     def load(self, key, numbers, tight=False):
         pages = c_uint64()
-        self.library.call("book_load_tight" if tight else "book_load", *self.lent_body(), *self.lent_heads(), self.state, c_uint64(key), lent(c_uint64, numbers), c_size_t(len(numbers)), byref(pages))
+        self.library.call("book_load_tight" if tight else "book_load", *self.lent_body(), *self.lent_heads(), *self.lent_state(), c_uint64(key), lent(c_uint64, numbers), c_size_t(len(numbers)), byref(pages))
         return pages.value
 
     def append(self, key, number):
         kind, class_, used, place, rewritten = c_uint8(), c_uint8(), c_uint16(), c_uint64(), c_uint64()
-        self.library.call("book_append", *self.lent_body(), *self.lent_heads(), self.state, c_uint64(key), c_uint64(number),
+        self.library.call("book_append", *self.lent_body(), *self.lent_heads(), *self.lent_state(), c_uint64(key), c_uint64(number),
                           byref(kind), byref(class_), byref(used), byref(place), byref(rewritten))
         return Place(kind.value, class_.value, used.value, place.value), rewritten.value
 
     def drop(self, key):
         length = c_uint64()
-        self.library.call("book_drop", *self.lent_body(), *self.lent_heads(), self.state, c_uint64(key), byref(length))
+        self.library.call("book_drop", *self.lent_body(), *self.lent_heads(), *self.lent_state(), c_uint64(key), byref(length))
         return length.value
 
     def read(self, key):
@@ -124,7 +131,7 @@ class Book:
         while True:
             out, length, pages, padded = (c_uint64 * room)(), c_uint64(), c_uint64(), c_uint64()
             try:
-                self.library.call("book_read", *self.lent_body(), *self.lent_heads(), self.state, c_uint64(key), out, c_size_t(room),
+                self.library.call("book_read", *self.lent_body(), *self.lent_heads(), c_uint64(self.mark()), c_uint64(key), out, c_size_t(room),
                                   byref(length), byref(pages), byref(padded))
                 return list(out[:length.value]), padded.value
             except Refused as refused:
@@ -160,7 +167,8 @@ class Book:
     def check(self):
         """The first fault that a check meets, or none of a good start, and how many units of 16 bytes belong to nobody. A book out of shape is refused."""
         work, ground, which, lost = (c_uint8 * (len(self.body) // WORK_UNIT))(), c_uint32(), c_uint64(), c_uint64()
-        self.library.call("book_check", *self.lent_body(), *self.lent_heads(), self.state, work, c_size_t(len(work)), byref(ground), byref(which), byref(lost))
+        self.library.call("book_check", *self.lent_body(), *self.lent_heads(), c_uint64(self.mark()), self.free_heads(), work, c_size_t(len(work)),
+                          byref(ground), byref(which), byref(lost))
         return (Fault(ground.value, which.value) if ground.value else None), lost.value
 
     def freed(self, class_):

@@ -4,7 +4,6 @@ mod head;
 mod place;
 
 pub use head::put_head;
-pub use place::AfterPlace;
 pub use place::PlaceList;
 pub use place::move_list;
 pub use place::place_in_slab;

@@ -5,9 +5,8 @@ ghost use Prim.Native.Nat.{_^_, _≤_};
 ghost use lib.ListN.{length};
 ghost use Rattle.scripthash_stream.specs.Stream.{Rising, streamLen};
 ghost use Rattle.book_rules.specs.Places.{movesTo};
-ghost use Rattle.book_space.specs.Answers.{spaceOf};
+ghost use Rattle.book_space.specs.Space.{space};
 ghost use Rattle.book.specs.Steps.{placesInto, placeAnswer, ToPlaceInSlab, ToPlaceInPage, ToMove, Places};
-use book_space::State;
 use book_space::TakeBlock;
 use error::Refusal;
 use scripthash_layout::SH_PAGE_SLAB_CLASS;
@@ -21,71 +20,59 @@ pub enum PlaceList {
     Refused(Refusal),
 }
 
-// The answer of placing a list, and the state after it.
-pub struct AfterPlace {
-    pub answer: PlaceList,
-    pub state: State,
-}
-
 // Writes a list to a taken slab of a class that has bytes for its payload.
-pub fn place_in_slab(body: &mut [u8], state: State, fks: &[u64], class: u8) -> AfterPlace
-    requires { ⌜ ToPlaceInSlab (spaceOf (now body) state) (now fks) class ⌝ }
-    ensures { λ r. ⌜ Places (placesInto (spaceOf (now (body .entry)) state) (now (fks .entry)) (some class))
-        (spaceOf (now (body .entry)) state) (spaceOf (now (body .exit)) (r .state)) (placeAnswer (r .answer)) ⌝ }
+pub fn place_in_slab(
+    body: &mut [u8],
+    mark: &mut u64,
+    free: &mut [u64; 9],
+    fks: &[u64],
+    class: u8,
+) -> PlaceList
+    requires { ⌜ ToPlaceInSlab (space (now body) (now mark) (now free)) (now fks) class ⌝ }
+    ensures { λ r. ⌜ Places
+        (placesInto (space (now (body .entry)) (now (mark .entry)) (now (free .entry))) (now (fks .entry)) (some class))
+        (space (now (body .entry)) (now (mark .entry)) (now (free .entry)))
+        (space (now (body .exit)) (now (mark .exit)) (now (free .exit))) (placeAnswer r) ⌝ }
 {
-    let taken = book_space::take_block(body, state, class);
-    let state = taken.state;
-    let answer = taken.answer;
+    let answer = book_space::take_block(body, mark, free, class);
     let TakeBlock::At(off) = answer else {
-        return AfterPlace {
-            answer: PlaceList::Refused(answer.refusal()),
-            state,
-        };
+        return PlaceList::Refused(answer.refusal());
     };
     let size = scripthash_layout::slab_bytes(class) as usize;
     book_blocks::put_slab(body, off as usize, size, fks);
     let used = fks.len() as u16;
-    AfterPlace {
-        answer: PlaceList::At(ShHeadValue::Slab { class, used, off }),
-        state,
-    }
+    PlaceList::At(ShHeadValue::Slab { class, used, off })
 }
 
 // Writes a list to a taken page, the only one of its key.
-fn place_in_page(body: &mut [u8], state: State, fks: &[u64]) -> AfterPlace
-    requires { ⌜ ToPlaceInPage (spaceOf (now body) state) (now fks) ⌝ }
-    ensures { λ r. ⌜ Places (placesInto (spaceOf (now (body .entry)) state) (now (fks .entry)) none) (spaceOf (now (body .entry)) state)
-        (spaceOf (now (body .exit)) (r .state)) (placeAnswer (r .answer)) ⌝ }
+fn place_in_page(body: &mut [u8], mark: &mut u64, free: &mut [u64; 9], fks: &[u64]) -> PlaceList
+    requires { ⌜ ToPlaceInPage (space (now body) (now mark) (now free)) (now fks) ⌝ }
+    ensures { λ r. ⌜ Places (placesInto (space (now (body .entry)) (now (mark .entry)) (now (free .entry))) (now (fks .entry)) none)
+        (space (now (body .entry)) (now (mark .entry)) (now (free .entry)))
+        (space (now (body .exit)) (now (mark .exit)) (now (free .exit))) (placeAnswer r) ⌝ }
 {
-    let taken = book_space::take_block(body, state, SH_PAGE_SLAB_CLASS);
-    let state = taken.state;
-    let answer = taken.answer;
+    let answer = book_space::take_block(body, mark, free, SH_PAGE_SLAB_CLASS);
     let TakeBlock::At(off) = answer else {
-        return AfterPlace {
-            answer: PlaceList::Refused(answer.refusal()),
-            state,
-        };
+        return PlaceList::Refused(answer.refusal());
     };
     let count = fks.len() as u32;
     book_blocks::put_last_page(body, off as usize, fks, off, off, 1, count);
-    AfterPlace {
-        answer: PlaceList::At(ShHeadValue::Extent { last_page: off }),
-        state,
-    }
+    PlaceList::At(ShHeadValue::Extent { last_page: off })
 }
 
 // Writes a list of 2 to 257 numbers to where lists move: a taken slab of the class for it, or else a taken page.
-pub fn move_list(body: &mut [u8], state: State, fks: &[u64]) -> AfterPlace
-    requires { ⌜ ToMove (spaceOf (now body) state) (now fks) ⌝ }
-    ensures { λ r. ⌜ Places (placesInto (spaceOf (now (body .entry)) state) (now (fks .entry))
-        (movesTo (length (now (fks .entry))) (streamLen (now (fks .entry))))) (spaceOf (now (body .entry)) state)
-        (spaceOf (now (body .exit)) (r .state)) (placeAnswer (r .answer)) ⌝ }
+pub fn move_list(body: &mut [u8], mark: &mut u64, free: &mut [u64; 9], fks: &[u64]) -> PlaceList
+    requires { ⌜ ToMove (space (now body) (now mark) (now free)) (now fks) ⌝ }
+    ensures { λ r. ⌜ Places (placesInto (space (now (body .entry)) (now (mark .entry)) (now (free .entry))) (now (fks .entry))
+        (movesTo (length (now (fks .entry))) (streamLen (now (fks .entry)))))
+        (space (now (body .entry)) (now (mark .entry)) (now (free .entry)))
+        (space (now (body .exit)) (now (mark .exit)) (now (free .exit))) (placeAnswer r) ⌝ }
 {
     let bytes = compact_len(fks);
     let class = book_rules::moves_to(fks.len(), bytes);
     match class {
-        SlabClass::Class(class) => place_in_slab(body, state, fks, class),
-        SlabClass::Nothing => place_in_page(body, state, fks),
+        SlabClass::Class(class) => place_in_slab(body, mark, free, fks, class),
+        SlabClass::Nothing => place_in_page(body, mark, free, fks),
     }
 }
 

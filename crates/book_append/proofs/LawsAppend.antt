@@ -44,6 +44,7 @@ use Rattle.book.specs.Book.{Book, Outcome, wordOf, onKey, seen}
 use Rattle.book_append.specs.Appends.{appending, movesInto, moves, appendSlab, growChain, appendPage, appendAt, appends}
 use Rattle.book.specs.Steps.{Placed, placesInto, Does}
 use Rattle.book_append.specs.Steps.{ToAppend, SlabMoves, ChainGrows}
+use Rattle.book.proofs.LawsKey.{does-no}
 use Rattle.book.proofs.LawsPlace.{stream-at-most}
 
 -- ---- what an append does
@@ -52,6 +53,10 @@ use Rattle.book.proofs.LawsPlace.{stream-at-most}
 pub does-as : {a same : Answer (Outcome Appended)} {before after : Book} {tells : Answer Appended} → a ≡ same → Does same before after tells
     → Does a before after tells
 does-as e d = rw e d
+
+-- A refused append tells its number and leaves the book.
+pub does-none : (b : Book) {a : Answer (Outcome Appended)} {number : ℕ} → a ≡ refused number → Does a b b (refused number)
+does-none b {a} {number} e = does-no b b (refused number) a e refl refl
 
 -- One number fits a last page.
 pub one-fits : (n : ℕ) → 0 < n → n < 2 ^ 62 → PageNumbers lastPageRoom (n ∷ [])

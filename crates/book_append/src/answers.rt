@@ -1,8 +1,7 @@
-// What an append answers, and the state beside its answer.
+// What an append answers.
 ghost use mathlib.Core.Path.{_≡_};
 ghost use Rattle.error.specs.Refusal.{refusalOf};
 ghost use Rattle.book_append.specs.Answers.{appendAnswer};
-use book_space::State;
 use error::Refusal;
 use scripthash_layout::ShHeadValue;
 
@@ -16,12 +15,6 @@ pub struct AppendedTo {
 pub enum BookAppend {
     Appended(AppendedTo),
     Refused(Refusal),
-}
-
-// The answer of an append, and the state after it.
-pub struct AfterAppend {
-    pub answer: BookAppend,
-    pub state: State,
 }
 
 impl BookAppend {

@@ -2,7 +2,6 @@
 mod answers;
 mod appending;
 
-pub use answers::AfterAppend;
 pub use answers::AppendedTo;
 pub use answers::BookAppend;
 pub use appending::append;

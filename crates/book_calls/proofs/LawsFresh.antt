@@ -19,12 +19,10 @@ use Rattle.plain_book.specs.Book.{fresh as plainFresh, answers as plainAnswers,
 use Rattle.plain_book.proofs.LawsPadded.{unpadded-fresh}
 use Rattle.plain_book.proofs.LawsRecorded.{recorded-fresh}
 use Rattle.plain_book.proofs.LawsGood.{shapes-kept}
-use Rattle.book_space.specs.declared.State.{State}
 use Rattle.book.specs.Book.{Book, fresh, onKey}
 use Rattle.book_start.specs.Making.{makesFresh, madeAfter}
 use Rattle.book_read.specs.Reads.{reads}
 use Rattle.book_history.specs.Calls.{asks, serves, after, answers}
-use Rattle.book.specs.Answers.{bookOf}
 use Rattle.book_history.specs.Standing.{Standing}
 use Rattle.book_history.proofs.Demand3.{demand-3}
 use Rattle.book_space.specs.Space.{markBad, shapeBroken}
@@ -36,7 +34,7 @@ use Rattle.book_words.proofs.LawsWords.{some-inj, none≢some}
 use Rattle.book_calls.specs.Flat.{answersSpelled}
 use Rattle.book_calls.specs.Steps.{isSome, AllDone}
 use Rattle.book_calls.proofs.LawsFlat.{after-flat, answers-flat}
-use Rattle.book_calls.specs.Runs.{plainWords, runs, wordsAfter, noState, madeOf, leftBy, Runs}
+use Rattle.book_calls.specs.Runs.{plainWords, runs, wordsAfter, madeOf, leftBy, sizeOf, keysOf, Runs}
 use Rattle.book_calls.specs.declared.runs.RunCalls.the-variants.{Ran, Unspelled, Refused}
 
 -- ---- the book that the calls are run on
@@ -58,54 +56,53 @@ same-unshaped b other (change c ∷ cs) e f =
     ∙ ap (changed (refused shapeBad)) (same-unshaped b other cs e f)
     ∙ sym (ap (λ (a : Answer (OutcomeOf Book (Made c))). changed (answerOf a) (answersTo serves (bookAfter other a) cs)) (bytes-unshaped other c f))
 
-module _ (body heads : List ℕ) (s : State) (made : Book)
-    (is : made ≡ madeAfter (bookOf body heads s) (makesFresh (bookOf body heads s))) where
+module _ (b made : Book) (is : made ≡ madeOf b) where
+  abbrev body : List ℕ
+  body = b .space .body
+
+  abbrev keys : ℕ
+  keys = length (b .heads)
+
   -- in shape it is a fresh book, and else it is as it was
-  made-fresh : outOfShape (length body) (length heads) ≡ false → made ≡ fresh body (length heads)
+  made-fresh : outOfShape (length body) keys ≡ false → made ≡ fresh body keys
   unfolding makesFresh madeAfter refuseIf
   made-fresh e = is ∙ rw e
 
-  made-still : outOfShape (length body) (length heads) ≡ true → made ≡ bookOf body heads s
+  made-still : outOfShape (length body) keys ≡ true → made ≡ b
   unfolding makesFresh madeAfter refuseIf
   made-still e = is ∙ rw e
 
   -- The answers on it are the plain book's.
-  pub made-answers : (cs : List Call) → answers made cs ≡ plainAnswers (plainFresh (length body) (length heads)) cs
-  made-answers cs = by (outOfShape (length body) (length heads)) refl
+  pub made-answers : (cs : List Call) → answers made cs ≡ plainAnswers (plainFresh (length body) keys) cs
+  made-answers cs = by (outOfShape (length body) keys) refl
     where
-      by : (t : Bool) → outOfShape (length body) (length heads) ≡ t
-          → answers made cs ≡ plainAnswers (plainFresh (length body) (length heads)) cs
+      by : (t : Bool) → outOfShape (length body) keys ≡ t → answers made cs ≡ plainAnswers (plainFresh (length body) keys) cs
       by true e =
-          ap (λ (b : Book). answers b cs) (made-still e)
-          ∙ same-unshaped (bookOf body heads s) (fresh body (length heads)) cs e
-          (ap (outOfShape (length body)) (length-replicate (length heads) 0) ∙ e)
-          ∙ demand-3 body (length heads) cs .0
-      by false e = ap (λ (b : Book). answers b cs) (made-fresh e) ∙ demand-3 body (length heads) cs .0
+          ap (λ (x : Book). answers x cs) (made-still e)
+          ∙ same-unshaped b (fresh body keys) cs e (ap (outOfShape (length body)) (length-replicate keys 0) ∙ e)
+          ∙ demand-3 body keys cs .0
+      by false e = ap (λ (x : Book). answers x cs) (made-fresh e) ∙ demand-3 body keys cs .0
 
   -- Afterwards it stands as the plain book does.
-  pub made-stands : (cs : List Call) (left : Book) → left ≡ after made cs → outOfShape (length body) (length heads) ≡ false
-      → Standing (plainAfter (plainFresh (length body) (length heads)) cs) left
+  pub made-stands : (cs : List Call) (left : Book) → left ≡ after made cs → outOfShape (length body) keys ≡ false
+      → Standing (plainAfter (plainFresh (length body) keys) cs) left
   made-stands cs left l e =
-      subst (Standing (plainAfter (plainFresh (length body) (length heads)) cs))
-      (sym (l ∙ ap (λ (b : Book). after b cs) (made-fresh e))) (demand-3 body (length heads) cs .1)
+      subst (Standing (plainAfter (plainFresh (length body) keys) cs))
+      (sym (l ∙ ap (λ (x : Book). after x cs) (made-fresh e))) (demand-3 body keys cs .1)
 
   -- Afterwards each key reads as what is recorded for it.
-  pub made-records : (cs : List Call) (left : Book) → left ≡ after made cs → outOfShape (length body) (length heads) ≡ false
-      → (key room : ℕ) → key < length heads
-      → length (recorded key (plainAnswers (plainFresh (length body) (length heads)) cs) []) ≤ room
-      → (pages : ℕ)
-      × (reads left key room
-      ≡ accepted (listing (recorded key (plainAnswers (plainFresh (length body) (length heads)) cs) []) pages 0))
+  pub made-records : (cs : List Call) (left : Book) → left ≡ after made cs → outOfShape (length body) keys ≡ false
+      → (key room : ℕ) → key < keys → length (recorded key (plainAnswers (plainFresh (length body) keys) cs) []) ≤ room
+      → (pages : ℕ) × (reads left key room ≡ accepted (listing (recorded key (plainAnswers (plainFresh (length body) keys) cs) []) pages 0))
   made-records cs left l e key room within fits =
-      let plain = plainFresh (length body) (length heads) in
+      let plain = plainFresh (length body) keys in
       let then = plainAfter plain cs in
-      let is-after : left ≡ after (fresh body (length heads)) cs = l ∙ ap (λ (b : Book). after b cs) (made-fresh e) in
-      let stands : Standing then left = subst (Standing then) (sym is-after) (demand-3 body (length heads) cs .1) in
-      let list = recorded-fresh (length body) (length heads) key cs in
-      let (size, keys) = shapes-kept plain cs in
-      let count : length (then .keys) ≡ length heads = keys ∙ length-replicate (length heads) _ in
+      let stands = made-stands cs left l e in
+      let list = recorded-fresh (length body) keys key cs in
+      let (size, same) = shapes-kept plain cs in
+      let count : length (then .keys) ≡ keys = same ∙ length-replicate keys _ in
       let told = stands .reads key room (rw (size, count) e) (rw count within) (rw list fits) in
-      (pagesOf (keyOf key then .place), told ∙ rw (list, unpadded-fresh (length body) (length heads) key cs))
+      (pagesOf (keyOf key then .place), told ∙ rw (list, unpadded-fresh (length body) keys key cs))
 
 -- ---- the three ways out
 
@@ -118,27 +115,26 @@ pub was-none : (o : Option (List SpelledCall)) → isSome o ≡ false → o ≡ 
 was-none none e = refl
 was-none (some cs) e = absurd (true≢false e)
 
-module _ (body heads calls out : List ℕ) where
-  pub unspelled : (s : State) → s ≡ noState → callsOf calls ≡ none
-      → Runs body heads calls out (record { answer = Unspelled; state = s }) body heads out
+module _ (b : Book) (calls out : List ℕ) where
+  pub unspelled : callsOf calls ≡ none → Runs b calls out Unspelled b out
   unfolding runs wordsAfter leftBy
-  unspelled s z e =
+  unspelled e =
       record {
         answer = rw e;
         words = rw e;
-        left = rw e (ap (bookOf body heads) z);
+        left = rw e;
         stands = λ cs f. absurd (none≢some (sym e ∙ f));
         records = λ cs f. absurd (none≢some (sym e ∙ f));
       }
 
-  pub too-short : (s : State) → s ≡ noState → (cs : List SpelledCall) → callsOf calls ≡ some cs → leb (answersRoom cs) (length out) ≡ false
-      → Runs body heads calls out (record { answer = Refused listTooShort; state = s }) body heads out
+  pub too-short : (cs : List SpelledCall) → callsOf calls ≡ some cs → leb (answersRoom cs) (length out) ≡ false
+      → Runs b calls out (Refused listTooShort) b out
   unfolding runs wordsAfter leftBy
-  too-short s z cs e l =
+  too-short cs e l =
       record {
         answer = rw (e, l);
         words = rw (e, l);
-        left = rw (e, l) (ap (bookOf body heads) z);
+        left = rw (e, l);
         stands =
             λ ds f fits. absurd
             (true≢false (sym (le-leb (answersRoom ds) (length out) fits)
@@ -149,21 +145,20 @@ module _ (body heads calls out : List ℕ) where
             ∙ ap (λ (x : List SpelledCall). leb (answersRoom x) (length out)) (some-inj (sym f ∙ e)) ∙ l));
       }
 
-  pub all-ran : (s : State) → s ≡ noState → (left : State) (made : Book) (cs : List SpelledCall) (body' heads' out' : List ℕ) (len : ℕ)
-      → callsOf calls ≡ some cs
+  pub all-ran : (left made : Book) (cs : List SpelledCall) (out' : List ℕ) (len : ℕ) → callsOf calls ≡ some cs
       → leb (answersRoom cs) (length out) ≡ true
-      → made ≡ madeAfter (bookOf body heads s) (makesFresh (bookOf body heads s)) → AllDone made cs out (bookOf body' heads' left) out' len
-      → Runs body heads calls out (record { answer = Ran len; state = left }) body' heads' out'
+      → made ≡ madeOf b → AllDone made cs out left out' len → Runs b calls out (Ran len) left out'
   unfolding runs wordsAfter leftBy
-  all-ran s z left made cs body' heads' out' len e l is d =
-      let is-made : made ≡ madeOf body heads = is ∙ ap (λ (t : State). madeAfter (bookOf body heads t) (makesFresh (bookOf body heads t))) z in
-      let same = answers-flat made cs ∙ ap (flat cs) (made-answers body heads s made is (callsIn cs)) in
-      let words : spellAnswers (answersSpelled made cs) ≡ plainWords (length body) (length heads) cs = ap spellAnswers same in
-      let ends : bookOf body' heads' left ≡ after made (callsIn cs) = d .left-is ∙ after-flat made cs in
+  all-ran left made cs out' len e l is d =
+      let same = answers-flat made cs ∙ ap (flat cs) (made-answers b made is (callsIn cs)) in
+      let words : spellAnswers (answersSpelled made cs) ≡ plainWords (sizeOf b) (keysOf b) cs = ap spellAnswers same in
+      let ends : left ≡ after made (callsIn cs) = d .left-is ∙ after-flat made cs in
+      let ran : (ds : List SpelledCall) → callsOf calls ≡ some ds → left ≡ after made (callsIn ds) =
+      λ ds f. ends ∙ ap (λ (x : List SpelledCall). after made (callsIn x)) (some-inj (sym e ∙ f)) in
       record {
         answer = rw (e, l) (ap Ran (d .count ∙ ap length words));
         words = rw (e, l) (d .words ∙ ap (overwrite out 0) words);
-        left = rw (e, l) (ends ∙ ap (λ (b : Book). after b (callsIn cs)) is-made);
-        stands = λ ds f fits shape. made-stands body heads s made is (callsIn ds) _ (ends ∙ ap (λ (x : List SpelledCall). after made (callsIn x)) (some-inj (sym e ∙ f))) shape;
-        records = λ ds f fits shape. made-records body heads s made is (callsIn ds) _ (ends ∙ ap (λ (x : List SpelledCall). after made (callsIn x)) (some-inj (sym e ∙ f))) shape;
+        left = rw (e, l) (ends ∙ ap (λ (x : Book). after x (callsIn cs)) is);
+        stands = λ ds f fits shape. made-stands b made is (callsIn ds) left (ran ds f) shape;
+        records = λ ds f fits shape. made-records b made is (callsIn ds) left (ran ds f) shape;
       }

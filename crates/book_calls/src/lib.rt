@@ -5,6 +5,5 @@ mod running;
 mod runs;
 mod words;
 
-pub use runs::AfterRun;
 pub use runs::RunCalls;
 pub use runs::run_calls;

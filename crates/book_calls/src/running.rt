@@ -1,7 +1,7 @@
 // Running calls, one by one: each is read from its words, done on the book, and its answer's words are written.
 ghost use mathlib.Core.List.{List};
 ghost use mathlib.Core.Path.{_≡_};
-ghost use Prim.Native.Nat.{_+_, _≤_};
+ghost use Prim.Native.Nat.{ℕ, _+_, _≤_};
 ghost use mathlib.Core.Option.{some};
 ghost use lib.ListN.{length, drop};
 ghost use Rattle.error.specs.Refusal.{answered};
@@ -23,105 +23,90 @@ use crate::words::fit_of;
 use crate::words::is_load;
 use crate::words::next_call;
 use book_rules::SlabFit;
-use book_space::State;
-
-// After a call, or some: how many words were written, and the state.
-pub struct AfterCall {
-    pub len: usize,
-    pub state: State,
-}
 
 // Loads a list onto a key.
 fn run_load(
     body: &mut [u8],
     heads: &mut [u64],
-    state: State,
+    mark: &mut u64,
+    free: &mut [u64; 9],
     fit: SlabFit,
     key: u64,
     numbers: &[u64],
     out: &mut [u64],
-) -> AfterCall
+) -> usize
     requires { ⌜ 3 ≤ length (now out) ⌝ }
-    ensures { λ r. ⌜ Done (bookOf (now (body .entry)) (now (heads .entry)) state) (Calls.load fit key (now (numbers .entry))) (now (out .entry))
-        (bookOf (now (body .exit)) (now (heads .exit)) (r .state)) (now (out .exit)) (r .len) ⌝ }
+    ensures { λ r. ⌜ Done (bookOf (now (body .entry)) (now (heads .entry)) (now (mark .entry)) (now (free .entry)))
+        (Calls.load fit key (now (numbers .entry))) (now (out .entry))
+        (bookOf (now (body .exit)) (now (heads .exit)) (now (mark .exit)) (now (free .exit))) (now (out .exit)) r ⌝ }
 {
-    let after = book_load::load(body, heads, state, fit, key, numbers);
-    let next = after.state;
-    let answer = after.answer;
-    let len = put_load(out, answer);
-    AfterCall { len, state: next }
+    let answer = book_load::load(body, heads, mark, free, fit, key, numbers);
+    put_load(out, answer)
 }
 
 // Appends a number to a key.
 fn run_append(
     body: &mut [u8],
     heads: &mut [u64],
-    state: State,
+    mark: &mut u64,
+    free: &mut [u64; 9],
     key: u64,
     n: u64,
     out: &mut [u64],
-) -> AfterCall
+) -> usize
     requires { ⌜ 7 ≤ length (now out) ⌝ }
-    ensures { λ r. ⌜ Done (bookOf (now (body .entry)) (now (heads .entry)) state) (Calls.append key n) (now (out .entry))
-        (bookOf (now (body .exit)) (now (heads .exit)) (r .state)) (now (out .exit)) (r .len) ⌝ }
+    ensures { λ r. ⌜ Done (bookOf (now (body .entry)) (now (heads .entry)) (now (mark .entry)) (now (free .entry)))
+        (Calls.append key n) (now (out .entry))
+        (bookOf (now (body .exit)) (now (heads .exit)) (now (mark .exit)) (now (free .exit))) (now (out .exit)) r ⌝ }
 {
-    let after = book_append::append(body, heads, state, key, n);
-    let next = after.state;
-    let answer = after.answer;
-    let len = put_append(out, answer);
-    AfterCall { len, state: next }
+    let answer = book_append::append(body, heads, mark, free, key, n);
+    put_append(out, answer)
 }
 
 // Drops a key.
 fn run_drop(
     body: &mut [u8],
     heads: &mut [u64],
-    state: State,
+    mark: &mut u64,
+    free: &mut [u64; 9],
     key: u64,
     out: &mut [u64],
-) -> AfterCall
+) -> usize
     requires { ⌜ 3 ≤ length (now out) ⌝ }
-    ensures { λ r. ⌜ Done (bookOf (now (body .entry)) (now (heads .entry)) state) (Calls.drop key) (now (out .entry))
-        (bookOf (now (body .exit)) (now (heads .exit)) (r .state)) (now (out .exit)) (r .len) ⌝ }
+    ensures { λ r. ⌜ Done (bookOf (now (body .entry)) (now (heads .entry)) (now (mark .entry)) (now (free .entry)))
+        (Calls.drop key) (now (out .entry))
+        (bookOf (now (body .exit)) (now (heads .exit)) (now (mark .exit)) (now (free .exit))) (now (out .exit)) r ⌝ }
 {
-    let after = book_drop::drop(body, heads, state, key);
-    let next = after.state;
-    let answer = after.answer;
-    let len = put_drop(out, answer);
-    AfterCall { len, state: next }
+    let answer = book_drop::drop(body, heads, mark, free, key);
+    put_drop(out, answer)
 }
 
 // Reads a key: its list goes behind the four words of the answer, with the room that was asked for.
-fn run_read(
-    body: &[u8],
-    heads: &[u64],
-    state: State,
-    key: u64,
-    room: usize,
-    out: &mut [u64],
-) -> usize
+fn run_read(body: &[u8], heads: &[u64], mark: u64, key: u64, room: usize, out: &mut [u64]) -> usize
     requires { ⌜ 5 + room ≤ length (now out) ⌝ }
-    ensures { λ r. ⌜ Answered (answered listed (reads (bookOf (now (body .entry)) (now (heads .entry)) state) key room)) (now (out .entry))
-        (now (out .exit)) r ⌝ }
+    ensures { λ r. ⌜ ((free : List ℕ)
+        → Answered (answered listed (reads (bookOf (now (body .entry)) (now (heads .entry)) mark free) key room)) (now (out .entry))
+        (now (out .exit)) r) ⌝ }
 {
     let end = 5 + room;
-    let answer = book_read::read(body, heads, state, key, &mut out[5..end]);
+    let answer = book_read::read(body, heads, mark, key, &mut out[5..end]);
     put_read(out, answer)
 }
 
-// Runs the call whose words begin at an index.
+// Runs the call whose words begin at an index, and tells how many words its answer has.
 fn run_call(
     body: &mut [u8],
     heads: &mut [u64],
-    state: State,
+    mark: &mut u64,
+    free: &mut [u64; 9],
     calls: &[u64],
     at: usize,
     out: &mut [u64],
-) -> AfterCall
+) -> usize
     requires { ⌜ CallHere (now calls) at (length (now out)) ⌝ }
     ensures { λ r. ⌜ ((b : Begins SpelledCall) → callAt (drop at (now (calls .entry))) ≡ some b
-        → Done (bookOf (now (body .entry)) (now (heads .entry)) state) (b .first) (now (out .entry))
-        (bookOf (now (body .exit)) (now (heads .exit)) (r .state)) (now (out .exit)) (r .len)) ⌝ }
+        → Done (bookOf (now (body .entry)) (now (heads .entry)) (now (mark .entry)) (now (free .entry))) (b .first) (now (out .entry))
+        (bookOf (now (body .exit)) (now (heads .exit)) (now (mark .exit)) (now (free .exit))) (now (out .exit)) r) ⌝ }
 {
     let kind = calls[at];
     let key = calls[at + 1];
@@ -130,50 +115,40 @@ fn run_call(
         let fit = fit_of(kind);
         let from = at + 3;
         let end = from + third as usize;
-        return run_load(body, heads, state, fit, key, &calls[from..end], out);
+        return run_load(body, heads, mark, free, fit, key, &calls[from..end], out);
     }
     if kind == APPEND {
-        return run_append(body, heads, state, key, third, out);
+        return run_append(body, heads, mark, free, key, third, out);
     }
     if kind == READ {
-        let len = run_read(body, heads, state, key, third as usize, out);
-        return AfterCall { len, state };
+        return run_read(body, heads, *mark, key, third as usize, out);
     }
-    run_drop(body, heads, state, key, out)
+    run_drop(body, heads, mark, free, key, out)
 }
 
-// Runs all calls that some words spell, whose answers have room.
+// Runs all calls that some words spell, whose answers have room, and tells how many words these have.
 pub fn run_spelled(
     body: &mut [u8],
     heads: &mut [u64],
-    state: State,
+    mark: &mut u64,
+    free: &mut [u64; 9],
     calls: &[u64],
     out: &mut [u64],
-) -> AfterCall
+) -> usize
     requires { ⌜ Spelled (now calls) (length (now out)) ⌝ }
     ensures { λ r. ⌜ ((cs : List SpelledCall) → callsOf (now (calls .entry)) ≡ some cs
-        → AllDone (bookOf (now (body .entry)) (now (heads .entry)) state) cs (now (out .entry))
-        (bookOf (now (body .exit)) (now (heads .exit)) (r .state)) (now (out .exit)) (r .len)) ⌝ }
+        → AllDone (bookOf (now (body .entry)) (now (heads .entry)) (now (mark .entry)) (now (free .entry))) cs (now (out .entry))
+        (bookOf (now (body .exit)) (now (heads .exit)) (now (mark .exit)) (now (free .exit))) (now (out .exit)) r) ⌝ }
 {
-    let mut current = state;
     let mut at: usize = 0;
     let mut to: usize = 0;
     while at < calls.len() {
         let next = next_call(calls, at);
         let NextCall::At(behind) = next else {
-            return AfterCall {
-                len: to,
-                state: current,
-            };
+            return to;
         };
-        let after = run_call(body, heads, current, calls, at, &mut out[to..]);
-        let left = after.state;
-        current = left;
-        to += after.len;
+        to += run_call(body, heads, mark, free, calls, at, &mut out[to..]);
         at = behind;
     }
-    AfterCall {
-        len: to,
-        state: current,
-    }
+    to
 }

@@ -19,7 +19,7 @@ use Rattle.scripthash_stream.specs.Stream.{Scan, lastFrom}
 use Rattle.scripthash_fields.specs.Page.{linkOf, linkOffset}
 use Rattle.scripthash_free.specs.FreeList.{isBlock, Within}
 use Rattle.scripthash_free.proofs.LawsBlock.{block-stands}
-use Rattle.book_rules.specs.Outcomes.{droppedOf}
+use Rattle.book_rules.specs.Outcomes.{droppedOf, Dropped}
 use Rattle.book_space.specs.Space.{Space, shapeBroken, release}
 use Rattle.book_space.proofs.LawsLists.{stands-further, each-one}
 use Rattle.book_space.proofs.LawsTake.{InBody, release-none, release-first, release-mark, release-size, release-outside}
@@ -29,13 +29,19 @@ use Rattle.book_keys.proofs.LawsPages.{link-sound}
 use Rattle.book_keys.proofs.LawsWalk.{Ends, GoesOn, walk-step}
 use Rattle.book_keys.proofs.LawsContent.{content-at, content-nowhere}
 use Rattle.book_keys.proofs.LawsDistinct.{page-once, SameBehind, walk-same}
-use Rattle.book.specs.Book.{Book, wordOf, headWord, placing, seen}
+use Rattle.book.specs.Book.{Book, Outcome, wordOf, headWord, placing, seen}
 use Rattle.book_drop.specs.Drops.{drops}
 use Rattle.book_drop.specs.Steps.{dropping, dropsAt}
 use Rattle.book_keys.specs.Steps.{PagesLeft}
-use Rattle.book.proofs.LawsKey.{key-broken, key-beyond, key-there}
+use Rattle.book.specs.Steps.{Does}
+use Rattle.book.proofs.LawsKey.{key-broken, key-beyond, key-there, does-no}
 
 -- ---- a key's drop
+
+-- A drop that is refused and leaves the book.
+pub ends-refused : (b : Book) (outcome : Answer (Outcome Dropped)) {number : ℕ} → outcome ≡ refused number
+    → Does outcome b b (refused number)
+ends-refused b outcome e = does-no b b _ outcome e refl refl
 
 -- The word of an empty key.
 pub empty-word : headWord Empty ≡ 0

@@ -30,6 +30,7 @@ use Rattle.book.specs.Book.{Book, Outcome, wordOf, onKey, filled}
 use Rattle.book_load.specs.Loads.{loading, lastOfRun, loadInto, loadAt, loads}
 use Rattle.book.specs.Steps.{Placed, placesInto, Does}
 use Rattle.book_load.specs.Steps.{Judged, Parts}
+use Rattle.book.proofs.LawsKey.{does-no}
 
 -- ---- how a call ends
 
@@ -38,6 +39,11 @@ pub ends-same : (b : Book) (outcome : Answer (Outcome Loaded)) → outcome ≡ a
     → Does outcome b b (accepted (loadedIn 0))
 unfolding bookAfter answered
 ends-same b outcome e = rw e record { told = refl; left = refl }
+
+-- A load that is refused and leaves the book.
+pub ends-refused : (b : Book) (outcome : Answer (Outcome Loaded)) {number : ℕ} → outcome ≡ refused number
+    → Does outcome b b (refused number)
+ends-refused b outcome e = does-no b b _ outcome e refl refl
 
 -- ---- a slab
 

@@ -1,20 +1,13 @@
-// What a load answers, and the state beside its answer.
+// What a load answers.
 ghost use mathlib.Core.Path.{_≡_};
 ghost use Rattle.error.specs.Refusal.{refusalOf};
 ghost use Rattle.book_load.specs.Answers.{loadAnswer};
-use book_space::State;
 use error::Refusal;
 
 // What a load answers: the pages of its run, else 0.
 pub enum BookLoad {
     Loaded(u64),
     Refused(Refusal),
-}
-
-// The answer of a load, and the state after it.
-pub struct AfterLoad {
-    pub answer: BookLoad,
-    pub state: State,
 }
 
 impl BookLoad {

@@ -2,6 +2,5 @@
 mod answers;
 mod loading;
 
-pub use answers::AfterLoad;
 pub use answers::BookLoad;
 pub use loading::load;

@@ -1,4 +1,6 @@
 // Reading a key's list.
+ghost use Prim.Native.Nat.{ℕ};
+ghost use mathlib.Core.List.{List};
 ghost use mathlib.Core.Path.{_≡_};
 ghost use lib.ListN.{length};
 ghost use Rattle.error.specs.Refusal.{answered};
@@ -7,24 +9,23 @@ ghost use Rattle.book.specs.Answers.{bookOf};
 ghost use Rattle.book_read.specs.Answers.{readAnswer, countedOf};
 use crate::answers::BookRead;
 use book_keys::KeyCounts;
-use book_space::State;
 
-// Reads the list of a key into the start of a lent list: all of the key is judged before the lent list, which is left where the read is
-// refused.
-pub fn read(body: &[u8], heads: &[u64], state: State, key: u64, out: &mut [u64]) -> BookRead
-    ensures answer { λ r. ⌜ readAnswer r
-        ≡ answered countedOf (reads (bookOf (now (body .entry)) (now (heads .entry)) state) key (length (now (out .entry)))) ⌝ }
-    ensures list { λ r. ⌜ now (out .exit)
-        ≡ listAfter (now (out .entry)) (reads (bookOf (now (body .entry)) (now (heads .entry)) state) key (length (now (out .entry)))) ⌝ }
+// Reads the list of a key into the start of a lent list, whatever the free heads are: all of the key is judged before the lent list, which
+// is left where the read is refused.
+pub fn read(body: &[u8], heads: &[u64], mark: u64, key: u64, out: &mut [u64]) -> BookRead
+    ensures answer { λ r. ⌜ ((free : List ℕ) → readAnswer r
+        ≡ answered countedOf (reads (bookOf (now (body .entry)) (now (heads .entry)) mark free) key (length (now (out .entry))))) ⌝ }
+    ensures list { λ r. ⌜ ((free : List ℕ) → now (out .exit)
+        ≡ listAfter (now (out .entry))
+        (reads (bookOf (now (body .entry)) (now (heads .entry)) mark free) key (length (now (out .entry))))) ⌝ }
 {
-    if book_space::shape_broken(body, heads.len(), state) {
+    if book_space::shape_broken(body, heads.len(), mark) {
         return BookRead::Refused(error::SHAPE_BAD);
     }
     if heads.len() as u64 <= key {
         return BookRead::Refused(error::KEY_BEYOND);
     }
     let word = heads[key as usize];
-    let mark = state.mark;
     let counts = book_keys::read_key(body, mark, word, out);
     let KeyCounts::Counts {
         length,

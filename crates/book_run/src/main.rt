@@ -51,8 +51,9 @@ fn show(answer: RunCalls, answers: &[u64]) {
 
 // Runs the calls of some words.
 fn run(body: &mut [u8], heads: &mut [u64], calls: &[u64], answers: &mut [u64]) {
-    let after = book_calls::run_calls(body, heads, calls, answers);
-    let answer = after.answer;
+    let mut mark: u64 = 0;
+    let mut free = [0u64; 9];
+    let answer = book_calls::run_calls(body, heads, &mut mark, &mut free, calls, answers);
     show(answer, answers);
 }
 

@@ -1,6 +1,5 @@
 // What a book holds: the place of each key, the mark and the freed blocks.
 use crate::said;
-use book_space::State;
 use scripthash_layout::Unpacked;
 
 // Writes the place that a head word stores.
@@ -76,9 +75,8 @@ fn show_free(body: &[u8], free: [u64; 9]) {
 }
 
 // Writes the mark, and the freed blocks of each class.
-pub fn space(body: &[u8], state: State) {
-    text::named(b"mark ", state.mark);
+pub fn space(body: &[u8], mark: u64, free: [u64; 9]) {
+    text::named(b"mark ", mark);
     text::end();
-    let free = state.free;
     show_free(body, free);
 }

@@ -10,15 +10,12 @@ use book_rules::SlabFit;
 use book_script::Asked;
 use book_script::Command;
 use book_script::Reading;
-use book_space::State;
-use calls::Done;
 
-// The book of the script: how many bytes and keys were asked for, and the state. A book has no keys until they are asked for. And how many
-// lines were refused and not understood, from the first line on.
+// The book of the script: how many bytes and keys were asked for. A book has no keys until they are asked for. And how many lines were
+// refused and not understood, from the first line on. Body, heads, mark and free heads are lent beside it.
 struct Book {
     size: usize,
     keys: usize,
-    state: State,
     refused: u64,
     unread: u64,
 }
@@ -31,16 +28,9 @@ impl Book {
     }
 
     // A call was done, or refused.
-    fn after(self, done: Done) -> Self {
-        let state = done.state;
-        let more = done.refused as u64;
-        Book {
-            size: self.size,
-            keys: self.keys,
-            state,
-            refused: std::num::wrapping_add_u64(self.refused, more),
-            unread: self.unread,
-        }
+    fn after(mut self, refused: bool) -> Self {
+        self.refused = std::num::wrapping_add_u64(self.refused, refused as u64);
+        self
     }
 
     // A body of a size was asked for, which has no keys yet.
@@ -60,18 +50,23 @@ impl Book {
 
 // Before a script asks for a book.
 fn none() -> Book {
-    let state = memory::no_state();
     Book {
         size: 0,
         keys: 0,
-        state,
         refused: 0,
         unread: 0,
     }
 }
 
 // Keys are asked for, and the book is made fresh, where it has a body.
-fn keyed(asked: Asked, body: &[u8], heads: &mut [u64], book: Book) -> Book {
+fn keyed(
+    asked: Asked,
+    body: &[u8],
+    heads: &mut [u64],
+    mark: &mut u64,
+    free: &mut [u64; 9],
+    book: Book,
+) -> Book {
     let size = book.size;
     let count = asked.first as usize;
     if size == 0 {
@@ -84,51 +79,86 @@ fn keyed(asked: Asked, body: &[u8], heads: &mut [u64], book: Book) -> Book {
     if body.len() < size {
         return book;
     }
-    let done = calls::fresh(&body[0..size], &mut heads[0..count]);
+    let refused = calls::fresh(&body[0..size], &mut heads[0..count], mark, free);
     let keyed = book.with_keys(count);
-    keyed.after(done)
+    keyed.after(refused)
 }
 
 // Shows what a book holds: a key's list, places, or the space; or says whether it is a good start. Tells whether that was refused.
-fn look(asked: Asked, list: &mut [u64], body: &[u8], heads: &[u64], state: State) -> bool {
+fn look(
+    asked: Asked,
+    list: &mut [u64],
+    body: &[u8],
+    heads: &[u64],
+    mark: u64,
+    free: [u64; 9],
+) -> bool {
     let what = asked.what;
     match what {
-        Command::Read => calls::read(body, heads, state, asked.first, list, asked.second),
+        Command::Read => calls::read(body, heads, mark, asked.first, list, asked.second),
         Command::Places => {
             book_script::places(heads);
             false
         }
-        Command::Check => calls::check(body, heads, state),
+        Command::Check => calls::check(body, heads, mark, free),
         _ => {
-            book_script::space(body, state);
+            book_script::space(body, mark, free);
             false
         }
     }
 }
 
-// Does what is asked for on the book's own bytes and heads.
-fn act(asked: Asked, list: &mut [u64], body: &mut [u8], heads: &mut [u64], state: State) -> Done {
+// Does what is asked for on the book's own bytes and heads, and tells whether it was refused.
+fn act(
+    asked: Asked,
+    list: &mut [u64],
+    body: &mut [u8],
+    heads: &mut [u64],
+    mark: &mut u64,
+    free: &mut [u64; 9],
+) -> bool {
     let what = asked.what;
     match what {
         Command::Load => {
             let numbers = book_script::offered(list, asked.count);
-            calls::load(body, heads, state, SlabFit::Spare, asked.first, numbers)
+            calls::load(
+                body,
+                heads,
+                mark,
+                free,
+                SlabFit::Spare,
+                asked.first,
+                numbers,
+            )
         }
         Command::LoadTight => {
             let numbers = book_script::offered(list, asked.count);
-            calls::load(body, heads, state, SlabFit::Tight, asked.first, numbers)
+            calls::load(
+                body,
+                heads,
+                mark,
+                free,
+                SlabFit::Tight,
+                asked.first,
+                numbers,
+            )
         }
-        Command::Append => calls::append(body, heads, state, asked.first, asked.second),
-        Command::Drop => calls::drop(body, heads, state, asked.first),
-        _ => {
-            let refused = look(asked, list, body, heads, state);
-            Done { state, refused }
-        }
+        Command::Append => calls::append(body, heads, mark, free, asked.first, asked.second),
+        Command::Drop => calls::drop(body, heads, mark, free, asked.first),
+        _ => look(asked, list, body, heads, *mark, *free),
     }
 }
 
 // Does what is asked for on the book, where there is one.
-fn on_book(asked: Asked, list: &mut [u64], body: &mut [u8], heads: &mut [u64], book: Book) -> Book {
+fn on_book(
+    asked: Asked,
+    list: &mut [u64],
+    body: &mut [u8],
+    heads: &mut [u64],
+    mark: &mut u64,
+    free: &mut [u64; 9],
+    book: Book,
+) -> Book {
     let size = book.size;
     let keys = book.keys;
     if keys == 0 {
@@ -141,13 +171,27 @@ fn on_book(asked: Asked, list: &mut [u64], body: &mut [u8], heads: &mut [u64], b
     if heads.len() < keys {
         return book;
     }
-    let before = book.state;
-    let done = act(asked, list, &mut body[0..size], &mut heads[0..keys], before);
-    book.after(done)
+    let refused = act(
+        asked,
+        list,
+        &mut body[0..size],
+        &mut heads[0..keys],
+        mark,
+        free,
+    );
+    book.after(refused)
 }
 
 // Does what is asked for.
-fn answer(asked: Asked, list: &mut [u64], body: &mut [u8], heads: &mut [u64], book: Book) -> Book {
+fn answer(
+    asked: Asked,
+    list: &mut [u64],
+    body: &mut [u8],
+    heads: &mut [u64],
+    mark: &mut u64,
+    free: &mut [u64; 9],
+    book: Book,
+) -> Book {
     let what = asked.what;
     match what {
         Command::Nothing => book,
@@ -157,8 +201,8 @@ fn answer(asked: Asked, list: &mut [u64], body: &mut [u8], heads: &mut [u64], bo
             book
         }
         Command::Body => book.sized(asked.first),
-        Command::Keys => keyed(asked, body, heads, book),
-        _ => on_book(asked, list, body, heads, book),
+        Command::Keys => keyed(asked, body, heads, mark, free, book),
+        _ => on_book(asked, list, body, heads, mark, free, book),
     }
 }
 
@@ -169,10 +213,12 @@ fn line(
     list: &mut [u64],
     body: &mut [u8],
     heads: &mut [u64],
+    mark: &mut u64,
+    free: &mut [u64; 9],
     book: Book,
 ) -> Book {
     let asked = book_script::ask(number, line, list);
-    answer(asked, list, body, heads, book)
+    answer(asked, list, body, heads, mark, free, book)
 }
 
 // Does the line that came, where one did.
@@ -182,11 +228,13 @@ fn step(
     list: &mut [u64],
     body: &mut [u8],
     heads: &mut [u64],
+    mark: &mut u64,
+    free: &mut [u64; 9],
     book: Book,
 ) -> Book {
     if at.has_line {
         let came = book_script::line_of(text, at);
-        return line(at.lines, came, list, body, heads, book);
+        return line(at.lines, came, list, body, heads, mark, free, book);
     }
     book
 }
@@ -199,13 +247,20 @@ fn finish(at: Reading, book: Book) {
 
 // Does a line after the other until no more text comes. A loop that is proved has to end, so its turns are counted, from a number that no
 // run uses up.
-fn run(text: &mut [u8], list: &mut [u64], body: &mut [u8], heads: &mut [u64]) {
+fn run(
+    text: &mut [u8],
+    list: &mut [u64],
+    body: &mut [u8],
+    heads: &mut [u64],
+    mark: &mut u64,
+    free: &mut [u64; 9],
+) {
     let mut at = book_script::begin();
     let mut book = none();
     let mut turns = u64::MAX;
     while 0 < turns {
         at = book_script::turn(text, at);
-        book = step(at, text, list, body, heads, book);
+        book = step(at, text, list, body, heads, mark, free, book);
         if at.ended {
             finish(at, book);
             return;
@@ -219,5 +274,14 @@ fn main() {
     let mut list = memory::numbers();
     let mut body = memory::body_bytes();
     let mut heads = memory::keys();
-    run(&mut text, &mut list, &mut body, &mut heads);
+    let mut mark: u64 = 0;
+    let mut free = [0u64; 9];
+    run(
+        &mut text,
+        &mut list,
+        &mut body,
+        &mut heads,
+        &mut mark,
+        &mut free,
+    );
 }

@@ -6,15 +6,6 @@ use book_script::KEYS;
 use book_script::LINE_BYTES;
 use book_script::NUMBERS;
 use book_script::WORK_BYTES;
-use book_space::State;
-
-// The state of no book.
-pub fn no_state() -> State {
-    State {
-        mark: 0,
-        free: [0; 9],
-    }
-}
 
 // A line's bytes.
 pub fn line_bytes() -> [u8; LINE_BYTES]

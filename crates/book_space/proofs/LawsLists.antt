@@ -9,13 +9,13 @@ use native.Mathlib.Omega.{arith}
 use borrow.Author.Tests.{not-false}
 use lib.Dec.{ltb, eqb}
 use lib.ListN.{length, set, length-set}
-use Rattle.error.specs.Refusal.{accepted, refuseIf, freeHeadBad}
-use Rattle.error.proofs.LawsAnswer.{accepted-inj, passed}
+use Rattle.error.specs.Refusal.{Answer, accepted, refused, refuseIf, answered, freeHeadBad}
+use Rattle.error.proofs.LawsAnswer.{accepted-inj, passed, was-refused}
 use Rattle.buffer.specs.Bytes.{part}
 use Rattle.buffer.specs.LittleEndian.{bytesOf}
 use Rattle.buffer.proofs.LawsOverwrite.{part-before, part-after}
 use Rattle.scripthash_layout.specs.Sizes.{pageClass}
-use Rattle.scripthash_free.specs.FreeList.{Lists, Block, Pop, firstFreed, nextOf, isBlock, pushed, pushAll, popFree, Each, Within}
+use Rattle.scripthash_free.specs.FreeList.{Lists, Block, Pop, firstFreed, nextOf, isBlock, pushed, pushAll, popFree, headsAfter, Each, Within}
 use Rattle.scripthash_free.proofs.LawsBlock.{bytes-from-16, block-stands, stands-block}
 use Rattle.scripthash_free.proofs.LawsFreeList.{length-pushed, length-pushed-heads}
 
@@ -113,3 +113,27 @@ module _ (class mark : ℕ) (l : Lists) where
   pub popped : {p : Pop} → popFree class mark l ≡ accepted p → Popped class mark l p
   unfolding popFree
   popped e = popped-by (ltb pageClass class || eqb (firstFreed class l) 0) e
+
+  -- What a pop answers, by whether there is a block, and whether it is bad.
+  abbrev popping : Bool → Bool → Answer Pop
+  popping none-there bad = cond none-there (accepted nothing) (refuseIf bad freeHeadBad (accepted first))
+
+  -- One that gives no block leaves the free heads.
+  left-by : (none-there bad : Bool) → answered (λ (p : Pop). p .block) (popping none-there bad) ≡ accepted none
+      → headsAfter (popping none-there bad) (l .heads) ≡ l .heads
+  unfolding answered headsAfter refuseIf
+  left-by true bad e = refl
+  left-by false true e = refl
+  left-by false false e = let z : _≡_ {A = ℕ} 0 1 = cc in absurd (omega arith)
+
+  -- A pop that gives no block leaves the free heads.
+  pub left-none : {heads : List ℕ} → answered (λ (p : Pop). p .block) (popFree class mark l) ≡ accepted none
+      → heads ≡ headsAfter (popFree class mark l) (l .heads) → heads ≡ l .heads
+  unfolding popFree
+  left-none e h = h ∙ left-by (ltb pageClass class || eqb (firstFreed class l) 0) (not good) e
+
+  -- A refused pop leaves them too.
+  pub left-refused : {heads : List ℕ} {number : ℕ} → answered (λ (p : Pop). p .block) (popFree class mark l) ≡ refused number
+      → heads ≡ headsAfter (popFree class mark l) (l .heads) → heads ≡ l .heads
+  unfolding headsAfter
+  left-refused e h = h ∙ rw (was-refused (λ (p : Pop). p .block) (popFree class mark l) e)

@@ -3,7 +3,7 @@ use Prim.Native.Nat.{ℕ, _+_, _≤_, _<_}
 use mathlib.Core.List.{List, [], _∷_}
 use mathlib.Core.Option.{none, some}
 use mathlib.Core.Bool.{true}
-use mathlib.Core.Path.{_≡_, refl, sym, ap, _∙_}
+use mathlib.Core.Path.{_≡_, refl, sym, ap, subst, _∙_}
 use borrow.Author.Tests.{lt-ltb, le-ltb, ne-eqb}
 use lib.ListN.{length}
 use Rattle.error.specs.Refusal.{Answer, accepted, refused, answered, noRoom}
@@ -30,6 +30,12 @@ after-refused s a e = rw e
 pub takes-same : {a c : Answer Taken} {before after : Space} {tells : Answer ℕ} → a ≡ c → Takes a before after tells
     → Takes c before after tells
 takes-same e t = rw (sym e) t
+
+-- What a take does with some free heads, it does with others that are the same.
+pub takes-with : (take : Space → Answer Taken) (body : List ℕ) (mark : ℕ) {f g : List ℕ} {after : Space} {tells : Answer ℕ} → f ≡ g
+    → Takes (take (space body mark f)) (space body mark f) after tells → Takes (take (space body mark g)) (space body mark g) after tells
+takes-with take body mark {f} {g} {after} {tells} e t =
+    subst (λ (h : List ℕ). Takes (take (space body mark h)) (space body mark h) after tells) e t
 
 -- A take that is accepted tells its offset, and leaves its space.
 pub takes-yes : (s : Space) (a : Answer Taken) {t : Taken} → a ≡ accepted t → Takes a s (t .space) (accepted (t .off))

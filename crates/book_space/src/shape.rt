@@ -1,9 +1,9 @@
 // The shape of a space: the lengths of its body and of its heads, and its mark.
+ghost use Prim.Native.Nat.{ℕ};
+ghost use mathlib.Core.List.{List};
 ghost use mathlib.Core.Path.{_≡_};
 ghost use Rattle.book_limits.specs.Limits.{outOfShape};
-ghost use Rattle.book_space.specs.Space.{markBad, shapeBroken};
-ghost use Rattle.book_space.specs.Answers.{spaceOf};
-use crate::State;
+ghost use Rattle.book_space.specs.Space.{space, markBad, shapeBroken};
 use scripthash_layout::SH_PAGE_SIZE;
 use scripthash_layout::SH_PREFIX_PAGE;
 
@@ -47,11 +47,11 @@ fn mark_bad(size: u64, mark: u64) -> bool
 }
 
 // Tells whether the shape of a space with so many heads breaks the limits: its lengths, or its mark.
-pub fn shape_broken(body: &[u8], heads: usize, state: State) -> bool
-    ensures { λ r. ⌜ r ≡ shapeBroken (spaceOf (now (body .entry)) state) heads ⌝ }
+pub fn shape_broken(body: &[u8], heads: usize, mark: u64) -> bool
+    ensures { λ r. ⌜ ((free : List ℕ) → r ≡ shapeBroken (space (now (body .entry)) mark free) heads) ⌝ }
 {
     if out_of_shape(body.len(), heads) {
         return true;
     }
-    mark_bad(body.len() as u64, state.mark)
+    mark_bad(body.len() as u64, mark)
 }

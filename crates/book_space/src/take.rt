@@ -3,10 +3,9 @@ ghost use mathlib.Core.Path.{_≡_};
 ghost use Rattle.error.specs.Refusal.{refusalOf};
 ghost use Rattle.scripthash_layout.specs.Sizes.{maxSlabClass, pageClass, slabBytes};
 ghost use Rattle.book_limits.specs.Limits.{pageAfter, gapEnd, popEnd};
-ghost use Rattle.book_space.specs.Space.{takeSlab, takeRun, takeBlock};
-ghost use Rattle.book_space.specs.Answers.{spaceOf, takeAnswer};
+ghost use Rattle.book_space.specs.Space.{space, takeSlab, takeRun, takeBlock};
+ghost use Rattle.book_space.specs.Answers.{takeAnswer};
 ghost use Rattle.book_space.specs.Steps.{ToTake, Takes};
-use crate::State;
 use error::Refusal;
 use scripthash_free::PopFree;
 use scripthash_layout::SH_PAGE_BYTES;
@@ -16,12 +15,6 @@ use scripthash_layout::SH_PAGE_SLAB_CLASS;
 pub enum TakeBlock {
     At(u64),
     Refused(Refusal),
-}
-
-// The answer of a take, and the state after it.
-pub struct AfterTake {
-    pub answer: TakeBlock,
-    pub state: State,
 }
 
 impl TakeBlock {
@@ -65,79 +58,60 @@ fn pop_end(class: u8, mark: u64) -> u64
 
 // Takes a run of pages at the mark, rounded up to a page; the blocks of the gap are pushed onto their free lists. Nothing is written
 // where the run would pass the body's end.
-pub fn take_run(body: &mut [u8], state: State, pages: u64) -> AfterTake
-    requires { ⌜ ToTake (spaceOf (now body) state) pages 65535 ⌝ }
-    ensures { λ r. ⌜ Takes (takeRun pages (spaceOf (now (body .entry)) state)) (spaceOf (now (body .entry)) state)
-        (spaceOf (now (body .exit)) (r .state)) (takeAnswer (r .answer)) ⌝ }
+pub fn take_run(body: &mut [u8], mark: &mut u64, free: &mut [u64; 9], pages: u64) -> TakeBlock
+    requires { ⌜ ToTake (space (now body) (now mark) (now free)) pages 65535 ⌝ }
+    ensures { λ r. ⌜ Takes (takeRun pages (space (now (body .entry)) (now (mark .entry)) (now (free .entry))))
+        (space (now (body .entry)) (now (mark .entry)) (now (free .entry)))
+        (space (now (body .exit)) (now (mark .exit)) (now (free .exit))) (takeAnswer r) ⌝ }
 {
-    let mark = state.mark;
-    let from = (mark + (SH_PAGE_BYTES - 1)) / SH_PAGE_BYTES * SH_PAGE_BYTES;
+    let low = *mark;
+    let from = (low + (SH_PAGE_BYTES - 1)) / SH_PAGE_BYTES * SH_PAGE_BYTES;
     let end = from + pages * SH_PAGE_BYTES;
     if (body.len() as u64) < end {
-        return AfterTake {
-            answer: TakeBlock::Refused(error::NO_ROOM),
-            state,
-        };
+        return TakeBlock::Refused(error::NO_ROOM);
     }
-    let mut free = state.free;
-    let to = gap_end(mark, from);
-    scripthash_free::carve_lent(body, &mut free, mark, to);
-    AfterTake {
-        answer: TakeBlock::At(from),
-        state: State { mark: end, free },
-    }
+    let to = gap_end(low, from);
+    scripthash_free::carve_lent(body, free, low, to);
+    *mark = end;
+    TakeBlock::At(from)
 }
 
 // Takes a slab of a class 0 to 7 at the mark.
-fn take_slab(body: &[u8], state: State, class: u8) -> AfterTake
-    requires { ⌜ ToTake (spaceOf (now body) state) class maxSlabClass ⌝ }
-    ensures { λ r. ⌜ Takes (takeSlab (slabBytes class) (spaceOf (now (body .entry)) state)) (spaceOf (now (body .entry)) state)
-        (spaceOf (now (body .entry)) (r .state)) (takeAnswer (r .answer)) ⌝ }
+fn take_slab(body: &[u8], mark: &mut u64, free: &mut [u64; 9], class: u8) -> TakeBlock
+    requires { ⌜ ToTake (space (now body) (now mark) (now free)) class maxSlabClass ⌝ }
+    ensures { λ r. ⌜ Takes (takeSlab (slabBytes class) (space (now (body .entry)) (now (mark .entry)) (now (free .entry))))
+        (space (now (body .entry)) (now (mark .entry)) (now (free .entry)))
+        (space (now (body .entry)) (now (mark .exit)) (now (free .exit))) (takeAnswer r) ⌝ }
 {
-    let mark = state.mark;
-    let end = mark + scripthash_layout::slab_bytes(class);
+    let low = *mark;
+    let end = low + scripthash_layout::slab_bytes(class);
     if SLABS_END < end {
-        return AfterTake {
-            answer: TakeBlock::Refused(error::NO_ROOM),
-            state,
-        };
+        return TakeBlock::Refused(error::NO_ROOM);
     }
     if (body.len() as u64) < end {
-        return AfterTake {
-            answer: TakeBlock::Refused(error::NO_ROOM),
-            state,
-        };
+        return TakeBlock::Refused(error::NO_ROOM);
     }
-    let free = state.free;
-    AfterTake {
-        answer: TakeBlock::At(mark),
-        state: State { mark: end, free },
-    }
+    *mark = end;
+    TakeBlock::At(low)
 }
 
 // Takes a block of a class: the first freed one, or where there is none a fresh one at the mark.
-pub fn take_block(body: &mut [u8], state: State, class: u8) -> AfterTake
-    requires { ⌜ ToTake (spaceOf (now body) state) class pageClass ⌝ }
-    ensures { λ r. ⌜ Takes (takeBlock class (spaceOf (now (body .entry)) state)) (spaceOf (now (body .entry)) state)
-        (spaceOf (now (body .exit)) (r .state)) (takeAnswer (r .answer)) ⌝ }
+pub fn take_block(body: &mut [u8], mark: &mut u64, free: &mut [u64; 9], class: u8) -> TakeBlock
+    requires { ⌜ ToTake (space (now body) (now mark) (now free)) class pageClass ⌝ }
+    ensures { λ r. ⌜ Takes (takeBlock class (space (now (body .entry)) (now (mark .entry)) (now (free .entry))))
+        (space (now (body .entry)) (now (mark .entry)) (now (free .entry)))
+        (space (now (body .exit)) (now (mark .exit)) (now (free .exit))) (takeAnswer r) ⌝ }
 {
-    let mark = state.mark;
-    let mut free = state.free;
-    let popped = scripthash_free::pop_lent(body, &mut free, class, pop_end(class, mark));
+    let low = *mark;
+    let popped = scripthash_free::pop_lent(body, free, class, pop_end(class, low));
     match popped {
-        PopFree::Block(off) => AfterTake {
-            answer: TakeBlock::At(off),
-            state: State { mark, free },
-        },
+        PopFree::Block(off) => TakeBlock::At(off),
         PopFree::Nothing => {
             if class == SH_PAGE_SLAB_CLASS {
-                return take_run(body, state, 1);
+                return take_run(body, mark, free, 1);
             }
-            take_slab(body, state, class)
+            take_slab(body, mark, free, class)
         }
-        PopFree::Refused(number) => AfterTake {
-            answer: TakeBlock::Refused(number),
-            state,
-        },
+        PopFree::Refused(number) => TakeBlock::Refused(number),
     }
 }

@@ -17,7 +17,6 @@ use crate::claiming::claim_key;
 use crate::units::PAGE_UNITS;
 use crate::units::WORK_BYTES;
 use crate::units::fill_bytes;
-use book_space::State;
 use error::Refusal;
 
 // What judging a start answers: it is good, with the units below the mark that belong to nobody; or the first fault, with its key or the
@@ -134,14 +133,21 @@ fn judge_keys(body: &[u8], heads: &[u64], mark: u64, free: &[u64], work: &mut [u
     judge_lists(body, mark, free, work, lost)
 }
 
-// Judges whether a body, its head words and its state are a good start. The work list has a bit for each 16 bytes of the body, a byte for
-// each 128; these are 0 afterwards.
-pub fn judge_start(body: &[u8], heads: &[u64], state: State, work: &mut [u8]) -> JudgeStart
-    ensures answer { λ r. ⌜ startAnswer r ≡ judges (bookOf (now (body .entry)) (now (heads .entry)) state) (length (now (work .entry))) ⌝ }
+// Judges whether a body, its head words, its mark and its free heads are a good start. The work list has a bit for each 16 bytes of the
+// body, a byte for each 128; these are 0 afterwards.
+pub fn judge_start(
+    body: &[u8],
+    heads: &[u64],
+    mark: u64,
+    free: [u64; 9],
+    work: &mut [u8],
+) -> JudgeStart
+    ensures answer { λ r. ⌜ startAnswer r
+        ≡ judges (bookOf (now (body .entry)) (now (heads .entry)) mark free) (length (now (work .entry))) ⌝ }
     ensures list { λ r. ⌜ now (work .exit) ≡ workAfter (length (now (body .entry)) / 128) (now (work .entry))
-        (judges (bookOf (now (body .entry)) (now (heads .entry)) state) (length (now (work .entry)))) ⌝ }
+        (judges (bookOf (now (body .entry)) (now (heads .entry)) mark free) (length (now (work .entry)))) ⌝ }
 {
-    if book_space::shape_broken(body, heads.len(), state) {
+    if book_space::shape_broken(body, heads.len(), mark) {
         return JudgeStart::Refused(error::SHAPE_BAD);
     }
     let bytes = body.len() / WORK_BYTES;
@@ -149,8 +155,7 @@ pub fn judge_start(body: &[u8], heads: &[u64], state: State, work: &mut [u8]) ->
         return JudgeStart::Refused(error::LIST_TOO_SHORT);
     }
     fill_bytes(work, 0, bytes, 0);
-    let free = state.free;
-    let got = judge_keys(body, heads, state.mark, &free, work);
+    let got = judge_keys(body, heads, mark, &free, work);
     fill_bytes(work, 0, bytes, 0);
     got
 }

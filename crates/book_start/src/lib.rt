@@ -7,7 +7,6 @@ mod judging;
 mod making;
 mod units;
 
-pub use answers::AfterFresh;
 pub use answers::BookFresh;
 pub use judging::JudgeStart;
 pub use judging::judge_start;

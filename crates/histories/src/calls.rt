@@ -24,7 +24,8 @@ fn load(
     key: u64,
     body: &mut [u8],
     heads: &mut [u64],
-    state: &mut [u64; 10],
+    mark: &mut u64,
+    free: &mut [u64; 9],
 ) -> [u64; 9] {
     let mut list = memory::list();
     let count = hex_fields::numbers(field(s, 2), &mut list);
@@ -36,7 +37,8 @@ fn load(
         let number = ouriscado::ouriscado_book_load_tight(
             body,
             heads,
-            state,
+            mark,
+            free,
             key,
             &list[0..count],
             &mut pages,
@@ -46,7 +48,8 @@ fn load(
     let number = ouriscado::ouriscado_book_load(
         body,
         heads,
-        state,
+        mark,
+        free,
         key,
         &list[0..count],
         &mut pages,
@@ -55,7 +58,14 @@ fn load(
 }
 
 // Appends a number.
-fn append(key: u64, n: u64, body: &mut [u8], heads: &mut [u64], state: &mut [u64; 10]) -> [u64; 9] {
+fn append(
+    key: u64,
+    n: u64,
+    body: &mut [u8],
+    heads: &mut [u64],
+    mark: &mut u64,
+    free: &mut [u64; 9],
+) -> [u64; 9] {
     let mut kind = BEFORE as u8;
     let mut class = BEFORE as u8;
     let mut used = BEFORE as u16;
@@ -64,7 +74,8 @@ fn append(key: u64, n: u64, body: &mut [u8], heads: &mut [u64], state: &mut [u64
     let number = ouriscado::ouriscado_book_append(
         body,
         heads,
-        state,
+        mark,
+        free,
         key,
         n,
         &mut kind,
@@ -94,20 +105,14 @@ fn lists(s: &[u8], list: &[u64; memory::NUMBERS]) -> bool {
 }
 
 // Reads into a list. A line doesn't tell how many numbers are padded, so that this isn't compared.
-fn read_into(
-    key: u64,
-    body: &[u8],
-    heads: &[u64],
-    state: &[u64; 10],
-    list: &mut [u64],
-) -> [u64; 9] {
+fn read_into(key: u64, body: &[u8], heads: &[u64], mark: u64, list: &mut [u64]) -> [u64; 9] {
     let mut length = BEFORE;
     let mut pages = BEFORE;
     let mut padded = BEFORE;
     let number = ouriscado::ouriscado_book_read(
         body,
         heads,
-        state,
+        mark,
         key,
         list,
         &mut length,
@@ -118,13 +123,13 @@ fn read_into(
 }
 
 // Reads a key into the start of a list, with the room that a line says; the whole list then has to be the line's.
-fn read(s: &[u8], key: u64, room: u64, body: &[u8], heads: &[u64], state: &[u64; 10]) -> [u64; 9] {
+fn read(s: &[u8], key: u64, room: u64, body: &[u8], heads: &[u64], mark: u64) -> [u64; 9] {
     let mut list = memory::list();
     let end = room as usize;
     if memory::NUMBERS < end {
         return answer(0, 0, UNKNOWN);
     }
-    let told = read_into(key, body, heads, state, &mut list[0..end]);
+    let told = read_into(key, body, heads, mark, &mut list[0..end]);
     if lists(s, &list) {
         return told;
     }
@@ -132,9 +137,15 @@ fn read(s: &[u8], key: u64, room: u64, body: &[u8], heads: &[u64], state: &[u64;
 }
 
 // Drops a key.
-fn drop(key: u64, body: &mut [u8], heads: &mut [u64], state: &mut [u64; 10]) -> [u64; 9] {
+fn drop(
+    key: u64,
+    body: &mut [u8],
+    heads: &mut [u64],
+    mark: &mut u64,
+    free: &mut [u64; 9],
+) -> [u64; 9] {
     let mut length = BEFORE;
-    let number = ouriscado::ouriscado_book_drop(body, heads, state, key, &mut length);
+    let number = ouriscado::ouriscado_book_drop(body, heads, mark, free, key, &mut length);
     answer(length, 0, number)
 }
 
@@ -144,16 +155,21 @@ fn call(
     given: [u64; 4],
     body: &mut [u8],
     heads: &mut [u64],
-    state: &mut [u64; 10],
+    mark: &mut u64,
+    free: &mut [u64; 9],
 ) -> [u64; 9] {
     let kind = hex(part(s, 0, 2));
     match kind {
-        0x30 => answer(0, 0, ouriscado::ouriscado_book_fresh(body, heads, state)),
-        0x31 => load(s, false, given[1], body, heads, state),
-        0x32 => append(given[1], given[2], body, heads, state),
-        0x33 => read(s, given[1], given[2], body, heads, state),
-        0x37 => load(s, true, given[1], body, heads, state),
-        _ => drop(given[1], body, heads, state),
+        0x30 => answer(
+            0,
+            0,
+            ouriscado::ouriscado_book_fresh(body, heads, mark, free),
+        ),
+        0x31 => load(s, false, given[1], body, heads, mark, free),
+        0x32 => append(given[1], given[2], body, heads, mark, free),
+        0x33 => read(s, given[1], given[2], body, heads, *mark),
+        0x37 => load(s, true, given[1], body, heads, mark, free),
+        _ => drop(given[1], body, heads, mark, free),
     }
 }
 
@@ -167,9 +183,17 @@ fn call_on(s: &[u8], given: [u64; 4], body: &mut [u8], words: &mut [u64]) -> [u6
     if words.len() < end {
         return answer(0, 0, UNKNOWN);
     }
-    let mut state = memory::state_of(words);
-    let told = call(s, given, body, &mut words[memory::STATE..end], &mut state);
-    memory::put_state(words, &state);
+    let mut mark = words[0];
+    let mut free = memory::free_of(words);
+    let told = call(
+        s,
+        given,
+        body,
+        &mut words[memory::STATE..end],
+        &mut mark,
+        &mut free,
+    );
+    memory::put_state(words, mark, &free);
     told
 }
 

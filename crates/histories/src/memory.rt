@@ -32,12 +32,11 @@ pub fn same_words(words: &[u64]) -> bool {
     hex_fields::same_numbers(&words[0..16], &words[16..32])
 }
 
-// The state of our book.
-pub fn state_of(words: &[u64]) -> [u64; 10]
+// The free heads of our book.
+pub fn free_of(words: &[u64]) -> [u64; 9]
     requires { ⌜ 10 ≤ length (now words) ⌝ }
 {
     [
-        words[0],
         words[1],
         words[2],
         words[3],
@@ -50,7 +49,10 @@ pub fn state_of(words: &[u64]) -> [u64; 10]
     ]
 }
 
-// Makes the words of our book hold a state.
-pub fn put_state(words: &mut [u64], state: &[u64; 10]) {
-    hex_fields::put(state, words);
+// Makes the words of our book hold a mark and free heads.
+pub fn put_state(words: &mut [u64], mark: u64, free: &[u64; 9])
+    requires { ⌜ 10 ≤ length (now words) ⌝ }
+{
+    hex_fields::put(free, &mut words[1..STATE]);
+    words[0] = mark;
 }

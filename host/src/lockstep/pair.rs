@@ -131,32 +131,34 @@ impl Ours {
         self.outs.iter().for_each(|out| out.slice(8, Placing::End).fill(0xa5u8));
         let (body, heads) = (self.body.place::<u8>(whole.0, self.placing), self.heads.place::<u64>(whole.1, self.placing));
         let (body_len, heads_len) = lent;
-        let state: &mut State = unsafe { &mut *self.state.place::<State>(1, Placing::End) };
+        let [mark, free @ ..] = unsafe { &mut *self.state.place::<State>(1, Placing::End) };
         let null = if self.placing == Placing::End { Placing::Null } else { self.placing };
         let (lent, list) = (list.len(), self.list.place::<u64>(list.len(), null));
         let (refusal, sizes): (u32, &[usize]) = match *call {
-            Call::Fresh => (unsafe { sys::ouriscado_book_fresh(body, body_len, heads, heads_len, state) }, &[]),
+            Call::Fresh => (unsafe { sys::ouriscado_book_fresh(body, body_len, heads, heads_len, mark, free) }, &[]),
             Call::Load { key, fit, .. } => {
                 let load = match fit {
                     Fit::Spare => sys::ouriscado_book_load,
                     Fit::Tight => sys::ouriscado_book_load_tight,
                 };
-                (unsafe { load(body, body_len, heads, heads_len, state, key, list, lent, self.out(0)) }, &[8])
+                (unsafe { load(body, body_len, heads, heads_len, mark, free, key, list, lent, self.out(0)) }, &[8])
             }
             Call::Append { key, fk } => {
                 let (kind, class, used, place, rewritten) = (self.out(0), self.out(1), self.out(2), self.out(3), self.out(4));
                 let answer = unsafe {
-                    sys::ouriscado_book_append(body, body_len, heads, heads_len, state, key, fk, kind, class, used, place, rewritten)
+                    sys::ouriscado_book_append(body, body_len, heads, heads_len, mark, free, key, fk, kind, class, used, place, rewritten)
                 };
                 (answer, &[1, 1, 2, 8, 8])
             }
             Call::Read { key, .. } => {
                 let (length, pages, padded) = (self.out(0), self.out(1), self.out(2));
                 let answer =
-                    unsafe { sys::ouriscado_book_read(body, body_len, heads, heads_len, state, key, list, lent, length, pages, padded) };
+                    unsafe { sys::ouriscado_book_read(body, body_len, heads, heads_len, *mark, key, list, lent, length, pages, padded) };
                 (answer, &[8, 8, 8])
             }
-            Call::Drop { key } => (unsafe { sys::ouriscado_book_drop(body, body_len, heads, heads_len, state, key, self.out(0)) }, &[8]),
+            Call::Drop { key } => {
+                (unsafe { sys::ouriscado_book_drop(body, body_len, heads, heads_len, mark, free, key, self.out(0)) }, &[8])
+            }
         };
         Answer { refusal, told: self.told(sizes) }
     }
@@ -167,12 +169,12 @@ impl Ours {
         self.work.slice::<u8>(check.room, self.placing).copy_from_slice(work);
         self.outs.iter().for_each(|out| out.slice(8, Placing::End).fill(0xa5u8));
         let (body, heads) = (self.body.place::<u8>(whole.0, self.placing), self.heads.place::<u64>(whole.1, self.placing));
-        let state: &State = unsafe { &*self.state.place::<State>(1, Placing::End) };
+        let [mark, free @ ..] = unsafe { &*self.state.place::<State>(1, Placing::End) };
         let null = if self.placing == Placing::End { Placing::Null } else { self.placing };
         let work = self.work.place::<u8>(check.room, null);
         let (ground, which, lost) = (self.out(0), self.out(1), self.out(2));
         let refusal =
-            unsafe { sys::ouriscado_book_check(body, check.body, heads, check.heads, state, work, check.room, ground, which, lost) };
+            unsafe { sys::ouriscado_book_check(body, check.body, heads, check.heads, *mark, free, work, check.room, ground, which, lost) };
         let told = self.told(&[4, 8, 8]);
         (refusal, [told[0], told[1], told[2]])
     }

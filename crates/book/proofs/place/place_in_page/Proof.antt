@@ -6,8 +6,8 @@ use native.Mathlib.Omega.{arith}
 use borrow.Author.Needs.{needs}
 use Rattle.error.specs.Refusal.{accepted}
 use Rattle.scripthash_layout.specs.Sizes.{pageClass}
-use Rattle.book_space.specs.Space.{Space, takeBlock}
-use Rattle.book_space.specs.Answers.{spaceOf, takeAnswer}
+use Rattle.book_space.specs.Space.{Space, space, takeBlock}
+use Rattle.book_space.specs.Answers.{takeAnswer}
 use Rattle.book.proofs.LawsPlace.{refused-as, took-at, took-none, block-lies, page-named, page-refused, page-placed}
 use Rattle.book.proofs.place.place_in_page.Statement.{statement}
 use Rattle.book.proofs.place.place_in_page.Tie as tie
@@ -15,21 +15,21 @@ use Rattle.book.proofs.place.place_in_page.Tie as tie
 -- the arguments, and the space before the take and after it
 module _ (t : tie.After-take-block) where
   abbrev start : tie.Start
-  start = t .before .before .before .before
+  start = t .before .before .before .before .before .before
 
   abbrev list : List ℕ
   list = start .args .fks .now
 
   abbrev before : Space
-  before = spaceOf (start .args .body .now) (start .args .state)
+  before = space (start .args .body .now) (start .args .mark .now) (start .args .free .now)
 
   abbrev after : Space
-  after = spaceOf (t .take-block .last .0) (t .take-block .result .state)
+  after = space (t .take-block .last .0) (t .take-block .last .1 .0) (t .take-block .last .1 .1 .0)
 
 -- a block was taken
 module _ (k : tie.After-known-told) where
   abbrev taking : tie.After-take-block
-  taking = k .before .before .before .before .before .before
+  taking = k .before .before .before .before .before
 
   abbrev off : ℕ
   off = k .before .answer .given .0 .0
@@ -38,7 +38,7 @@ module _ (k : tie.After-known-told) where
   took = took-at (before taking) (after taking) _ (taking .take-block .ensures) (ap takeAnswer (k .before .answer .given .1))
 
 take-block-requires : tie.Need-take-block-requires
-take-block-requires c κs = record { shape = c .before .before .before .pre .shape; low = omega arith }
+take-block-requires c κs = record { shape = c .before .before .before .before .before .pre .shape; low = omega arith }
 
 enum-known-answer : tie.Need-enum-known-answer
 enum-known-answer c = search needs
@@ -54,9 +54,9 @@ same-length c = search needs
 
 returns : tie.Need-returns
 returns c =
-    let t = c .before .before .before .before .before .before in
+    let t = c .before .before .before .before .before in
     let is = refused-as _ _ (ap takeAnswer (c .before .enum-told .given .1)) (c .refusal .ensures) in
-    page-refused (before t) (list t) (after t) (took-none (before t) (after t) _ (t .take-block .ensures) is)
+    page-refused (before t) (list t) (after t) (took-none (before t) (after t) (takeBlock pageClass (before t)) (t .take-block .ensures) is)
 
 cast-count : tie.Need-cast-count
 cast-count c = search needs

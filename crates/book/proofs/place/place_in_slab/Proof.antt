@@ -6,8 +6,8 @@ use native.Mathlib.Omega.{arith}
 use borrow.Author.Needs.{needs}
 use Rattle.error.specs.Refusal.{accepted}
 use Rattle.scripthash_free.proofs.LawsBlock.{bytes-fit}
-use Rattle.book_space.specs.Space.{Space, takeBlock}
-use Rattle.book_space.specs.Answers.{spaceOf, takeAnswer}
+use Rattle.book_space.specs.Space.{Space, space, takeBlock}
+use Rattle.book_space.specs.Answers.{takeAnswer}
 use Rattle.book.proofs.LawsPlace.{refused-as, took-at, took-none, block-lies, slab-refused, slab-placed}
 use Rattle.book.proofs.place.place_in_slab.Statement.{statement}
 use Rattle.book.proofs.place.place_in_slab.Tie as tie
@@ -15,7 +15,7 @@ use Rattle.book.proofs.place.place_in_slab.Tie as tie
 -- the arguments, and the space before the take and after it
 module _ (t : tie.After-take-block) where
   abbrev start : tie.Start
-  start = t .before .before .before .before
+  start = t .before .before .before .before .before .before
 
   abbrev class : ℕ
   class = start .args .class
@@ -24,15 +24,15 @@ module _ (t : tie.After-take-block) where
   list = start .args .fks .now
 
   abbrev before : Space
-  before = spaceOf (start .args .body .now) (start .args .state)
+  before = space (start .args .body .now) (start .args .mark .now) (start .args .free .now)
 
   abbrev after : Space
-  after = spaceOf (t .take-block .last .0) (t .take-block .result .state)
+  after = space (t .take-block .last .0) (t .take-block .last .1 .0) (t .take-block .last .1 .1 .0)
 
 -- a block was taken
 module _ (k : tie.After-known-told) where
   abbrev taking : tie.After-take-block
-  taking = k .before .before .before .before .before .before
+  taking = k .before .before .before .before .before
 
   abbrev off : ℕ
   off = k .before .answer .given .0 .0
@@ -41,7 +41,7 @@ module _ (k : tie.After-known-told) where
   took = took-at (before taking) (after taking) _ (taking .take-block .ensures) (ap takeAnswer (k .before .answer .given .1))
 
 take-block-requires : tie.Need-take-block-requires
-take-block-requires c κs = let pre = c .before .before .before .pre in record { shape = pre .shape; low = omega (arith, pre .low) }
+take-block-requires c κs = let pre = c .before .before .before .before .before .pre in record { shape = pre .shape; low = omega (arith, pre .low) }
 
 enum-known-answer : tie.Need-enum-known-answer
 enum-known-answer c = search needs
@@ -57,9 +57,9 @@ same-length c = search needs
 
 returns : tie.Need-returns
 returns c =
-    let t = c .before .before .before .before .before .before in
+    let t = c .before .before .before .before .before in
     let is = refused-as _ _ (ap takeAnswer (c .before .enum-told .given .1)) (c .refusal .ensures) in
-    slab-refused (before t) (list t) (after t) (class t) (took-none (before t) (after t) _ (t .take-block .ensures) is)
+    slab-refused (before t) (list t) (after t) (class t) (took-none (before t) (after t) (takeBlock (class t) (before t)) (t .take-block .ensures) is)
 
 slab-bytes-requires : tie.Need-slab-bytes-requires
 slab-bytes-requires c κs = search needs

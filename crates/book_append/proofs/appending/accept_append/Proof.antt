@@ -5,11 +5,15 @@ use Prim.Native.Nat.{ℕ}
 use lib.ListN.{set}
 use Rattle.error.specs.Refusal.{answered}
 use Rattle.book_rules.specs.Outcomes.{bookAfter}
-use Rattle.book.specs.Book.{headWord}
-use Rattle.book.specs.Answers.{bookOf}
+use Rattle.book_space.specs.Space.{Space}
+use Rattle.book.specs.Book.{Book, headWord}
 use borrow.Author.Needs.{needs}
 use Rattle.book_append.proofs.appending.accept_append.Statement.{statement}
 use Rattle.book_append.proofs.appending.accept_append.Tie as tie
+
+-- a book of head words and a space
+abbrev withHeads : List ℕ → Space → Book
+withHeads heads s = record { heads = heads; space = s }
 
 put-head-requires : tie.Need-put-head-requires
 put-head-requires c κs = search needs
@@ -19,11 +23,11 @@ same-length c = search needs
 
 returns : tie.Need-returns
 unfolding bookAfter answered
-returns c b body e =
+returns c b s e =
     let a = c .before .before .before .before .before .args in
     record {
       told = refl;
-      left = ap (λ (h : List ℕ). bookOf body h (a .state)) (c .before .before .put-head .ensures
+      left = ap (λ (h : List ℕ). withHeads h s) (c .before .before .put-head .ensures
           ∙ ap (λ (h : List ℕ). set h (a .key) (headWord (a .place))) (sym e));
     }
 

@@ -11,26 +11,25 @@ use Rattle.book_space.specs.Space.{shapeBroken}
 use Rattle.book_space.proofs.LawsShape.{shape-holds}
 use Rattle.book.specs.Book.{Book}
 use Rattle.book.specs.Answers.{bookOf}
-use Rattle.book_append.specs.Appends.{appends}
 use Rattle.book_append.specs.Steps.{ToAppend}
-use Rattle.book_append.proofs.LawsAppend.{does-as, judged-yes, judged-no, append-shape, append-beyond, append-number, append-unsound}
-use Rattle.book_append.proofs.LawsAppend.{append-at}
+use Rattle.book_append.proofs.LawsAppend.{does-as, does-none, judged-yes, judged-no, append-shape, append-beyond, append-number}
+use Rattle.book_append.proofs.LawsAppend.{append-unsound, append-at}
 use Rattle.book_append.proofs.appending.append.Statement.{statement}
 use Rattle.book_append.proofs.appending.append.Tie as tie
 
 -- the book before
 module _ (s : tie.Start) where
   abbrev b : Book
-  b = bookOf (s .args .body .now) (s .args .heads .now) (s .args .state)
+  b = bookOf (s .args .body .now) (s .args .heads .now) (s .args .mark .now) (s .args .free .now)
 
 -- the shape is kept
 module _ (c : tie.Else1) where
   abbrev start : tie.Start
-  start = c .before .before .before .before .before
+  start = c .before .before .before .before .before .before
 
   -- the definition's test says so too
   shape : shapeBroken (b start .space) (length (b start .heads)) ≡ false
-  shape = sym (c .before .shape-broken .ensures) ∙ c .if1 .left
+  shape = sym (c .before .shape-broken .ensures (start .args .free .now)) ∙ c .if1 .left
 
 -- the number was judged by itself, and passed
 module _ (c : tie.Else3) where
@@ -61,55 +60,43 @@ module _ (c : tie.Else3) where
 shape-broken-requires : tie.Need-shape-broken-requires
 shape-broken-requires c κs = search needs
 
-refuse-append-requires : tie.Need-refuse-append-requires
-refuse-append-requires c κs = search needs
-
 same-length : tie.Need-same-length
 same-length c = search needs
 
 returns : tie.Need-returns
 returns c =
-    let t = c .before .before in
-    let s = t .before .before .before .before in
+    let t = c .before in
+    let s = t .before .before .before .before .before in
     let a = s .args in
-    let d = c .refuse-append .ensures (a .body .now) (a .heads .now) (appends (b s) (a .key) (a .n))
-    (append-shape (b s) (a .key) (a .n) (sym (t .shape-broken .ensures) ∙ c .before .if1 .taken)) in
+    let d = does-none (b s) (append-shape (b s) (a .key) (a .n) (sym (t .shape-broken .ensures (a .free .now)) ∙ c .if1 .taken)) in
     (d .told, d .left)
-
-refuse-append-requires-2 : tie.Need-refuse-append-requires-2
-refuse-append-requires-2 c κs = search needs
 
 same-length-2 : tie.Need-same-length-2
 same-length-2 c = search needs
 
 returns-2 : tie.Need-returns-2
 returns-2 c =
-    let e = c .before .before in
+    let e = c .before in
     let s = start e in
     let a = s .args in
-    let d = c .refuse-append2 .ensures (a .body .now) (a .heads .now) (appends (b s) (a .key) (a .n))
-    (append-beyond (b s) (a .key) (a .n) (shape e) (c .before .if2 .taken)) in
+    let d = does-none (b s) (append-beyond (b s) (a .key) (a .n) (shape e) (c .if2 .taken)) in
     (d .told, d .left)
 
 judge-number-requires : tie.Need-judge-number-requires
 judge-number-requires c κs = search needs
-
-refuse-append-requires-3 : tie.Need-refuse-append-requires-3
-refuse-append-requires-3 c κs = search needs
 
 same-length-3 : tie.Need-same-length-3
 same-length-3 c = search needs
 
 returns-3 : tie.Need-returns-3
 returns-3 c =
-    let j = c .before .before in
+    let j = c .before in
     let e = j .before .before in
     let s = start e in
     let a = s .args in
     let is = judged-no (offeredNumber true 0 (a .n) (accepted 0)) (j .judge-number .result) (j .judge-number .ensures)
-    (c .before .if3 .taken) in
-    let d = c .refuse-append3 .ensures (a .body .now) (a .heads .now) (appends (b s) (a .key) (a .n))
-    (append-number (b s) (a .key) (a .n) (shape e) (j .before .if2 .left) 0 is) in
+    (c .if3 .taken) in
+    let d = does-none (b s) (append-number (b s) (a .key) (a .n) (shape e) (j .before .if2 .left) 0 is) in
     (d .told, d .left)
 
 mul-unpack8 : tie.Need-mul-unpack8
@@ -127,26 +114,23 @@ enum-known-head c = search needs
 enum-told : tie.Need-enum-told
 enum-told c = search needs
 
-refuse-append-requires-4 : tie.Need-refuse-append-requires-4
-refuse-append-requires-4 c κs = search needs
-
 same-length-4 : tie.Need-same-length-4
 same-length-4 c = search needs
 
 returns-4 : tie.Need-returns-4
 returns-4 c =
-    let u = c .before .before .before in
+    let u = c .before .before in
     let e = u .before .before in
     let s = from e in
     let a = s .args in
-    let is = sym (u .unpack8 .ensures) ∙ ap unpackAnswer (c .before .enum-told .given .1) in
-    let d = c .refuse-append4 .ensures (a .body .now) (a .heads .now) (appends (b s) (a .key) (a .n))
+    let is = sym (u .unpack8 .ensures) ∙ ap unpackAnswer (c .enum-told .given .1) in
+    let d = does-none (b s)
     (append-unsound (b s) (a .key) (a .n) (shape (in-shape e)) (within e) (fine e .0) (fine e .1) is) in
     (d .told, d .left)
 
 append-at-requires : tie.Need-append-at-requires
 append-at-requires c κs =
-    let h = c .before .before .before in
+    let h = c .before .before .before .before .before in
     let u = h .before .before in
     record { to-append = known (u .before .before); stands = sym (u .unpack8 .ensures) ∙ ap unpackAnswer (h .head .given .1) }
 
@@ -159,7 +143,7 @@ same-length-6 c = search needs
 returns-5 : tie.Need-returns-5
 returns-5 c =
     let f = c .before .before .before .before in
-    let h = f .before .before .before .before in
+    let h = f .before .before .before .before .before .before in
     let u = h .before .before in
     let e = u .before .before in
     let s = from e in
@@ -173,14 +157,11 @@ append-spec =
     tie.close
     (tie.spec
     shape-broken-requires
-    refuse-append-requires
     same-length
     returns
-    refuse-append-requires-2
     same-length-2
     returns-2
     judge-number-requires
-    refuse-append-requires-3
     same-length-3
     returns-3
     mul-unpack8
@@ -188,7 +169,6 @@ append-spec =
     unpack8-requires
     enum-known-head
     enum-told
-    refuse-append-requires-4
     same-length-4
     returns-4
     append-at-requires

@@ -4,45 +4,38 @@ use mathlib.Core.Path.{refl, ap}
 use Prim.Native.Nat.{ℕ}
 use native.Mathlib.Omega.{arith}
 use borrow.Author.Needs.{needs}
-use Rattle.scripthash_layout.specs.declared.head.ShHeadValue.the-variants.{Inline}
 use Rattle.scripthash_stream.specs.Stream.{Rising}
-use Rattle.book_space.specs.Space.{Space}
-use Rattle.book_space.specs.Answers.{spaceOf}
+use Rattle.book_space.specs.Space.{Space, space}
 use Rattle.book.specs.Book.{Book}
 use Rattle.book.specs.Answers.{bookOf}
 use Rattle.book.proofs.LawsKey.{does-from}
 use Rattle.book.proofs.LawsPlace.{placed-at, placed-none}
-use Rattle.book_append.specs.Appends.{appendAt}
 use Rattle.book.specs.Steps.{placeAnswer}
-use Rattle.book_append.proofs.LawsAppend.{does-as, placesFor, inline-low, inline-yes, inline-no}
+use Rattle.book_append.proofs.LawsAppend.{does-as, does-none, placesFor, inline-low, inline-yes, inline-no}
 use Rattle.book_append.proofs.appending.append_inline.Statement.{statement}
 use Rattle.book_append.proofs.appending.append_inline.Tie as tie
 
 -- the book before
 module _ (s : tie.Start) where
   abbrev b : Book
-  b = bookOf (s .args .body .now) (s .args .heads .now) (s .args .state)
+  b = bookOf (s .args .body .now) (s .args .heads .now) (s .args .mark .now) (s .args .free .now)
 
 -- both numbers were placed, or not
 module _ (p : tie.After-move-list) where
   abbrev start : tie.Start
-  start = p .before .before .before .before .before .before
+  start = p .before .before .before .before .before .before .before .before
 
   abbrev list : List ℕ
   list = start .args .entry ∷ start .args .n ∷ []
 
   abbrev after : Space
-  after = spaceOf (p .move-list .last .0) (p .move-list .result .state)
-
-refuse-append-requires : tie.Need-refuse-append-requires
-refuse-append-requires c κs = search needs
+  after = space (p .move-list .last .0) (p .move-list .last .1 .0) (p .move-list .last .1 .1 .0)
 
 returns : tie.Need-returns
 returns c used =
-    let s = c .before .before .before .before in
+    let s = c .before .before .before in
     let a = s .args in
-    c .refuse-append .ensures (a .body .now) (a .heads .now) (appendAt (b s) (a .key) (a .n) (Inline (a .entry) used))
-    (inline-low (b s) (a .key) (a .n) (a .entry) used (c .before .if1 .taken))
+    does-none (b s) (inline-low (b s) (a .key) (a .n) (a .entry) used (c .if1 .taken))
 
 slice-aggregate-move-list : tie.Need-slice-aggregate-move-list
 slice-aggregate-move-list c = search needs
@@ -50,8 +43,8 @@ slice-aggregate-move-list c = search needs
 move-list-requires : tie.Need-move-list-requires
 unfolding Rising
 move-list-requires c κs =
-    let s = c .before .before .before .before .before in
-    let above = c .before .before .if1 .left in
+    let s = c .before .before .before .before .before .before .before in
+    let above = c .before .before .before .before .if1 .left in
     let known = s .pre .to-append in
     record {
       shape = known .shape;
@@ -69,9 +62,6 @@ accept-append-requires c κs = search needs
 enum-known-answer-2 : tie.Need-enum-known-answer-2
 enum-known-answer-2 c = search needs
 
-refuse-append-requires-2 : tie.Need-refuse-append-requires-2
-refuse-append-requires-2 c κs = search needs
-
 same-length : tie.Need-same-length
 same-length c = search needs
 
@@ -81,41 +71,38 @@ same-length-2 c = search needs
 returns-2 : tie.Need-returns-2
 returns-2 c used =
     let k = c .before .before .before .before in
-    let p = k .before .before .before .before .before .before in
+    let p = k .before .before .before .before .before in
     let s = start p in
     let a = s .args in
     let here = placed-at (b s .space) (after p) (placesFor (b s .space) (list p)) (p .move-list .ensures)
     (ap placeAnswer (k .before .answer .given .1)) in
-    does-as (inline-yes (b s) (a .key) (a .n) (a .entry) used (omega (arith, p .before .before .before .if1 .left)) here)
-    (c .before .before .accept-append .ensures (b s) (p .move-list .last .0) refl)
+    does-as (inline-yes (b s) (a .key) (a .n) (a .entry) used (omega (arith, p .before .before .before .before .before .if1 .left)) here)
+    (c .before .before .accept-append .ensures (b s) (after p) refl)
 
 same-length-3 : tie.Need-same-length-3
 same-length-3 c = search needs
 
 returns-3 : tie.Need-returns-3
 returns-3 c used =
-    let k = c .before in
-    let p = k .before .before .before .before .before .before in
+    let p = c .before .before .before .before .before in
     let s = start p in
     let a = s .args in
     let none = placed-none (b s .space) (after p) (placesFor (b s .space) (list p)) (p .move-list .ensures)
-    (ap placeAnswer (k .before .answer2 .given .1)) in
+    (ap placeAnswer (c .before .answer2 .given .1)) in
     does-from (none .1)
-    (c .refuse-append2 .ensures (p .move-list .last .0) (a .heads .now) (appendAt (b s) (a .key) (a .n) (Inline (a .entry) used))
-    (inline-no (b s) (a .key) (a .n) (a .entry) used (omega (arith, p .before .before .before .if1 .left)) (none .0)))
+    (does-none (record { heads = a .heads .now; space = after p })
+    (inline-no (b s) (a .key) (a .n) (a .entry) used (omega (arith, p .before .before .before .before .before .if1 .left)) (none .0)))
 
 pub append-inline-spec : {M : Type 1} → statement M
 append-inline-spec =
     tie.close
     (tie.spec
-    refuse-append-requires
     returns
     slice-aggregate-move-list
     move-list-requires
     enum-known-answer
     accept-append-requires
     enum-known-answer-2
-    refuse-append-requires-2
     same-length
     same-length-2
     returns-2

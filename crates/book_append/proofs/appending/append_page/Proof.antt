@@ -6,21 +6,20 @@ use borrow.Author.Needs.{needs}
 use borrow.Author.Tests.{eqb-true}
 use Rattle.compact.proofs.LawsLength.{len-at-most}
 use Rattle.scripthash_layout.specs.Sizes.{pageSize}
-use Rattle.scripthash_layout.specs.declared.head.ShHeadValue.the-variants.{Extent}
+use Rattle.book_space.specs.Space.{space}
 use Rattle.book_keys.specs.Answers.{tailAnswer}
 use Rattle.book_keys.proofs.LawsPages.{page-inside}
 use Rattle.book.specs.Book.{Book, seen}
 use Rattle.book.specs.Answers.{bookOf}
-use Rattle.book_append.specs.Appends.{appendAt}
-use Rattle.book_append.proofs.LawsAppend.{TailTold, tail-told, tail-untold, SoundTail, tail-sound, does-as, page-unsound, page-low}
-use Rattle.book_append.proofs.LawsAppend.{page-stays, page-full}
+use Rattle.book_append.proofs.LawsAppend.{TailTold, tail-told, tail-untold, SoundTail, tail-sound, does-as, does-none, page-unsound}
+use Rattle.book_append.proofs.LawsAppend.{page-low, page-stays, page-full}
 use Rattle.book_append.proofs.appending.append_page.Statement.{statement}
 use Rattle.book_append.proofs.appending.append_page.Tie as tie
 
 -- the book before
 module _ (s : tie.Start) where
   abbrev b : Book
-  b = bookOf (s .args .body .now) (s .args .heads .now) (s .args .state)
+  b = bookOf (s .args .body .now) (s .args .heads .now) (s .args .mark .now) (s .args .free .now)
 
 -- the last page's end was told
 module _ (k : tie.After-known-told) where
@@ -28,7 +27,7 @@ module _ (k : tie.After-known-told) where
   ended = k .before .before .before
 
   abbrev start : tie.Start
-  start = ended .before .before .before .before
+  start = ended .before .before .before .before .before
 
   abbrev taken : ℕ
   taken = k .before .end .given .0 .0
@@ -46,7 +45,7 @@ module _ (k : tie.After-known-told) where
   told : TailTold (b start .space) (start .args .last) taken fk first creates
   told =
       let a = start .args in
-      tail-told (a .body .now) (a .state .mark) (a .state .free) (a .last) (ended .tail-end .ensures)
+      tail-told (a .body .now) (a .mark .now) (a .free .now) (a .last) (ended .tail-end .ensures)
       (ap tailAnswer (k .before .end .given .1))
 
   -- what is known of it then
@@ -66,34 +65,26 @@ enum-known-end c = search needs
 enum-told : tie.Need-enum-told
 enum-told c = search needs
 
-refuse-append-requires : tie.Need-refuse-append-requires
-refuse-append-requires c κs = search needs
-
 same-length : tie.Need-same-length
 same-length c = search needs
 
 returns : tie.Need-returns
 returns c =
-    let t = c .before .before .before in
-    let s = t .before .before .before .before in
+    let t = c .before .before in
+    let s = t .before .before .before .before .before in
     let a = s .args in
-    let is = tail-untold (a .body .now) (a .state .mark) (a .state .free) (a .last) (t .tail-end .ensures)
-    (ap tailAnswer (c .before .enum-told .given .1)) in
-    c .refuse-append .ensures (a .body .now) (a .heads .now) (appendAt (b s) (a .key) (a .n) (Extent (a .last)))
-    (page-unsound (b s) (a .key) (a .n) (a .last) (is .1))
-
-refuse-append-requires-2 : tie.Need-refuse-append-requires-2
-refuse-append-requires-2 c κs = search needs
+    let is = tail-untold (a .body .now) (a .mark .now) (a .free .now) (a .last) (t .tail-end .ensures)
+    (ap tailAnswer (c .enum-told .given .1)) in
+    does-none (b s) (page-unsound (b s) (a .key) (a .n) (a .last) (is .1))
 
 same-length-2 : tie.Need-same-length-2
 same-length-2 c = search needs
 
 returns-2 : tie.Need-returns-2
 returns-2 c =
-    let k = c .before .before in
+    let k = c .before in
     let a = start k .args in
-    c .refuse-append2 .ensures (a .body .now) (a .heads .now) (appendAt (b (start k)) (a .key) (a .n) (Extent (a .last)))
-    (page-low (b (start k)) (a .key) (a .n) (a .last) (told k) (c .before .if1 .taken))
+    does-none (b (start k)) (page-low (b (start k)) (a .key) (a .n) (a .last) (told k) (c .if1 .taken))
 
 sub-difference : tie.Need-sub-difference
 sub-difference c = search needs
@@ -111,11 +102,11 @@ add-if2-2 c =
 
 grow-chain-requires : tie.Need-grow-chain-requires
 grow-chain-requires c κs =
-    let l = c .before .before .before in
+    let l = c .before .before .before .before .before in
     let k = l .before .before in
     let a = start k .args in
     page-full (b (start k)) (a .key) (a .n) (a .last) (told k) (omega (arith, l .before .if1 .left)) (start k .pre)
-    (omega (arith, l .uleb128-len .ensures, c .before .before .if2 .taken))
+    (omega (arith, l .uleb128-len .ensures, c .before .before .before .before .if2 .taken))
 
 same-length-3 : tie.Need-same-length-3
 same-length-3 c = search needs
@@ -160,7 +151,7 @@ returns-4 c =
     (page-stays (b (start k)) (a .key) (a .n) (a .last) (told k) (omega (arith, l .before .if1 .left))
     (omega (arith, l .uleb128-len .ensures, g .before .before .if2 .left))
     (g .grow-page .last .0) (g .grow-page .ensures))
-    (c .before .before .accept-append .ensures (b (start k)) (g .grow-page .last .0) refl)
+    (c .before .before .accept-append .ensures (b (start k)) (space (g .grow-page .last .0) (a .mark .now) (a .free .now)) refl)
 
 pub append-page-spec : {M : Type 1} → statement M
 append-page-spec =
@@ -169,10 +160,8 @@ append-page-spec =
     tail-end-requires
     enum-known-end
     enum-told
-    refuse-append-requires
     same-length
     returns
-    refuse-append-requires-2
     same-length-2
     returns-2
     sub-difference

@@ -7,24 +7,23 @@ use borrow.Author.Needs.{needs}
 use Rattle.compact.specs.Uleb128.{ulebLen}
 use Rattle.compact.proofs.LawsLength.{len-at-most}
 use Rattle.scripthash_layout.specs.Sizes.{slabBytes}
-use Rattle.scripthash_layout.specs.declared.head.ShHeadValue.the-variants.{Slab}
 use Rattle.scripthash_stream.specs.Answers.{scanAnswer}
 use Rattle.scripthash_free.proofs.LawsBlock.{block-stands}
 use Rattle.book_rules.specs.Places.{stays}
 use Rattle.book_rules.proofs.LawsRules.{bytes-mono, stays-holds}
+use Rattle.book_space.specs.Space.{space}
 use Rattle.book_keys.proofs.LawsBlocks.{slab-size}
 use Rattle.book_keys.proofs.LawsSlab.{SoundSlab, slab-sound}
 use Rattle.book.specs.Book.{Book, seen}
 use Rattle.book.specs.Answers.{bookOf}
-use Rattle.book_append.specs.Appends.{appendAt}
-use Rattle.book_append.proofs.LawsAppend.{SlabTold, slab-told, slab-untold, does-as, slab-unsound, slab-low, slab-stays, slab-leaves}
+use Rattle.book_append.proofs.LawsAppend.{SlabTold, slab-told, slab-untold, does-as, does-none, slab-unsound, slab-low, slab-stays, slab-leaves}
 use Rattle.book_append.proofs.appending.append_slab.Statement.{statement}
 use Rattle.book_append.proofs.appending.append_slab.Tie as tie
 
 -- the book before
 module _ (s : tie.Start) where
   abbrev b : Book
-  b = bookOf (s .args .body .now) (s .args .heads .now) (s .args .state)
+  b = bookOf (s .args .body .now) (s .args .heads .now) (s .args .mark .now) (s .args .free .now)
 
 -- the slab's end was told
 module _ (k : tie.After-known-told) where
@@ -32,7 +31,7 @@ module _ (k : tie.After-known-told) where
   ended = k .before .before .before
 
   abbrev start : tie.Start
-  start = ended .before .before .before .before
+  start = ended .before .before .before .before .before
 
   abbrev taken : ℕ
   taken = k .before .end .given .0 .0
@@ -44,7 +43,7 @@ module _ (k : tie.After-known-told) where
   told : SlabTold (b start .space) (start .args .class) (start .args .used) (start .args .off) taken last
   told =
       let a = start .args in
-      slab-told (a .body .now) (a .state .mark) (a .state .free) (a .class) (a .used) (a .off)
+      slab-told (a .body .now) (a .mark .now) (a .free .now) (a .class) (a .used) (a .off)
       (ended .slab-end .ensures) (ap scanAnswer (k .before .end .given .1))
 
   -- what is known of it then
@@ -95,34 +94,26 @@ enum-known-end c = search needs
 enum-told : tie.Need-enum-told
 enum-told c = search needs
 
-refuse-append-requires : tie.Need-refuse-append-requires
-refuse-append-requires c κs = search needs
-
 same-length : tie.Need-same-length
 same-length c = search needs
 
 returns : tie.Need-returns
 returns c =
-    let t = c .before .before .before in
-    let s = t .before .before .before .before in
+    let t = c .before .before in
+    let s = t .before .before .before .before .before in
     let a = s .args in
-    let is = slab-untold (a .body .now) (a .state .mark) (a .state .free) (a .class) (a .used) (a .off) (t .slab-end .ensures)
-    (ap scanAnswer (c .before .enum-told .given .1)) in
-    c .refuse-append .ensures (a .body .now) (a .heads .now) (appendAt (b s) (a .key) (a .n) (Slab (a .class) (a .used) (a .off)))
-    (slab-unsound (b s) (a .key) (a .n) (a .class) (a .used) (a .off) (is .1))
-
-refuse-append-requires-2 : tie.Need-refuse-append-requires-2
-refuse-append-requires-2 c κs = search needs
+    let is = slab-untold (a .body .now) (a .mark .now) (a .free .now) (a .class) (a .used) (a .off) (t .slab-end .ensures)
+    (ap scanAnswer (c .enum-told .given .1)) in
+    does-none (b s) (slab-unsound (b s) (a .key) (a .n) (a .class) (a .used) (a .off) (is .1))
 
 same-length-2 : tie.Need-same-length-2
 same-length-2 c = search needs
 
 returns-2 : tie.Need-returns-2
 returns-2 c =
-    let k = c .before .before in
+    let k = c .before in
     let a = start k .args in
-    c .refuse-append2 .ensures (a .body .now) (a .heads .now) (appendAt (b (start k)) (a .key) (a .n) (Slab (a .class) (a .used) (a .off)))
-    (slab-low (b (start k)) (a .key) (a .n) (a .class) (a .used) (a .off) (told k) (c .before .if1 .taken))
+    does-none (b (start k)) (slab-low (b (start k)) (a .key) (a .n) (a .class) (a .used) (a .off) (told k) (c .if1 .taken))
 
 sub-difference : tie.Need-sub-difference
 sub-difference c = search needs
@@ -159,7 +150,7 @@ grow-slab-requires c κs =
     let d = c .before in
     let known-slab = sound (known (staying d)) in
     let a = from d .args in
-    let stands = block-stands (a .class) (a .off) (a .state .mark) (known-slab .stands) in
+    let stands = block-stands (a .class) (a .off) (a .mark .now) (known-slab .stands) in
     let holds = stays-holds (a .class) (a .used + 1) _ (test (staying d) (d .before .if2 .taken)) in
     record {
       inside = omega (arith, size d, stands .ends, from d .pre .shape .within);
@@ -167,8 +158,8 @@ grow-slab-requires c κs =
       fits = omega (arith, size d, holds .2);
     }
 
-add-t28 : tie.Need-add-t28
-add-t28 c = omega (arith, sound (known (staying (c .before .before .before .before))) .used-to-256)
+add-t30 : tie.Need-add-t30
+add-t30 c = omega (arith, sound (known (staying (c .before .before .before .before))) .used-to-256)
 
 accept-append-requires : tie.Need-accept-append-requires
 accept-append-requires c κs = search needs
@@ -188,15 +179,15 @@ returns-3 c =
     (slab-stays (b (from d)) (a .key) (a .n) (a .class) (a .used) (a .off) (told (known (staying d))) (above (staying d))
     (test (staying d) (d .before .if2 .taken))
     (d .slab-bytes .result) (size d) (g .grow-slab .last .0) (g .grow-slab .ensures))
-    (c .before .before .accept-append .ensures (b (from d)) (g .grow-slab .last .0) refl)
+    (c .before .before .accept-append .ensures (b (from d)) (space (g .grow-slab .last .0) (a .mark .now) (a .free .now)) refl)
 
 move-slab-requires : tie.Need-move-slab-requires
 move-slab-requires c κs =
-    let t = c .before .before .before in
+    let t = c .before .before .before .before .before in
     let s = start (known t) in
     let a = s .args in
     slab-leaves (b s) (a .key) (a .n) (a .class) (a .used) (a .off) (told (known t)) (above t) (s .pre)
-    (test t (c .before .before .if2 .left))
+    (test t (c .before .before .before .before .if2 .left))
 
 same-length-5 : tie.Need-same-length-5
 same-length-5 c = search needs
@@ -214,10 +205,8 @@ append-slab-spec =
     slab-end-requires
     enum-known-end
     enum-told
-    refuse-append-requires
     same-length
     returns
-    refuse-append-requires-2
     same-length-2
     returns-2
     sub-difference
@@ -227,7 +216,7 @@ append-slab-spec =
     stays-requires
     slab-bytes-requires
     grow-slab-requires
-    add-t28
+    add-t30
     accept-append-requires
     same-length-3
     same-length-4

@@ -8,30 +8,28 @@ use lib.ListN.{length}
 use Rattle.error.specs.Refusal.{accepted}
 use Rattle.buffer.specs.Bytes.{overwrite}
 use Rattle.scripthash_layout.specs.Sizes.{pageClass, pageSize}
-use Rattle.scripthash_layout.specs.declared.head.ShHeadValue.the-variants.{Extent}
-use Rattle.book_space.specs.Space.{Space, takeBlock}
-use Rattle.book_space.specs.Answers.{spaceOf, takeAnswer}
+use Rattle.book_space.specs.Space.{Space, space, takeBlock}
+use Rattle.book_space.specs.Answers.{takeAnswer}
 use Rattle.book_keys.proofs.LawsPages.{page-inside}
 use Rattle.book_blocks.specs.Blocks.{lastPageOf}
 use Rattle.book.specs.Book.{Book, seen}
 use Rattle.book.specs.Answers.{bookOf}
 use Rattle.book.proofs.LawsKey.{does-from}
-use Rattle.book_append.specs.Appends.{appendAt}
 use Rattle.book.proofs.LawsPlace.{refused-as, took-at, took-none, block-lies, page-named}
-use Rattle.book_append.proofs.LawsAppend.{SoundTail, tail-sound, does-as, one-fits, chain-no, chain-yes}
+use Rattle.book_append.proofs.LawsAppend.{SoundTail, tail-sound, does-as, does-none, one-fits, chain-no, chain-yes}
 use Rattle.book_append.proofs.appending.grow_chain.Statement.{statement}
 use Rattle.book_append.proofs.appending.grow_chain.Tie as tie
 
 -- the arguments, the book before, and the space after the take
 module _ (t : tie.After-take-block) where
   abbrev start : tie.Start
-  start = t .before .before .before .before
+  start = t .before .before .before .before .before .before
 
   abbrev b : Book
-  b = bookOf (start .args .body .now) (start .args .heads .now) (start .args .state)
+  b = bookOf (start .args .body .now) (start .args .heads .now) (start .args .mark .now) (start .args .free .now)
 
   abbrev after : Space
-  after = spaceOf (t .take-block .last .0) (t .take-block .result .state)
+  after = space (t .take-block .last .0) (t .take-block .last .1 .0) (t .take-block .last .1 .1 .0)
 
   -- the old last page is sound
   sound : SoundTail (b .space) (start .args .last) (start .pre .tail)
@@ -45,7 +43,7 @@ module _ (t : tie.After-take-block) where
 -- a page was taken
 module _ (k : tie.After-known-told) where
   abbrev taking : tie.After-take-block
-  taking = k .before .before .before .before .before .before
+  taking = k .before .before .before .before .before
 
   abbrev off : ℕ
   off = k .before .answer .given .0 .0
@@ -55,7 +53,7 @@ module _ (k : tie.After-known-told) where
   took = took-at (b taking .space) (after taking) _ (taking .take-block .ensures) (ap takeAnswer (k .before .answer .given .1))
 
 take-block-requires : tie.Need-take-block-requires
-take-block-requires c κs = record { shape = c .before .before .before .pre .to-append .shape; low = omega arith }
+take-block-requires c κs = record { shape = c .before .before .before .before .before .pre .to-append .shape; low = omega arith }
 
 enum-known-answer : tie.Need-enum-known-answer
 enum-known-answer c = search needs
@@ -66,20 +64,17 @@ enum-told c = search needs
 refusal-requires : tie.Need-refusal-requires
 refusal-requires c κs = search needs
 
-refuse-append-requires : tie.Need-refuse-append-requires
-refuse-append-requires c κs = search needs
-
 same-length : tie.Need-same-length
 same-length c = search needs
 
 returns : tie.Need-returns
 returns c =
-    let t = c .before .before .before .before .before .before .before in
+    let t = c .before .before .before .before .before in
     let a = start t .args in
-    let is = refused-as _ _ (ap takeAnswer (c .before .before .enum-told .given .1)) (c .before .refusal .ensures) in
-    let none = took-none (b t .space) (after t) _ (t .take-block .ensures) is in
+    let is = refused-as _ _ (ap takeAnswer (c .before .enum-told .given .1)) (c .refusal .ensures) in
+    let none = took-none (b t .space) (after t) (takeBlock pageClass (b t .space)) (t .take-block .ensures) is in
     does-from (none .1)
-    (c .refuse-append .ensures (t .take-block .last .0) (a .heads .now) (appendAt (b t) (a .key) (a .n) (Extent (a .last)))
+    (does-none (record { heads = a .heads .now; space = after t })
     (chain-no (b t) (a .key) (a .n) (a .last) (a .first) (a .creates) (start t .pre) (none .0)))
 
 link-page-requires : tie.Need-link-page-requires
@@ -130,7 +125,7 @@ returns-2 c =
     (written .put-last-page .ensures
     ∙ ap (λ (n : ℕ). overwrite (linked .link-page .last .0) (off k) (lastPageOf (a .first) (off k) 1 n (a .n ∷ [])))
     (total .total-with .ensures)))
-    (c .before .before .accept-append .ensures (b t) (written .put-last-page .last .0) refl)
+    (c .before .before .accept-append .ensures (b t) (space (written .put-last-page .last .0) (after t .mark) (after t .free)) refl)
 
 pub grow-chain-spec : {M : Type 1} → statement M
 grow-chain-spec =
@@ -140,7 +135,6 @@ grow-chain-spec =
     enum-known-answer
     enum-told
     refusal-requires
-    refuse-append-requires
     same-length
     returns
     link-page-requires

@@ -7,10 +7,8 @@ use borrow.Author.Needs.{needs}
 use lib.ListN.{length, set, take, replicate, length-append, length-set}
 use Rattle.buffer.specs.Bytes.{overwrite}
 use Rattle.buffer.proofs.LawsBytes.{length-overwrite}
-use Rattle.scripthash_layout.specs.declared.head.ShHeadValue.the-variants.{Slab}
 use Rattle.scripthash_free.proofs.LawsBlock.{block-stands}
-use Rattle.book_space.specs.Space.{Space}
-use Rattle.book_space.specs.Answers.{spaceOf}
+use Rattle.book_space.specs.Space.{Space, space}
 use Rattle.book_space.proofs.LawsLists.{stands-further}
 use Rattle.book_keys.proofs.LawsSound.{soundly-yes}
 use Rattle.book_keys.proofs.LawsSlab.{SoundSlab, slab-sound}
@@ -18,9 +16,8 @@ use Rattle.book.specs.Book.{Book, seen}
 use Rattle.book.specs.Answers.{bookOf}
 use Rattle.book.proofs.LawsKey.{does-from}
 use Rattle.book.proofs.LawsPlace.{placed-at, placed-none}
-use Rattle.book_append.specs.Appends.{appendAt}
 use Rattle.book.specs.Steps.{placeAnswer}
-use Rattle.book_append.proofs.LawsAppend.{slab-free, does-as, placesFor, list-behind, rises-behind}
+use Rattle.book_append.proofs.LawsAppend.{slab-free, does-as, does-none, placesFor, list-behind, rises-behind}
 use Rattle.book_append.proofs.LawsAppend.{slab-moved, slab-unmoved}
 use Rattle.book_append.proofs.appending.move_slab.Statement.{statement}
 use Rattle.book_append.proofs.appending.move_slab.Tie as tie
@@ -28,7 +25,7 @@ use Rattle.book_append.proofs.appending.move_slab.Tie as tie
 -- the book before, and its slab
 module _ (s : tie.Start) where
   abbrev b : Book
-  b = bookOf (s .args .body .now) (s .args .heads .now) (s .args .state)
+  b = bookOf (s .args .body .now) (s .args .heads .now) (s .args .mark .now) (s .args .free .now)
 
   -- what is known of the slab
   sound : SoundSlab (seen (b .space)) (s .args .class) (s .args .used) (s .args .off) (s .pre .scan)
@@ -54,8 +51,8 @@ module _ (r : tie.After-slab-into) where
   read-is : r .slab-into .last .1 .1 .1 .0 ≡ overwrite (replicate 257 0) 0 numbers
   read-is =
       let a = start .args in
-      let there = slab-free (a .body .now) (a .state .mark) (a .state .free) (a .class) (a .used) (a .off) ∙ start .pre .sound in
-      r .slab-into .ensures (a .state .mark) (a .used) (start .pre .scan) (soundly-yes _ there) (omega (arith, few))
+      let there = slab-free (a .body .now) (a .mark .now) (a .free .now) (a .class) (a .used) (a .off) ∙ start .pre .sound in
+      r .slab-into .ensures (a .mark .now) (a .used) (start .pre .scan) (soundly-yes _ there) (omega (arith, few))
 
   -- what is placed is the list and the number
   list-is : list ≡ numbers ++ (start .args .n ∷ [])
@@ -73,10 +70,10 @@ module _ (r : tie.After-slab-into) where
 -- the list was placed, or not
 module _ (p : tie.After-move-list) where
   abbrev read : tie.After-slab-into
-  read = p .before .before .before .before .before
+  read = p .before .before .before .before .before .before .before
 
   abbrev after : Space
-  after = spaceOf (p .move-list .last .0) (p .move-list .result .state)
+  after = space (p .move-list .last .0) (p .move-list .last .1 .0) (p .move-list .last .1 .1 .0)
 
 slice-aggregate-slab-into : tie.Need-slice-aggregate-slab-into
 slice-aggregate-slab-into c = search needs
@@ -85,7 +82,7 @@ slab-into-requires : tie.Need-slab-into-requires
 slab-into-requires c κs =
     let s = c .before .before .before .before in
     let known = sound s in
-    let stands = block-stands (s .args .class) (s .args .off) (s .args .state .mark) (known .stands) in
+    let stands = block-stands (s .args .class) (s .args .off) (s .args .mark .now) (known .stands) in
     (known .class-to-7, omega (arith, stands .ends, s .pre .to-append .shape .within))
 
 mul-list : tie.Need-mul-list
@@ -104,11 +101,11 @@ part-move-list-start : tie.Need-part-move-list-start
 part-move-list-start c = search needs
 
 part-move-list-end : tie.Need-part-move-list-end
-part-move-list-end c = let r = c .before .before .before in let size = room r in omega (arith, sound (start r) .used-to-256)
+part-move-list-end c = let r = c .before .before .before .before .before in let size = room r in omega (arith, sound (start r) .used-to-256)
 
 move-list-requires : tie.Need-move-list-requires
 move-list-requires c κs =
-    let r = c .before .before .before .before in
+    let r = c .before .before .before .before .before .before in
     let s = start r in
     let known = sound s in
     record {
@@ -124,7 +121,7 @@ enum-known-answer c = search needs
 release-block-requires : tie.Need-release-block-requires
 release-block-requires c κs =
     let s = start (read (c .before .before .before .before .before .before .before)) in
-    stands-further (s .args .class) (s .args .off) (s .args .state .mark) _ (omega (arith, s .pre .to-append .shape .within))
+    stands-further (s .args .class) (s .args .off) (s .args .mark .now) _ (omega (arith, s .pre .to-append .shape .within))
     (sound s .stands)
 
 accept-append-requires : tie.Need-accept-append-requires
@@ -132,9 +129,6 @@ accept-append-requires c κs = search needs
 
 enum-known-answer-2 : tie.Need-enum-known-answer-2
 enum-known-answer-2 c = search needs
-
-refuse-append-requires : tie.Need-refuse-append-requires
-refuse-append-requires c κs = search needs
 
 same-length : tie.Need-same-length
 same-length c = search needs
@@ -145,31 +139,30 @@ same-length-2 c = search needs
 returns : tie.Need-returns
 returns c =
     let f = c .before .before .before .before .before .before in
-    let k = f .before .before in
-    let p = k .before .before .before .before .before .before in
+    let k = f .before .before .before in
+    let p = k .before .before .before .before .before in
     let r = read p in
     let a = start r .args in
+    let freed = space (f .release-block .last .0) (after p .mark) (f .release-block .last .1 .0) in
     let here = placed-at (b (start r) .space) (after p) (placesFor (b (start r) .space) (list r)) (p .move-list .ensures)
     (ap placeAnswer (k .before .answer .given .1)) in
     does-as
     (slab-moved (b (start r)) (a .key) (a .n) (a .class) (a .used) (a .off) (start r .pre) (list r) (list-is r)
-    (spaceOf (f .release-block .last .0) (f .release-block .result)) here (f .release-block .ensures))
-    (c .before .before .accept-append .ensures (b (start r)) (f .release-block .last .0) refl)
+    freed here (f .release-block .ensures (after p .mark)))
+    (c .before .before .accept-append .ensures (b (start r)) freed refl)
 
 same-length-3 : tie.Need-same-length-3
 same-length-3 c = search needs
 
 returns-2 : tie.Need-returns-2
 returns-2 c =
-    let k = c .before in
-    let p = k .before .before .before .before .before .before in
+    let p = c .before .before .before .before .before in
     let r = read p in
     let a = start r .args in
     let none = placed-none (b (start r) .space) (after p) (placesFor (b (start r) .space) (list r)) (p .move-list .ensures)
-    (ap placeAnswer (k .before .answer2 .given .1)) in
+    (ap placeAnswer (c .before .answer2 .given .1)) in
     does-from (none .1)
-    (c .refuse-append .ensures (p .move-list .last .0) (a .heads .now)
-    (appendAt (b (start r)) (a .key) (a .n) (Slab (a .class) (a .used) (a .off)))
+    (does-none (record { heads = a .heads .now; space = after p })
     (slab-unmoved (b (start r)) (a .key) (a .n) (a .class) (a .used) (a .off) (start r .pre) (list r) (list-is r) (none .0)))
 
 pub move-slab-spec : {M : Type 1} → statement M
@@ -189,7 +182,6 @@ move-slab-spec =
     release-block-requires
     accept-append-requires
     enum-known-answer-2
-    refuse-append-requires
     same-length
     same-length-2
     returns

@@ -13,7 +13,7 @@ use Rattle.book_calls.proofs.running.run_append.Tie as tie
 -- where the append is done, and the words of its answer are written
 module _ (c : tie.After-slice-known6) where
   abbrev appended : tie.After-append
-  appended = c .before .before .before .before .before .before .before .before .before
+  appended = c .before .before .before .before .before .before .before .before
 
 append-requires : tie.Need-append-requires
 append-requires c κs = search needs
@@ -34,8 +34,8 @@ returns : tie.Need-returns
 unfolding doesSpelled answerRoom
 returns c =
     let did = appended c .append in
-    let told = append-told (did .result .answer) ∙ ap (answered spelled) (did .ensures .0) in
-    change-done spelled _ refl (did .ensures .1) told (append-short (did .result .answer)) (c .before .before .put-append .ensures)
+    let told = append-told (did .result) ∙ ap (answered spelled) (did .ensures .0) in
+    change-done spelled _ refl (did .ensures .1) told (append-short (did .result)) (c .before .before .put-append .ensures)
 
 pub run-append-spec : {M : Type 1} → statement M
 run-append-spec =

@@ -13,7 +13,7 @@ use Rattle.book_calls.proofs.running.run_drop.Tie as tie
 -- where the drop is done, and the words of its answer are written
 module _ (c : tie.After-slice-known6) where
   abbrev dropped : tie.After-drop
-  dropped = c .before .before .before .before .before .before .before .before .before
+  dropped = c .before .before .before .before .before .before .before .before
 
 drop-requires : tie.Need-drop-requires
 drop-requires c κs = search needs
@@ -34,8 +34,8 @@ returns : tie.Need-returns
 unfolding doesSpelled answerRoom
 returns c =
     let did = dropped c .drop in
-    let told = drop-told (did .result .answer) ∙ ap (answered spelled) (did .ensures .0) in
-    change-done spelled _ refl (did .ensures .1) told (drop-short (did .result .answer)) (c .before .before .put-drop .ensures)
+    let told = drop-told (did .result) ∙ ap (answered spelled) (did .ensures .0) in
+    change-done spelled _ refl (did .ensures .1) told (drop-short (did .result)) (c .before .before .put-drop .ensures)
 
 pub run-drop-spec : {M : Type 1} → statement M
 run-drop-spec =

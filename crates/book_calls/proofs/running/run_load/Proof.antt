@@ -13,7 +13,7 @@ use Rattle.book_calls.proofs.running.run_load.Tie as tie
 -- where the load is done, and the words of its answer are written
 module _ (c : tie.After-slice-known6) where
   abbrev loaded : tie.After-load
-  loaded = c .before .before .before .before .before .before .before .before .before
+  loaded = c .before .before .before .before .before .before .before .before
 
 load-requires : tie.Need-load-requires
 load-requires c κs = search needs
@@ -34,8 +34,8 @@ returns : tie.Need-returns
 unfolding doesSpelled answerRoom
 returns c =
     let did = loaded c .load in
-    let told = load-told (did .result .answer) ∙ ap (answered spelled) (did .ensures .0) in
-    change-done spelled _ refl (did .ensures .1) told (load-short (did .result .answer)) (c .before .before .put-load .ensures)
+    let told = load-told (did .result) ∙ ap (answered spelled) (did .ensures .0) in
+    change-done spelled _ refl (did .ensures .1) told (load-short (did .result)) (c .before .before .put-load .ensures)
 
 pub run-load-spec : {M : Type 1} → statement M
 run-load-spec =

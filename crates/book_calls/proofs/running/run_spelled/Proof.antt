@@ -20,13 +20,13 @@ use Rattle.book_calls.proofs.running.run_spelled.Statement.{statement}
 use Rattle.book_calls.proofs.running.run_spelled.Tie as tie
 
 abbrev Inv-loop : tie.InvT-loop
-Inv-loop body₀ heads₀ calls out₀ current₀ at₀ to₀ body heads out current at to =
+Inv-loop body₀ heads₀ mark₀ free₀ calls out₀ at₀ to₀ body heads mark free out at to =
     (length body ≡ length body₀) × (length heads ≡ length heads₀) × (length out ≡ length out₀) × (at ≤ length calls) × (to ≤ length out)
     × ((cs : List SpelledCall) → callsOf calls ≡ some cs
-    → Running (bookOf body₀ heads₀ current₀) cs calls out₀ (bookOf body heads current) out at to)
+    → Running (bookOf body₀ heads₀ mark₀ free₀) cs calls out₀ (bookOf body heads mark free) out at to)
 
 abbrev μ-loop : tie.MeasureT-loop
-μ-loop body₀ heads₀ calls out₀ current₀ at₀ to₀ body heads out current at to = length calls - at
+μ-loop body₀ heads₀ mark₀ free₀ calls out₀ at₀ to₀ body heads mark free out at to = length calls - at
 
 -- a call begins at the index
 module _ (k : tie.After-known-told Inv-loop μ-loop) where
@@ -40,7 +40,7 @@ module _ (k : tie.After-known-told Inv-loop μ-loop) where
   words = start .args .calls .now
 
   abbrev first : Book
-  first = bookOf (start .args .body .now) (start .args .heads .now) (start .args .state)
+  first = bookOf (start .args .body .now) (start .args .heads .now) (start .args .mark .now) (start .args .free .now)
 
   abbrev out : List ℕ
   out = loc .loop .out
@@ -58,22 +58,22 @@ module _ (k : tie.After-known-told Inv-loop μ-loop) where
 -- it was run
 module _ (d : tie.After-run-call Inv-loop μ-loop) where
   abbrev known : tie.After-known-told Inv-loop μ-loop
-  known = d .before .before .before .before
+  known = d .before .before .before .before .before .before
 
   stepped : (cs : List SpelledCall) → callsOf (words known) ≡ some cs
       → Running (first known) cs (words known) (start known .args .out .now)
-      (bookOf (d .run-call .last .0) (d .run-call .last .1 .0) (d .run-call .result .state))
-      (putMid (to known) (length (out known) - to known) (out known) (d .run-call .last .1 .1 .1 .1 .1 .0))
-      (known .before .next .given .0 .0) (to known + d .run-call .result .len)
+      (bookOf (d .run-call .last .0) (d .run-call .last .1 .0) (d .run-call .last .1 .1 .0) (d .run-call .last .1 .1 .1 .0))
+      (putMid (to known) (length (out known) - to known) (out known) (d .run-call .last .1 .1 .1 .1 .1 .1 .0))
+      (known .before .next .given .0 .0) (to known + d .run-call .result)
   stepped cs e =
       let r = loc known .loop .inv .5 cs e in
       let x = runs-split r (more known) _ (begun known) in
       runs-step r (more known) _ (begun known) _ _ _ (d .run-call .ensures (x .0) (x .1))
 
 -- and the words of its answer are written
-module _ (c : tie.After-struct-known Inv-loop μ-loop) where
+module _ (c : tie.After-slice-known6 Inv-loop μ-loop) where
   abbrev ran : tie.After-run-call Inv-loop μ-loop
-  ran = c .before .before .before .before .before .before .before .before
+  ran = c .before .before .before .before .before .before
 
 loop-holds : tie.Need-loop-holds Inv-loop μ-loop
 loop-holds c =
@@ -118,7 +118,7 @@ part-run-call-end c = search needs
 
 run-call-requires : tie.Need-run-call-requires Inv-loop μ-loop
 run-call-requires c κs =
-    let k = c .before .before .before in
+    let k = c .before .before .before .before .before in
     let s = start k .pre in
     here-in (out k) (to k) (runs-here (loc k .loop .inv .5 (s .list) (s .is)) (more k) _ (begun k))
 

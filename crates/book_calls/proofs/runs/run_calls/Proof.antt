@@ -2,7 +2,7 @@
 use mathlib.Core.Bool.{true}
 use mathlib.Core.List.{List}
 use mathlib.Core.Option.{some}
-use mathlib.Core.Path.{_≡_, refl, sym, _∙_}
+use mathlib.Core.Path.{_≡_, sym, _∙_}
 use borrow.Author.Tests.{not-true, not-false, leb-true}
 use lib.Dec.{leb}
 use lib.ListN.{length}
@@ -32,19 +32,19 @@ module _ (c : tie.Else2) where
   fit cs e = sym (c .before .calls-fit .ensures cs e) ∙ not-false (c .before .calls-fit .result) (c .if2 .left)
 
 -- the book is made, and the calls are to be run on it
-module _ (c : tie.After-run-spelled-arg3) where
+module _ (c : tie.After-run-spelled-arg5) where
   abbrev made : tie.After-fresh
-  made = c .before .before .before .before .before .before
+  made = c .before .before .before .before .before .before .before
 
   abbrev fitting : tie.Else2
-  fitting = made .before .before .before
+  fitting = made .before .before .before .before .before
 
 calls-spelled-requires : tie.Need-calls-spelled-requires
 calls-spelled-requires c κs = search needs
 
 returns : tie.Need-returns
 returns c =
-    unspelled _ _ _ _ _ refl (was-none _ (sym (c .before .calls-spelled .ensures) ∙ not-true (c .before .calls-spelled .result) (c .if1 .taken)))
+    unspelled _ _ _ (was-none _ (sym (c .before .calls-spelled .ensures) ∙ not-true (c .before .calls-spelled .result) (c .if1 .taken)))
 
 calls-fit-requires : tie.Need-calls-fit-requires
 calls-fit-requires c κs = spelled c
@@ -52,7 +52,7 @@ calls-fit-requires c κs = spelled c
 returns-2 : tie.Need-returns-2
 returns-2 c =
     let (cs, e) = was-some _ (spelled (c .before .before)) in
-    too-short _ _ _ _ _ refl cs e (sym (c .before .calls-fit .ensures cs e) ∙ not-true (c .before .calls-fit .result) (c .if2 .taken))
+    too-short _ _ _ cs e (sym (c .before .calls-fit .ensures cs e) ∙ not-true (c .before .calls-fit .result) (c .if2 .taken))
 
 fresh-requires : tie.Need-fresh-requires
 fresh-requires c κs = search needs
@@ -74,10 +74,10 @@ same-length-3 c = search needs
 
 returns-3 : tie.Need-returns-3
 returns-3 c =
-    let ran = c .before .before .before .before .before .before .before in
+    let ran = c .before .before .before .before .before .before in
     let f = fitting (ran .before) in
     let (cs, e) = was-some _ (spelled (told f)) in
-    all-ran _ _ _ _ _ refl _ _ cs _ _ _ _ e (fit f cs e) (made (ran .before) .fresh .ensures .1) (ran .run-spelled .ensures cs e)
+    all-ran _ _ _ _ _ cs _ _ e (fit f cs e) (made (ran .before) .fresh .ensures .1) (ran .run-spelled .ensures cs e)
 
 pub run-calls-spec : {M : Type 1} → statement M
 run-calls-spec =

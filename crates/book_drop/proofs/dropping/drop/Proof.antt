@@ -8,54 +8,45 @@ use Rattle.book_space.specs.Space.{shapeBroken}
 use Rattle.book_space.proofs.LawsShape.{shape-holds}
 use Rattle.book.specs.Book.{Book}
 use Rattle.book.specs.Answers.{bookOf}
-use Rattle.book.proofs.LawsKey.{does-same}
-use Rattle.book_drop.proofs.LawsDrop.{drop-broken, drop-beyond, drop-nowhere, drop-there}
+use Rattle.book_drop.proofs.LawsDrop.{ends-refused, drop-broken, drop-beyond, drop-nowhere, drop-there}
 use Rattle.book_drop.proofs.dropping.drop.Statement.{statement}
 use Rattle.book_drop.proofs.dropping.drop.Tie as tie
 
 -- the book of the call
 module _ (t : tie.Start) where
   abbrev book : Book
-  book = bookOf (t .args .body .now) (t .args .heads .now) (t .args .state)
+  book = bookOf (t .args .body .now) (t .args .heads .now) (t .args .mark .now) (t .args .free .now)
 
 -- the shape passed its test
 module _ (c : tie.Else1) where
   abbrev at : tie.Start
-  at = c .before .before .before .before .before
+  at = c .before .before .before .before .before .before
 
   whole : shapeBroken (book at .space) (length (book at .heads)) ≡ false
-  whole = sym (c .before .shape-broken .ensures) ∙ c .if1 .left
+  whole = sym (c .before .shape-broken .ensures (at .args .free .now)) ∙ c .if1 .left
 
 shape-broken-requires : tie.Need-shape-broken-requires
 shape-broken-requires c κs = search needs
-
-refuse-drop-requires : tie.Need-refuse-drop-requires
-refuse-drop-requires c κs = search needs
 
 same-length : tie.Need-same-length
 same-length c = search needs
 
 returns : tie.Need-returns
 returns c =
-    let s = c .before .before in
-    let t = s .before .before .before .before in
+    let s = c .before in
+    let t = s .before .before .before .before .before in
     let a = t .args in
-    let d = c .refuse-drop .ensures (a .body .now) (a .heads .now) _ (drop-broken (book t) (a .key) (sym (s .shape-broken .ensures)
-    ∙ c .before .if1 .taken)) in
+    let d = ends-refused (book t) _ (drop-broken (book t) (a .key) (sym (s .shape-broken .ensures (a .free .now)) ∙ c .if1 .taken)) in
     (d .told, d .left)
-
-refuse-drop-requires-2 : tie.Need-refuse-drop-requires-2
-refuse-drop-requires-2 c κs = search needs
 
 same-length-2 : tie.Need-same-length-2
 same-length-2 c = search needs
 
 returns-2 : tie.Need-returns-2
 returns-2 c =
-    let e = c .before .before in
+    let e = c .before in
     let t = at e in
-    let a = t .args in
-    let d = c .refuse-drop2 .ensures (a .body .now) (a .heads .now) _ (drop-beyond (book t) (a .key) (whole e) (c .before .if2 .taken)) in
+    let d = ends-refused (book t) _ (drop-beyond (book t) (t .args .key) (whole e) (c .if2 .taken)) in
     (d .told, d .left)
 
 mul-unpack8 : tie.Need-mul-unpack8
@@ -73,27 +64,23 @@ enum-known-head c = search needs
 enum-told : tie.Need-enum-told
 enum-told c = search needs
 
-refuse-drop-requires-3 : tie.Need-refuse-drop-requires-3
-refuse-drop-requires-3 c κs = search needs
-
 same-length-3 : tie.Need-same-length-3
 same-length-3 c = search needs
 
 returns-3 : tie.Need-returns-3
 returns-3 c =
-    let u = c .before .before .before in
+    let u = c .before .before in
     let k = u .before .before in
     let e = k .before in
     let t = at e in
-    let a = t .args in
-    let d = c .refuse-drop3 .ensures (a .body .now) (a .heads .now) _
-    (drop-nowhere (book t) (a .key) (whole e) (k .if2 .left) (sym (u .unpack8 .ensures)
-    ∙ ap unpackAnswer (c .before .enum-told .given .1))) in
+    let d = ends-refused (book t) _
+    (drop-nowhere (book t) (t .args .key) (whole e) (k .if2 .left) (sym (u .unpack8 .ensures)
+    ∙ ap unpackAnswer (c .enum-told .given .1))) in
     (d .told, d .left)
 
 drop-at-requires : tie.Need-drop-at-requires
 drop-at-requires c κs =
-    let k = c .before .before .before .before .before .before .before in
+    let k = c .before .before .before .before .before .before .before .before .before in
     let e = k .before in
     let s = shape-holds (book (at e) .space) (length (book (at e) .heads)) (whole e) in
     (s .0 .within, k .if2 .left)
@@ -107,17 +94,15 @@ same-length-5 c = search needs
 returns-4 : tie.Need-returns-4
 returns-4 c =
     let r = c .before .before .before .before in
-    let g = r .before .before .before .before in
+    let g = r .before .before .before .before .before .before in
     let u = g .before .before in
     let k = u .before .before in
     let e = k .before in
     let t = at e in
     let a = t .args in
-    let d =
-    does-same
-    (sym (drop-there (book t) (a .key) (whole e) (k .if2 .left) (g .head .given .0 .0) (sym (u .unpack8 .ensures)
-    ∙ ap unpackAnswer (g .head .given .1))))
-    (r .drop-at .ensures) in
+    let d = r .drop-at .ensures in
+    rw (drop-there (book t) (a .key) (whole e) (k .if2 .left) (g .head .given .0 .0) (sym (u .unpack8 .ensures)
+    ∙ ap unpackAnswer (g .head .given .1)))
     (d .told, d .left)
 
 pub drop-spec : {M : Type 1} → statement M
@@ -125,10 +110,8 @@ drop-spec =
     tie.close
     (tie.spec
     shape-broken-requires
-    refuse-drop-requires
     same-length
     returns
-    refuse-drop-requires-2
     same-length-2
     returns-2
     mul-unpack8
@@ -136,7 +119,6 @@ drop-spec =
     unpack8-requires
     enum-known-head
     enum-told
-    refuse-drop-requires-3
     same-length-3
     returns-3
     drop-at-requires

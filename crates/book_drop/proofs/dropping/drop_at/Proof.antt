@@ -16,7 +16,7 @@ use Rattle.book_drop.proofs.dropping.drop_at.Tie as tie
 -- the book of the call
 module _ (t : tie.Start) where
   abbrev book : Book
-  book = bookOf (t .args .body .now) (t .args .heads .now) (t .args .state)
+  book = bookOf (t .args .body .now) (t .args .heads .now) (t .args .mark .now) (t .args .free .now)
 
 enum-told : tie.Need-enum-told
 enum-told c = search needs
@@ -55,7 +55,7 @@ returns c =
     (drop-yes b key Empty (record { numbers = []; blocks = []; pages = 0; padded = 0 }) 0 (b .space) (content-empty (seen (b .space))) refl
     (sym (release-none (b .space)))
     ∙ ap (dropsAt b key) (sym (d .enum-told .given .1)))
-    (c .before .before .accept-drop .ensures b (t .args .body .now) refl)
+    (c .before .before .accept-drop .ensures b (b .space) refl)
 
 same-length-2 : tie.Need-same-length-2
 same-length-2 c = search needs
@@ -72,7 +72,7 @@ returns-2 c =
     (drop-yes b key (Inline entry used) (record { numbers = entry ∷ []; blocks = []; pages = 0; padded = 0 }) 1 (b .space)
     (content-inline (seen (b .space)) entry used) refl
     (sym (release-none (b .space))) ∙ ap (dropsAt b key) (sym (d .enum-told2 .given .1)))
-    (c .before .before .accept-drop2 .ensures b (t .args .body .now) refl)
+    (c .before .before .accept-drop2 .ensures b (b .space) refl)
 
 same-length-3 : tie.Need-same-length-3
 same-length-3 c = search needs
@@ -83,9 +83,8 @@ same-length-4 c = search needs
 returns-3 : tie.Need-returns-3
 returns-3 c =
     let s = c .before .before .before .before in
-    let d = s .before .before .before .before in
-    let t = d .before .before .before .before in
-    does-same (ap (dropsAt (book t) (t .args .key)) (sym (d .place .given .1))) (s .drop-slab .ensures)
+    let d = s .before .before .before .before .before .before in
+    rw (d .place .given .1) (s .drop-slab .ensures)
 
 same-length-5 : tie.Need-same-length-5
 same-length-5 c = search needs
@@ -96,9 +95,8 @@ same-length-6 c = search needs
 returns-4 : tie.Need-returns-4
 returns-4 c =
     let s = c .before .before .before .before in
-    let d = s .before .before .before .before in
-    let t = d .before .before .before .before in
-    does-same (ap (dropsAt (book t) (t .args .key)) (sym (d .place2 .given .1))) (s .drop-chain .ensures)
+    let d = s .before .before .before .before .before .before in
+    rw (d .place2 .given .1) (s .drop-chain .ensures)
 
 pub drop-at-spec : {M : Type 1} → statement M
 drop-at-spec =

@@ -5,7 +5,7 @@ use lib.ListN.{length}
 use Rattle.error.specs.Refusal.{accepted}
 use Rattle.error.proofs.LawsAnswer.{was-accepted, was-refused}
 use Rattle.scripthash_layout.specs.declared.head.ShHeadValue.the-variants.{Extent}
-use Rattle.book_space.specs.Answers.{spaceOf}
+use Rattle.book_space.specs.Space.{space}
 use Rattle.book_keys.specs.Keys.{Chain, chainAt}
 use Rattle.book_keys.specs.Steps.{ChainEndOf, chainEndOf}
 use Rattle.book_keys.specs.Answers.{chainAnswer}
@@ -15,7 +15,7 @@ use Rattle.book.specs.Book.{Book, seen}
 use Rattle.book.specs.Answers.{bookOf}
 use Rattle.book_keys.specs.Steps.{PagesLeft}
 use Rattle.book.proofs.LawsKey.{does-same}
-use Rattle.book_drop.proofs.LawsDrop.{drop-no, drop-yes}
+use Rattle.book_drop.proofs.LawsDrop.{ends-refused, drop-no, drop-yes}
 use Rattle.book_keys.proofs.LawsNext.{chain-left}
 use Rattle.book_drop.proofs.dropping.drop_chain.Statement.{statement}
 use Rattle.book_drop.proofs.dropping.drop_chain.Tie as tie
@@ -23,12 +23,12 @@ use Rattle.book_drop.proofs.dropping.drop_chain.Tie as tie
 -- the book of the call
 module _ (t : tie.Start) where
   abbrev book : Book
-  book = bookOf (t .args .body .now) (t .args .heads .now) (t .args .state)
+  book = bookOf (t .args .body .now) (t .args .heads .now) (t .args .mark .now) (t .args .free .now)
 
 -- the chain was walked
 module _ (c : tie.After-end) where
   abbrev at : tie.Start
-  at = c .before .before .before .before .before .before
+  at = c .before .before .before .before .before .before .before
 
   abbrev end : ChainEndOf
   end =
@@ -59,9 +59,6 @@ enum-known-end c = search needs
 enum-told : tie.Need-enum-told
 enum-told c = search needs
 
-refuse-drop-requires : tie.Need-refuse-drop-requires
-refuse-drop-requires c κs = search needs
-
 same-length : tie.Need-same-length
 same-length c = search needs
 
@@ -69,15 +66,15 @@ returns : tie.Need-returns
 returns c =
     let t = c .before .before .before .before .before .before .before in
     let a = t .args in
-    let stop = was-refused chainEndOf _ (sym (c .before .before .before .chain-end .ensures)
-    ∙ ap chainAnswer (c .before .enum-told .given .1)) in
+    let stop = was-refused chainEndOf _ (sym (c .before .before .chain-end .ensures)
+    ∙ ap chainAnswer (c .enum-told .given .1)) in
     let bad = was-unsound _ stop in
-    c .refuse-drop .ensures (a .body .now) (a .heads .now) _
+    ends-refused (book t) _
     (drop-no (book t) (a .key) (Extent (a .last))
     (content-no-pages (seen (book t .space)) (a .last) (bad .1)))
 
 release-chain-requires : tie.Need-release-chain-requires
-release-chain-requires c κs = let d = c .before .before in (walked d .0 .offs, left d)
+release-chain-requires c κs = let d = c .before .before .before in (at d .args .mark .now, walked d .0 .offs, left d)
 
 accept-drop-requires : tie.Need-accept-drop-requires
 accept-drop-requires c κs = search needs
@@ -92,16 +89,16 @@ returns-2 : tie.Need-returns-2
 returns-2 c =
     let done = c .before .before .accept-drop in
     let r = c .before .before .before .before .before .before in
-    let d = r .before .before .before in
+    let d = r .before .before .before .before in
     let t = at d in
     let a = t .args in
     let k = walked d in
+    let after = space (r .release-chain .last .0) (a .mark .now) (r .release-chain .last .1 .0) in
     does-same
-    (drop-yes (book t) (a .key) (Extent (a .last)) (inPages (k .0)) (end d .length)
-    (spaceOf (r .release-chain .last .0) (r .release-chain .result))
+    (drop-yes (book t) (a .key) (Extent (a .last)) (inPages (k .0)) (end d .length) after
     (content-pages (seen (book t .space)) (a .last) (k .0) (k .1)) (ap (λ (x : ChainEndOf). x .length) (k .2))
-    (r .release-chain .ensures (k .0 .offs) (left d)))
-    (done .ensures (book t) (r .release-chain .last .0) refl)
+    (r .release-chain .ensures (a .mark .now) (k .0 .offs) (left d)))
+    (done .ensures (book t) after refl)
 
 pub drop-chain-spec : {M : Type 1} → statement M
 drop-chain-spec =
@@ -110,7 +107,6 @@ drop-chain-spec =
     chain-end-requires
     enum-known-end
     enum-told
-    refuse-drop-requires
     same-length
     returns
     release-chain-requires

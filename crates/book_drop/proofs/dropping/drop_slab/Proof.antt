@@ -1,44 +1,59 @@
 -- `drop_slab` meets its contract: the slab decides, and is the one block that is given back. Assumes nothing.
+use Prim.Native.Nat.{ℕ}
 use mathlib.Core.Path.{_≡_, refl, sym, ap, _∙_}
 use borrow.Author.Needs.{needs}
 use lib.ListN.{length}
-use Rattle.error.specs.Refusal.{accepted}
+use Rattle.error.specs.Refusal.{Answer, accepted, refused}
 use Rattle.error.proofs.LawsAnswer.{was-accepted, was-refused}
 use Rattle.scripthash_layout.specs.declared.head.ShHeadValue.the-variants.{Slab}
 use Rattle.scripthash_stream.specs.Stream.{Scan, endFrom}
 use Rattle.scripthash_stream.specs.Answers.{scanAnswer}
-use Rattle.book_space.specs.Answers.{spaceOf}
+use Rattle.book_space.specs.Space.{space}
 use Rattle.book_space.proofs.LawsLists.{stands-further}
-use Rattle.book_keys.specs.Keys.{slabScan}
+use Rattle.book_keys.specs.Keys.{soundly, slabScan}
 use Rattle.book_keys.proofs.LawsSound.{was-sound, was-unsound}
 use Rattle.book_keys.proofs.LawsSlab.{SoundSlab, slab-sound}
 use Rattle.book_keys.proofs.LawsContent.{inSlab, content-slab, content-no-slab}
 use Rattle.book.specs.Book.{Book, seen}
 use Rattle.book.specs.Answers.{bookOf}
 use Rattle.book.proofs.LawsKey.{does-same}
-use Rattle.book_drop.proofs.LawsDrop.{drop-no, drop-yes}
+use Rattle.book_drop.proofs.LawsDrop.{ends-refused, drop-no, drop-yes}
 use Rattle.book_drop.proofs.dropping.drop_slab.Statement.{statement}
 use Rattle.book_drop.proofs.dropping.drop_slab.Tie as tie
 
--- the book of the call
+-- the book of the call, and the scan of its slab
 module _ (t : tie.Start) where
   abbrev book : Book
-  book = bookOf (t .args .body .now) (t .args .heads .now) (t .args .state)
+  book = bookOf (t .args .body .now) (t .args .heads .now) (t .args .mark .now) (t .args .free .now)
+
+  abbrev scan : Answer Scan
+  scan = slabScan (seen (book .space)) (t .args .class) (t .args .used) (t .args .off)
 
 -- the slab was scanned
 module _ (c : tie.After-enum-told) where
   abbrev at : tie.Start
-  at = c .before .before .before .before .before .before
+  at = c .before .before .before .before .before .before .before
 
-  scanned : (x : Scan) × (slabScan (seen (book at .space)) (at .args .class) (at .args .used) (at .args .off) ≡ accepted x)
+  scanned : (x : Scan) × (scan at ≡ accepted x)
   scanned =
-      let got = was-accepted (endFrom 0) _ (sym (c .before .before .slab-end .ensures) ∙ ap scanAnswer (c .enum-told .given .1)) in (
+      let got = was-accepted (endFrom 0) (soundly (scan at)) (sym (c .before .before .slab-end .ensures)
+      ∙ ap scanAnswer (c .enum-told .given .1)) in (
         got .0,
-        was-sound _ (got .1),
+        was-sound (scan at) (got .1),
       )
 
   sound : SoundSlab (seen (book at .space)) (at .args .class) (at .args .used) (at .args .off) (scanned .0)
   sound = slab-sound (seen (book at .space)) (at .args .class) (at .args .used) (at .args .off) (scanned .0) (scanned .1)
+
+-- the slab isn't sound
+module _ (c : tie.After-enum-told2) where
+  abbrev call : tie.Start
+  call = c .before .before .before .before .before .before .before
+
+  unsound : (m : ℕ) × (scan call ≡ refused m)
+  unsound =
+      was-unsound (scan call)
+      (was-refused (endFrom 0) (soundly (scan call)) (sym (c .before .before .slab-end .ensures) ∙ ap scanAnswer (c .enum-told2 .given .1)))
 
 slab-end-requires : tie.Need-slab-end-requires
 slab-end-requires c κs = search needs
@@ -49,29 +64,22 @@ enum-told c = search needs
 enum-told-2 : tie.Need-enum-told-2
 enum-told-2 c = search needs
 
-refuse-drop-requires : tie.Need-refuse-drop-requires
-refuse-drop-requires c κs = search needs
-
 same-length : tie.Need-same-length
 same-length c = search needs
 
 returns : tie.Need-returns
 returns c =
-    let t = c .before .before .before .before .before .before .before in
+    let t = call c in
     let a = t .args in
-    let stop = was-refused (endFrom 0) _ (sym (c .before .before .before .slab-end .ensures)
-    ∙ ap scanAnswer (c .before .enum-told2 .given .1)) in
-    let bad = was-unsound _ stop in
-    c .refuse-drop .ensures (a .body .now) (a .heads .now) _
+    ends-refused (book t) _
     (drop-no (book t) (a .key) (Slab (a .class) (a .used) (a .off))
-    (content-no-slab (seen (book t .space)) (a .class) (a .used) (a .off)
-    (bad .1)))
+    (content-no-slab (seen (book t .space)) (a .class) (a .used) (a .off) (unsound c .1)))
 
 release-block-requires : tie.Need-release-block-requires
 release-block-requires c κs =
-    let d = c .before in
+    let d = c .before .before in
     let a = at d .args in
-    stands-further (a .class) (a .off) (a .state .mark) (length (a .body .now)) (at d .pre .0) (sound d .stands)
+    stands-further (a .class) (a .off) (a .mark .now) (length (a .body .now)) (at d .pre .0) (sound d .stands)
 
 accept-drop-requires : tie.Need-accept-drop-requires
 accept-drop-requires c κs = search needs
@@ -86,16 +94,16 @@ returns-2 : tie.Need-returns-2
 returns-2 c =
     let done = c .before .before .accept-drop in
     let r = c .before .before .before .before .before .before in
-    let d = r .before .before in
+    let d = r .before .before .before in
     let t = at d in
     let a = t .args in
+    let after = space (r .release-block .last .0) (a .mark .now) (r .release-block .last .1 .0) in
     does-same
     (drop-yes (book t) (a .key) (Slab (a .class) (a .used) (a .off))
-    (inSlab (seen (book t .space)) (a .class) (a .off) (scanned d .0)) (a .used)
-    (spaceOf (r .release-block .last .0) (r .release-block .result))
+    (inSlab (seen (book t .space)) (a .class) (a .off) (scanned d .0)) (a .used) after
     (content-slab (seen (book t .space)) (a .class) (a .used) (a .off) (scanned d .0) (scanned d .1)) (sound d .counted)
-    (r .release-block .ensures))
-    (done .ensures (book t) (r .release-block .last .0) refl)
+    (r .release-block .ensures (a .mark .now)))
+    (done .ensures (book t) after refl)
 
 pub drop-slab-spec : {M : Type 1} → statement M
 drop-slab-spec =
@@ -104,7 +112,6 @@ drop-slab-spec =
     slab-end-requires
     enum-told
     enum-told-2
-    refuse-drop-requires
     same-length
     returns
     release-block-requires

@@ -9,48 +9,46 @@ use lib.ListN.{length}
 use Rattle.scripthash_layout.specs.Sizes.{pageClass}
 use Rattle.scripthash_free.specs.FreeList.{isBlock}
 use Rattle.scripthash_free.proofs.LawsBlock.{block-stands}
-use Rattle.book_space.specs.Space.{Space, release}
-use Rattle.book_space.specs.Answers.{spaceOf}
-use Rattle.book_keys.specs.Keys.{pageBlocks}
+use Rattle.book_space.specs.Space.{Space, space, release}
+use Rattle.book_keys.specs.Keys.{ground, pageBlocks}
 use Rattle.book_keys.specs.Steps.{PagesLeft}
 use Rattle.book_drop.proofs.LawsDrop.{page-turn, Giving, giving-turn, giving-end, given, given-size}
 use Rattle.book_drop.proofs.dropping.release_chain.Statement.{statement}
 use Rattle.book_drop.proofs.dropping.release_chain.Tie as tie
-use Rattle.book.specs.Book.{seen}
 
 abbrev Inv-loop : tie.InvT-loop
-Inv-loop body₀ first pages off₀ left₀ after₀ body off left after =
+Inv-loop body₀ free₀ first pages off₀ left₀ body free off left =
     (length body ≡ length body₀)
-    × ((whole : List ℕ) → PagesLeft (seen (spaceOf body₀ after₀)) first pages whole
-    → Giving (spaceOf body after) off left (release (pageBlocks whole) (spaceOf body₀ after₀)))
+    × ((mark : ℕ) (whole : List ℕ) → PagesLeft (ground body₀ mark) first pages whole
+    → Giving (space body mark free) off left (release (pageBlocks whole) (space body₀ mark free₀)))
 
 abbrev μ-loop : tie.MeasureT-loop
-μ-loop body₀ first pages off₀ left₀ after₀ body off left after = left
+μ-loop body₀ free₀ first pages off₀ left₀ body free off left = left
 
--- a turn
+-- a turn, with a mark that the pages are left with
 module _ (t : tie.In-loop Inv-loop μ-loop) where
   abbrev at : tie.Start Inv-loop μ-loop
   at = t .before .before .before
 
   abbrev s : Space
-  s = spaceOf (t .before .loop .body) (t .before .loop .after)
+  s = space (t .before .loop .body) (at .pre .0) (t .before .loop .free)
 
   stands : isBlock pageClass (t .before .loop .off) (length (t .before .loop .body)) ≡ true
   stands =
-      let g = t .before .loop .inv .1 (at .pre .0) (at .pre .1) in
+      let g = t .before .loop .inv .1 (at .pre .0) (at .pre .1) (at .pre .2) in
       page-turn s (t .before .loop .off) (t .before .loop .left) (g .offs) (t .loop-test .taken) (g .pages) .stands
 
   fits : t .before .loop .off + 4096 ≤ length (t .before .loop .body)
   fits = block-stands pageClass (t .before .loop .off) (length (t .before .loop .body)) stands .ends
 
 loop-holds : tie.Need-loop-holds Inv-loop μ-loop
-loop-holds c = (refl, λ whole p. record { offs = whole; pages = p; gives = refl })
+loop-holds c = (refl, λ mark whole p. record { offs = whole; pages = p; gives = refl })
 
 next-page-requires : tie.Need-next-page-requires Inv-loop μ-loop
 next-page-requires c κs = fits (c .before)
 
 release-block-requires : tie.Need-release-block-requires Inv-loop μ-loop
-release-block-requires c κs = stands (c .before .before .before)
+release-block-requires c κs = stands (c .before .before .before .before)
 
 sub-left : tie.Need-sub-left Inv-loop μ-loop
 sub-left c = omega arith
@@ -60,26 +58,27 @@ loop-less c = omega arith
 
 loop-again : tie.Need-loop-again Inv-loop μ-loop
 loop-again c =
-    let t = c .before .before .before .before .before .before in
+    let t = c .before .before .before .before .before .before .before in
     let r = c .before .before .release-block in
+    let next = c .before .before .before .before .before .next-page in
     let l = t .before .loop in
     let off = l .off in (
-      ap (λ (x : Space). length (x .body)) (r .ensures) ∙ given-size (s t) off (stands t) ∙ l .inv .0,
-      λ whole p.
-          let done = release (pageBlocks whole) (spaceOf (at t .args .body .now) (at t .args .state)) in
-          let g = giving-turn (s t) off (l .left) done (t .loop-test .taken) (l .inv .1 whole p) in
-          subst (λ (x : Space). Giving x (c .before .before .before .before .next-page .result) (l .left - 1) done) (sym (r .ensures))
-          (subst (λ (n : ℕ). Giving (given off (s t)) n (l .left - 1) done) (sym (c .before .before .before .before .next-page .ensures))
-          g),
+      ap (λ (x : Space). length (x .body)) (r .ensures (at t .pre .0)) ∙ given-size (s t) off (stands t) ∙ l .inv .0,
+      λ mark whole p.
+          let here = space (l .body) mark (l .free) in
+          let done = release (pageBlocks whole) (space (at t .args .body .now) mark (at t .args .free .now)) in
+          let g = giving-turn here off (l .left) done (t .loop-test .taken) (l .inv .1 mark whole p) in
+          subst (λ (x : Space). Giving x (next .result) (l .left - 1) done) (sym (r .ensures mark))
+          (subst (λ (n : ℕ). Giving (given off here) n (l .left - 1) done) (sym (next .ensures)) g),
     )
 
 same-length : tie.Need-same-length Inv-loop μ-loop
 same-length c = search needs
 
 returns : tie.Need-returns Inv-loop μ-loop
-returns c whole p =
+returns c mark whole p =
     let l = c .before .loop in
-    giving-end (spaceOf (l .body) (l .after)) (l .off) (l .left) _ (omega arith) (l .inv .1 whole p)
+    giving-end (space (l .body) mark (l .free)) (l .off) (l .left) _ (omega arith) (l .inv .1 mark whole p)
 
 pub release-chain-spec : {M : Type 1} → statement M
 release-chain-spec =

@@ -19,14 +19,14 @@ use Rattle.book_load.specs.Loads.{loads}
 use Rattle.book.specs.Answers.{bookOf}
 use Rattle.book.proofs.LawsPlace.{refused-as}
 use Rattle.book_load.proofs.LawsLoad.{loads-shape, loads-beyond, loads-in-use, loads-too-many, loads-offered}
-use Rattle.book_load.proofs.LawsLoad.{loads-on}
+use Rattle.book_load.proofs.LawsLoad.{ends-refused, loads-on}
 use Rattle.book_load.proofs.loading.load.Statement.{statement}
 use Rattle.book_load.proofs.loading.load.Tie as tie
 
 -- the book before, the key, the list, and what the load comes to
 module _ (c : tie.Start) where
   abbrev book : Book
-  book = bookOf (c .args .body .now) (c .args .heads .now) (c .args .state)
+  book = bookOf (c .args .body .now) (c .args .heads .now) (c .args .mark .now) (c .args .free .now)
 
   abbrev key : ℕ
   key = c .args .key
@@ -40,10 +40,10 @@ module _ (c : tie.Start) where
 -- the book is in shape
 module _ (t : tie.Else1) where
   abbrev start : tie.Start
-  start = t .before .before .before .before .before .before
+  start = t .before .before .before .before .before .before .before
 
   good : shapeBroken (book start .space) (length (book start .heads)) ≡ false
-  good = sym (t .before .shape-broken .ensures) ∙ t .if1 .left
+  good = sym (t .before .shape-broken .ensures (start .args .free .now)) ∙ t .if1 .left
 
 -- the key is one of the heads
 module _ (t : tie.Else2) where
@@ -79,32 +79,25 @@ module _ (k : tie.After-judged) where
 shape-broken-requires : tie.Need-shape-broken-requires
 shape-broken-requires c κs = search needs
 
-refuse-load-requires : tie.Need-refuse-load-requires
-refuse-load-requires c κs = search needs
-
 same-length : tie.Need-same-length
 same-length c = search needs
 
 returns : tie.Need-returns
 returns c =
-    let t = c .before .before in
-    let s = t .before .before .before .before .before in
-    let e = c .refuse-load .ensures (s .args .body .now) (s .args .heads .now) (load s)
-    (loads-shape (s .args .fit) (book s) (key s) (list s) (sym (t .shape-broken .ensures) ∙ c .before .if1 .taken)) in
+    let t = c .before in
+    let s = t .before .before .before .before .before .before in
+    let e = ends-refused (book s) (load s)
+    (loads-shape (s .args .fit) (book s) (key s) (list s) (sym (t .shape-broken .ensures (s .args .free .now)) ∙ c .if1 .taken)) in
     (e .told, e .left)
-
-refuse-load-requires-2 : tie.Need-refuse-load-requires-2
-refuse-load-requires-2 c κs = search needs
 
 same-length-2 : tie.Need-same-length-2
 same-length-2 c = search needs
 
 returns-2 : tie.Need-returns-2
 returns-2 c =
-    let t = c .before .before in
+    let t = c .before in
     let s = start t in
-    let e = c .refuse-load2 .ensures (s .args .body .now) (s .args .heads .now) (load s)
-    (loads-beyond (s .args .fit) (book s) (key s) (list s) (good t) (c .before .if2 .taken)) in
+    let e = ends-refused (book s) (load s) (loads-beyond (s .args .fit) (book s) (key s) (list s) (good t) (c .if2 .taken)) in
     (e .told, e .left)
 
 mul-if3 : tie.Need-mul-if3
@@ -113,32 +106,26 @@ mul-if3 c = search needs
 slice-read-if3 : tie.Need-slice-read-if3
 slice-read-if3 c = search needs
 
-refuse-load-requires-3 : tie.Need-refuse-load-requires-3
-refuse-load-requires-3 c κs = search needs
-
 same-length-3 : tie.Need-same-length-3
 same-length-3 c = search needs
 
 returns-3 : tie.Need-returns-3
 returns-3 c =
-    let t = c .before .before .before in
+    let t = c .before .before in
     let s = start (t .before) in
-    let e = c .refuse-load3 .ensures (s .args .body .now) (s .args .heads .now) (load s)
-    (loads-in-use (s .args .fit) (book s) (key s) (list s) (good (t .before)) (known t) (c .before .if3 .taken)) in
+    let e = ends-refused (book s) (load s)
+    (loads-in-use (s .args .fit) (book s) (key s) (list s) (good (t .before)) (known t) (c .if3 .taken)) in
     (e .told, e .left)
-
-refuse-load-requires-4 : tie.Need-refuse-load-requires-4
-refuse-load-requires-4 c κs = search needs
 
 same-length-4 : tie.Need-same-length-4
 same-length-4 c = search needs
 
 returns-4 : tie.Need-returns-4
 returns-4 c =
-    let t = c .before .before in
+    let t = c .before in
     let s = start (shaped t) in
-    let e = c .refuse-load4 .ensures (s .args .body .now) (s .args .heads .now) (load s)
-    (loads-too-many (s .args .fit) (book s) (key s) (list s) (good (shaped t)) (known (t .before .before)) (empty t) (c .before .if4 .taken)) in
+    let e = ends-refused (book s) (load s)
+    (loads-too-many (s .args .fit) (book s) (key s) (list s) (good (shaped t)) (known (t .before .before)) (empty t) (c .if4 .taken)) in
     (e .told, e .left)
 
 judge-list-requires : tie.Need-judge-list-requires
@@ -153,27 +140,24 @@ enum-told c = search needs
 refusal-requires : tie.Need-refusal-requires
 refusal-requires c κs = search needs
 
-refuse-load-requires-5 : tie.Need-refuse-load-requires-5
-refuse-load-requires-5 c κs = search needs
-
 same-length-5 : tie.Need-same-length-5
 same-length-5 c = search needs
 
 returns-5 : tie.Need-returns-5
 returns-5 c =
-    let told = c .before .before in
+    let told = c .before in
     let j = told .before .before in
     let t = j .before in
     let s = begin t in
-    let number = refused-as _ _ (ap bytesAnswer (told .enum-told .given .1)) (c .before .refusal .ensures) in
-    let e = c .refuse-load5 .ensures (s .args .body .now) (s .args .heads .now) (load s)
+    let number = refused-as _ _ (ap bytesAnswer (told .enum-told .given .1)) (c .refusal .ensures) in
+    let e = ends-refused (book s) (load s)
     (loads-offered (s .args .fit) (book s) (key s) (list s) (good (shaped (t .before))) (known (t .before .before .before)) (empty (t .before)) (few t)
     (sym (j .judge-list .ensures) ∙ number)) in
     (e .told, e .left)
 
 load-judged-requires : tie.Need-load-judged-requires
 load-judged-requires c κs =
-    let k = c .before .before .before in
+    let k = c .before .before .before .before .before in
     let t = listed k in
     let s = begin t in
     let shape = shape-holds (book s .space) (length (book s .heads)) (good (shaped (t .before))) in
@@ -192,7 +176,7 @@ same-length-7 c = search needs
 returns-6 : tie.Need-returns-6
 returns-6 c =
     let p = c .before .before .before .before in
-    let k = p .before .before .before .before in
+    let k = p .before .before .before .before .before .before in
     let t = listed k in
     let s = begin t in
     let e = p .load-judged .ensures in
@@ -204,25 +188,20 @@ load-spec =
     tie.close
     (tie.spec
     shape-broken-requires
-    refuse-load-requires
     same-length
     returns
-    refuse-load-requires-2
     same-length-2
     returns-2
     mul-if3
     slice-read-if3
-    refuse-load-requires-3
     same-length-3
     returns-3
-    refuse-load-requires-4
     same-length-4
     returns-4
     judge-list-requires
     enum-known-judged
     enum-told
     refusal-requires
-    refuse-load-requires-5
     same-length-5
     returns-5
     load-judged-requires

@@ -14,7 +14,7 @@ use Rattle.book_load.proofs.loading.load_judged.Tie as tie
 -- the book before, and the list
 module _ (c : tie.Start) where
   abbrev book : Book
-  book = bookOf (c .args .body .now) (c .args .heads .now) (c .args .state)
+  book = bookOf (c .args .body .now) (c .args .heads .now) (c .args .mark .now) (c .args .free .now)
 
   abbrev list : List ℕ
   list = c .args .fks .now
@@ -37,11 +37,11 @@ returns-2 c =
     let one = a .before .before .before in
     let s = one .before .before .before .before .before in
     does-same (sym (load-one (s .args .fit) (book s) (s .args .key) (list s) (one .if2 .taken)))
-    (a .accept-load .ensures (book s) (s .args .body .now) refl)
+    (a .accept-load .ensures (book s) (book s .space) refl)
 
 load-list-requires : tie.Need-load-list-requires
 load-list-requires c κs =
-    let more = c .before .before in
+    let more = c .before .before .before .before in
     let pre = more .before .before .before .before .before .pre in
     record {
       to-load = pre .to-load;
@@ -59,7 +59,7 @@ same-length-3 c = search needs
 returns-3 : tie.Need-returns-3
 returns-3 c =
     let p = c .before .before .before .before in
-    let more = p .before .before .before in
+    let more = p .before .before .before .before .before in
     let s = more .before .before .before .before .before in
     rw (load-more (s .args .fit) (book s) (s .args .key) (list s) (omega (arith, more .if2 .left, more .before .if1 .left))) (p .load-list .ensures)
 

@@ -9,24 +9,24 @@ use lib.ListN.{length}
 use Rattle.error.specs.Refusal.{accepted}
 use Rattle.book_blocks.specs.Steps.{Run}
 use Rattle.book_blocks.proofs.LawsWrites.{run-start}
-use Rattle.book_space.specs.Space.{Space, takeRun}
-use Rattle.book_space.specs.Answers.{spaceOf, takeAnswer}
+use Rattle.book_space.specs.Space.{Space, space, takeRun}
+use Rattle.book_space.specs.Answers.{takeAnswer}
 use Rattle.book.specs.Book.{Book}
 use Rattle.book_load.specs.Loads.{loadInto}
 use Rattle.book.specs.Answers.{bookOf}
 use Rattle.book.proofs.LawsKey.{does-same, does-from}
 use Rattle.book.proofs.LawsPlace.{refused-as, took-at, took-none}
-use Rattle.book_load.proofs.LawsLoad.{parts-few, run-loaded, run-not-loaded, run-lies}
+use Rattle.book_load.proofs.LawsLoad.{ends-refused, parts-few, run-loaded, run-not-loaded, run-lies}
 use Rattle.book_load.proofs.loading.load_parts.Statement.{statement}
 use Rattle.book_load.proofs.loading.load_parts.Tie as tie
 
 -- the book before, its list with the ranges of its parts, and the space after taking
 module _ (t : tie.After-take-run) where
   abbrev start : tie.Start
-  start = t .before .before .before .before .before
+  start = t .before .before .before .before .before .before .before
 
   abbrev book : Book
-  book = bookOf (start .args .body .now) (start .args .heads .now) (start .args .state)
+  book = bookOf (start .args .body .now) (start .args .heads .now) (start .args .mark .now) (start .args .free .now)
 
   abbrev list : List ℕ
   list = start .args .fks .now
@@ -38,12 +38,12 @@ module _ (t : tie.After-take-run) where
   count = start .args .count
 
   abbrev after : Space
-  after = spaceOf (t .take-run .last .0) (t .take-run .result .state)
+  after = space (t .take-run .last .0) (t .take-run .last .1 .0) (t .take-run .last .1 .1 .0)
 
 -- a run was taken, and can be written
 module _ (k : tie.After-known-told) where
   abbrev taking : tie.After-take-run
-  taking = k .before .before .before .before .before .before
+  taking = k .before .before .before .before .before
 
   abbrev off : ℕ
   off = k .before .answer .given .0 .0
@@ -61,7 +61,7 @@ module _ (k : tie.After-known-told) where
 
 take-run-requires : tie.Need-take-run-requires
 take-run-requires c κs =
-    let start = c .before .before .before .before in
+    let start = c .before .before .before .before .before .before in
     let pre = start .pre in
     record {
       shape = pre .to-load .shape;
@@ -77,21 +77,18 @@ enum-told c = search needs
 refusal-requires : tie.Need-refusal-requires
 refusal-requires c κs = search needs
 
-refuse-load-requires : tie.Need-refuse-load-requires
-refuse-load-requires c κs = search needs
-
 same-length : tie.Need-same-length
 same-length c = search needs
 
 returns : tie.Need-returns
 returns c =
-    let e = c .before .before in
-    let t = e .before .before .before .before .before in
-    let number = refused-as _ _ (ap takeAnswer (e .enum-told .given .1)) (c .before .refusal .ensures) in
-    let (is, same) = took-none (book t .space) (after t) _ (t .take-run .ensures) number in
+    let e = c .before in
+    let t = e .before .before .before .before in
+    let number = refused-as _ _ (ap takeAnswer (e .enum-told .given .1)) (c .refusal .ensures) in
+    let (is, same) = took-none (book t .space) (after t) (takeRun (count t) (book t .space)) (t .take-run .ensures) number in
     let key = start t .args .key in
     does-from same
-    (c .refuse-load .ensures (t .take-run .last .0) (start t .args .heads .now) (loadInto (book t) key (list t) none)
+    (ends-refused (record { heads = book t .heads; space = after t }) (loadInto (book t) key (list t) none)
     (run-not-loaded (book t) key (list t) (count t) (start t .pre .cut .parts) is))
 
 put-run-requires : tie.Need-put-run-requires
@@ -124,7 +121,7 @@ returns-2 c =
     does-same
     (sym (run-loaded (book t) (start t .args .key) (list t) (count t) (start t .pre .cut .parts) (after t) (took k) (p .put-run .last .0)
     (p .put-run .ensures)))
-    (a .accept-load .ensures (book t) (p .put-run .last .0) refl)
+    (a .accept-load .ensures (book t) (space (p .put-run .last .0) (after t .mark) (after t .free)) refl)
 
 pub load-parts-spec : {M : Type 1} → statement M
 load-parts-spec =
@@ -134,7 +131,6 @@ load-parts-spec =
     enum-known-answer
     enum-told
     refusal-requires
-    refuse-load-requires
     same-length
     returns
     put-run-requires

@@ -39,12 +39,9 @@ enum-told c = search needs
 refusal-requires : tie.Need-refusal-requires
 refusal-requires c κs = search needs
 
-refuse-load-requires : tie.Need-refuse-load-requires
-refuse-load-requires c κs = search needs
-
 returns : tie.Need-returns
 returns c =
-    let e = c .before .before in
+    let e = c .before in
     absurd (refused≢accepted (sym (ap chunkAnswer (e .enum-told .given .1)) ∙ was-cut (e .before .before .before)))
 
 slice-aggregate-load-parts : tie.Need-slice-aggregate-load-parts
@@ -52,7 +49,7 @@ slice-aggregate-load-parts c = search needs
 
 load-parts-requires : tie.Need-load-parts-requires
 load-parts-requires c κs =
-    let k = c .before .before .before .before in
+    let k = c .before .before .before .before .before .before in
     let t = k .before .before .before in
     let pre = start t .pre in
     let told = sym (t .sh-page-chunk-ranges .ensures .0) ∙ ap chunkAnswer (k .cut .given .1) in
@@ -85,7 +82,6 @@ load-run-spec =
     enum-known-cut
     enum-told
     refusal-requires
-    refuse-load-requires
     returns
     slice-aggregate-load-parts
     load-parts-requires

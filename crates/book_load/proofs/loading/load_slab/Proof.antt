@@ -4,25 +4,24 @@ use mathlib.Core.List.{List}
 use mathlib.Core.Option.{some}
 use mathlib.Core.Path.{refl, sym, ap}
 use borrow.Author.Needs.{needs}
-use Rattle.book_space.specs.Space.{Space}
-use Rattle.book_space.specs.Answers.{spaceOf}
+use Rattle.book_space.specs.Space.{Space, space}
 use Rattle.book.specs.Book.{Book}
 use Rattle.book.specs.Answers.{bookOf}
 use Rattle.book.specs.Steps.{placesInto, placeAnswer}
 use Rattle.book_load.specs.Loads.{loadInto}
 use Rattle.book.proofs.LawsKey.{does-same, does-from}
 use Rattle.book.proofs.LawsPlace.{placed-at, placed-none}
-use Rattle.book_load.proofs.LawsLoad.{slab-loaded, slab-not-loaded}
+use Rattle.book_load.proofs.LawsLoad.{ends-refused, slab-loaded, slab-not-loaded}
 use Rattle.book_load.proofs.loading.load_slab.Statement.{statement}
 use Rattle.book_load.proofs.loading.load_slab.Tie as tie
 
 -- the book before, and the space after placing
 module _ (t : tie.After-place-in-slab) where
   abbrev start : tie.Start
-  start = t .before .before .before .before .before
+  start = t .before .before .before .before .before .before .before
 
   abbrev book : Book
-  book = bookOf (start .args .body .now) (start .args .heads .now) (start .args .state)
+  book = bookOf (start .args .body .now) (start .args .heads .now) (start .args .mark .now) (start .args .free .now)
 
   abbrev list : List ℕ
   list = start .args .fks .now
@@ -31,11 +30,11 @@ module _ (t : tie.After-place-in-slab) where
   class = start .args .class
 
   abbrev after : Space
-  after = spaceOf (t .place-in-slab .last .0) (t .place-in-slab .result .state)
+  after = space (t .place-in-slab .last .0) (t .place-in-slab .last .1 .0) (t .place-in-slab .last .1 .1 .0)
 
 place-in-slab-requires : tie.Need-place-in-slab-requires
 place-in-slab-requires c κs =
-    let pre = c .before .before .before .before .pre in
+    let pre = c .before .before .before .before .before .before .pre in
     record { shape = pre .to-load .shape; low = pre .low; few = pre .few; rises = pre .rises; fits = pre .fits }
 
 enum-known-answer : tie.Need-enum-known-answer
@@ -47,9 +46,6 @@ accept-load-requires c κs = search needs
 enum-known-answer-2 : tie.Need-enum-known-answer-2
 enum-known-answer-2 c = search needs
 
-refuse-load-requires : tie.Need-refuse-load-requires
-refuse-load-requires c κs = search needs
-
 same-length : tie.Need-same-length
 same-length c = search needs
 
@@ -60,24 +56,24 @@ returns : tie.Need-returns
 returns c =
     let a = c .before .before in
     let k = a .before .before .before in
-    let t = k .before .before .before .before .before in
+    let t = k .before .before .before .before in
     let placed = placed-at (book t .space) (after t) (placesInto (book t .space) (list t) (some (class t))) (t .place-in-slab .ensures)
     (ap placeAnswer (k .answer .given .1)) in
     does-same (sym (slab-loaded (book t) (start t .args .key) (list t) (class t) placed))
-    (a .accept-load .ensures (book t) (t .place-in-slab .last .0) refl)
+    (a .accept-load .ensures (book t) (after t) refl)
 
 same-length-3 : tie.Need-same-length-3
 same-length-3 c = search needs
 
 returns-2 : tie.Need-returns-2
 returns-2 c =
-    let k = c .before .before in
-    let t = k .before .before .before .before .before in
+    let k = c .before in
+    let t = k .before .before .before .before in
     let (is, same) = placed-none (book t .space) (after t) (placesInto (book t .space) (list t) (some (class t)))
     (t .place-in-slab .ensures) (ap placeAnswer (k .answer2 .given .1)) in
     let key = start t .args .key in
     does-from same
-    (c .refuse-load .ensures (t .place-in-slab .last .0) (start t .args .heads .now) (loadInto (book t) key (list t) (some (class t)))
+    (ends-refused (record { heads = book t .heads; space = after t }) (loadInto (book t) key (list t) (some (class t)))
     (slab-not-loaded (book t) key (list t) (class t) is))
 
 pub load-slab-spec : {M : Type 1} → statement M
@@ -88,7 +84,6 @@ load-slab-spec =
     enum-known-answer
     accept-load-requires
     enum-known-answer-2
-    refuse-load-requires
     same-length
     same-length-2
     returns

@@ -1,52 +1,54 @@
 -- `read` meets its contract: the tests of the shape and of the key, and then the key is read. Assumes nothing.
 use Prim.Native.Nat.{ℕ, _≤_}
 use mathlib.Core.Bool.{false}
-use mathlib.Core.Path.{_≡_, refl, sym, ap, _∙_}
+use mathlib.Core.List.{List, []}
+use mathlib.Core.Path.{_≡_, sym, ap, _∙_}
 use borrow.Author.Needs.{needs}
-use lib.ListN.{length}
+use lib.ListN.{length, getD}
 use Rattle.error.specs.Refusal.{Answer, answered}
 use Rattle.book_space.specs.Space.{shapeBroken}
 use Rattle.book_space.proofs.LawsShape.{shape-holds}
+use Rattle.book_rules.specs.Outcomes.{Listed}
 use Rattle.book_keys.specs.Keys.{Content, content, ground}
 use Rattle.book_keys.specs.Steps.{inRoom}
 use Rattle.book_keys.specs.Answers.{countsAnswer}
-use Rattle.book.specs.Book.{Book, wordOf, seen}
+use Rattle.book.specs.Book.{Book}
 use Rattle.book_read.specs.Reads.{reads}
 use Rattle.book.specs.Answers.{bookOf}
 use Rattle.book.proofs.LawsPlace.{refused-as}
-use Rattle.book_read.proofs.LawsRead.{reading, read-broken, read-beyond, read-key, read-no, read-refused, read-accepted}
+use Rattle.book_read.proofs.LawsRead.{reading, read-broken, read-beyond, read-key, for-any, read-no, read-refused, read-accepted}
 use Rattle.book_read.proofs.reading.read.Statement.{statement}
 use Rattle.book_read.proofs.reading.read.Tie as tie
 
--- the book of the call
+-- the call: the word of its key, the room of the lent list, and what the key holds, whatever the free heads are
 module _ (t : tie.Start) where
-  abbrev book : Book
-  book = bookOf (t .args .body .now) (t .args .heads .now) (t .args .state)
-
   abbrev word : ℕ
-  word = wordOf (t .args .key) book
+  word = getD (t .args .heads .now) (t .args .key) 0
 
-  -- the room of the lent list
   abbrev room : ℕ
   room = length (t .args .out .now)
 
-  -- what the key holds: the free heads don't matter
   abbrev held : Answer Content
-  held = content (ground (t .args .body .now) (t .args .state .mark)) word
+  held = content (ground (t .args .body .now) (t .args .mark)) word
 
-  bare : content (seen (book .space)) word ≡ held
-  bare = refl
+-- its book with some free heads, and what is asked of it
+module _ (t : tie.Start) (free : List ℕ) where
+  abbrev book : Book
+  book = bookOf (t .args .body .now) (t .args .heads .now) (t .args .mark) free
+
+  abbrev asked : Answer Listed
+  asked = reads book (t .args .key) (room t)
 
 -- the shape passed its test
 module _ (c : tie.Else1) where
   abbrev at : tie.Start
   at = c .before .before .before .before .before
 
-  whole : shapeBroken (book at .space) (length (book at .heads)) ≡ false
-  whole = sym (c .before .shape-broken .ensures) ∙ c .if1 .left
+  whole : (free : List ℕ) → shapeBroken (book at free .space) (length (book at free .heads)) ≡ false
+  whole free = sym (c .before .shape-broken .ensures free) ∙ c .if1 .left
 
-  within : at .args .state .mark ≤ length (at .args .body .now)
-  within = shape-holds (book at .space) (length (book at .heads)) whole .0 .within
+  within : at .args .mark ≤ length (at .args .body .now)
+  within = shape-holds (book at [] .space) (length (book at [] .heads)) (whole []) .0 .within
 
 -- the key was read
 module _ (c : tie.After-read-key) where
@@ -56,10 +58,8 @@ module _ (c : tie.After-read-key) where
   abbrev call : tie.Start
   call = at (there .before)
 
-  is : reads (book call) (call .args .key) (room call) ≡ answered reading (inRoom (room call) (held call))
-  is =
-      read-key (book call) (call .args .key) (room call) (whole (there .before)) (there .if2 .left)
-      ∙ ap (λ (a : Answer Content). answered reading (inRoom (room call) a)) (bare call)
+  is : (free : List ℕ) → asked call free ≡ answered reading (inRoom (room call) (held call))
+  is free = read-key (book call free) (call .args .key) (room call) (whole (there .before) free) (there .if2 .left)
 
 shape-broken-requires : tie.Need-shape-broken-requires
 shape-broken-requires c κs = search needs
@@ -67,13 +67,15 @@ shape-broken-requires c κs = search needs
 returns : tie.Need-returns
 returns c =
     let t = c .before .before .before .before .before in
-    read-no _ (t .args .out .now) (read-broken (book t) (t .args .key) (room t) (sym (c .before .shape-broken .ensures) ∙ c .if1 .taken))
+    for-any (asked t) (t .args .out .now) (λ free. read-no (asked t free) (t .args .out .now)
+    (read-broken (book t free) (t .args .key) (room t) (sym (c .before .shape-broken .ensures free) ∙ c .if1 .taken)))
 
 returns-2 : tie.Need-returns-2
 returns-2 c =
     let e = c .before in
     let t = at e in
-    read-no _ (t .args .out .now) (read-beyond (book t) (t .args .key) (room t) (whole e) (c .if2 .taken))
+    for-any (asked t) (t .args .out .now) (λ free. read-no (asked t free) (t .args .out .now)
+    (read-beyond (book t free) (t .args .key) (room t) (whole e free) (c .if2 .taken)))
 
 mul-word : tie.Need-mul-word
 mul-word c = search needs
@@ -101,7 +103,9 @@ returns-3 c =
     let r = c .before .before .before .before .before in
     let t = call r in
     let number = refused-as _ _ (ap countsAnswer (c .before .enum-told .given .1)) (c .refusal .ensures) in
-    read-refused _ (held t) (countsAnswer (r .read-key .result)) (t .args .out .now) _ (is r) (r .read-key .ensures) number
+    for-any (asked t) (t .args .out .now) (λ free.
+    read-refused (asked t free) (held t) (countsAnswer (r .read-key .result)) (t .args .out .now) _ (is r free) (r .read-key .ensures)
+    number)
 
 same-length-2 : tie.Need-same-length-2
 same-length-2 c = search needs
@@ -111,9 +115,10 @@ returns-4 c =
     let d = c .before in
     let r = d .before .before .before .before in
     let t = call r in
-    read-accepted _ (held t) (countsAnswer (r .read-key .result)) (t .args .out .now) _ (is r) (r .read-key .ensures)
+    for-any (asked t) (t .args .out .now) (λ free.
+    read-accepted (asked t free) (held t) (countsAnswer (r .read-key .result)) (t .args .out .now) _ (is r free) (r .read-key .ensures)
     (record { length = d .counts .given .0 .0; pages = d .counts .given .0 .1 .0; padded = d .counts .given .0 .1 .1 .0 })
-    (ap countsAnswer (d .counts .given .1))
+    (ap countsAnswer (d .counts .given .1)))
 
 pub read-spec : {M : Type 1} → statement M
 read-spec =

@@ -10,14 +10,14 @@ out-of-shape-requires c κs = search needs
 
 returns : tie.Need-returns
 unfolding shapeBroken
-returns c = rw (sym (c .before .out-of-shape .ensures) ∙ c .if1 .taken)
+returns c free = rw (sym (c .before .out-of-shape .ensures) ∙ c .if1 .taken)
 
 mark-bad-requires : tie.Need-mark-bad-requires
 mark-bad-requires c κs = search needs
 
 returns-2 : tie.Need-returns-2
 unfolding shapeBroken
-returns-2 c = let t = c .before in rw (sym (t .before .out-of-shape .ensures) ∙ t .if1 .left) (c .mark-bad .ensures)
+returns-2 c free = let t = c .before in rw (sym (t .before .out-of-shape .ensures) ∙ t .if1 .left) (c .mark-bad .ensures)
 
 pub shape-broken-spec : {M : Type 1} → statement M
 shape-broken-spec = tie.close (tie.spec out-of-shape-requires returns mark-bad-requires returns-2)

@@ -1,7 +1,6 @@
 -- `take_run` meets its contract: the run's end against the body's decides, and the gap can be carved. Assumes nothing.
 use Rattle.scripthash_free.specs.FreeList.{lists}
-use Rattle.book_space.specs.Space.{Space}
-use Rattle.book_space.specs.Answers.{spaceOf}
+use Rattle.book_space.specs.Space.{Space, space}
 use Rattle.book_space.proofs.LawsSteps.{takes-yes, takes-no}
 use Rattle.book_space.proofs.LawsTake.{run-yes, run-no}
 use borrow.Author.Needs.{needs}
@@ -11,7 +10,7 @@ use Rattle.book_space.proofs.take.take_run.Tie as tie
 -- the space before
 module _ (t : tie.Start) where
   abbrev before : Space
-  before = spaceOf (t .args .body .now) (t .args .state)
+  before = space (t .args .body .now) (t .args .mark .now) (t .args .free .now)
 
 sub-from : tie.Need-sub-from
 sub-from c = search needs
@@ -30,7 +29,7 @@ add-end c = search needs
 
 returns : tie.Need-returns
 returns c =
-    let start = c .before .before in
+    let start = c .before .before .before in
     let answer = run-no (start .args .pages) (before start) (start .pre .shape) (c .if1 .taken) in
     takes-no (before start) _ answer
 
@@ -45,8 +44,8 @@ same-length c = search needs
 
 returns-2 : tie.Need-returns-2
 returns-2 c =
-    let t = c .before .before .before .before .before .before .before in
-    let start = t .before .before in
+    let t = c .before .before .before .before .before .before in
+    let start = t .before .before .before in
     let l = lists (c .before .before .carve-lent .last .0) (c .before .before .carve-lent .last .1 .0) in
     let gap = c .before .before .before .before .before .gap-end .ensures in
     let carved = rw gap at (c .before .before .carve-lent .ensures .1) in

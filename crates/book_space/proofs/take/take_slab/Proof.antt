@@ -6,7 +6,6 @@ use Rattle.scripthash_layout.specs.Sizes.{slabBytes}
 use Rattle.scripthash_free.proofs.LawsBlock.{bytes-fit}
 use Rattle.scripthash_layout.proofs.LawsSizes.{size-mono}
 use Rattle.book_space.specs.Space.{takeMark, takeSlab, Space, space}
-use Rattle.book_space.specs.Answers.{spaceOf}
 use Rattle.book_space.proofs.LawsSteps.{takes-yes, takes-no, slab-low, slab-high, mark-yes, mark-no}
 use borrow.Author.Needs.{needs}
 use Rattle.book_space.proofs.take.take_slab.Statement.{statement}
@@ -15,10 +14,10 @@ use Rattle.book_space.proofs.take.take_slab.Tie as tie
 -- the space before, and the slab's bytes
 module _ (t : tie.After-slab-bytes) where
   abbrev start : tie.Start
-  start = t .before .before
+  start = t .before .before .before
 
   abbrev before : Space
-  before = spaceOf (start .args .body .now) (start .args .state)
+  before = space (start .args .body .now) (start .args .mark .now) (start .args .free .now)
 
   size : t .slab-bytes .result ≡ slabBytes (start .args .class)
   size = t .slab-bytes .ensures ∙ bytes-fit (start .args .class) (omega (arith, start .pre .low))
@@ -51,10 +50,10 @@ returns-2 c =
 
 returns-3 : tie.Need-returns-3
 returns-3 c =
-    let t = c .before .before .before in
+    let t = c .before .before in
     let a = start t .args in
-    let answer = low (c .before .before) ∙ mark-yes (slabBytes (a .class)) (before t) (omega (arith, size t, c .before .if2 .left)) in
-    let after = ap (λ (bytes : ℕ). space (a .body .now) (a .state .mark + bytes) (a .state .free)) (size t) in
+    let answer = low (c .before) ∙ mark-yes (slabBytes (a .class)) (before t) (omega (arith, size t, c .if2 .left)) in
+    let after = ap (λ (bytes : ℕ). space (a .body .now) (a .mark .now + bytes) (a .free .now)) (size t) in
     let took = takes-yes (before t) _ answer in
     record { told = took .told; left = after ∙ took .left }
 

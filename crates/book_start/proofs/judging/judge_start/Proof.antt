@@ -21,8 +21,12 @@ use Rattle.book_start.proofs.judging.judge_start.Tie as tie
 
 -- the book of the call
 module _ (t : tie.Start) where
+  -- the free heads, which are lent on
+  abbrev free : List ℕ
+  free = t .args .t4
+
   abbrev book : Book
-  book = bookOf (t .args .body .now) (t .args .heads .now) (t .args .state)
+  book = bookOf (t .args .body .now) (t .args .heads .now) (t .args .mark) free
 
   abbrev work : List ℕ
   work = t .args .work .now
@@ -34,9 +38,9 @@ module _ (t : tie.Start) where
   bytes = length (t .args .body .now) / 128
 
   abbrev mark : ℕ
-  mark = t .args .state .mark
+  mark = t .args .mark
 
-  nine : length (t .args .state .free) ≡ 9
+  nine : length free ≡ 9
   nine = search needs
 
 -- shape and work list passed their tests
@@ -45,7 +49,7 @@ module _ (e : tie.Else2) where
   at = e .before .before .before .before .before .before
 
   shape : shapeBroken (book at .space) (length (book at .heads)) ≡ false
-  shape = sym (e .before .before .shape-broken .ensures) ∙ e .before .if1 .left
+  shape = sym (e .before .before .shape-broken .ensures (free at)) ∙ e .before .if1 .left
 
   in-shape : InShape (book at .space)
   in-shape = shape-holds (book at .space) (length (book at .heads)) shape .0
@@ -79,13 +83,13 @@ shape-broken-requires c κs = search needs
 returns : tie.Need-returns
 returns c =
     let t = c .before .before .before .before .before in
-    let a = judges-broken (book t) (work t) (sym (c .before .shape-broken .ensures) ∙ c .if1 .taken) in
+    let a = judges-broken (book t) (work t) (sym (c .before .shape-broken .ensures (free t)) ∙ c .if1 .taken) in
     (sym a, after-refused (bytes t) (work t) (judges (book t) (length (work t))) a)
 
 returns-2 : tie.Need-returns-2
 returns-2 c =
     let t = c .before .before .before .before .before .before in
-    let shape = sym (c .before .before .shape-broken .ensures) ∙ c .before .if1 .left in
+    let shape = sym (c .before .before .shape-broken .ensures (free t)) ∙ c .before .if1 .left in
     let a = judges-short (book t) (work t) shape (c .if2 .taken) in
     (sym a, after-refused (bytes t) (work t) (judges (book t) (length (work t))) a)
 
@@ -97,7 +101,7 @@ slice-aggregate-judge-keys c = search needs
 
 judge-keys-requires : tie.Need-judge-keys-requires
 judge-keys-requires c κs =
-    let f = c .before .before .before .before .before in
+    let f = c .before .before .before .before in
     let e = passed f in
     record {
       nine = nine (at e);
@@ -111,7 +115,7 @@ judge-keys-requires c κs =
 fill-bytes-requires-2 : tie.Need-fill-bytes-requires-2
 fill-bytes-requires-2 c κs =
     let j = c .before .before .before in
-    let f = j .before .before .before .before .before .before in
+    let f = j .before .before .before .before .before in
     let n = enough (passed f) in
     let k = f .fill-bytes .kept .0 in
     let i = j .judge-keys .kept .1 .1 .1 .1 .0 in
@@ -124,7 +128,7 @@ returns-3 : tie.Need-returns-3
 returns-3 c =
     let z = c .before .before in
     let j = z .before .before .before .before in
-    let f = j .before .before .before .before .before .before in
+    let f = j .before .before .before .before .before in
     let e = passed f in
     let t = at e in
     let r = j .judge-keys .ensures (units t) (unitsOf (work t)) (shows f) in

@@ -32,7 +32,7 @@ same-length c = search needs
 returns-2 : tie.Need-returns-2
 unfolding makesFresh madeAfter refuseIf answered
 returns-2 c =
-    let t = c .before .before in
+    let t = c .before .before .before in
     let good : broken (t .before .before .before .before .before .before) ≡ false =
     sym (t .before .before .before .out-of-shape .ensures) ∙ t .before .before .if1 .left in
     rw (good, t .clear-words .ensures) (refl, refl)

@@ -1,25 +1,18 @@
--- `ouriscado_book_append` hands out what `append` answers, on the state that the words hold. Assumes nothing.
+-- `ouriscado_book_append` hands out what `append` answers. Assumes nothing.
 use mathlib.Core.Path.{_∙_, ap}
 use Rattle.error.specs.Refusal.{refusalOf}
 use Rattle.error.proofs.LawsOut.{number-answered, value-same}
 use Rattle.book_rules.specs.Outcomes.{Appended}
-use Rattle.book.specs.Book.{Book, Outcome}
-use Rattle.book_append.specs.Appends.{appends}
+use Rattle.book.specs.Book.{Outcome}
 use Rattle.ouriscado.specs.OutHead.{kindOut, classOut, usedOut, placeOut}
 use Rattle.ouriscado.specs.OutBook.{newPlace, recordsRewritten}
-use Rattle.ouriscado.proofs.LawsBook.{does-words, kept-words}
+use Rattle.ouriscado.proofs.LawsBook.{kept-book}
 use borrow.Author.Needs.{needs}
 use Rattle.ouriscado.proofs.account_book.ouriscado_book_append.Statement.{statement}
 use Rattle.ouriscado.proofs.account_book.ouriscado_book_append.Tie as tie
 
-state-of-requires : tie.Need-state-of-requires
-state-of-requires c κs = search needs
-
 append-requires : tie.Need-append-requires
 append-requires c κs = search needs
-
-put-state-requires : tie.Need-put-state-requires
-put-state-requires c κs = search needs
 
 put-appended-requires : tie.Need-put-appended-requires
 put-appended-requires c κs = search needs
@@ -32,28 +25,21 @@ same-length-2 c = search needs
 
 returns : tie.Need-returns
 returns c =
-    let p = c .before .before .before .before .before .before in
-    let r = p .before .before .before .before .before .before .before in
-    let a = r .before .before .before .before .before .before .before .args in
-    let e = r .append .ensures in
+    let e = c .before .before .before .before .before .before .before .before .before .before .append .ensures in
     let h = c .put-appended .ensures in
-    let d = does-words (r .before .state-of .ensures) (λ (b : Book). appends b (a .key) (a .fk)) (p .put-state .ensures) (e .0) (e .1) in
-    let number = h .0 ∙ ap refusalOf (d .told) ∙ number-answered (λ (o : Outcome Appended). o .told) _ in (
+    let number = h .0 ∙ ap refusalOf (e .0) ∙ number-answered (λ (o : Outcome Appended). o .told) _ in (
       number,
       (
-        d .left,
+        e .1,
         (
-          h .1 .0 ∙ value-same (λ (t : Appended). kindOut (newPlace t)) _ (d .told),
+          h .1 .0 ∙ value-same (λ (t : Appended). kindOut (newPlace t)) _ (e .0),
           (
-            h .1 .1 .0 ∙ value-same (λ (t : Appended). classOut (newPlace t)) _ (d .told),
+            h .1 .1 .0 ∙ value-same (λ (t : Appended). classOut (newPlace t)) _ (e .0),
             (
-              h .1 .1 .1 .0 ∙ value-same (λ (t : Appended). usedOut (newPlace t)) _ (d .told),
+              h .1 .1 .1 .0 ∙ value-same (λ (t : Appended). usedOut (newPlace t)) _ (e .0),
               (
-                h .1 .1 .1 .1 .0 ∙ value-same (λ (t : Appended). placeOut (newPlace t)) _ (d .told),
-                (
-                  h .1 .1 .1 .1 .1 ∙ value-same recordsRewritten _ (d .told),
-                  kept-words (r .before .state-of .ensures) (p .put-state .ensures) _ number (d .left),
-                ),
+                h .1 .1 .1 .1 .0 ∙ value-same (λ (t : Appended). placeOut (newPlace t)) _ (e .0),
+                (h .1 .1 .1 .1 .1 ∙ value-same recordsRewritten _ (e .0), kept-book _ number (e .1)),
               ),
             ),
           ),
@@ -65,9 +51,7 @@ pub ouriscado-book-append-spec : {M : Type 1} → statement M
 ouriscado-book-append-spec =
     tie.close
     (tie.spec
-    state-of-requires
     append-requires
-    put-state-requires
     put-appended-requires
     same-length
     same-length-2

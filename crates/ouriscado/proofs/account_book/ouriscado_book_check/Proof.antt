@@ -1,20 +1,14 @@
--- `ouriscado_book_check` hands out what `judge_start` answers, on the state that the words hold. Assumes nothing.
+-- `ouriscado_book_check` hands out what `judge_start` answers. Assumes nothing.
 use Prim.Native.Nat.{_/_}
 use mathlib.Core.Path.{_∙_, ap}
 use borrow.Author.Needs.{needs}
 use lib.ListN.{length}
 use Rattle.error.specs.Refusal.{refusalOf}
 use Rattle.error.proofs.LawsOut.{value-same}
-use Rattle.book.specs.Book.{Book}
-use Rattle.book_start.specs.Start.{judges}
-use Rattle.book_start.specs.Units.{workAfter}
 use Rattle.book_start.specs.Answers.{groundOf, whichOf, lostOf}
-use Rattle.ouriscado.proofs.LawsBook.{book-words, kept-work}
+use Rattle.ouriscado.proofs.LawsBook.{kept-work}
 use Rattle.ouriscado.proofs.account_book.ouriscado_book_check.Statement.{statement}
 use Rattle.ouriscado.proofs.account_book.ouriscado_book_check.Tie as tie
-
-state-of-requires : tie.Need-state-of-requires
-state-of-requires c κs = search needs
 
 judge-start-requires : tie.Need-judge-start-requires
 judge-start-requires c κs = search needs
@@ -37,24 +31,19 @@ same-length c = search needs
 returns : tie.Need-returns
 returns c =
     let j = c .before .before .before .before .before .before in
-    let s = j .before .before in
-    let a = s .before .before .before .before .before .args in
-    let room = length (a .work .now) in
-    let same = book-words (s .state-of .ensures) in
-    let e = j .judge-start .ensures .0 ∙ ap (λ (b : Book). judges b room) same in
-    let number = c .refusal .ensures ∙ ap refusalOf e in
-    let list = j .judge-start .ensures .1
-    ∙ ap (λ (b : Book). workAfter (length (a .body .now) / 128) (a .work .now) (judges b room)) same in (
+    let a = j .before .before .before .before .before .before .args in
+    let e = j .judge-start .ensures in
+    let number = c .refusal .ensures ∙ ap refusalOf (e .0) in (
       number,
       (
-        list,
+        e .1,
         (
-          c .before .before .before .ground .ensures ∙ value-same groundOf _ e,
+          c .before .before .before .ground .ensures ∙ value-same groundOf _ (e .0),
           (
-            c .before .before .which .ensures ∙ value-same whichOf _ e,
+            c .before .before .which .ensures ∙ value-same whichOf _ (e .0),
             (
-              c .before .lost .ensures ∙ value-same lostOf _ e,
-              kept-work (length (a .body .now) / 128) (a .work .now) _ number list,
+              c .before .lost .ensures ∙ value-same lostOf _ (e .0),
+              kept-work (length (a .body .now) / 128) (a .work .now) _ number (e .1),
             ),
           ),
         ),
@@ -65,7 +54,6 @@ pub ouriscado-book-check-spec : {M : Type 1} → statement M
 ouriscado-book-check-spec =
     tie.close
     (tie.spec
-    state-of-requires
     judge-start-requires
     ground-requires
     which-requires

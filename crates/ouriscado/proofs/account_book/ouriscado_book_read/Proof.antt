@@ -1,18 +1,18 @@
--- `ouriscado_book_read` hands out what `read` answers, on the state that the words hold. Assumes nothing.
-use mathlib.Core.Path.{_∙_, ap}
+-- `ouriscado_book_read` hands out what `read` answers. Assumes nothing.
+use Prim.Native.Nat.{ℕ}
+use mathlib.Core.List.{List, []}
+use mathlib.Core.Path.{_≡_, _∙_, ap}
 use lib.ListN.{length}
-use Rattle.error.specs.Refusal.{refusalOf, answered}
+use Rattle.error.specs.Refusal.{Answer, refusalOf, valueOr}
 use Rattle.error.proofs.LawsOut.{number-answered, value-answered, value-same}
-use Rattle.book.specs.Book.{Book}
-use Rattle.book_read.specs.Reads.{reads, listAfter}
-use Rattle.book_read.specs.Answers.{Counted, countedOf}
-use Rattle.ouriscado.proofs.LawsBook.{book-words, kept-list}
+use Rattle.book_rules.specs.Outcomes.{Listed}
+use Rattle.book.specs.Answers.{bookOf}
+use Rattle.book_read.specs.Reads.{reads}
+use Rattle.book_read.specs.Answers.{Counted, countedOf, readAnswer}
+use Rattle.ouriscado.proofs.LawsBook.{kept-list}
 use borrow.Author.Needs.{needs}
 use Rattle.ouriscado.proofs.account_book.ouriscado_book_read.Statement.{statement}
 use Rattle.ouriscado.proofs.account_book.ouriscado_book_read.Tie as tie
-
-state-of-requires : tie.Need-state-of-requires
-state-of-requires c κs = search needs
 
 read-requires : tie.Need-read-requires
 read-requires c κs = search needs
@@ -23,27 +23,40 @@ put-listed-requires c κs = search needs
 same-length : tie.Need-same-length
 same-length c = search needs
 
+-- what is read, whatever the free heads are
+module _ (c : tie.After-put-listed) (free : List ℕ) where
+  abbrev reading : tie.After-read
+  reading = c .before .before .before .before .before .before
+
+  abbrev start : tie.Start
+  start = reading .before .before .before .before .before
+
+  abbrev got : Answer Listed
+  got =
+      reads (bookOf (start .args .body .now) (start .args .heads .now) (start .args .mark) free) (start .args .key) (length (start .args .out .now))
+
+  number : c .put-listed .result ≡ refusalOf got
+  number = c .put-listed .ensures .0 ∙ ap refusalOf (reading .read .ensures .0 free) ∙ number-answered countedOf got
+
+  -- a number of those that the answer counts
+  counted : (of : Counted → ℕ) {told : ℕ} → told ≡ valueOr of (readAnswer (reading .read .result)) 0
+      → told ≡ valueOr (λ (l : Listed). of (countedOf l)) got 0
+  counted of told = told ∙ value-same of _ (reading .read .ensures .0 free) ∙ value-answered of countedOf 0 got
+
 returns : tie.Need-returns
 returns c =
-    let r = c .before .before .before .before .before .before in
-    let s = r .before .before in
-    let a = s .before .before .before .before .before .args in
-    let room = length (a .out .now) in
-    let same = book-words (s .state-of .ensures) in
     let h = c .put-listed .ensures in
-    let e = r .read .ensures .0 ∙ ap (λ (b : Book). answered countedOf (reads b (a .key) room)) same in
-    let number = h .0 ∙ ap refusalOf e ∙ number-answered countedOf _ in
-    let list = r .read .ensures .1 ∙ ap (λ (b : Book). listAfter (a .out .now) (reads b (a .key) room)) same in (
-      number,
+    let list = reading c [] .read .ensures .1 in (
+      number c,
       (
         list,
         (
-          h .1 .0 ∙ value-same (λ (x : Counted). x .length) _ e ∙ value-answered (λ (x : Counted). x .length) countedOf _ _,
+          λ free. counted c free (λ (x : Counted). x .length) (h .1 .0),
           (
-            h .1 .1 .0 ∙ value-same (λ (x : Counted). x .pages) _ e ∙ value-answered (λ (x : Counted). x .pages) countedOf _ _,
+            λ free. counted c free (λ (x : Counted). x .pages) (h .1 .1 .0),
             (
-              h .1 .1 .1 ∙ value-same (λ (x : Counted). x .padded) _ e ∙ value-answered (λ (x : Counted). x .padded) countedOf _ _,
-              kept-list (a .out .now) _ number list,
+              λ free. counted c free (λ (x : Counted). x .padded) (h .1 .1 .1),
+              kept-list (start c [] .args .out .now) _ (number c []) (list []),
             ),
           ),
         ),
@@ -54,7 +67,6 @@ pub ouriscado-book-read-spec : {M : Type 1} → statement M
 ouriscado-book-read-spec =
     tie.close
     (tie.spec
-    state-of-requires
     read-requires
     put-listed-requires
     same-length
