@@ -1,12 +1,12 @@
 -- Streams read straight into a list, and short ones in one pass: what the tries tell. Assumes nothing.
 use Prim.Native.Nat.{ℕ, _+_, _-_, _≤_, _<_}
-use mathlib.Core.List.{List, _++_}
+use mathlib.Core.List.{List, _++_, append-nil}
 use mathlib.Core.Logic.{inl, inr}
-use mathlib.Core.Path.{_≡_, refl, sym, ap, _∙_}
-use native.Mathlib.Nat.{sub-zero, zero-add, add-zero}
+use mathlib.Core.Path.{_≡_, refl, sym, ap, _∙_, subst}
+use native.Mathlib.Nat.{sub-zero, zero-add}
 use native.Mathlib.Omega.{arith}
-use lib.ListN.{length, take, drop, length-append}
-use lib.Seq.{length-take-le, take-all, drop-append-add}
+use lib.ListN.{length, take, drop}
+use lib.Seq.{length-take-le, take-all, drop-length}
 use Rattle.error.specs.Refusal.{Answer, accepted, answered}
 use Rattle.error.proofs.LawsAnswer.{accepted-inj, was-accepted, answered-yes}
 use Rattle.buffer.specs.Bytes.{overwrite}
@@ -66,31 +66,36 @@ pub filled : (n : ℕ) (bs out after : List ℕ) (s : Scan) → scan n bs ≡ ac
 filled n bs out after s e h w = w ∙ after-accepted out _ (decode-fits (length out) n bs e h)
 
 -- a list with its first n numbers lent, and put back as others
-pub put-front : (out part : List ℕ) (n : ℕ) → length part ≡ n → part ++ drop (n - 0) (drop 0 out) ≡ overwrite out 0 part
+put-front : (out part : List ℕ) (n : ℕ) → length part ≡ n → part ++ drop (n - 0) (drop 0 out) ≡ overwrite out 0 part
 unfolding overwrite
 put-front out part n h = rw (zero-add (length part), h, sub-zero n)
 
--- where all of them were summed up, the list holds them
-pub filled-front : (taken last n : ℕ) (bs out part : List ℕ) (s : Scan) → scan n bs ≡ accepted s → QuickSum taken last 0 0 n bs part
-    → 0 < taken
-    → length part ≡ n → part ++ drop (n - 0) (drop 0 out) ≡ overwrite out 0 (s .numbers)
-filled-front taken last n bs out part s e q h size =
-    let same : s ≡ record { numbers = take n part; taken = taken } =
-    accepted-inj (sym e ∙ summed-scan taken last n bs part q h (omega arith)) in
-    put-front out part n size ∙ ap (overwrite out 0) (sym (take-all n part (omega arith)) ∙ ap (λ (x : Scan). x .numbers) (sym same))
-
--- else a reading of all writes over what was put back
-over : (out part ys : List ℕ) (n : ℕ) → length part ≡ n → length ys ≡ n → overwrite (part ++ drop (n - 0) (drop 0 out)) 0 ys
-    ≡ overwrite out 0 ys
+-- a list that has room for no more holds the numbers alone
+whole-list : (out ys : List ℕ) → length ys ≡ length out → overwrite out 0 ys ≡ ys
 unfolding overwrite
-over out part ys n h k =
-    let past : drop n (part ++ drop n out) ≡ drop n out =
-    ap (λ (i : ℕ). drop i (part ++ drop n out)) (sym h ∙ sym (add-zero (length part))) ∙ drop-append-add part (drop n out) 0 in
-    rw (zero-add (length ys), k, sub-zero n, past)
+whole-list out ys h = rw (zero-add (length ys), h, drop-length out, append-nil)
 
-pub filled-over : (n : ℕ) (bs out part after : List ℕ) (s : Scan) → scan n bs ≡ accepted s → n ≤ length out → length part ≡ n
-    → after ≡ afterDecode (part ++ drop (n - 0) (drop 0 out)) (decodeStream (length (part ++ drop (n - 0) (drop 0 out))) n bs)
-    → after ≡ overwrite out 0 (s .numbers)
-filled-over n bs out part after s e h size w =
-    let room : n ≤ length (part ++ drop (n - 0) (drop 0 out)) = omega (arith, length-append part (drop (n - 0) (drop 0 out))) in
-    filled n bs (part ++ drop (n - 0) (drop 0 out)) after s e room w ∙ over out part (s .numbers) n size (scan-accepted 0 n bs s e .counted)
+pub filled-whole : (n : ℕ) (bs out after : List ℕ) (s : Scan) → scan n bs ≡ accepted s → length out ≡ n
+    → after ≡ overwrite out 0 (s .numbers) → after ≡ s .numbers
+filled-whole n bs out after s e h w = w ∙ whole-list out (s .numbers) (scan-accepted 0 n bs s e .counted ∙ sym h)
+
+-- where all of them were summed up, it does
+pub filled-summed : (taken last n : ℕ) (bs out : List ℕ) (s : Scan) → scan n bs ≡ accepted s → QuickSum taken last 0 0 n bs out → 0 < taken
+    → length out ≡ n → out ≡ s .numbers
+filled-summed taken last n bs out s e q h size =
+    let same : s ≡ record { numbers = take n out; taken = taken } =
+    accepted-inj (sym e ∙ summed-scan taken last n bs out q h (omega arith)) in
+    sym (take-all n out (omega arith)) ∙ ap (λ (x : Scan). x .numbers) (sym same)
+
+-- the first n places of a list hold them, and the others what they held
+pub filled-front : (n : ℕ) (bs out part : List ℕ) (s : Scan) → scan n bs ≡ accepted s → part ≡ s .numbers
+    → part ++ drop (n - 0) (drop 0 out) ≡ overwrite out 0 (s .numbers)
+filled-front n bs out part s e is =
+    put-front out part n (ap length is ∙ scan-accepted 0 n bs s e .counted) ∙ ap (overwrite out 0) is
+
+-- a try that did nothing, and then another
+pub short-again : (told top : ℕ) (out between after : List ℕ) (a : Answer Scan) → ShortRead 0 top out between a
+    → ShortRead told top between after a → ShortRead told top out after a
+short-again told top out between after a (unread none same) w =
+    subst (λ (l : List ℕ). ShortRead told top l after a) same w
+short-again told top out between after a (short s some is size room low wrote) w = absurd (omega (arith, some))

@@ -5,15 +5,12 @@ use mathlib.Core.List.{List}
 use mathlib.Core.Path.{_≡_}
 use lib.ListN.{getD}
 use Rattle.compact.specs.Uleb128.{goesOn, piece}
+use Rattle.scripthash_words.specs.Words.{endOne}
 
 -- The sum of what f gives for the places before i.
 unfoldable pub total : (ℕ → ℕ) → ℕ → ℕ
 total f zero = 0
 total f (suc i) = total f i + f i
-
--- 1 where the byte ends its form, else 0.
-abbrev pub endOne : ℕ → ℕ
-endOne b = cond (goesOn b) 0 1
 
 -- 1 where the byte at place i ends its form, else 0: the total counts the forms that end before a place.
 abbrev pub endAt : List ℕ → ℕ → ℕ

@@ -3,7 +3,8 @@
 ghost use mathlib.Core.Path.{_≡_};
 ghost use Prim.Native.Nat.{_+_, _*_, _≤_, _<_};
 ghost use lib.ListN.{length};
-ghost use Rattle.scripthash_scan.specs.Weights.{total, endOne, endAt};
+ghost use Rattle.scripthash_words.specs.Words.{endOne};
+ghost use Rattle.scripthash_scan.specs.Weights.{total, endAt};
 
 // The place up to which forms were counted, and how many are still to end.
 struct Counted {

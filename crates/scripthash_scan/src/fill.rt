@@ -11,6 +11,11 @@ use crate::quick::sum_bytes;
 use crate::quick::sum_of_bytes;
 use scripthash_forms::copy_fks;
 use scripthash_forms::sum_forms;
+use scripthash_words::fill_by_words;
+use scripthash_words::read_by_words;
+
+// From how many numbers on forms that differ in length are read by words; fewer take as long one by one.
+const WORDS: usize = 17;
 
 // Writes the n numbers of a stream that scans to the start of out, where that has room for them; what it writes of another is not told.
 pub fn fill_fk_delta_stream(buf: &[u8], n: usize, out: &mut [u64])
@@ -24,10 +29,33 @@ pub fn fill_fk_delta_stream(buf: &[u8], n: usize, out: &mut [u64])
         sum_bytes(buf, n, out);
         return;
     }
-    let end = sum_forms(buf, 0, 0, n, &mut out[0..n]);
+    fill_all(buf, n, &mut out[0..n]);
+}
+
+// Writes the n numbers of a stream that scans to a list that has room for no more, form by form.
+fn fill_singly(buf: &[u8], n: usize, out: &mut [u64])
+    requires { ⌜ length (now out) ≡ n ⌝ }
+    ensures { λ _. ⌜ ((s : Scan) → scan n (now (buf .entry)) ≡ accepted s → now (out .exit) ≡ s .numbers) ⌝ }
+{
+    let end = sum_forms(buf, 0, 0, n, out);
     if end.taken == 0 {
         scripthash_stream::decode_in_two_passes(buf, n, out);
     }
+}
+
+// The same by words where there are some numbers and their forms differ in length.
+fn fill_all(buf: &[u8], n: usize, out: &mut [u64])
+    requires { ⌜ length (now out) ≡ n ⌝ }
+    ensures { λ _. ⌜ ((s : Scan) → scan n (now (buf .entry)) ≡ accepted s → now (out .exit) ≡ s .numbers) ⌝ }
+{
+    if n < WORDS {
+        fill_singly(buf, n, out);
+        return;
+    }
+    if fill_by_words(buf, n, out) {
+        return;
+    }
+    fill_singly(buf, n, out);
 }
 
 // Reads n forms through a list that holds their numbers until the last is known to be below top, and then copies them to the start of out:
@@ -74,7 +102,18 @@ fn read_many(buf: &[u8], n: usize, top: u64, out: &mut [u64]) -> usize
     read_through(buf, n, top, &mut space, out)
 }
 
-// The same for 256 forms at most, by the least list that holds them: a list is cleared before it is used. Each form has a byte at least.
+// The same for 256 forms at most, by the least list that holds them: a list is cleared before it is used.
+fn read_singly(buf: &[u8], n: usize, top: u64, out: &mut [u64]) -> usize
+    requires { ⌜ (n ≤ 256) × (n ≤ length (now out)) ⌝ }
+    ensures { λ r. ⌜ ShortRead r top (now (out .entry)) (now (out .exit)) (scan n (now (buf .entry))) ⌝ }
+{
+    if n <= 64 {
+        return read_some(buf, n, top, out);
+    }
+    read_many(buf, n, top, out)
+}
+
+// The same for 256 forms at most, by words where there are some and their lengths differ. Each form has a byte at least.
 pub fn read_forms(buf: &[u8], n: usize, top: u64, out: &mut [u64]) -> usize
     requires { ⌜ (n ≤ 256) × (n ≤ length (now out)) ⌝ }
     ensures { λ r. ⌜ ShortRead r top (now (out .entry)) (now (out .exit)) (scan n (now (buf .entry))) ⌝ }
@@ -82,13 +121,14 @@ pub fn read_forms(buf: &[u8], n: usize, top: u64, out: &mut [u64]) -> usize
     if buf.len() < n {
         return 0;
     }
-    if n <= 16 {
+    if n < WORDS {
         return read_few(buf, n, top, out);
     }
-    if n <= 64 {
-        return read_some(buf, n, top, out);
+    let taken = read_by_words(buf, n, top, out);
+    if 0 < taken {
+        return taken;
     }
-    read_many(buf, n, top, out)
+    read_singly(buf, n, top, out)
 }
 
 // The same for forms of one byte each: they are judged, so that no list holds them.

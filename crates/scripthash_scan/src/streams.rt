@@ -8,6 +8,12 @@ use scripthash_stream::ScanStream;
 use scripthash_stream::StreamBytes;
 use scripthash_stream::StreamRead;
 
+// The most numbers of a slab: so many are read in one pass through a list on the stack.
+const SLAB_MOST: usize = 256;
+
+// The most numbers that are read in one pass in parts.
+const PARTS_MOST: usize = 4096;
+
 // Scans a stream of n numbers at the start of buf: quickly where that can be, else number by number, which tells a refusal.
 pub fn scan_fk_delta_stream(buf: &[u8], n: usize) -> ScanStream
     ensures { λ r. ⌜ scanAnswer r ≡ answered (endFrom 0) (scan n (now (buf .entry))) ⌝ }
@@ -22,13 +28,43 @@ pub fn scan_fk_delta_stream(buf: &[u8], n: usize) -> ScanStream
     scripthash_stream::scan_by_number(buf, n)
 }
 
-// Reads a stream of n numbers at the start of buf into the start of out: quickly where that can be, else in two passes, which tell a
-// refusal. It tells the bytes that the stream takes.
+// Whether a stream of n numbers is scanned first and then read: it is long, or longer than a slab's and its early forms are such.
+fn scanned_first(buf: &[u8], n: usize) -> bool {
+    if n <= SLAB_MOST {
+        return false;
+    }
+    if PARTS_MOST < n {
+        return true;
+    }
+    scripthash_words::better_scanned(buf)
+}
+
+// Reads a stream of n numbers at the start of buf into the start of out: scans it, and then fills the list.
+fn scan_and_fill(buf: &[u8], n: usize, out: &mut [u64]) -> StreamBytes
+    ensures answer { λ r. ⌜ bytesAnswer r ≡ answered (λ s. s .taken) (decodeStream (length (now (out .entry))) n (now (buf .entry))) ⌝ }
+    ensures list { λ r. ⌜ now (out .exit)
+        ≡ afterDecode (now (out .entry)) (decodeStream (length (now (out .entry))) n (now (buf .entry))) ⌝ }
+{
+    let got = scan_fk_delta_stream(buf, n);
+    let ScanStream::Scanned { taken, last: _ } = got else {
+        return StreamBytes::Refused(got.refusal());
+    };
+    if out.len() < n {
+        return StreamBytes::Refused(error::LIST_TOO_SHORT);
+    }
+    crate::fill::fill_fk_delta_stream(buf, n, out);
+    StreamBytes::Bytes(taken)
+}
+
+// The same quickly where that can be: in one pass, or scanned first; else in two passes number by number, which tell a refusal.
 fn read_stream(buf: &[u8], n: usize, out: &mut [u64]) -> StreamBytes
     ensures answer { λ r. ⌜ bytesAnswer r ≡ answered (λ s. s .taken) (decodeStream (length (now (out .entry))) n (now (buf .entry))) ⌝ }
     ensures list { λ r. ⌜ now (out .exit)
         ≡ afterDecode (now (out .entry)) (decodeStream (length (now (out .entry))) n (now (buf .entry))) ⌝ }
 {
+    if scanned_first(buf, n) {
+        return scan_and_fill(buf, n, out);
+    }
     let taken = crate::quick::decode_quickly(buf, n, out);
     if 0 < taken {
         return StreamBytes::Bytes(taken);

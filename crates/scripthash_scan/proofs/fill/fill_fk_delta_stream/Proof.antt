@@ -1,10 +1,8 @@
 -- `fill_fk_delta_stream` meets its contract: a stream that scans is read whole, by whichever way. Assumes nothing.
-use mathlib.Core.Path.{_≡_}
 use native.Mathlib.Omega.{arith}
-use lib.ListN.{length}
 use borrow.Author.Needs.{needs}
 use Rattle.scripthash_forms.proofs.LawsTries.{quick-right}
-use Rattle.scripthash_scan.proofs.LawsFill.{filled, filled-front, filled-over}
+use Rattle.scripthash_scan.proofs.LawsFill.{filled, filled-front}
 use Rattle.scripthash_scan.proofs.fill.fill_fk_delta_stream.Statement.{statement}
 use Rattle.scripthash_scan.proofs.fill.fill_fk_delta_stream.Tie as tie
 
@@ -30,44 +28,26 @@ returns-2 c s e h =
     filled (a .n) (a .buf .now) (a .out .now) _ s e h
     (quick-right (d .sum-bytes .result) (a .out .now) _ _ (d .sum-bytes .ensures .1) (omega (arith, forms .some)) .1)
 
-sub-sum-forms : tie.Need-sub-sum-forms
-sub-sum-forms c = search needs
+sub-fill-all : tie.Need-sub-fill-all
+sub-fill-all c = search needs
 
-part-sum-forms-start : tie.Need-part-sum-forms-start
-part-sum-forms-start c = search needs
+part-fill-all-start : tie.Need-part-fill-all-start
+part-fill-all-start c = search needs
 
-part-sum-forms-end : tie.Need-part-sum-forms-end
-part-sum-forms-end c = search needs
+part-fill-all-end : tie.Need-part-fill-all-end
+part-fill-all-end c = search needs
 
-sum-forms-requires : tie.Need-sum-forms-requires
-sum-forms-requires c κs = search needs
-
-decode-in-two-passes-requires : tie.Need-decode-in-two-passes-requires
-decode-in-two-passes-requires c κs = search needs
+fill-all-requires : tie.Need-fill-all-requires
+fill-all-requires c κs = search needs
 
 same-length-2 : tie.Need-same-length-2
 same-length-2 c = search needs
 
 returns-3 : tie.Need-returns-3
 returns-3 c s e h =
-    let d = c .before .before in
-    let q = d .before .before .before .before .before .before in
-    let a = q .before .before .before .before .before .before .before .args in
-    let part = q .sum-forms .last .1 .1 .1 .1 .0 in
-    let size : length part ≡ a .n = search needs in
-    filled-over (a .n) (a .buf .now) (a .out .now) part _ s e h size (d .decode-in-two-passes .ensures .1)
-
-same-length-3 : tie.Need-same-length-3
-same-length-3 c = search needs
-
-returns-4 : tie.Need-returns-4
-returns-4 c s e h =
-    let q = c .before .before .before .before in
-    let a = q .before .before .before .before .before .before .before .args in
-    let part = q .sum-forms .last .1 .1 .1 .1 .0 in
-    let size : length part ≡ a .n = search needs in
-    filled-front (q .sum-forms .result .taken) (q .sum-forms .result .last) (a .n) (a .buf .now) (a .out .now) part s e
-    (q .sum-forms .ensures) (omega (arith, c .if3 .left)) size
+    let f = c .before .before in
+    let a = f .before .before .before .before .before .before .before .args in
+    filled-front (a .n) (a .buf .now) (a .out .now) (f .fill-all .last .1 .1 .0) s e (f .fill-all .ensures s e)
 
 pub fill-fk-delta-stream-spec : {M : Type 1} → statement M
 fill-fk-delta-stream-spec =
@@ -78,12 +58,9 @@ fill-fk-delta-stream-spec =
     sum-bytes-requires
     same-length
     returns-2
-    sub-sum-forms
-    part-sum-forms-start
-    part-sum-forms-end
-    sum-forms-requires
-    decode-in-two-passes-requires
+    sub-fill-all
+    part-fill-all-start
+    part-fill-all-end
+    fill-all-requires
     same-length-2
-    returns-3
-    same-length-3
-    returns-4)
+    returns-3)
