@@ -173,3 +173,15 @@ freeHeadBad = 35
 -- No room: the block or run would pass the body's end.
 abbrev pub noRoom : ℕ
 noRoom = 36
+
+-- The list that names each key's desk isn't one for the heads, or a making's reserves can't be kept.
+abbrev pub desksBad : ℕ
+desksBad = 39
+
+-- A take of pages would pass its desk's ceiling.
+abbrev pub pastCeiling : ℕ
+pastCeiling = 40
+
+-- A take would leave fewer pages than the desks still lack of their reserves.
+abbrev pub intoReserves : ℕ
+intoReserves = 41

@@ -77,3 +77,9 @@ pub const LIST_TOO_SHORT: Refusal = 34;
 pub const FREE_HEAD_BAD: Refusal = 35;
 // No room: the block or run would pass the body's end.
 pub const NO_ROOM: Refusal = 36;
+// The list that names each key's desk isn't one for the heads, or a making's reserves can't be kept.
+pub const DESKS_BAD: Refusal = 39;
+// A take of pages would pass its desk's ceiling.
+pub const PAST_CEILING: Refusal = 40;
+// A take would leave fewer pages than the desks still lack of their reserves.
+pub const INTO_RESERVES: Refusal = 41;
