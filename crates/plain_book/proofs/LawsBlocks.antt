@@ -24,6 +24,7 @@ use Rattle.plain_book.specs.Good.{Good}
 use Rattle.plain_book.specs.Did.{LoadDid, loaded-none, loaded-one, loaded-slab, loaded-run, AppendDid, began, stayed, moved-slab, moved-page, joined-page, begun-page}
 use Rattle.book_rules.proofs.LawsRules.{moves-to, loads-to}
 use Rattle.book_statements.proofs.LawsCalls.{calls-keep}
+use Rattle.book_desks.specs.Desks.{Limits}
 use Rattle.plain_book.proofs.LawsHistory.{all-same, load-did, append-did, drop-did, fresh-key, key-with}
 use Rattle.plain_book.proofs.LawsOwners.{none-some, atKey, good-slab, good-page, good-fewer, good-twice, good-kept, good-freed-place}
 use Rattle.plain_book.proofs.LawsTaking.{InHand, good-rounded, took-mark, rounded-mark, good-taken, good-run}
@@ -131,9 +132,9 @@ call-space b (drop key) (accepted o) e g =
     (good-freed-place (b .space) (places b) none key (keyOf key b .place) refl g))
 
 -- So is a fresh one's: nobody has a block.
-pub fresh-space : (size heads : ℕ) → GoodSpace (fresh size heads)
+pub fresh-space : (ds : List ℕ) (size heads : ℕ) (l : Limits) → GoodSpace (fresh ds size heads l)
 unfolding has atDepth
-fresh-space size heads =
+fresh-space ds size heads l =
     record {
       nine = refl;
       aligned = refl;
@@ -141,11 +142,11 @@ fresh-space size heads =
       apart = record { stands = λ w x e. absurd (nobody w x e); apart = λ v w x y n e e'. absurd (nobody v x e) };
     }
   where
-    nobody : (w : Owner) (x : Block) → has (fresh size heads .space) (places (fresh size heads)) none w ≡ some x → ⊥
+    nobody : (w : Owner) (x : Block) → has (fresh ds size heads l .space) (places (fresh ds size heads l)) none w ≡ some x → ⊥
     nobody hand x e = none-some e
     nobody (stack c d) x e = none-some (ap (atDepth c d) (sym (all-same {A = List ℕ} [] 9 c)) ∙ e)
-    nobody (slabOf k) x e = none-some (ap (λ (y : Key). slabAt (y .place)) (sym (fresh-key size heads k)) ∙ e)
-    nobody (pageOf k i) x e = none-some (ap (λ (y : Key). pageIn i (y .place)) (sym (fresh-key size heads k)) ∙ e)
+    nobody (slabOf k) x e = none-some (ap (λ (y : Key). slabAt (y .place)) (sym (fresh-key ds size heads l k)) ∙ e)
+    nobody (pageOf k i) x e = none-some (ap (λ (y : Key). pageIn i (y .place)) (sym (fresh-key ds size heads l k)) ∙ e)
 
 -- Take any book whose space is good and any list of calls: no two blocks, held or freed, share a byte afterwards, and each lies where a
 -- block of its class may, below the mark.
@@ -154,6 +155,6 @@ pub apart-from : (b : Book) (cs : List Call) → GoodSpace b
 apart-from b cs g = calls-keep serves GoodSpace (λ b c g. call-space b c (does b c) refl g) b cs g .apart
 
 -- So it is after any list of calls on a fresh book.
-pub blocks-apart : (size heads : ℕ) (cs : List Call)
-    → let b = after (fresh size heads) cs in Apart (b .space .mark) (has (b .space) (places b) none)
-blocks-apart size heads cs = apart-from (fresh size heads) cs (fresh-space size heads)
+pub blocks-apart : (ds : List ℕ) (size heads : ℕ) (l : Limits) (cs : List Call)
+    → let b = after (fresh ds size heads l) cs in Apart (b .space .mark) (has (b .space) (places b) none)
+blocks-apart ds size heads l cs = apart-from (fresh ds size heads l) cs (fresh-space ds size heads l)

@@ -20,6 +20,7 @@ use Rattle.plain_book.specs.Space.{Space}
 use Rattle.plain_book.specs.Key.{Place, empty, inline, slab, pages, Kept, longer, pagesOf, Placed, runPages}
 use Rattle.plain_book.specs.Book.{Book, fresh, Outcome, keyOf, inUse, extended, loads, does, after, answers}
 use Rattle.book_statements.specs.Moves.{Tally, noMoves, tallyOf}
+use Rattle.book_desks.specs.Desks.{Limits}
 use Rattle.plain_book.specs.Sound.{Fits, SoundKey}
 use Rattle.plain_book.specs.Ceilings.{mostMoves, mostRewritten, FewestPages, EachFewest}
 use Rattle.plain_book.specs.Did.{LoadDid, loaded-none, loaded-one, loaded-slab, loaded-run}
@@ -74,10 +75,10 @@ ceilings-from b key cs sound =
 
 -- Take any fresh book and any list of calls: from empty to drop no key is moved more than 9 times, nor has more than 765 records rewritten
 -- by moves.
-pub ceilings : (size heads key : ℕ) (cs : List Call)
-    → (tallyOf key (answers (fresh size heads) cs) noMoves .moves ≤ mostMoves)
-    × (tallyOf key (answers (fresh size heads) cs) noMoves .rewritten ≤ mostRewritten)
-ceilings size heads key cs = ceilings-from (fresh size heads) key cs (rw (fresh-key size heads key) empty-sound)
+pub ceilings : (ds : List ℕ) (size heads : ℕ) (l : Limits) (key : ℕ) (cs : List Call)
+    → (tallyOf key (answers (fresh ds size heads l) cs) noMoves .moves ≤ mostMoves)
+    × (tallyOf key (answers (fresh ds size heads l) cs) noMoves .rewritten ≤ mostRewritten)
+ceilings ds size heads l key cs = ceilings-from (fresh ds size heads l) key cs (rw (fresh-key ds size heads l key) empty-sound)
 
 -- ---- the pages of a load
 

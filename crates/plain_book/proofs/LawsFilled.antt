@@ -22,10 +22,11 @@ use Rattle.book_statements.specs.Calls.{Change, load, append, drop, Made, Call}
 use Rattle.book_limits.specs.Limits.{slabsEnd, pageAfter}
 use Rattle.book_rules.proofs.LawsRules.{moves-to, loads-to}
 use Rattle.book_statements.proofs.LawsCalls.{calls-keep}
+use Rattle.book_desks.specs.Desks.{Limits}
 use Rattle.plain_book.specs.Space.{Space, stackOf, freed, freedAll, Taken, takeMark, takeSlab, rounded, takeRun, takeFresh, takeFrom, takeBlock, runAtMark}
 use Rattle.plain_book.specs.Key.{Key, emptyKey, Page, Place, empty, inline, slab, pages, freedPages, freedPlace, Placed, written, keyIn}
 use Rattle.plain_book.specs.Key.{longerPage, runPages}
-use Rattle.plain_book.specs.Book.{Book, fresh, Outcome, withKey, inUse, does, after, serves}
+use Rattle.plain_book.specs.Book.{Book, fresh, makes, Outcome, withKey, inUse, does, after, serves}
 use Rattle.plain_book.specs.Owners.{places}
 use Rattle.plain_book.specs.Sound.{Fits}
 use Rattle.plain_book.specs.Good.{GoodPlain}
@@ -326,7 +327,8 @@ call-full lost b (drop key) (accepted o) e g w f =
 
 -- Take any good book whose mark leaves none to be skipped, of which so many bytes belong to nobody, and any list of calls: as many belong to
 -- nobody afterwards.
-pub filled-from : (lost : ℕ) (b : Book) (cs : List Call) → GoodPlain b → MarkWhole (b .space .mark) → Filled lost b → Filled lost (after b cs)
+pub filled-from : (lost : ℕ) (b : Book) (cs : List Call) → GoodPlain b → MarkWhole (b .space .mark) → Filled lost b
+    → Filled lost (after b cs)
 filled-from lost b cs g w f =
     calls-keep serves (λ x. GoodPlain x × MarkWhole (x .space .mark) × FullBook lost x)
     (λ x c (good, whole, full). (
@@ -344,10 +346,13 @@ none-held zero = refl
 none-held (suc n) = let e = none-held n in omega arith
 
 -- A fresh book is filled: it has no block, and the mark is where lists may begin.
-pub fresh-filled : (size heads : ℕ) → Filled 0 (fresh size heads)
+pub fresh-filled : (ds : List ℕ) (size heads : ℕ) (l : Limits) → Filled 0 (fresh ds size heads l)
 unfolding bytesFreed bytesOnStack
-fresh-filled size heads = let e = none-held heads in rw e refl
+fresh-filled ds size heads l = let e = none-held heads in rw e refl
 
 -- Nothing is leaked: after any list of calls on a fresh book the blocks of its keys and stacks take all bytes from 4,096 to the mark.
-pub nothing-leaked : (size heads : ℕ) (cs : List Call) → Filled 0 (after (fresh size heads) cs)
-nothing-leaked size heads cs = filled-from 0 (fresh size heads) cs (fresh-good size heads) (inl (omega arith)) (fresh-filled size heads)
+pub nothing-leaked : (ds : List ℕ) (size heads : ℕ) (l : Limits) (cs : List Call)
+    → makes ds size heads l ≡ accepted (fresh ds size heads l) → Filled 0 (after (fresh ds size heads l) cs)
+nothing-leaked ds size heads l cs made =
+    filled-from 0 (fresh ds size heads l) cs (fresh-good ds size heads l made) (inl (omega arith))
+    (fresh-filled ds size heads l)

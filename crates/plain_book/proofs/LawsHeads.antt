@@ -20,12 +20,14 @@ use Rattle.scripthash_free.proofs.LawsBlock.{bytes-from-16, block-stands}
 use Rattle.plain_book.specs.Key.{Page, Place, empty, inline, slab, pages, lastPage, noPage, headOf}
 use Rattle.book_limits.specs.Limits.{mostBody, slabsEnd}
 use Rattle.book_statements.specs.Calls.{Call}
-use Rattle.plain_book.specs.Book.{Book, fresh, keyOf, after}
+use Rattle.book_limits.proofs.LawsLimits.{in-shape}
+use Rattle.book_desks.specs.Desks.{Limits}
+use Rattle.plain_book.specs.Book.{Book, fresh, makes, keyOf, after}
 use Rattle.plain_book.specs.Sound.{FitPages, Fits}
 use Rattle.plain_book.specs.Owners.{Owner, slabOf, pageOf, pageNo, slabAt, pageIn, has, places}
 use Rattle.plain_book.specs.Good.{GoodPlain}
 use Rattle.plain_book.proofs.LawsMark.{mark-within}
-use Rattle.plain_book.proofs.LawsGood.{fresh-good, calls-good}
+use Rattle.plain_book.proofs.LawsGood.{is-made, fresh-good, calls-good}
 
 -- A head value has a word: it packs into the word, and the word unpacks to it.
 pub record Told (v : ShHeadValue) : Type 0 where
@@ -103,9 +105,11 @@ head-told {b} key g high = go (keyOf key b .list) (keyOf key b .place) refl (g .
         let (a, l) = stands (pageOf key i) _ (ap (pageIn i) is ∙ at) in
         told-extent (lastPage noPage ps .off) a l
 
--- After any list of calls on a fresh book of at most 2^41 bytes, each key's place has a head word.
-pub heads-told : (size heads key : ℕ) (cs : List Call) → 4096 ≤ size → size ≤ mostBody
-    → let k = keyOf key (after (fresh size heads) cs) in Told (headOf (k .list) (k .place))
-heads-told size heads key cs low high =
-    let m = mark-within size heads cs low in
-    head-told key (calls-good cs (fresh-good size heads)) (omega arith)
+-- After any list of calls on a fresh book that may be made, each key's place has a head word.
+pub heads-told : (ds : List ℕ) (size heads : ℕ) (l : Limits) (key : ℕ) (cs : List Call)
+    → makes ds size heads l ≡ accepted (fresh ds size heads l)
+    → let k = keyOf key (after (fresh ds size heads l) cs) in Told (headOf (k .list) (k .place))
+heads-told ds size heads l key cs made =
+    let shape = in-shape size heads (is-made ds size heads l made .shape) in
+    let m = mark-within ds size heads l cs (omega (arith, shape .least)) in
+    head-told key (calls-good cs (fresh-good ds size heads l made)) (omega (arith, shape .most))

@@ -9,7 +9,7 @@ use lib.Dec.{eqb, leb}
 use lib.ListN.{length, getD, set, replicate}
 use lib.Seq.{getD-set-same, getD-set-other}
 use borrow.Author.Tests.{leb-false, eqb-true, eqb-false}
-use Rattle.error.specs.Refusal.{Answer, accepted, refused, answered, shapeBad, keyBeyond}
+use Rattle.error.specs.Refusal.{Answer, accepted, refused, answered, shapeBad, keyBeyond, desksBad}
 use Rattle.error.proofs.LawsAnswer.{accepted-inj, passed, went-on}
 use Rattle.scripthash_stream.specs.Stream.{Rising, lastFrom}
 use Rattle.plain_book.specs.Space.{Space}
@@ -19,12 +19,13 @@ use Rattle.book_rules.specs.declared.places.SlabFit.{SlabFit}
 use Rattle.book_rules.specs.Outcomes.{Loaded, Appended, Listed, Dropped, loadedIn, appendedTo, listing, droppedOf, bookAfter, answerOf}
 use Rattle.book_statements.specs.Calls.{Change, load, append, drop, keyOfChange, Made, Call, ask, change, afterCalls, answersTo}
 use Rattle.book_limits.specs.Limits.{outOfShape}
+use Rattle.book_desks.specs.Desks.{Limits, listBad}
 use Rattle.book_rules.proofs.LawsOffered.{offered-on, offered-all}
 use Rattle.plain_book.specs.Book.{Book, fresh, Outcome, onKey, keyOf, withKey, inUse, extended, loads, appends, reads, drops, does}
-use Rattle.plain_book.specs.Book.{after, answers}
+use Rattle.plain_book.specs.Book.{after, answers, deskIn, leaveOf}
 use Rattle.plain_book.specs.Did.{LoadDid, AppendDid}
 use Rattle.book_statements.specs.Moves.{Tally, noMoves, counted, talliedBy, tallied, tallyOf}
-use Rattle.plain_book.proofs.LawsDid.{load-cases, append-cases}
+use Rattle.plain_book.proofs.LawsDid.{OnlyRefuses, allowed-refuses, load-cases, append-cases}
 
 -- A call that is accepted is on a key of the book.
 pub on-key : {A : Type 0} (b : Book) (key : ℕ) (after : Answer A) {x : A} → onKey b key after ≡ accepted x
@@ -32,8 +33,13 @@ pub on-key : {A : Type 0} (b : Book) (key : ℕ) (after : Answer A) {x : A} → 
 unfolding onKey
 on-key b key after e =
     let (shape, e') = passed (outOfShape (b .size) (length (b .keys))) shapeBad _ e in
-    let (beyond, is) = passed (leb (length (b .keys)) key) keyBeyond after e' in
+    let (named, e'') = passed (listBad (b .desks) (length (b .keys))) desksBad _ e' in
+    let (beyond, is) = passed (leb (length (b .keys)) key) keyBeyond after e'' in
     (leb-false (length (b .keys)) key beyond, is)
+
+-- What a key's takes have to pass only turns back.
+pub leave-refuses : (b : Book) (key : ℕ) → OnlyRefuses (leaveOf b key)
+leave-refuses b key = allowed-refuses (b .limits) (b .size) (deskIn b key) (b .held)
 
 -- ---- what an accepted call did
 
@@ -47,8 +53,8 @@ load-did fit b key ns e =
     let (free, e2) = passed _ _ _ e1 in
     let (few, e3) = passed _ _ _ e2 in
     let (rises, e4) = offered-all true 0 ns _ e3 in
-    let (p, got, is) = went-on (loadPlace fit (b .size) ns (b .space)) _ e4 in
-    (p, within, free, rises, load-cases fit (b .size) ns (b .space) got, sym (accepted-inj is))
+    let (p, got, is) = went-on (loadPlace fit (b .size) (leaveOf b key) ns (b .space)) _ e4 in
+    (p, within, free, rises, load-cases fit (b .size) (leaveOf b key) ns (b .space) (leave-refuses b key) got, sym (accepted-inj is))
 
 pub append-did : (b : Book) (key n : ℕ) {o : Outcome Appended} → appends b key n ≡ accepted o
     → (p : Placed) × (key < length (b .keys)) × (lastFrom 0 (keyOf key b .list) < n) × (n < 2 ^ 62)
@@ -62,9 +68,10 @@ unfolding appends
 append-did b key n e =
     let (within, e1) = on-key b key _ e in
     let (rises, low, e2) = offered-on true _ n _ e1 in
-    let (p, got, is) = went-on (appendPlace (b .size) (length (keyOf key b .list)) (extended (keyOf key b .list) n) n (keyOf key b .place)
-    (b .space)) _ e2 in
-    (p, within, rises, low, append-cases (b .size) _ _ n (b .space) (keyOf key b .place) got, sym (accepted-inj is))
+    let (p, got, is) = went-on (appendPlace (b .size) (leaveOf b key) (length (keyOf key b .list)) (extended (keyOf key b .list) n) n
+    (keyOf key b .place) (b .space)) _ e2 in
+    let did = append-cases (b .size) (leaveOf b key) _ _ n (b .space) (leave-refuses b key) (keyOf key b .place) got in
+    (p, within, rises, low, did, sym (accepted-inj is))
 
 pub read-did : (b : Book) (key room : ℕ) {l : Listed} → reads b key room ≡ accepted l
     → (key < length (b .keys)) × (l ≡ listing (keyOf key b .list) (pagesOf (keyOf key b .place)) (paddedOf (keyOf key b .place)))
@@ -90,8 +97,8 @@ all-same a (suc n) zero = refl
 all-same a (suc n) (suc i) = all-same a n i
 
 -- A key of a fresh book holds nothing.
-pub fresh-key : (size heads key : ℕ) → keyOf key (fresh size heads) ≡ emptyKey
-fresh-key size heads key = all-same emptyKey heads key
+pub fresh-key : (ds : List ℕ) (size heads : ℕ) (l : Limits) (key : ℕ) → keyOf key (fresh ds size heads l) ≡ emptyKey
+fresh-key ds size heads l key = all-same emptyKey heads key
 
 -- A key of a book with a key changed: the new one where it is that key.
 pub key-with : (b : Book) (own : ℕ) (k : Key) → own < length (b .keys) → (j : ℕ)
@@ -186,6 +193,7 @@ module _ (P : Key → Tally → Type 0) (kept : KeptByCalls P) where
   kept-calls key b (change c ∷ cs) t h = kept-calls key (bookAfter b (does b c)) cs _ (kept-call key b c t (does b c) refl h)
 
   -- It holds of every key after any list of calls on a fresh book.
-  pub kept-fresh : (size heads key : ℕ) (cs : List Call)
-      → P (keyOf key (after (fresh size heads) cs)) (tallyOf key (answers (fresh size heads) cs) noMoves)
-  kept-fresh size heads key cs = kept-calls key (fresh size heads) cs noMoves (rw (fresh-key size heads key) (kept .drops))
+  pub kept-fresh : (ds : List ℕ) (size heads : ℕ) (l : Limits) (key : ℕ) (cs : List Call)
+      → P (keyOf key (after (fresh ds size heads l) cs)) (tallyOf key (answers (fresh ds size heads l) cs) noMoves)
+  kept-fresh ds size heads l key cs =
+      kept-calls key (fresh ds size heads l) cs noMoves (rw (fresh-key ds size heads l key) (kept .drops))

@@ -15,13 +15,14 @@ use Rattle.scripthash_layout.specs.Sizes.{slabBytes, pageClass}
 use Rattle.scripthash_free.specs.FreeList.{Block, Each, Within, gapBlocks}
 use Rattle.scripthash_free.proofs.LawsBlock.{bytes-from-16}
 use Rattle.scripthash_free.proofs.LawsGap.{gap-filled, adjoin-within, each-map}
-use Rattle.book_limits.specs.Limits.{slabsEnd, pageAfter, pastSlabs, gapEnd}
+use Rattle.book_limits.specs.Limits.{outOfShape, slabsEnd, pageAfter, pastSlabs, gapEnd}
 use Rattle.book_limits.proofs.LawsLimits.{gap-end}
 use Rattle.book_rules.specs.declared.places.SlabFit.{SlabFit}
 use Rattle.book_rules.specs.Outcomes.{bookAfter}
 use Rattle.book_rules.proofs.LawsRules.{moves-to, loads-to}
-use Rattle.book_statements.specs.Calls.{Change, load, append, drop, Made, Call, ask, change, answersTo}
+use Rattle.book_statements.specs.Calls.{Change, load, append, drop, Made, Call}
 use Rattle.book_statements.specs.Moves.{noMoves}
+use Rattle.book_desks.specs.Desks.{Limits}
 use Rattle.plain_book.specs.Space.{Space, stackOf, freed, freedAll, Taken, takeMark, takeSlab, rounded, runAtMark, takeRun, takeFresh, takeFrom, takeBlock}
 use Rattle.plain_book.specs.Key.{Page, Place, empty, inline, slab, pages, Key, emptyKey, freedPages, freedPlace, Placed, written}
 use Rattle.plain_book.specs.Book.{Book, fresh, Outcome, keyOf, does, after, answers}
@@ -29,12 +30,12 @@ use Rattle.plain_book.specs.Did.{LoadDid, loaded-none, loaded-one, loade
 use Rattle.plain_book.specs.Did.{joined-page, begun-page}
 use Rattle.plain_book.specs.Good.{GoodPlain}
 use Rattle.plain_book.specs.Low.{LowStack, LowPlace, LowSpace, LowSlabs, PastTop}
-use Rattle.plain_book.specs.Refusals.{lowRefusals, isOneOf, RefusedBy, EachRefusedBy}
+use Rattle.plain_book.specs.Refusals.{keyRefusals, lowRefusals, isOneOf, RefusedBy, EachRefusedBy}
 use Rattle.plain_book.proofs.LawsHistory.{load-did, append-did, drop-did, fresh-key, KeptByCalls, kept-call, all-same}
 use Rattle.plain_book.proofs.LawsTaking.{took-stack, took-mark}
 use Rattle.plain_book.proofs.LawsSlabs.{taken-ends}
-use Rattle.plain_book.proofs.LawsGood.{call-good, fresh-good}
-use Rattle.plain_book.proofs.LawsRefusals.{from-plain, change-by, enquiry-by, told-by}
+use Rattle.plain_book.proofs.LawsGood.{shape-kept, call-good}
+use Rattle.plain_book.proofs.LawsRefusals.{ForCause, from-plain, change-by, enquiry-by, each-by, or-right, low-named, no-cause}
 
 -- ---- one stack changes
 
@@ -201,31 +202,63 @@ low-kept b c g l =
     }
 
 -- A fresh book has none.
-pub low-fresh : (size heads : ℕ) → LowSlabs (fresh size heads)
+pub low-fresh : (ds : List ℕ) (size heads : ℕ) (l : Limits) → LowSlabs (fresh ds size heads l)
 unfolding LowStack
-low-fresh size heads =
+low-fresh ds size heads l =
     record {
       freed = λ class. subst (LowStack class) (sym (all-same [] 9 class)) tt;
-      held = λ key. subst (λ (k : Key). LowPlace (k .place)) (sym (fresh-key size heads key)) tt;
+      held = λ key. subst (λ (k : Key). LowPlace (k .place)) (sym (fresh-key ds size heads l key)) tt;
     }
 
 -- ---- 35
 
--- Its changes are never refused with 35.
-pub change-low : (b : Book) (c : Change) → LowSlabs b → RefusedBy lowRefusals (does b c)
+-- What is refused with 35 only for a freed slab past their end isn't where there is none.
+takes-low : (numbers : List ℕ) (named : (m : ℕ) → isOneOf m keyRefusals ≡ true → isOneOf m numbers ≡ true) (b : Book) (c : Change)
+    → ForCause numbers named b → LowSlabs b → RefusedBy numbers (does b c)
 unfolding LowStack
-change-low b c l =
-    change-by lowRefusals (λ m e. e) b c
-    (λ class. from-plain lowRefusals (λ m e. e) (b .size) class (stackOf class (b .space)) (b .space)
+takes-low numbers named b c cause l =
+    change-by numbers named b c cause
+    (λ class. from-plain numbers named (b .size) class (stackOf class (b .space)) (b .space)
     (λ o os is past. absurd (false≢true (sym (subst (LowStack class) is (l .freed class) .0) ∙ past))))
 
--- Nor is any call of a list, on a good book.
-pub never-35 : (b : Book) (cs : List Call) → GoodPlain b → LowSlabs b → EachRefusedBy lowRefusals (answers b cs)
-unfolding answersTo EachRefusedBy
-never-35 b [] g l = tt
-never-35 b (ask q ∷ cs) g l = (enquiry-by lowRefusals (λ m e. e) b q, never-35 b cs g l)
-never-35 b (change c ∷ cs) g l =
-    (told-by lowRefusals (λ m e. e) (does b c) (change-low b c l), never-35 (bookAfter b (does b c)) cs (call-good c g) (low-kept b c g l))
+-- Its changes are never refused with 35.
+pub change-low : (b : Book) (c : Change) → LowSlabs b → RefusedBy lowRefusals (does b c)
+unfolding isOneOf lowRefusals
+change-low b c l = takes-low lowRefusals low-named b c (λ e. refl, λ e. refl) l
+
+-- A good book in shape.
+abbrev Shaped : Book → Type 0
+Shaped b = GoodPlain b × (outOfShape (b .size) (length (b .keys)) ≡ false)
+
+-- It stays one.
+shaped-kept : (b : Book) (c : Change) → Shaped b → Shaped (bookAfter b (does b c))
+shaped-kept b c (g, shape) = let (size, keys, lent, limits) = shape-kept b c in (call-good c g, rw (size, keys) shape)
+
+-- Numbers that good books in shape are refused with.
+module _ (numbers : List ℕ) (named : (m : ℕ) → isOneOf m keyRefusals ≡ true → isOneOf m numbers ≡ true) where
+  shaped-cause : (b : Book) → Shaped b → ForCause numbers named b
+  shaped-cause b (g, shape) = no-cause numbers named b shape (g .desks .named)
+
+-- No call of a list on a good book in shape is refused with 1 or 39, nor with 35 where no slab ends past the end of slabs;
+pub never-35 : (b : Book) (cs : List Call) → GoodPlain b → outOfShape (b .size) (length (b .keys)) ≡ false → LowSlabs b
+    → EachRefusedBy keyRefusals (answers b cs)
+never-35 b cs g shape l =
+    each-by keyRefusals (λ m e. e) (λ b. Shaped b × LowSlabs b) (λ b c (h, l). (shaped-kept b c h, low-kept b c (h .0) l))
+    (λ b c (h, l). takes-low keyRefusals (λ m e. e) b c (shaped-cause keyRefusals (λ m e. e) b h) l)
+    (λ b q (h, l). enquiry-by keyRefusals (λ m e. e) b q (shaped-cause keyRefusals (λ m e. e) b h)) b cs ((g, shape), l)
+
+-- else 35 is all that is met besides.
+pub never-1 : (b : Book) (cs : List Call) → GoodPlain b → outOfShape (b .size) (length (b .keys)) ≡ false
+    → EachRefusedBy (freeHeadBad ∷ keyRefusals) (answers b cs)
+unfolding isOneOf
+never-1 b cs g shape =
+    each-by (freeHeadBad ∷ keyRefusals) named Shaped shaped-kept
+    (λ b c h. change-by (freeHeadBad ∷ keyRefusals) named b c (shaped-cause (freeHeadBad ∷ keyRefusals) named b h)
+    (λ class. from-plain (freeHeadBad ∷ keyRefusals) named (b .size) class (stackOf class (b .space)) (b .space) (λ o os is past. refl)))
+    (λ b q h. enquiry-by (freeHeadBad ∷ keyRefusals) named b q (shaped-cause (freeHeadBad ∷ keyRefusals) named b h)) b cs (g, shape)
+  where
+    named : (m : ℕ) → isOneOf m keyRefusals ≡ true → isOneOf m (freeHeadBad ∷ keyRefusals) ≡ true
+    named m e = rw e (or-right (eqb m freeHeadBad))
 
 -- Among some stacks, the first of which is of class k, one whose top is past the end of slabs.
 record Found (st : List (List ℕ)) (k : ℕ) : Type 0 where
@@ -270,13 +303,13 @@ search-tops (xs ∷ st) k = here xs refl (search-tops st (k + 1))
 
 -- A change is refused with 35 only where such a slab is the first of its class.
 pub only-35 : (b : Book) (c : Change) → does b c ≡ refused freeHeadBad → PastTop (b .space)
-unfolding isOneOf lowRefusals RefusedBy
+unfolding isOneOf lowRefusals keyRefusals RefusedBy
 only-35 b c e =
     ⊎-elim (λ p. record { class = p .class; off = p .off; rest = p .rest; top = p .top; past = rw (zero-add (p .class)) at (p .past) })
     (λ (low : (class o : ℕ) (os : List ℕ) → stackOf class (b .space) ≡ o ∷ os → pastSlabs (0 + class) o ≡ false).
     absurd (false≢true (subst (RefusedBy lowRefusals) e
-    (change-by lowRefusals (λ m h. h) b c
-    (λ class. from-plain lowRefusals (λ m h. h) (b .size) class (stackOf class (b .space)) (b .space)
+    (change-by lowRefusals low-named b c (λ e. refl, λ e. refl)
+    (λ class. from-plain lowRefusals low-named (b .size) class (stackOf class (b .space)) (b .space)
     (λ o os is past.
     absurd (false≢true (sym (rw (zero-add class) at (low class o os is)) ∙ past))))))))
     (search-tops (b .space .stacks) 0)

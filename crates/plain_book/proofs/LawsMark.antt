@@ -23,6 +23,7 @@ use Rattle.plain_book.specs.Book.{Book, fresh, Outcome, does, after, key
 use Rattle.plain_book.specs.Filled.{MarkWhole}
 use Rattle.plain_book.specs.Did.{LoadDid, loaded-none, loaded-one, loaded-slab, loaded-run, AppendDid, began, stayed, moved-slab, moved-page, joined-page, begun-page}
 use Rattle.book_statements.proofs.LawsCalls.{calls-keep}
+use Rattle.book_desks.specs.Desks.{Limits}
 use Rattle.plain_book.proofs.LawsHistory.{load-did, append-did, drop-did}
 
 -- Freeing leaves the mark.
@@ -106,8 +107,9 @@ pub mark-from : (b : Book) (cs : List Call) → b .space .mark ≤ b .size → a
 mark-from b cs h = calls-keep serves (Inside (b .size)) (λ b' c i. call-inside (b .size) b' c (does b' c) refl i) b cs (refl, h) .1
 
 -- So it is after any list of calls on a fresh book.
-pub mark-within : (size heads : ℕ) (cs : List Call) → 4096 ≤ size → after (fresh size heads) cs .space .mark ≤ size
-mark-within size heads cs h = mark-from (fresh size heads) cs h
+pub mark-within : (ds : List ℕ) (size heads : ℕ) (l : Limits) (cs : List Call) → 4096 ≤ size
+    → after (fresh ds size heads l) cs .space .mark ≤ size
+mark-within ds size heads l cs h = mark-from (fresh ds size heads l) cs h
 
 -- ---- where the mark stands
 

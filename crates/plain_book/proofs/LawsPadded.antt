@@ -16,6 +16,7 @@ use Rattle.book_rules.specs.Outcomes.{Loaded, Appended, Listed, Dropped, bookAf
 use Rattle.book_statements.specs.Calls.{Enquiry, read, Change, load, append, drop, Made, Call, ask, change, Answers, changed, answersTo}
 use Rattle.book_statements.specs.Padded.{NonePadded, ReportsNone, Renews, NoneOnceRenewed}
 use Rattle.book_statements.specs.Moves.{noMoves}
+use Rattle.book_desks.specs.Desks.{Limits}
 use Rattle.plain_book.specs.Space.{Space}
 use Rattle.plain_book.specs.Key.{Key, emptyKey, Kept, written, longer, Page, Place, empty, paddedPages, paddedOf, onePage, longerPage}
 use Rattle.plain_book.specs.Key.{Placed, runPages}
@@ -93,9 +94,10 @@ unpadded-kept =
     }
 
 -- After any list of calls on a fresh book no key has one.
-pub unpadded-fresh : (size heads key : ℕ) (cs : List Call) → paddedOf (keyOf key (after (fresh size heads) cs) .place) ≡ 0
+pub unpadded-fresh : (ds : List ℕ) (size heads : ℕ) (l : Limits) (key : ℕ) (cs : List Call)
+    → paddedOf (keyOf key (after (fresh ds size heads l) cs) .place) ≡ 0
 unfolding Unpadded
-unpadded-fresh size heads key cs = kept-fresh _ unpadded-kept size heads key cs
+unpadded-fresh ds size heads l key cs = kept-fresh _ unpadded-kept ds size heads l key cs
 
 -- A read of a key without padded numbers reports none.
 ask-none : (b : Book) (key : ℕ) (q : Enquiry) → Unpadded (keyOf key b .place) → NonePadded key q (asks b q)
@@ -121,8 +123,10 @@ unfolding Unpadded
 own-unpadded b key cs e = reports-none b key cs (ap paddedOf e)
 
 -- After any list of calls on a fresh book no key reports one.
-pub fresh-unpadded : (size heads key : ℕ) (cs : List Call) → ReportsNone key (answers (fresh size heads) cs)
-fresh-unpadded size heads key cs = own-unpadded (fresh size heads) key cs (ap (λ (k : Key). k .place) (fresh-key size heads key))
+pub fresh-unpadded : (ds : List ℕ) (size heads : ℕ) (l : Limits) (key : ℕ) (cs : List Call)
+    → ReportsNone key (answers (fresh ds size heads l) cs)
+fresh-unpadded ds size heads l key cs =
+    own-unpadded (fresh ds size heads l) key cs (ap (λ (k : Key). k .place) (fresh-key ds size heads l key))
 
 -- A key that was changed, and stands at a place without them then.
 changed-none : (b : Book) (key : ℕ) (new : Key) (space : Space) (after : Book) (cs : List Call) → key < length (b .keys)

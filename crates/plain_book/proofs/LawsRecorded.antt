@@ -10,7 +10,7 @@ use lib.Dec.{eqb}
 use lib.ListN.{length, length-replicate}
 use lib.Seq.{getD-set-same, getD-set-other}
 use borrow.Author.Tests.{eqb-true, eqb-false, leb-true, ltb-true}
-use Rattle.error.specs.Refusal.{Answer, accepted, refused, refuseIf, answered, shapeBad, keyBeyond, listTooShort}
+use Rattle.error.specs.Refusal.{Answer, accepted, refused, refuseIf, answered, shapeBad, desksBad, keyBeyond, listTooShort}
 use Rattle.error.proofs.LawsAnswer.{refused≢accepted}
 use Rattle.book_rules.specs.Outcomes.{Listed, listing, bookAfter, answerOf}
 use Rattle.book_statements.specs.Calls.{Enquiry, read, Change, load, append, drop, Said, Made, Call, ask, change, afterCalls, answersTo}
@@ -18,6 +18,7 @@ use Rattle.book_limits.specs.Limits.{outOfShape}
 use Rattle.book_statements.specs.Moves.{noMoves}
 use Rattle.book_statements.specs.Recorded.{recordedBy, recordedAfter, recorded}
 use Rattle.book_statements.specs.Licence.{AnsweredBy, Licensed}
+use Rattle.book_desks.specs.Desks.{Limits, listBad}
 use Rattle.plain_book.specs.Space.{Space}
 use Rattle.plain_book.specs.Key.{Key, emptyKey, Place, empty, inline, slab, pages, pagesOf, paddedOf, keyIn}
 use Rattle.plain_book.specs.Book.{Book, fresh, Outcome, onKey, keyOf, withKey, inUse, reads, does, after, answers, asks}
@@ -85,11 +86,11 @@ recorded-from b key (change c ∷ cs) s =
     ∙ ap (recorded key (answers (bookAfter b (does b c)) cs)) (call-recorded key b c (does b c) refl s)
 
 -- After any list of calls on a fresh book a key's list is what the calls recorded for it.
-pub recorded-fresh : (size heads key : ℕ) (cs : List Call)
-    → keyOf key (after (fresh size heads) cs) .list ≡ recorded key (answers (fresh size heads) cs) []
-recorded-fresh size heads key cs =
-    recorded-from (fresh size heads) key cs (rw (fresh-key size heads key) empty-sound)
-    ∙ ap (λ (k : Key). recorded key (answers (fresh size heads) cs) (k .list)) (fresh-key size heads key)
+pub recorded-fresh : (ds : List ℕ) (size heads : ℕ) (l : Limits) (key : ℕ) (cs : List Call)
+    → keyOf key (after (fresh ds size heads l) cs) .list ≡ recorded key (answers (fresh ds size heads l) cs) []
+recorded-fresh ds size heads l key cs =
+    recorded-from (fresh ds size heads l) key cs (rw (fresh-key ds size heads l key) empty-sound)
+    ∙ ap (λ (k : Key). recorded key (answers (fresh ds size heads l) cs) (k .list)) (fresh-key ds size heads l key)
 
 -- ---- reads
 
@@ -105,48 +106,59 @@ unfolding refuseIf
 refused-by true number after e = inl (cc, refl)
 refused-by false number after e = inr e
 
--- A read is refused only for the shape (1), the key (2), or a lent list that is too short (34), each for its cause.
+-- A read is refused only for the shape (1), the list of desks (39), the key (2), or a lent list that is too short (34), each for its
+-- cause.
 pub read-refused : (b : Book) (key room : ℕ) {number : ℕ} → reads b key room ≡ refused number
     → ((number ≡ shapeBad) × (outOfShape (b .size) (length (b .keys)) ≡ true))
-    ⊎ (((number ≡ keyBeyond) × (length (b .keys) ≤ key)) ⊎ ((number ≡ listTooShort) × (room < length (keyOf key b .list))))
+    ⊎ (((number ≡ desksBad) × (listBad (b .desks) (length (b .keys)) ≡ true))
+    ⊎ (((number ≡ keyBeyond) × (length (b .keys) ≤ key)) ⊎ ((number ≡ listTooShort) × (room < length (keyOf key b .list)))))
 unfolding reads onKey
 read-refused b key room e =
     ⊎-elim (λ q. inl q)
+    (λ e0. inr (⊎-elim (λ q. inl q)
     (λ e1. inr (⊎-elim (λ q. inl (q .0, leb-true (length (b .keys)) key (q .1)))
     (λ e2. inr (⊎-elim (λ q. (q .0, ltb-true room (length (keyOf key b .list)) (q .1)))
     (λ e3. absurd (refused≢accepted (sym e3))) (refused-by _ _ _ e2)))
     (refused-by _ _ _ e1)))
+    (refused-by _ _ _ e0)))
     (refused-by _ _ _ e)
 
 -- ---- the licence's sentence
 
 -- An answer to an enquiry is by what is recorded.
-ask-answered : (b : Book) (q : Enquiry) (a : Answer (Said q)) (before : ℕ → List ℕ) → asks b q ≡ a
-    → ((key : ℕ) → keyOf key b .list ≡ before key) → AnsweredBy (b .size) (length (b .keys)) q a before
+ask-answered : (b : Book) (q : Enquiry) (a : Answer (Said q)) (before : ℕ → List ℕ) → listBad (b .desks) (length (b .keys)) ≡ false
+    → asks b q ≡ a → ((key : ℕ) → keyOf key b .list ≡ before key) → AnsweredBy (b .size) (length (b .keys)) q a before
 unfolding AnsweredBy asks
-ask-answered b (read key room) (accepted l) before e is = ap (λ (x : Listed). x .numbers) (read-told b key room e) ∙ is key
-ask-answered b (read key room) (refused number) before e is = rw (← is key) (read-refused b key room e)
+ask-answered b (read key room) (accepted l) before named e is = ap (λ (x : Listed). x .numbers) (read-told b key room e) ∙ is key
+ask-answered b (read key room) (refused number) before named e is =
+    rw (← is key)
+    (⊎-elim (λ q. inl q) (λ r. ⊎-elim (λ (bad, list). absurd (false≢true (sym named ∙ list))) (λ q. inr q) r) (read-refused b key room e))
 
--- Take any book of sound keys, whose lists are what was recorded, and any list of calls: the licence's sentence holds.
-pub licensed-from : (b : Book) (before : ℕ → List ℕ) (cs : List Call) → ((key : ℕ) → SoundKey (keyOf key b))
+-- Take any book of sound keys with a desk for each, whose lists are what was recorded, and any list of calls: the licence's sentence holds.
+pub licensed-from : (b : Book) (before : ℕ → List ℕ) (cs : List Call) → listBad (b .desks) (length (b .keys)) ≡ false
+    → ((key : ℕ) → SoundKey (keyOf key b))
     → ((key : ℕ) → keyOf key b .list ≡ before key)
     → Licensed (b .size) (length (b .keys)) before (answers b cs)
 unfolding Licensed answersTo
-licensed-from b before [] s is = tt
-licensed-from b before (ask q ∷ cs) s is = (ask-answered b q (asks b q) before refl is, licensed-from b before cs s is)
-licensed-from b before (change c ∷ cs) s is =
-    let (size, keys) = shape-kept b c in
+licensed-from b before [] named s is = tt
+licensed-from b before (ask q ∷ cs) named s is =
+    (ask-answered b q (asks b q) before named refl is, licensed-from b before cs named s is)
+licensed-from b before (change c ∷ cs) named s is =
+    let (size, keys, ds, l) = shape-kept b c in
     subst₂ (λ (m n : ℕ). Licensed m n (λ key. recordedAfter key c (answerOf (does b c)) (before key)) (answers (bookAfter b (does b c)) cs))
     size keys
-    (licensed-from (bookAfter b (does b c)) _ cs (λ key. kept-call _ sound-kept key b c noMoves (does b c) refl (s key))
+    (licensed-from (bookAfter b (does b c)) _ cs (rw (keys, ds) named)
+    (λ key. kept-call _ sound-kept key b c noMoves (does b c) refl (s key))
     (λ key. call-recorded key b c (does b c) refl (s key) ∙ ap (recordedAfter key c (answerOf (does b c))) (is key)))
 
--- On a fresh book, with nothing recorded, the licence's sentence holds of every list of calls.
-pub licensed : (size heads : ℕ) (cs : List Call) → Licensed size heads (λ key. []) (answers (fresh size heads) cs)
-licensed size heads cs =
-    subst (λ (n : ℕ). Licensed size n (λ key. []) (answers (fresh size heads) cs)) (length-replicate heads emptyKey)
-    (licensed-from (fresh size heads) (λ key. []) cs (λ key. rw (fresh-key size heads key) empty-sound)
-    (λ key. ap (λ (k : Key). k .list) (fresh-key size heads key)))
+-- On a fresh book with a desk for each key, and nothing recorded, the licence's sentence holds of every list of calls.
+pub licensed : (ds : List ℕ) (size heads : ℕ) (l : Limits) (cs : List Call) → listBad ds heads ≡ false
+    → Licensed size heads (λ key. []) (answers (fresh ds size heads l) cs)
+licensed ds size heads l cs named =
+    subst (λ (n : ℕ). Licensed size n (λ key. []) (answers (fresh ds size heads l) cs)) (length-replicate heads emptyKey)
+    (licensed-from (fresh ds size heads l) (λ key. []) cs (rw (length-replicate heads emptyKey) named)
+    (λ key. rw (fresh-key ds size heads l key) empty-sound)
+    (λ key. ap (λ (k : Key). k .list) (fresh-key ds size heads l key)))
 
 -- What the licence's sentence says of a read with room enough, on a key of a book in shape: it is accepted, and tells what is recorded.
 pub read-accepted : (size heads key room : ℕ) (a : Answer Listed) (recorded : ℕ → List ℕ) → AnsweredBy size heads (read key room) a recorded

@@ -1,7 +1,7 @@
--- Which refusals the plain book gives: those that FORMAT names for it, and 35 only where a freed slab ends past the end of slabs; never
--- 31. Assumes nothing.
+-- Which refusals the plain book gives: those that FORMAT names for it, those of desks, 1 and 39 only where its shape or its list are
+-- bad, and 35 only where a freed slab ends past the end of slabs; never 31. Assumes nothing.
 use Prim.Native.Nat.{ℕ}
-use mathlib.Core.Bool.{Bool, true, false, cond, _||_}
+use mathlib.Core.Bool.{Bool, true, false, cond, _||_, true≢false}
 use mathlib.Core.List.{List, [], _∷_}
 use mathlib.Core.Option.{Option, none, some}
 use mathlib.Core.Path.{_≡_, refl, sym, _∙_}
@@ -9,31 +9,40 @@ use lib.Dec.{eqb}
 use lib.ListN.{length, set}
 use Rattle.error.specs.Refusal.{Answer, accepted, refused, refuseIf, andThen, answered, shapeBad, keyBeyond, keyInUse, tooManyOffered}
 use Rattle.error.specs.Refusal.{offeredFirstZero, offeredBit63, offeredTooLarge, offeredNotRising, listTooShort, freeHeadBad, noRoom}
+use Rattle.error.specs.Refusal.{desksBad, pastCeiling, intoReserves}
 use Rattle.scripthash_layout.specs.Sizes.{slabBytes, pageClass}
 use Rattle.book_rules.specs.declared.places.SlabFit.{SlabFit}
 use Rattle.book_rules.specs.Outcomes.{answerOf, bookAfter}
 use Rattle.book_statements.specs.Calls.{Enquiry, read, Change, load, append, drop, Call, ask, change, answersTo}
-use Rattle.book_limits.specs.Limits.{pastSlabs}
+use Rattle.book_limits.specs.Limits.{outOfShape, pastSlabs}
 use Rattle.book_rules.specs.Places.{stays}
+use Rattle.book_desks.specs.Desks.{Limits, permitted, listBad}
 use Rattle.book_rules.specs.Offered.{offeredNumber, offeredList}
 use Rattle.plain_book.specs.Space.{Space, Taken, stackOf, takeMark, takeSlab, rounded, takeRun, takeFresh, takeFrom, takeBlock, runAtMark}
 use Rattle.plain_book.specs.Key.{Place, empty, inline, slab, pages, moved, joins, beginPage, appendPages, appendPlace, loadInto}
-use Rattle.plain_book.specs.Key.{loadPlace, longer}
-use Rattle.plain_book.specs.Book.{Book, Outcome, onKey, loads, appends, reads, drops, does, answers, asks}
-use Rattle.plain_book.specs.Refusals.{lowRefusals, plainRefusals, isOneOf, RefusedBy, EachRefusedBy}
+use Rattle.plain_book.specs.Key.{loadPlace, longer, Leave}
+use Rattle.plain_book.specs.Book.{Book, Outcome, onKey, allowed, deskIn, leaveOf, loads, appends, reads, drops, does, answers, asks}
+use Rattle.plain_book.specs.Refusals.{keyRefusals, lowRefusals, plainRefusals, isOneOf, RefusedBy, EachRefusedBy}
 
--- Answers that are accepted, or refused with one of some numbers, of which those of a book without slabs past their end are some.
-module _ (numbers : List ℕ) (named : (m : ℕ) → isOneOf m lowRefusals ≡ true → isOneOf m numbers ≡ true) where
+-- Answers that are accepted, or refused with one of some numbers, of which those of a book in shape without slabs past their end are some.
+module _ (numbers : List ℕ) (named : (m : ℕ) → isOneOf m keyRefusals ≡ true → isOneOf m numbers ≡ true) where
   abbrev Plain : {A : Type 0} → Answer A → Type 0
   Plain a = RefusedBy numbers a
 
   -- ---- a test, a part that can be turned back, a choice
 
-  by-test : {A : Type 0} (test : Bool) (number : ℕ) (after : Answer A) → isOneOf number lowRefusals ≡ true → Plain after
+  by-test : {A : Type 0} (test : Bool) (number : ℕ) (after : Answer A) → isOneOf number keyRefusals ≡ true → Plain after
       → Plain (refuseIf test number after)
   unfolding refuseIf RefusedBy
   by-test true number after p q = named number p
   by-test false number after p q = q
+
+  -- A test that is a number's only cause.
+  by-cause : {A : Type 0} (test : Bool) (number : ℕ) (after : Answer A) → (test ≡ true → isOneOf number numbers ≡ true) → Plain after
+      → Plain (refuseIf test number after)
+  unfolding refuseIf RefusedBy
+  by-cause true number after p q = p refl
+  by-cause false number after p q = q
 
   by-part : {A B : Type 0} (a : Answer A) (after : A → Answer B) → Plain a → ((x : A) → Plain (after x)) → Plain (andThen a after)
   unfolding andThen RefusedBy
@@ -51,11 +60,11 @@ module _ (numbers : List ℕ) (named : (m : ℕ) → isOneOf m lowRefusals ≡ t
   -- ---- takes
 
   mark-plain : (end bytes : ℕ) (s : Space) → Plain (takeMark end bytes s)
-  unfolding takeMark isOneOf lowRefusals
+  unfolding takeMark isOneOf keyRefusals
   mark-plain end bytes s = by-test _ noRoom _ refl (value _)
 
   slab-plain : (end bytes : ℕ) (s : Space) → Plain (takeSlab end bytes s)
-  unfolding takeSlab isOneOf lowRefusals
+  unfolding takeSlab isOneOf keyRefusals
   slab-plain end bytes s = by-test _ noRoom _ refl (mark-plain end bytes s)
 
   run-plain : (end k : ℕ) (s : Space) → Plain (takeRun end k s)
@@ -78,28 +87,35 @@ module _ (numbers : List ℕ) (named : (m : ℕ) → isOneOf m lowRefusals ≡ t
       go true e = top o os refl e
       go false e = tt
 
+  -- What a desk's take has to pass.
+  allowed-plain : (l : Limits) (end desk : ℕ) (held : List ℕ) (k : ℕ) (a : Answer Taken) → Plain a → Plain (allowed l end desk held k a)
+  unfolding allowed permitted isOneOf keyRefusals
+  allowed-plain l end desk held k a p =
+      by-part _ _ p (λ t. by-test _ pastCeiling _ refl (by-test _ intoReserves _ refl (value t)))
+
   -- ---- places
 
-  module _ (end : ℕ) (s : Space) (takes : (class : ℕ) → Plain (takeBlock end class s)) where
-    moved-plain : (o : Option ℕ) (held : ℕ) (list : List ℕ) (old : Place) → Plain (moved end o held list old s)
+  module _ (end : ℕ) (leave : Leave) (s : Space) (lets : (k : ℕ) (a : Answer Taken) → Plain a → Plain (leave k a))
+      (takes : (class : ℕ) → Plain (takeBlock end class s)) where
+    moved-plain : (o : Option ℕ) (held : ℕ) (list : List ℕ) (old : Place) → Plain (moved end leave o held list old s)
     unfolding moved
-    moved-plain (some class) held list old = by-part _ _ (takes class) (λ t. value _)
-    moved-plain none held list old = by-part _ _ (takes pageClass) (λ t. value _)
+    moved-plain (some class) held list old = by-part _ _ (lets 0 _ (takes class)) (λ t. value _)
+    moved-plain none held list old = by-part _ _ (lets 1 _ (takes pageClass)) (λ t. value _)
 
-    append-plain : (held : ℕ) (list : List ℕ) (n : ℕ) (place : Place) → Plain (appendPlace end held list n place s)
+    append-plain : (held : ℕ) (list : List ℕ) (n : ℕ) (place : Place) → Plain (appendPlace end leave held list n place s)
     unfolding appendPlace appendPages beginPage
     append-plain held list n empty = value _
     append-plain held list n inline = moved-plain _ held list inline
     append-plain held list n (slab class off kept) =
         by-choice (stays class (length list) (longer n kept .bytes)) _ _ (value _) (moved-plain _ held list _)
-    append-plain held list n (pages ps) = by-choice (joins n ps) _ _ (value _) (by-part _ _ (takes pageClass) (λ t. value _))
+    append-plain held list n (pages ps) = by-choice (joins n ps) _ _ (value _) (by-part _ _ (lets 1 _ (takes pageClass)) (λ t. value _))
 
-    into-plain : (o : Option ℕ) (list : List ℕ) → Plain (loadInto end o list s)
+    into-plain : (o : Option ℕ) (list : List ℕ) → Plain (loadInto end leave o list s)
     unfolding loadInto
-    into-plain (some class) list = by-part _ _ (takes class) (λ t. value _)
-    into-plain none list = by-part _ _ (run-plain end _ s) (λ t. value _)
+    into-plain (some class) list = by-part _ _ (lets 0 _ (takes class)) (λ t. value _)
+    into-plain none list = by-part _ _ (lets _ _ (run-plain end _ s)) (λ t. value _)
 
-    load-plain : (fit : SlabFit) (list : List ℕ) → Plain (loadPlace fit end list s)
+    load-plain : (fit : SlabFit) (list : List ℕ) → Plain (loadPlace fit end leave list s)
     unfolding loadPlace
     load-plain fit [] = value _
     load-plain fit (n ∷ []) = value _
@@ -108,7 +124,7 @@ module _ (numbers : List ℕ) (named : (m : ℕ) → isOneOf m lowRefusals ≡ t
   -- ---- what is offered
 
   number-plain : {A : Type 0} (first : Bool) (prev n : ℕ) (after : Answer A) → Plain after → Plain (offeredNumber first prev n after)
-  unfolding offeredNumber isOneOf lowRefusals
+  unfolding offeredNumber isOneOf keyRefusals
   number-plain first prev n after p =
       by-test _ offeredFirstZero _ refl (by-test _ offeredBit63 _ refl (by-test _ offeredTooLarge _ refl (by-test _ offeredNotRising _ refl p)))
 
@@ -119,24 +135,34 @@ module _ (numbers : List ℕ) (named : (m : ℕ) → isOneOf m lowRefusals ≡ t
 
   -- ---- calls
 
-  key-plain : {A : Type 0} (b : Book) (key : ℕ) (after : Answer A) → Plain after → Plain (onKey b key after)
-  unfolding onKey isOneOf lowRefusals
-  key-plain b key after p = by-test _ shapeBad _ refl (by-test _ keyBeyond _ refl p)
+  -- 1 and 39 are among the numbers where a book gives cause for them.
+  abbrev pub ForCause : Book → Type 0
+  ForCause b =
+      (outOfShape (b .size) (length (b .keys)) ≡ true → isOneOf shapeBad numbers ≡ true)
+      × (listBad (b .desks) (length (b .keys)) ≡ true → isOneOf desksBad numbers ≡ true)
+
+  key-plain : {A : Type 0} (b : Book) (key : ℕ) (after : Answer A) → ForCause b → Plain after → Plain (onKey b key after)
+  unfolding onKey isOneOf keyRefusals
+  key-plain b key after (shape, list) p = by-cause _ shapeBad _ shape (by-cause _ desksBad _ list (by-test _ keyBeyond _ refl p))
 
   -- A change, by what its takes are refused with.
-  pub change-by : (b : Book) (c : Change) → ((class : ℕ) → Plain (takeBlock (b .size) class (b .space))) → Plain (does b c)
-  unfolding does loads appends drops isOneOf lowRefusals
-  change-by b (load fit key ns) takes =
-      key-plain b key _ (by-test _ keyInUse _ refl (by-test _ tooManyOffered _ refl (list-plain true 0 ns _
-      (by-part _ _ (load-plain (b .size) (b .space) takes fit ns) (λ p. value _)))))
-  change-by b (append key n) takes =
-      key-plain b key _ (number-plain true _ n _ (by-part _ _ (append-plain (b .size) (b .space) takes _ _ n _) (λ p. value _)))
-  change-by b (drop key) takes = key-plain b key _ (value _)
+  pub change-by : (b : Book) (c : Change) → ForCause b → ((class : ℕ) → Plain (takeBlock (b .size) class (b .space))) → Plain (does b c)
+  unfolding does loads appends drops isOneOf keyRefusals
+  change-by b (load fit key ns) cause takes =
+      key-plain b key _ cause (by-test _ keyInUse _ refl (by-test _ tooManyOffered _ refl (list-plain true 0 ns _
+      (by-part _ _
+      (load-plain (b .size) (leaveOf b key) (b .space) (allowed-plain (b .limits) (b .size) (deskIn b key) (b .held)) takes fit ns)
+      (λ p. value _)))))
+  change-by b (append key n) cause takes =
+      key-plain b key _ cause (number-plain true _ n _ (by-part _ _
+      (append-plain (b .size) (leaveOf b key) (b .space) (allowed-plain (b .limits) (b .size) (deskIn b key) (b .held)) takes _ _ n _)
+      (λ p. value _)))
+  change-by b (drop key) cause takes = key-plain b key _ cause (value _)
 
   -- An enquiry.
-  pub enquiry-by : (b : Book) (q : Enquiry) → Plain (asks b q)
-  unfolding asks reads isOneOf lowRefusals
-  enquiry-by b (read key room) = key-plain b key _ (by-test _ listTooShort _ refl (value _))
+  pub enquiry-by : (b : Book) (q : Enquiry) → ForCause b → Plain (asks b q)
+  unfolding asks reads isOneOf keyRefusals
+  enquiry-by b (read key room) cause = key-plain b key _ cause (by-test _ listTooShort _ refl (value _))
 
   -- What a change tells is refused alike.
   pub told-by : {T : Type 0} (a : Answer (Outcome T)) → Plain a → Plain (answerOf a)
@@ -144,32 +170,51 @@ module _ (numbers : List ℕ) (named : (m : ℕ) → isOneOf m lowRefusals ≡ t
   told-by (accepted o) p = tt
   told-by (refused number) p = p
 
+  -- Where what holds of a book is kept, and its calls are refused with some of the numbers, so are lists of calls.
+  pub each-by : (R : Book → Type 0) → ((b : Book) (c : Change) → R b → R (bookAfter b (does b c)))
+      → ((b : Book) (c : Change) → R b → Plain (does b c)) → ((b : Book) (q : Enquiry) → R b → Plain (asks b q))
+      → (b : Book) (cs : List Call) → R b → EachRefusedBy numbers (answers b cs)
+  unfolding answersTo EachRefusedBy
+  each-by R keeps changes enquiries b [] h = tt
+  each-by R keeps changes enquiries b (ask q ∷ cs) h = (enquiries b q h, each-by R keeps changes enquiries b cs h)
+  each-by R keeps changes enquiries b (change c ∷ cs) h =
+      (told-by (does b c) (changes b c h), each-by R keeps changes enquiries (bookAfter b (does b c)) cs (keeps b c h))
+
 -- ---- any plain book
 
-or-right : (x : Bool) → x || true ≡ true
+pub or-right : (x : Bool) → x || true ≡ true
 or-right true = refl
 or-right false = refl
 
--- The numbers of a book without slabs past their end are numbers of the plain book.
-low-named : (m : ℕ) → isOneOf m lowRefusals ≡ true → isOneOf m plainRefusals ≡ true
+-- The numbers of a book in shape are numbers of one where no slab ends past the end of slabs, and these of any plain book.
+pub low-named : (m : ℕ) → isOneOf m keyRefusals ≡ true → isOneOf m lowRefusals ≡ true
+unfolding isOneOf lowRefusals
+low-named m e = rw (e, or-right (eqb m desksBad)) (or-right (eqb m shapeBad))
+
+plain-named : (m : ℕ) → isOneOf m keyRefusals ≡ true → isOneOf m plainRefusals ≡ true
 unfolding isOneOf
-low-named m e = rw e (or-right (eqb m freeHeadBad))
+plain-named m e = rw (low-named m e) (or-right (eqb m freeHeadBad))
 
 -- A change of any plain book is accepted, or refused with one of its numbers.
 pub change-refused : (b : Book) (c : Change) → RefusedBy plainRefusals (does b c)
-unfolding isOneOf
+unfolding isOneOf lowRefusals
 change-refused b c =
-    change-by plainRefusals low-named b c
-    (λ class. from-plain plainRefusals low-named (b .size) class (stackOf class (b .space)) (b .space) (λ o os e past. refl))
+    change-by plainRefusals plain-named b c (λ e. refl, λ e. refl)
+    (λ class. from-plain plainRefusals plain-named (b .size) class (stackOf class (b .space)) (b .space) (λ o os e past. refl))
 
 -- So is an enquiry.
 pub enquiry-refused : (b : Book) (q : Enquiry) → RefusedBy plainRefusals (asks b q)
-enquiry-refused b q = enquiry-by plainRefusals low-named b q
+unfolding isOneOf lowRefusals
+enquiry-refused b q = enquiry-by plainRefusals plain-named b q (λ e. refl, λ e. refl)
 
 -- So is each answer to any list of calls, on any plain book.
 pub answers-refused : (b : Book) (cs : List Call) → EachRefusedBy plainRefusals (answers b cs)
-unfolding answersTo EachRefusedBy
-answers-refused b [] = tt
-answers-refused b (ask q ∷ cs) = (enquiry-refused b q, answers-refused b cs)
-answers-refused b (change c ∷ cs) =
-    (told-by plainRefusals low-named (does b c) (change-refused b c), answers-refused (bookAfter b (does b c)) cs)
+answers-refused b cs =
+    each-by plainRefusals plain-named (λ b. Unit {0}) (λ b c h. tt) (λ b c h. change-refused b c) (λ b q h. enquiry-refused b q) b cs tt
+
+-- ---- a plain book in shape
+
+-- A book in shape whose list names a desk for each key gives no cause for 1 or 39.
+pub no-cause : (numbers : List ℕ) (named : (m : ℕ) → isOneOf m keyRefusals ≡ true → isOneOf m numbers ≡ true) (b : Book)
+    → outOfShape (b .size) (length (b .keys)) ≡ false → listBad (b .desks) (length (b .keys)) ≡ false → ForCause numbers named b
+no-cause numbers named b shape list = (λ e. absurd (true≢false (sym e ∙ shape)), λ e. absurd (true≢false (sym e ∙ list)))

@@ -1,15 +1,16 @@
 -- Room: a change that is refused with 36 is accepted on the same plain book with a body that goes on far enough behind the mark, where slabs
 -- may be taken there. Assumes nothing.
-use Prim.Native.Nat.{ℕ, zero, suc, _+_, _*_, _≤_}
+use Prim.Native.Nat.{ℕ, zero, suc, _+_, _*_, _≤_, _<_}
 use mathlib.Core.Bool.{Bool, true, false, cond, not, _&&_}
 use mathlib.Core.List.{List, [], _∷_, _++_}
+use mathlib.Core.Logic.{inl, inr}
 use mathlib.Core.Option.{Option, none, some}
-use mathlib.Core.Path.{_≡_, refl, ap, _∙_}
+use mathlib.Core.Path.{_≡_, refl, sym, ap, ap₂, _∙_}
 use native.Mathlib.Omega.{arith}
 use lib.Dec.{eqb, leb, ltb}
-use lib.ListN.{length, getD, replicate, length-append}
+use lib.ListN.{length, getD, replicate, length-append, length-replicate, List·getD-append, List·getD-eq-default}
 use borrow.Author.Tests.{le-ltb, lt-leb, leb-false}
-use Rattle.error.specs.Refusal.{Answer, accepted, refused, refuseIf, andThen, noRoom}
+use Rattle.error.specs.Refusal.{Answer, accepted, refused, refuseIf, andThen, noRoom, desksBad}
 use Rattle.error.proofs.LawsAnswer.{refuse-no, then-yes}
 use Rattle.scripthash_layout.specs.Sizes.{slabBytes, pageClass, pageSize}
 use Rattle.scripthash_layout.proofs.LawsSizes.{size-mono}
@@ -19,16 +20,21 @@ use Rattle.scripthash_free.proofs.LawsBlock.{block-stands}
 use Rattle.book_rules.specs.declared.places.SlabFit.{SlabFit}
 use Rattle.book_statements.specs.Calls.{Change, load, append, drop}
 use Rattle.book_limits.specs.Limits.{slabsEnd, outOfShape, pageAfter, pastSlabs}
+use Rattle.book_limits.proofs.LawsLimits.{in-shape}
 use Rattle.book_rules.specs.Places.{stays, movesTo, loadsTo}
 use Rattle.book_rules.specs.Offered.{offeredNumber, offeredList}
 use Rattle.book_rules.proofs.LawsRules.{moves-to, loads-to}
-use Rattle.plain_book.specs.Space.{Space, stackOf, takeMark, takeSlab, rounded, takeRun, takeFresh, takeFrom, takeBlock, runAtMark}
+use Rattle.book_desks.specs.Desks.{desks, Limits, countOf, sumTo, lacks, lacksWith, permitted, listBad}
+use Rattle.book_desks.proofs.LawsSums.{sum-least, sum-same}
+use Rattle.book_desks.proofs.LawsDesks.{list-good}
+use Rattle.plain_book.specs.Space.{Space, Taken, stackOf, takeMark, takeSlab, rounded, takeRun, takeFresh, takeFrom, takeBlock}
+use Rattle.plain_book.specs.Space.{runAtMark}
 use Rattle.plain_book.specs.Key.{Place, empty, inline, slab, pages, moved, joins, beginPage, appendPages, appendPlace}
-use Rattle.plain_book.specs.Key.{emptyKey, loadInto, loadPlace, longer}
-use Rattle.plain_book.specs.Book.{Book, onKey, keyOf, loads, appends, drops, does}
-use Rattle.plain_book.specs.Grown.{grown, pagesEnough}
+use Rattle.plain_book.specs.Key.{Key, emptyKey, pagesOf, loadInto, loadPlace, longer, Leave}
+use Rattle.plain_book.specs.Book.{Book, onKey, keyOf, allowed, deskIn, leaveOf, loads, appends, drops, does}
+use Rattle.plain_book.specs.Grown.{grown, Affords, ForRoom}
 use Rattle.plain_book.specs.Owners.{stack, atDepth, has, places}
-use Rattle.plain_book.specs.Good.{GoodPlain}
+use Rattle.plain_book.specs.Good.{GoodDesks, GoodPlain, pagesFor, pagesOfDesk}
 use Rattle.plain_book.proofs.LawsHistory.{all-same}
 use Rattle.plain_book.proofs.LawsOwners.{top-is}
 
@@ -45,19 +51,20 @@ by-choice : {A : Type 0} (test : Bool) (one other : Answer A) → Accepts one �
 by-choice true one other p q = p
 by-choice false one other p q = q
 
+-- A take is accepted, and leaves the mark at most so many pages behind where it was, rounded up.
+abbrev Takes : Space → ℕ → Answer Taken → Type 0
+Takes s n a = (t : Taken) × (a ≡ accepted t) × (t .space .mark ≤ pageAfter (s .mark) + n * pageSize)
+
 -- Blocks and runs.
-mark-accepts : (end bytes : ℕ) (s : Space) → s .mark + bytes ≤ end → Accepts (takeMark end bytes s)
-unfolding takeMark
-mark-accepts end bytes s h = (_, refuse-no _ _ _ (le-ltb end (s .mark + bytes) h))
+run-takes : (end k : ℕ) (s : Space) → pageAfter (s .mark) + k * pageSize ≤ end → Takes s k (takeRun end k s)
+unfolding runAtMark rounded takeMark
+run-takes end k s h = (_, refuse-no _ _ _ (le-ltb end (pageAfter (s .mark) + k * pageSize) h), omega arith)
 
-run-accepts : (end k : ℕ) (s : Space) → pageAfter (s .mark) + k * pageSize ≤ end → Accepts (takeRun end k s)
-unfolding runAtMark rounded
-run-accepts end k s h = mark-accepts end (k * pageSize) (rounded s) h
-
-slab-accepts : (end bytes : ℕ) (s : Space) → s .mark + bytes ≤ slabsEnd → s .mark + bytes ≤ end → Accepts (takeSlab end bytes s)
-unfolding takeSlab
-slab-accepts end bytes s low h =
-    let (t, is) = mark-accepts end bytes s h in (t, refuse-no _ _ _ (le-ltb slabsEnd (s .mark + bytes) low) ∙ is)
+slab-takes : (end bytes : ℕ) (s : Space) → bytes ≤ pageSize → s .mark + bytes ≤ slabsEnd → s .mark + bytes ≤ end
+    → Takes s 1 (takeSlab end bytes s)
+unfolding takeSlab takeMark
+slab-takes end bytes s few low h =
+    (_, refuse-no _ _ _ (le-ltb slabsEnd (s .mark + bytes) low) ∙ refuse-no _ _ _ (le-ltb end (s .mark + bytes) h), omega arith)
 
 -- A page behind the mark, rounded up, ends within the body, and at or below the end of slabs; and so do the blocks on stacks.
 pub record Roomy (end : ℕ) (s : Space) : Type 0 where
@@ -65,77 +72,128 @@ pub record Roomy (end : ℕ) (s : Space) : Type 0 where
   pub low : pageAfter (s .mark) + pageSize ≤ slabsEnd
   pub tops : (class o : ℕ) (os : List ℕ) → stackOf class s ≡ o ∷ os → pastSlabs class o ≡ false
 
-block-accepts : (end class : ℕ) (s : Space) → class ≤ pageClass → Roomy end s → Accepts (takeBlock end class s)
+block-takes : (end class : ℕ) (s : Space) → class ≤ pageClass → Roomy end s → Takes s 1 (takeBlock end class s)
 unfolding takeFrom takeFresh
-block-accepts end class s c r = go (stackOf class s) refl
+block-takes end class s c r = go (stackOf class s) refl
   where
-    go : (os : List ℕ) → stackOf class s ≡ os → Accepts (takeFrom end class os s)
-    go [] e =
-        let big : slabBytes class ≤ 4096 = size-mono 4 {c = class} {d = 8} c in
-        by-choice (eqb class pageClass) (takeRun end 1 s) (takeSlab end (slabBytes class) s) (run-accepts end 1 s (omega (arith, r .ends)))
-        (slab-accepts end (slabBytes class) s (omega (arith, r .low)) (omega (arith, r .ends)))
-    go (o ∷ os) e = (_, refuse-no _ _ _ (r .tops class o os e))
+    big : slabBytes class ≤ 4096
+    big = size-mono 4 {c = class} {d = 8} c
 
--- Where a list goes.
-moved-accepts : (end : ℕ) (o : Option ℕ) (held : ℕ) (list : List ℕ) (old : Place) (s : Space) → ((c : ℕ) → o ≡ some c → c ≤ pageClass)
-    → Roomy end s → Accepts (moved end o held list old s)
-unfolding moved
-moved-accepts end (some class) held list old s few h = then-accepts _ _ (block-accepts end class s (few class refl) h)
-moved-accepts end none held list old s few h = then-accepts _ _ (block-accepts end pageClass s (omega arith) h)
+    choose : (page : Bool) → Takes s 1 (cond page (takeRun end 1 s) (takeSlab end (slabBytes class) s))
+    choose true = run-takes end 1 s (omega (arith, r .ends))
+    choose false = slab-takes end (slabBytes class) s big (omega (arith, big, r .low)) (omega (arith, big, r .ends))
 
--- The class of a move is a slab's.
-some-class : (list : List ℕ) (c : ℕ) → movesTo (length list) (streamLen list) ≡ some c → c ≤ pageClass
-some-class list c q = let m = moves-to (length list) (streamLen list) q in omega (arith, m .slab)
+    go : (os : List ℕ) → stackOf class s ≡ os → Takes s 1 (takeFrom end class os s)
+    go [] e = choose (eqb class pageClass)
+    go (o ∷ os) e = (_, refuse-no _ _ _ (r .tops class o os e), omega arith)
 
-append-accepts : (end held : ℕ) (list : List ℕ) (n : ℕ) (place : Place) (s : Space) → Roomy end s
-    → Accepts (appendPlace end held list n place s)
-unfolding appendPlace appendPages beginPage
-append-accepts end held list n empty s h = (_, refl)
-append-accepts end held list n inline s h = moved-accepts end _ held list inline s (some-class list) h
-append-accepts end held list n (slab class off kept) s h =
-    by-choice (stays class (length list) (longer n kept .bytes)) _ _ (_, refl) (moved-accepts end _ held list _ s (some-class list) h)
-append-accepts end held list n (pages ps) s h =
-    by-choice (joins n ps) _ _ (_, refl) (then-accepts _ _ (block-accepts end pageClass s (omega arith) h))
+-- ---- what a desk may take
 
-load-accepts : (fit : SlabFit) (end : ℕ) (list : List ℕ) (s : Space) → Roomy end s
-    → pageAfter (s .mark) + (1 + length (cutting list)) * pageSize ≤ end → Accepts (loadPlace fit end list s)
+-- Nothing holds of a test and one that doesn't hold.
+and-false : (t : Bool) → t && false ≡ false
+and-false true = refl
+and-false false = refl
+
+-- The desks lack no more when one holds more.
+with-less : (l : Limits) (held : List ℕ) (desk k : ℕ) → lacksWith l held desk k ≤ lacks l held
+unfolding lacksWith lacks
+with-less l held desk k = sum-least desks _ _ (λ d low. omega arith)
+
+-- A leave lets a take of some pages through that leaves the mark at most so many behind where it was, rounded up.
+abbrev Lets : Leave → Space → ℕ → ℕ → Type 0
+Lets leave s most n = (k : ℕ) (a : Answer Taken) → k ≤ most → Takes s n a → Accepts (leave k a)
+
+-- So does a desk's, where what the desks lack is left, and the desk stays within its ceiling.
+allowed-lets : (l : Limits) (end desk : ℕ) (held : List ℕ) (s : Space) (most n : ℕ)
+    → pageAfter (s .mark) + (n + lacks l held) * pageSize ≤ end → countOf desk held + most ≤ countOf desk (l .ceiling)
+    → Lets (allowed l end desk held) s most n
+unfolding allowed permitted
+allowed-lets l end desk held s most n room within k a few (t, is, near) =
+    let less = with-less l held desk k in (
+      t,
+      then-yes a _ is
+          ∙ refuse-no _ _ _ (rw (le-ltb (countOf desk (l .ceiling)) (countOf desk held + k) (omega arith)) (and-false (not (eqb k 0))))
+          ∙ refuse-no _ _ _ (le-ltb _ (lacksWith l held desk k) (omega arith)),
+    )
+
+-- ---- where a list goes
+
+-- It moves, or is appended to.
+module _ (end : ℕ) (leave : Leave) (s : Space) (lets : Lets leave s 1 1) (r : Roomy end s) where
+  moved-accepts : (o : Option ℕ) (held : ℕ) (list : List ℕ) (old : Place) → ((c : ℕ) → o ≡ some c → c ≤ pageClass)
+      → Accepts (moved end leave o held list old s)
+  unfolding moved
+  moved-accepts (some class) held list old few =
+      then-accepts _ _ (lets 0 _ (omega arith) (block-takes end class s (few class refl) r))
+  moved-accepts none held list old few =
+      then-accepts _ _ (lets 1 _ (omega arith) (block-takes end pageClass s (omega arith) r))
+
+  -- The class of a move is a slab's.
+  some-class : (list : List ℕ) (c : ℕ) → movesTo (length list) (streamLen list) ≡ some c → c ≤ pageClass
+  some-class list c q = let m = moves-to (length list) (streamLen list) q in omega (arith, m .slab)
+
+  append-accepts : (held : ℕ) (list : List ℕ) (n : ℕ) (place : Place) → Accepts (appendPlace end leave held list n place s)
+  unfolding appendPlace appendPages beginPage
+  append-accepts held list n empty = (_, refl)
+  append-accepts held list n inline = moved-accepts _ held list inline (some-class list)
+  append-accepts held list n (slab class off kept) =
+      by-choice (stays class (length list) (longer n kept .bytes)) _ _ (_, refl) (moved-accepts _ held list _ (some-class list))
+  append-accepts held list n (pages ps) =
+      by-choice (joins n ps) _ _ (_, refl) (then-accepts _ _ (lets 1 _ (omega arith) (block-takes end pageClass s (omega arith) r)))
+
+-- It is loaded.
+load-accepts : (fit : SlabFit) (end : ℕ) (leave : Leave) (list : List ℕ) (s : Space)
+    → Lets leave s (length (cutting list)) (1 + length (cutting list)) → Roomy end s
+    → pageAfter (s .mark) + (1 + length (cutting list)) * pageSize ≤ end → Accepts (loadPlace fit end leave list s)
 unfolding loadPlace loadInto
-load-accepts fit end [] s r h = (_, refl)
-load-accepts fit end (n ∷ []) s r h = (_, refl)
-load-accepts fit end (n ∷ m ∷ ns) s r h = go (loadsTo fit (length (n ∷ m ∷ ns)) (streamLen (n ∷ m ∷ ns))) refl
+load-accepts fit end leave [] s lets r h = (_, refl)
+load-accepts fit end leave (n ∷ []) s lets r h = (_, refl)
+load-accepts fit end leave (n ∷ m ∷ ns) s lets r h = go (loadsTo fit (length (n ∷ m ∷ ns)) (streamLen (n ∷ m ∷ ns))) refl
   where
-    go : (o : Option ℕ) → loadsTo fit (length (n ∷ m ∷ ns)) (streamLen (n ∷ m ∷ ns)) ≡ o → Accepts (loadInto end o (n ∷ m ∷ ns) s)
+    go : (o : Option ℕ) → loadsTo fit (length (n ∷ m ∷ ns)) (streamLen (n ∷ m ∷ ns)) ≡ o → Accepts (loadInto end leave o (n ∷ m ∷ ns) s)
     go (some c) q =
         let (few, class, fits) = loads-to fit (length (n ∷ m ∷ ns)) (streamLen (n ∷ m ∷ ns)) q in
-        then-accepts _ _ (block-accepts end c s (omega arith) r)
-    go none q = then-accepts _ _ (run-accepts end (length (cutting (n ∷ m ∷ ns))) s (omega arith))
+        let (t, is, near) = block-takes end c s (omega arith) r in
+        then-accepts _ _ (lets 0 _ (omega arith) (t, is, omega arith))
+    go none q =
+        let (t, is, near) = run-takes end (length (cutting (n ∷ m ∷ ns))) s (omega arith) in
+        then-accepts _ _ (lets (length (cutting (n ∷ m ∷ ns))) _ (omega arith) (t, is, omega arith))
 
--- ---- what is refused with 36 for want of room
+-- ---- what is refused for want of room
 
--- Where one answer is 36, another is accepted.
-abbrev Grows : {A B : Type 0} → Answer A → Answer B → Type 0
-Grows a a' = a ≡ refused noRoom → Accepts a'
+-- Where one answer is refused with a number, another is accepted.
+abbrev Grows : ℕ → {A B : Type 0} → Answer A → Answer B → Type 0
+Grows number a a' = a ≡ refused number → Accepts a'
 
--- A test that both have.
-if-grows : {A B : Type 0} (test : Bool) (number : ℕ) (a : Answer A) (a' : Answer B) → (number ≡ noRoom → ⊥) → Grows a a'
-    → Grows (refuseIf test number a) (refuseIf test number a')
-unfolding refuseIf
-if-grows true number a a' other g e = absurd (other cc)
-if-grows false number a a' other g e = g e
+-- Numbers that come behind the tests of a call's shape, key and list.
+abbrev Late : ℕ → Type 0
+Late m = (noRoom ≤ m) × (desksBad ≡ m → ⊥)
 
--- What is offered.
-number-grows : {A B : Type 0} (first : Bool) (prev n : ℕ) (a : Answer A) (a' : Answer B) → Grows a a'
-    → Grows (offeredNumber first prev n a) (offeredNumber first prev n a')
-unfolding offeredNumber
-number-grows first prev n a a' g =
-    if-grows _ _ _ _ (λ z. omega arith) (if-grows _ _ _ _ (λ z. omega arith) (if-grows _ _ _ _ (λ z. omega arith)
-    (if-grows _ _ _ _ (λ z. omega arith) g)))
+late : (m : ℕ) → ForRoom m → Late m
+late m (inl e) = (omega arith, λ z. omega arith)
+late m (inr e) = (omega arith, λ z. omega arith)
 
-list-grows : {A B : Type 0} (first : Bool) (prev : ℕ) (ns : List ℕ) (a : Answer A) (a' : Answer B) → Grows a a'
-    → Grows (offeredList first prev ns a) (offeredList first prev ns a')
-unfolding offeredList
-list-grows first prev [] a a' g = g
-list-grows first prev (n ∷ ns) a a' g = number-grows first prev n _ _ (list-grows false n ns a a' g)
+module _ (m : ℕ) (from : noRoom ≤ m) where
+  -- A test that both have.
+  if-grows : {A B : Type 0} (test : Bool) (number : ℕ) (a : Answer A) (a' : Answer B) → (number ≡ m → ⊥) → Grows m a a'
+      → Grows m (refuseIf test number a) (refuseIf test number a')
+  unfolding refuseIf
+  if-grows true number a a' other g e = absurd (other cc)
+  if-grows false number a a' other g e = g e
+
+  -- What is offered.
+  number-grows : {A B : Type 0} (first : Bool) (prev n : ℕ) (a : Answer A) (a' : Answer B) → Grows m a a'
+      → Grows m (offeredNumber first prev n a) (offeredNumber first prev n a')
+  unfolding offeredNumber
+  number-grows first prev n a a' g =
+      if-grows _ _ _ _ (λ z. omega arith) (if-grows _ _ _ _ (λ z. omega arith) (if-grows _ _ _ _ (λ z. omega arith)
+      (if-grows _ _ _ _ (λ z. omega arith) g)))
+
+  list-grows : {A B : Type 0} (first : Bool) (prev : ℕ) (ns : List ℕ) (a : Answer A) (a' : Answer B) → Grows m a a'
+      → Grows m (offeredList first prev ns a) (offeredList first prev ns a')
+  unfolding offeredList
+  list-grows first prev [] a a' g = g
+  list-grows first prev (n ∷ ns) a a' g = number-grows first prev n _ _ (list-grows false n ns a a' g)
 
 -- ---- a book with more room
 
@@ -145,39 +203,103 @@ empty-behind d [] n i = all-same d n i
 empty-behind d (x ∷ xs) n zero = refl
 empty-behind d (x ∷ xs) n (suc i) = empty-behind d xs n i
 
-module _ (b : Book) (bytes n : ℕ) (shape : outOfShape (b .size + bytes) (length (grown bytes n b .keys)) ≡ false) where
-  -- The keys are the same.
-  pub key-grown : (key : ℕ) → keyOf key (grown bytes n b) ≡ keyOf key b
-  key-grown key = empty-behind emptyKey (b .keys) n key
+-- A sum that goes on over so many terms of 0 is as before.
+sum-on : (k m n : ℕ) (f g : ℕ → ℕ) → m ≡ k + n → ((i : ℕ) → i < n → f i ≡ g i) → ((i : ℕ) → n ≤ i → f i ≡ 0) → sumTo m f ≡ sumTo n g
+unfolding sumTo
+sum-on zero m n f g many same zeros = let is : m ≡ n = omega arith in ap (λ (x : ℕ). sumTo x f) is ∙ sum-same n f g same
+sum-on (suc k) zero n f g many same zeros = absurd (omega arith)
+sum-on (suc k) (suc m) n f g many same zeros =
+    let e = sum-on k m n f g (omega arith) same zeros in let z = zeros m (omega arith) in omega arith
 
-  -- A key that the book has is one of the grown book, which is in shape.
-  key-grows : {A B : Type 0} (key : ℕ) (a : Answer A) (a' : Answer B) → Grows a a' → Grows (onKey b key a) (onKey (grown bytes n b) key a')
+module _ (b : Book) (bytes : ℕ) (ds : List ℕ) (shape : outOfShape (b .size + bytes) (length (grown bytes ds b .keys)) ≡ false)
+    (named : listBad (b .desks ++ ds) (length (grown bytes ds b .keys)) ≡ false) where
+  -- The keys are the same, and so are their desks.
+  pub key-grown : (key : ℕ) → keyOf key (grown bytes ds b) ≡ keyOf key b
+  key-grown key = empty-behind emptyKey (b .keys) (length ds) key
+
+  pub desk-grown : (key : ℕ) → key < length (b .desks) → deskIn (grown bytes ds b) key ≡ deskIn b key
+  desk-grown key low = List·getD-append (b .desks) ds 0 key low
+
+  -- A key that the book has is one of the grown book, which is in shape, and has a desk there.
+  key-grows : {A B : Type 0} (m : ℕ) → Late m → (key : ℕ) (a : Answer A) (a' : Answer B) → (key < length (b .desks) → Grows m a a')
+      → Grows m (onKey b key a) (onKey (grown bytes ds b) key a')
   unfolding onKey refuseIf
-  key-grows key a a' g =
-      after-shape (outOfShape (b .size) (length (b .keys))) (leb (length (b .keys)) key) refl
+  key-grows m (from, other) key a a' g =
+      after-shape (outOfShape (b .size) (length (b .keys))) (listBad (b .desks) (length (b .keys))) (leb (length (b .keys)) key) refl refl
     where
-      there : Accepts a' → suc key ≤ length (b .keys) → Accepts (onKey (grown bytes n b) key a')
+      there : Accepts a' → suc key ≤ length (b .keys) → Accepts (onKey (grown bytes ds b) key a')
       there (x, is) low =
-          let many = length-append (b .keys) (replicate n emptyKey) in
-          (x, refuse-no _ _ _ shape ∙ refuse-no _ _ _ (lt-leb (length (grown bytes n b .keys)) key (omega arith)) ∙ is)
+          let many = length-append (b .keys) (replicate (length ds) emptyKey) in (
+            x,
+            refuse-no _ _ _ shape ∙ refuse-no _ _ _ named
+                ∙ refuse-no _ _ _ (lt-leb (length (grown bytes ds b .keys)) key (omega arith)) ∙ is,
+          )
 
-      after-shape : (out beyond : Bool) → leb (length (b .keys)) key ≡ beyond → Grows (refuseIf out 1 (refuseIf beyond 2 a)) (onKey (grown bytes n b) key a')
-      after-shape true beyond q e = let z : 1 ≡ noRoom = cc in absurd (omega arith)
-      after-shape false true q e = let z : 2 ≡ noRoom = cc in absurd (omega arith)
-      after-shape false false q e = there (g e) (leb-false (length (b .keys)) key q)
+      after-shape : (out bad beyond : Bool) → listBad (b .desks) (length (b .keys)) ≡ bad → leb (length (b .keys)) key ≡ beyond
+          → Grows m (refuseIf out 1 (refuseIf bad 39 (refuseIf beyond 2 a))) (onKey (grown bytes ds b) key a')
+      after-shape true bad beyond p q e = let z : 1 ≡ m = cc in absurd (omega arith)
+      after-shape false true beyond p q e = absurd (other cc)
+      after-shape false false true p q e = let z : 2 ≡ m = cc in absurd (omega arith)
+      after-shape false false false p q e =
+          let low = leb-false (length (b .keys)) key q in
+          let many = list-good (b .desks) (length (b .keys)) p .0 in
+          there (g (omega arith) e) low
 
-  -- A change that is refused with 36 is accepted on the grown book, if it has room enough, for slabs too.
-  pub room-accepts : (c : Change) → Roomy (b .size + bytes) (b .space) → pageAfter (b .space .mark) + pagesEnough c * pageSize ≤ b .size + bytes
-      → does b c ≡ refused noRoom → Accepts (does (grown bytes n b) c)
+  -- What the grown book's desk has to pass.
+  grown-lets : (key most n : ℕ) → pageAfter (b .space .mark) + (n + lacks (b .limits) (b .held)) * pageSize ≤ b .size + bytes
+      → countOf (deskIn b key) (b .held) + most ≤ countOf (deskIn b key) (b .limits .ceiling) → key < length (b .desks)
+      → Lets (leaveOf (grown bytes ds b) key) (b .space) most n
+  grown-lets key most n room within low =
+      rw (desk-grown key low) (allowed-lets (b .limits) (b .size + bytes) (deskIn b key) (b .held) (b .space) most n room within)
+
+  -- A change that is refused for want of room is accepted on the grown book, if it has room enough, for slabs and reserves too, and the
+  -- change's desk may take it.
+  pub room-accepts : (c : Change) {number : ℕ} → Roomy (b .size + bytes) (b .space) → Affords b (b .size + bytes) c → ForRoom number
+      → does b c ≡ refused number → Accepts (does (grown bytes ds b) c)
   unfolding does loads appends drops
-  room-accepts (load fit key ns) r h =
+  room-accepts (load fit key ns) {number} r h for =
+      let (from, other) = late number for in
       rw (key-grown key)
-      (key-grows key _ _ (if-grows _ _ _ _ (λ z. omega arith) (if-grows _ _ _ _ (λ z. omega arith) (list-grows true 0 ns _ _
-      (λ e. then-accepts _ _ (load-accepts fit (b .size + bytes) ns (b .space) r h))))))
-  room-accepts (append key m) r h =
+      (key-grows number (from, other) key _ _ (λ low. if-grows number from _ _ _ _ (λ z. omega arith)
+      (if-grows number from _ _ _ _ (λ z. omega arith)
+      (list-grows number from true 0 ns _ _ (λ e. then-accepts _ _
+      (load-accepts fit (b .size + bytes) _ ns (b .space) (grown-lets key _ _ (h .room) (h .within) low) r (omega (arith, h .room))))))))
+  room-accepts (append key n) {number} r h for =
+      let (from, other) = late number for in
       rw (key-grown key)
-      (key-grows key _ _ (number-grows true _ m _ _ (λ e. then-accepts _ _ (append-accepts (b .size + bytes) _ _ m _ (b .space) r))))
-  room-accepts (drop key) r h = rw (key-grown key) (key-grows key _ _ (λ e. (_, refl)))
+      (key-grows number (from, other) key _ _ (λ low. number-grows number from true _ n _ _ (λ e. then-accepts _ _
+      (append-accepts (b .size + bytes) _ (b .space) (grown-lets key _ _ (h .room) (h .within) low) r _ _ n _))))
+  room-accepts (drop key) {number} r h for = rw (key-grown key) (key-grows number (late number for) key _ _ (λ low e. (_, refl)))
+
+  -- Good desks stay so: the new keys have no pages, and the new bytes are pages to be had.
+  pub grown-desks : GoodDesks b → GoodDesks (grown bytes ds b)
+  grown-desks g =
+      let s = in-shape _ _ shape in
+      record {
+        paged = s .paged;
+        named = named;
+        sixteen = g .sixteen;
+        exact = λ d low. g .exact d low ∙ sym (pages-same d);
+        ceilings = g .ceilings;
+        reserves = g .reserves;
+        low = λ d low. omega (arith, g .low d low);
+        covered = omega (arith, g .covered);
+        balanced = omega (arith, g .balanced, g .paged, s .paged);
+      }
+    where
+      no-pages : (t : Bool) (k : Key) → k ≡ emptyKey → cond t (pagesOf (k .place)) 0 ≡ 0
+      no-pages true k e = ap (λ (x : Key). pagesOf (x .place)) e
+      no-pages false k e = refl
+
+      pages-same : (d : ℕ) → pagesOfDesk (grown bytes ds b) d ≡ pagesOfDesk b d
+      pages-same d =
+          let many = length-append (b .keys) (replicate (length ds) emptyKey) in
+          let new = length-replicate (length ds) emptyKey in
+          sum-on (length ds) _ (length (b .keys)) (pagesFor (grown bytes ds b) d) (pagesFor b d) (omega arith)
+          (λ i low. ap₂ (λ (x : ℕ) (k : Key). cond (eqb x d) (pagesOf (k .place)) 0)
+          (desk-grown i (let as-many = list-good (b .desks) (length (b .keys)) (g .named) .0 in omega arith)) (key-grown i))
+          (λ i high. no-pages (eqb (deskIn (grown bytes ds b) i) d) (keyOf i (grown bytes ds b))
+          (key-grown i ∙ List·getD-eq-default (b .keys) emptyKey high))
 
 -- In a good book whose mark leaves a page at or below the end of slabs, blocks on stacks end there too.
 pub good-roomy : (end : ℕ) (b : Book) → GoodPlain b → pageAfter (b .space .mark) + pageSize ≤ end
@@ -189,8 +311,4 @@ good-roomy end b g ends low = record { ends = ends; low = low; tops = tops }
     tops class o os e =
         let mine = ap (atDepth class (length os)) e ∙ top-is class o os in
         let s = block-stands class o (b .space .mark) (g .space .apart .stands (stack class (length os)) _ mine) in
-        rw (le-ltb slabsEnd (o + slabBytes class) (omega (arith, s .ends))) (never (not (eqb class pageClass)))
-      where
-        never : (t : Bool) → t && false ≡ false
-        never true = refl
-        never false = refl
+        rw (le-ltb slabsEnd (o + slabBytes class) (omega (arith, s .ends))) (and-false (not (eqb class pageClass)))

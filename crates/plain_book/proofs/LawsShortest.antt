@@ -8,6 +8,7 @@ use Rattle.scripthash_cutting.specs.Cutting.{cutting, replaceLast}
 use Rattle.book_rules.specs.declared.places.SlabFit.{SlabFit}
 use Rattle.book_statements.specs.Calls.{Call}
 use Rattle.book_statements.specs.Moves.{noMoves}
+use Rattle.book_desks.specs.Desks.{Limits}
 use Rattle.plain_book.specs.Space.{Space}
 use Rattle.plain_book.specs.Key.{Page, Place, onePage, longerPage}
 use Rattle.plain_book.specs.Key.{Placed, runPages}
@@ -83,5 +84,6 @@ pub shortest-from : (b : Book) (key : ℕ) (cs : List Call) → ShortestPlace (k
 shortest-from b key cs h = kept-calls _ shortest-kept key b cs noMoves h
 
 -- After any list of calls on a fresh book all lengths are those of shortest forms.
-pub shortest-fresh : (size heads key : ℕ) (cs : List Call) → ShortestPlace (keyOf key (after (fresh size heads) cs) .place)
-shortest-fresh size heads key cs = kept-fresh _ shortest-kept size heads key cs
+pub shortest-fresh : (ds : List ℕ) (size heads : ℕ) (l : Limits) (key : ℕ) (cs : List Call)
+    → ShortestPlace (keyOf key (after (fresh ds size heads l) cs) .place)
+shortest-fresh ds size heads l key cs = kept-fresh _ shortest-kept ds size heads l key cs

@@ -25,6 +25,7 @@ use Rattle.plain_book.proofs.LawsKept.{len-snoc, longer-numbers, writte
 use Rattle.plain_book.proofs.LawsSlabs.{taken-low}
 use Rattle.book_statements.specs.Calls.{Call}
 use Rattle.book_statements.specs.Moves.{noMoves}
+use Rattle.book_desks.specs.Desks.{Limits}
 use Rattle.plain_book.specs.Book.{Book, fresh, keyOf, extended, after}
 use Rattle.plain_book.proofs.LawsHistory.{fresh-key, KeptByCalls, kept-calls}
 use Rattle.plain_book.specs.Sound.{held, FitPages, Fits, Known, SoundKey}
@@ -216,5 +217,5 @@ pub sound-from : (b : Book) (key : ℕ) (cs : List Call) → SoundKey (keyOf key
 sound-from b key cs h = kept-calls _ sound-kept key b cs noMoves h
 
 -- After any list of calls on a fresh book, each key is sound.
-pub sound : (size heads key : ℕ) (cs : List Call) → SoundKey (keyOf key (after (fresh size heads) cs))
-sound size heads key cs = sound-from (fresh size heads) key cs (rw (fresh-key size heads key) empty-sound)
+pub sound : (ds : List ℕ) (size heads : ℕ) (l : Limits) (key : ℕ) (cs : List Call) → SoundKey (keyOf key (after (fresh ds size heads l) cs))
+sound ds size heads l key cs = sound-from (fresh ds size heads l) key cs (rw (fresh-key ds size heads l key) empty-sound)

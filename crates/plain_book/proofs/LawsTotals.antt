@@ -15,6 +15,7 @@ use Rattle.book_statements.specs.Calls.{Change, load, append, drop, Made, Call,
 use Rattle.book_statements.specs.Moves.{noMoves}
 use Rattle.plain_book.specs.Space.{Space}
 use Rattle.book_limits.specs.Limits.{mostCounted, totalTold}
+use Rattle.book_desks.specs.Desks.{Limits}
 use Rattle.plain_book.specs.Key.{Place, empty, inline, slab, pages, Key, totalOf, countedAfter, keyIn, emptyKey}
 use Rattle.plain_book.specs.Book.{Book, fresh, Outcome, keyOf, withKey, inUse, does, after, NeverDropped}
 use Rattle.plain_book.specs.Sound.{Known, SoundKey}
@@ -71,9 +72,9 @@ total-most k = go (k .counted) (leb (length (k .list)) mostCounted)
     go false low = omega arith
 
 -- After any list of calls on a fresh book every key tells its exact total, or 0 past what creates can tell.
-pub total-fresh : (size heads key : ℕ) (cs : List Call)
-    → let k = keyOf key (after (fresh size heads) cs) in totalOf k ≡ totalTold (length (k .list))
-total-fresh size heads key cs = rw (kept-fresh _ counted-kept size heads key cs) refl
+pub total-fresh : (ds : List ℕ) (size heads : ℕ) (l : Limits) (key : ℕ) (cs : List Call)
+    → let k = keyOf key (after (fresh ds size heads l) cs) in totalOf k ≡ totalTold (length (k .list))
+total-fresh ds size heads l key cs = rw (kept-fresh _ counted-kept ds size heads l key cs) refl
 
 -- ---- keys that were never counted
 

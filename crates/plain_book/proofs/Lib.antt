@@ -15,7 +15,11 @@ pub mod LawsOwners
 pub mod LawsTaking
 pub mod LawsBlocks
 pub mod LawsMark
+pub mod LawsDesks
+pub mod LawsCounts
 pub mod LawsGood
+pub mod LawsServed
+pub mod ExamplesDesks
 pub mod LawsHeads
 pub mod LawsRecorded
 pub mod LawsChain

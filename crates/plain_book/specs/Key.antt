@@ -15,7 +15,7 @@ use Rattle.scripthash_cutting.specs.Cutting.{pageRoom, lastPageRoom, cutting, r
 use Rattle.book_rules.specs.declared.places.SlabFit.{SlabFit}
 use Rattle.book_limits.specs.Limits.{totalTold}
 use Rattle.book_rules.specs.Places.{stays, movesTo, loadsTo}
-use Rattle.plain_book.specs.Space.{Space, freed, takeBlock, takeRun}
+use Rattle.plain_book.specs.Space.{Space, Taken, freed, takeBlock, takeRun}
 
 -- A stream as it is kept in a slab or a page: its numbers, how many bytes it takes, and how many of the numbers have a padded form.
 pub record Kept : Type 0 where
@@ -137,14 +137,18 @@ pub record Placed : Type 0 where
 abbrev pub placed : Place → Space → ℕ → Placed
 placed place s rewritten = record { place = place; space = s; rewritten = rewritten }
 
+-- What a take has to pass: by how many pages it takes, 0 for a slab, what it gave is let through or turned back.
+abbrev pub Leave : Type 0
+Leave = ℕ → Answer Taken → Answer Taken
+
 -- A list, longer by one number, moves out of a place: into a taken slab of a class, or else into a taken page; then the old place is freed.
 -- The records held before are rewritten.
-unfoldable pub moved : ℕ → Option ℕ → ℕ → List ℕ → Place → Space → Answer Placed
-moved end (some class) held list old s =
-    andThen (takeBlock end class s)
+unfoldable pub moved : ℕ → Leave → Option ℕ → ℕ → List ℕ → Place → Space → Answer Placed
+moved end leave (some class) held list old s =
+    andThen (leave 0 (takeBlock end class s))
     (λ t. accepted (placed (slab class (t .off) (written list)) (freedPlace old (t .space)) held))
-moved end none held list old s =
-    andThen (takeBlock end pageClass s)
+moved end leave none held list old s =
+    andThen (leave 1 (takeBlock end pageClass s))
     (λ t. accepted (placed (pages (onePage (t .off) list)) (freedPlace old (t .space)) held))
 
 -- A page with one number more.
@@ -164,24 +168,24 @@ abbrev pub begunAt : ℕ → ℕ → List Page → Place
 begunAt off n ps = pages (ps ++ onePage off (n ∷ []))
 
 -- A number begins a taken page.
-unfoldable pub beginPage : ℕ → List Page → ℕ → Space → Answer Placed
-beginPage end ps n s =
-    andThen (takeBlock end pageClass s) (λ t. accepted (placed (begunAt (t .off) n ps) (t .space) 0))
+unfoldable pub beginPage : ℕ → Leave → List Page → ℕ → Space → Answer Placed
+beginPage end leave ps n s =
+    andThen (leave 1 (takeBlock end pageClass s)) (λ t. accepted (placed (begunAt (t .off) n ps) (t .space) 0))
 
 -- A number joins the last of some pages, or else begins a taken page.
-unfoldable pub appendPages : ℕ → List Page → ℕ → Space → Answer Placed
-appendPages end ps n s =
-    cond (joins n ps) (accepted (placed (joinedTo n ps) s 0)) (beginPage end ps n s)
+unfoldable pub appendPages : ℕ → Leave → List Page → ℕ → Space → Answer Placed
+appendPages end leave ps n s =
+    cond (joins n ps) (accepted (placed (joinedTo n ps) s 0)) (beginPage end leave ps n s)
 
 -- A list that held some records has one number more now: where it stands then. The lists of slabs move where they no longer fit.
-unfoldable pub appendPlace : ℕ → ℕ → List ℕ → ℕ → Place → Space → Answer Placed
-appendPlace end held list n empty s = accepted (placed inline s 0)
-appendPlace end held list n inline s = moved end (movesTo (length list) (streamLen list)) held list inline s
-appendPlace end held list n (slab class off kept) s =
+unfoldable pub appendPlace : ℕ → Leave → ℕ → List ℕ → ℕ → Place → Space → Answer Placed
+appendPlace end leave held list n empty s = accepted (placed inline s 0)
+appendPlace end leave held list n inline s = moved end leave (movesTo (length list) (streamLen list)) held list inline s
+appendPlace end leave held list n (slab class off kept) s =
     cond (stays class (length list) (longer n kept .bytes))
     (accepted (placed (slab class off (longer n kept)) s 0))
-    (moved end (movesTo (length list) (streamLen list)) held list (slab class off kept) s)
-appendPlace end held list n (pages ps) s = appendPages end ps n s
+    (moved end leave (movesTo (length list) (streamLen list)) held list (slab class off kept) s)
+appendPlace end leave held list n (pages ps) s = appendPages end leave ps n s
 
 -- ---- loading
 
@@ -192,15 +196,15 @@ runPages off (p ∷ []) = record { off = off; room = lastPageRoom; part = writte
 runPages off (p ∷ q ∷ ps) = record { off = off; room = pageRoom; part = written p } ∷ runPages (off + pageSize) (q ∷ ps)
 
 -- A list loaded into a taken slab of a class, or else into a run of pages, a part of its cutting in each.
-unfoldable pub loadInto : ℕ → Option ℕ → List ℕ → Space → Answer Placed
-loadInto end (some class) list s =
-    andThen (takeBlock end class s) (λ t. accepted (placed (slab class (t .off) (written list)) (t .space) 0))
-loadInto end none list s =
-    andThen (takeRun end (length (cutting list)) s)
+unfoldable pub loadInto : ℕ → Leave → Option ℕ → List ℕ → Space → Answer Placed
+loadInto end leave (some class) list s =
+    andThen (leave 0 (takeBlock end class s)) (λ t. accepted (placed (slab class (t .off) (written list)) (t .space) 0))
+loadInto end leave none list s =
+    andThen (leave (length (cutting list)) (takeRun end (length (cutting list)) s))
     (λ t. accepted (placed (pages (runPages (t .off) (cutting list))) (t .space) 0))
 
 -- Where a loaded list stands: none nowhere, one in the head word, more by the load's rule.
-unfoldable pub loadPlace : SlabFit → ℕ → List ℕ → Space → Answer Placed
-loadPlace fit end [] s = accepted (placed empty s 0)
-loadPlace fit end (n ∷ []) s = accepted (placed inline s 0)
-loadPlace fit end (n ∷ m ∷ ns) s = loadInto end (loadsTo fit (length (n ∷ m ∷ ns)) (streamLen (n ∷ m ∷ ns))) (n ∷ m ∷ ns) s
+unfoldable pub loadPlace : SlabFit → ℕ → Leave → List ℕ → Space → Answer Placed
+loadPlace fit end leave [] s = accepted (placed empty s 0)
+loadPlace fit end leave (n ∷ []) s = accepted (placed inline s 0)
+loadPlace fit end leave (n ∷ m ∷ ns) s = loadInto end leave (loadsTo fit (length (n ∷ m ∷ ns)) (streamLen (n ∷ m ∷ ns))) (n ∷ m ∷ ns) s

@@ -2,6 +2,7 @@ pub mod Space
 pub mod Key
 pub mod Did
 pub mod Book
+pub mod Needs
 pub mod Sound
 pub mod Owners
 pub mod Good

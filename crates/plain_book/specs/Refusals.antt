@@ -5,15 +5,19 @@ use mathlib.Core.List.{List, [], _∷_}
 use mathlib.Core.Path.{_≡_}
 use lib.Dec.{eqb}
 use Rattle.error.specs.Refusal.{Answer, accepted, refused, shapeBad, keyBeyond, keyInUse, tooManyOffered, offeredFirstZero, offeredBit63}
-use Rattle.error.specs.Refusal.{offeredTooLarge, offeredNotRising, listTooShort, freeHeadBad, noRoom}
+use Rattle.error.specs.Refusal.{offeredTooLarge, offeredNotRising, listTooShort, freeHeadBad, noRoom, desksBad, pastCeiling, intoReserves}
 use Rattle.book_statements.specs.Calls.{Call, Answers, done, asked, changed}
 
--- The plain book's numbers (FORMAT, The plain book): 1, 2, 3, 10, 12 to 14, 32, 34 and 36. They are all where no slab ends past the end
--- of slabs.
+-- The numbers of a plain book in shape, whose list names a desk for each key: 2, 3, 10, 12 to 14, 32, 34, 36, 40 and 41. They are all where
+-- no slab ends past the end of slabs.
+unfoldable pub keyRefusals : List ℕ
+keyRefusals =
+    keyBeyond ∷ keyInUse ∷ tooManyOffered ∷ offeredFirstZero ∷ offeredBit63 ∷ offeredTooLarge ∷ offeredNotRising ∷ listTooShort ∷ noRoom
+    ∷ pastCeiling ∷ intoReserves ∷ []
+
+-- These, and 1 and 39, of a plain book out of shape or with another list.
 unfoldable pub lowRefusals : List ℕ
-lowRefusals =
-    shapeBad ∷ keyBeyond ∷ keyInUse ∷ tooManyOffered ∷ offeredFirstZero ∷ offeredBit63 ∷ offeredTooLarge ∷ offeredNotRising ∷ listTooShort
-    ∷ noRoom ∷ []
+lowRefusals = shapeBad ∷ desksBad ∷ keyRefusals
 
 -- These, and 35, of a freed slab that ends past the end of slabs (change request N8).
 abbrev pub plainRefusals : List ℕ
