@@ -1,4 +1,4 @@
-// A list written anew: to a taken slab, or to a taken page.
+// A list written anew, for a desk: to a taken slab, or to a taken page.
 ghost use mathlib.Core.Path.{_≡_};
 ghost use mathlib.Core.Option.{none, some};
 ghost use Prim.Native.Nat.{_^_, _≤_};
@@ -9,7 +9,6 @@ ghost use Rattle.book_space.specs.Space.{space};
 ghost use Rattle.book.specs.Steps.{placesInto, placeAnswer, ToPlaceInSlab, ToPlaceInPage, ToMove, Places};
 use book_space::TakeBlock;
 use error::Refusal;
-use scripthash_layout::SH_PAGE_SLAB_CLASS;
 use scripthash_layout::ShHeadValue;
 use scripthash_slabs::SlabClass;
 use scripthash_stream::StreamBytes;
@@ -20,21 +19,24 @@ pub enum PlaceList {
     Refused(Refusal),
 }
 
-// Writes a list to a taken slab of a class that has bytes for its payload.
+// Writes a list to a slab of a class, taken for a desk, that has bytes for its payload.
 pub fn place_in_slab(
     body: &mut [u8],
     mark: &mut u64,
     free: &mut [u64; 9],
+    counts: &[u64; 49],
+    desk: u64,
     fks: &[u64],
     class: u8,
 ) -> PlaceList
-    requires { ⌜ ToPlaceInSlab (space (now body) (now mark) (now free)) (now fks) class ⌝ }
+    requires { ⌜ ToPlaceInSlab (space (now body) (now mark) (now free)) desk (now fks) class ⌝ }
     ensures { λ r. ⌜ Places
-        (placesInto (space (now (body .entry)) (now (mark .entry)) (now (free .entry))) (now (fks .entry)) (some class))
-        (space (now (body .entry)) (now (mark .entry)) (now (free .entry)))
-        (space (now (body .exit)) (now (mark .exit)) (now (free .exit))) (placeAnswer r) ⌝ }
+        (placesInto desk (space (now (body .entry)) (now (mark .entry)) (now (free .entry))) (now (counts .entry)) (now (fks .entry))
+        (some class))
+        (space (now (body .entry)) (now (mark .entry)) (now (free .entry))) (now (counts .entry))
+        (space (now (body .exit)) (now (mark .exit)) (now (free .exit))) (now (counts .entry)) (placeAnswer r) ⌝ }
 {
-    let answer = book_space::take_block(body, mark, free, class);
+    let answer = book_space::slab_for(body, mark, free, counts, desk, class);
     let TakeBlock::At(off) = answer else {
         return PlaceList::Refused(answer.refusal());
     };
@@ -44,14 +46,22 @@ pub fn place_in_slab(
     PlaceList::At(ShHeadValue::Slab { class, used, off })
 }
 
-// Writes a list to a taken page, the only one of its key.
-fn place_in_page(body: &mut [u8], mark: &mut u64, free: &mut [u64; 9], fks: &[u64]) -> PlaceList
-    requires { ⌜ ToPlaceInPage (space (now body) (now mark) (now free)) (now fks) ⌝ }
-    ensures { λ r. ⌜ Places (placesInto (space (now (body .entry)) (now (mark .entry)) (now (free .entry))) (now (fks .entry)) none)
-        (space (now (body .entry)) (now (mark .entry)) (now (free .entry)))
-        (space (now (body .exit)) (now (mark .exit)) (now (free .exit))) (placeAnswer r) ⌝ }
+// Writes a list to a page, taken for a desk, the only one of its key.
+fn place_in_page(
+    body: &mut [u8],
+    mark: &mut u64,
+    free: &mut [u64; 9],
+    counts: &mut [u64; 49],
+    desk: u64,
+    fks: &[u64],
+) -> PlaceList
+    requires { ⌜ ToPlaceInPage (space (now body) (now mark) (now free)) desk (now fks) ⌝ }
+    ensures { λ r. ⌜ Places
+        (placesInto desk (space (now (body .entry)) (now (mark .entry)) (now (free .entry))) (now (counts .entry)) (now (fks .entry)) none)
+        (space (now (body .entry)) (now (mark .entry)) (now (free .entry))) (now (counts .entry))
+        (space (now (body .exit)) (now (mark .exit)) (now (free .exit))) (now (counts .exit)) (placeAnswer r) ⌝ }
 {
-    let answer = book_space::take_block(body, mark, free, SH_PAGE_SLAB_CLASS);
+    let answer = book_space::page_for(body, mark, free, counts, desk);
     let TakeBlock::At(off) = answer else {
         return PlaceList::Refused(answer.refusal());
     };
@@ -60,19 +70,27 @@ fn place_in_page(body: &mut [u8], mark: &mut u64, free: &mut [u64; 9], fks: &[u6
     PlaceList::At(ShHeadValue::Extent { last_page: off })
 }
 
-// Writes a list of 2 to 257 numbers to where lists move: a taken slab of the class for it, or else a taken page.
-pub fn move_list(body: &mut [u8], mark: &mut u64, free: &mut [u64; 9], fks: &[u64]) -> PlaceList
-    requires { ⌜ ToMove (space (now body) (now mark) (now free)) (now fks) ⌝ }
-    ensures { λ r. ⌜ Places (placesInto (space (now (body .entry)) (now (mark .entry)) (now (free .entry))) (now (fks .entry))
+// Writes a list of 2 to 257 numbers to where lists move: a slab of the class for it, or else a page, taken for a desk.
+pub fn move_list(
+    body: &mut [u8],
+    mark: &mut u64,
+    free: &mut [u64; 9],
+    counts: &mut [u64; 49],
+    desk: u64,
+    fks: &[u64],
+) -> PlaceList
+    requires { ⌜ ToMove (space (now body) (now mark) (now free)) desk (now fks) ⌝ }
+    ensures { λ r. ⌜ Places
+        (placesInto desk (space (now (body .entry)) (now (mark .entry)) (now (free .entry))) (now (counts .entry)) (now (fks .entry))
         (movesTo (length (now (fks .entry))) (streamLen (now (fks .entry)))))
-        (space (now (body .entry)) (now (mark .entry)) (now (free .entry)))
-        (space (now (body .exit)) (now (mark .exit)) (now (free .exit))) (placeAnswer r) ⌝ }
+        (space (now (body .entry)) (now (mark .entry)) (now (free .entry))) (now (counts .entry))
+        (space (now (body .exit)) (now (mark .exit)) (now (free .exit))) (now (counts .exit)) (placeAnswer r) ⌝ }
 {
     let bytes = compact_len(fks);
     let class = book_rules::moves_to(fks.len(), bytes);
     match class {
-        SlabClass::Class(class) => place_in_slab(body, mark, free, fks, class),
-        SlabClass::Nothing => place_in_page(body, mark, free, fks),
+        SlabClass::Class(class) => place_in_slab(body, mark, free, counts, desk, fks, class),
+        SlabClass::Nothing => place_in_page(body, mark, free, counts, desk, fks),
     }
 }
 

@@ -5,10 +5,10 @@ use mathlib.Core.List.{List, [], _∷_, _++_}
 use mathlib.Core.Option.{Option, none, some}
 use mathlib.Core.Path.{_≡_, refl, sym, ap, _∙_}
 use native.Mathlib.Omega.{arith}
-use borrow.Author.Tests.{le-leb, lt-leb, ltb-true, leb-false, eqb-false}
+use borrow.Author.Tests.{le-leb, lt-leb, leb-false, eqb-false}
 use lib.Dec.{leb, eqb}
 use lib.ListN.{length, set, take as firsts, length-append}
-use Rattle.error.specs.Refusal.{Answer, accepted, refused, refuseIf, andThen, answered, refusalOf, shapeBad, keyBeyond, offeredNotRising}
+use Rattle.error.specs.Refusal.{Answer, accepted, refused, refuseIf, andThen, answered, refusalOf, shapeBad, keyBeyond, desksBad, offeredNotRising}
 use Rattle.error.specs.Refusal.{keyUnsound}
 use Rattle.error.specs.Refusal.{slabUsedTooSmall, modeTwo, extentPayloadZero}
 use Rattle.error.proofs.LawsAnswer.{accepted-inj, passed, went-on, refuse-yes, refuse-no, then-yes, then-no, was-accepted, was-refused}
@@ -30,9 +30,11 @@ use Rattle.book_rules.specs.Offered.{offeredNumber}
 use Rattle.book_rules.specs.Places.{stays, movesTo}
 use Rattle.book_rules.proofs.LawsOffered.{rising-on, refused-on}
 use Rattle.book_rules.specs.Outcomes.{Appended}
-use Rattle.book_space.specs.Space.{Space, space, takeBlock, release, shapeBroken}
+use Rattle.book_desks.specs.Desks.{desks}
+use Rattle.book_space.specs.Space.{Space, space, release, shapeBroken}
+use Rattle.book_space.specs.Desks.{slabFor, pageFor}
 use Rattle.book_space.proofs.LawsTake.{release-none}
-use Rattle.book_keys.specs.Keys.{soundly, pageAt, slabScan, linkScan, lastAt, Last, Tail, tailAt, ground}
+use Rattle.book_keys.specs.Keys.{soundly, pageAt, slabScan, linkScan, lastAt, Tail, tailAt, ground}
 use Rattle.book_keys.specs.Steps.{TailEndOf, tailEndOf}
 use Rattle.book_keys.proofs.LawsSound.{soundly-yes, soundly-no, was-sound, was-unsound, was-sure}
 use Rattle.book_keys.proofs.LawsSlab.{slab-sound}
@@ -40,11 +42,11 @@ use Rattle.book_keys.proofs.LawsPages.{page-read}
 use Rattle.book_blocks.specs.Blocks.{slabWith, lastPageOf, totalWith, pageWith, pageBefore}
 use Rattle.book_blocks.specs.Steps.{PageNumbers}
 use Rattle.book_blocks.proofs.LawsReadsMore.{extent-start, spot-fits, spot-none}
-use Rattle.book.specs.Book.{Book, Outcome, wordOf, onKey, seen}
+use Rattle.book.specs.Book.{Book, Outcome, wordOf, seen}
 use Rattle.book_append.specs.Appends.{appending, movesInto, moves, appendSlab, growChain, appendPage, appendAt, appends}
 use Rattle.book.specs.Steps.{Placed, placesInto, Does}
 use Rattle.book_append.specs.Steps.{ToAppend, SlabMoves, ChainGrows}
-use Rattle.book.proofs.LawsKey.{does-no}
+use Rattle.book.proofs.LawsKey.{does-no, desk-broken, desk-none, desk-beyond, desk-there}
 use Rattle.book.proofs.LawsPlace.{stream-at-most}
 
 -- ---- what an append does
@@ -176,30 +178,32 @@ then-then (accepted x) f g = refl
 then-then (refused number) f g = refl
 
 -- A list with one number more moves as it is placed: then the old blocks are pushed.
-moves-as-placed : (b : Book) (key : ℕ) (ns : List ℕ) (n : ℕ) (old : List Block) (o : Option ℕ)
-    → movesInto b key ns n old o
-    ≡ andThen (placesInto (b .space) (ns ++ (n ∷ [])) o) (λ p. accepted (appending key (p .place) (length ns) (release old (p .space)) b))
+moves-as-placed : (desk : ℕ) (b : Book) (key : ℕ) (ns : List ℕ) (n : ℕ) (old : List Block) (o : Option ℕ)
+    → movesInto desk b key ns n old o
+    ≡ andThen (placesInto desk (b .space) (b .counts) (ns ++ (n ∷ [])) o)
+    (λ p. accepted (appending key (p .place) (length ns) (release old (p .space)) (p .counts) b))
 unfolding movesInto placesInto
-moves-as-placed b key ns n old (some class) = then-then (takeBlock class (b .space)) _ _
-moves-as-placed b key ns n old none = then-then (takeBlock pageClass (b .space)) _ _
+moves-as-placed desk b key ns n old (some class) = then-then (slabFor desk class (b .space) (b .counts)) _ _
+moves-as-placed desk b key ns n old none = then-then (pageFor desk (b .space) (b .counts)) _ _
 
 -- Where a list is placed by its length and its stream's.
-abbrev pub placesFor : Space → List ℕ → Answer Placed
-placesFor s list = placesInto s list (movesTo (length list) (streamLen list))
+abbrev pub placesFor : ℕ → Space → List ℕ → List ℕ → Answer Placed
+placesFor desk s counts list = placesInto desk s counts list (movesTo (length list) (streamLen list))
 
 -- A list and one number more, as it is placed.
-module _ (b : Book) (key : ℕ) (ns : List ℕ) (n : ℕ) (old : List Block) (list : List ℕ) (is : list ≡ ns ++ (n ∷ [])) where
+module _ (desk : ℕ) (b : Book) (key : ℕ) (ns : List ℕ) (n : ℕ) (old : List Block) (list : List ℕ) (is : list ≡ ns ++ (n ∷ [])) where
   -- It moves to where it was placed, and the old blocks are pushed.
-  moves-yes : {p : Placed} → placesFor (b .space) list ≡ accepted p
-      → moves b key ns n old ≡ accepted (appending key (p .place) (length ns) (release old (p .space)) b)
+  moves-yes : {p : Placed} → placesFor desk (b .space) (b .counts) list ≡ accepted p
+      → moves desk b key ns n old ≡ accepted (appending key (p .place) (length ns) (release old (p .space)) (p .counts) b)
   unfolding moves
-  moves-yes e = moves-as-placed b key ns n old _ ∙ then-yes (placesFor (b .space) (ns ++ (n ∷ []))) _
-      (ap (placesFor (b .space)) (sym is) ∙ e)
+  moves-yes e = moves-as-placed desk b key ns n old _ ∙ then-yes (placesFor desk (b .space) (b .counts) (ns ++ (n ∷ []))) _
+      (ap (placesFor desk (b .space) (b .counts)) (sym is) ∙ e)
 
   -- A refusal to place it is the move's.
-  moves-no : {number : ℕ} → placesFor (b .space) list ≡ refused number → moves b key ns n old ≡ refused number
+  moves-no : {number : ℕ} → placesFor desk (b .space) (b .counts) list ≡ refused number → moves desk b key ns n old ≡ refused number
   unfolding moves
-  moves-no e = moves-as-placed b key ns n old _ ∙ then-no (placesFor (b .space) (ns ++ (n ∷ []))) _ (ap (placesFor (b .space)) (sym is) ∙ e)
+  moves-no e = moves-as-placed desk b key ns n old _ ∙ then-no (placesFor desk (b .space) (b .counts) (ns ++ (n ∷ []))) _
+      (ap (placesFor desk (b .space) (b .counts)) (sym is) ∙ e)
 
 -- Numbers read into a lent list, and one more stored behind them, are the list up to there.
 pub list-behind : (out read ns : List ℕ) (n used : ℕ) → length ns ≡ used → used < length out → read ≡ overwrite out 0 ns
@@ -221,74 +225,76 @@ rises-behind ns n rises above low = rising-append (2 ^ 62) 0 ns (n ∷ []) rises
 
 -- ---- where a key stands
 
-module _ (b : Book) (key n : ℕ) where
+module _ (desk : ℕ) (b : Book) (key n : ℕ) where
   -- An empty key gets the number inline.
-  pub at-empty : appendAt b key n Empty ≡ accepted (appending key (Inline n 1) 0 (b .space) b)
+  pub at-empty : appendAt desk b key n Empty ≡ accepted (appending key (Inline n 1) 0 (b .space) (b .counts) b)
   unfolding appendAt
   at-empty = refl
 
   module _ (entry used : ℕ) where
     -- A number that isn't above an inline one is refused.
-    pub inline-low : n ≤ entry → appendAt b key n (Inline entry used) ≡ refused offeredNotRising
+    pub inline-low : n ≤ entry → appendAt desk b key n (Inline entry used) ≡ refused offeredNotRising
     unfolding appendAt
     inline-low h = refuse-yes (leb n entry) _ _ (le-leb n entry h)
 
     -- One above it moves with it.
-    inline-moves : entry < n → appendAt b key n (Inline entry used) ≡ moves b key (entry ∷ []) n []
+    inline-moves : entry < n → appendAt desk b key n (Inline entry used) ≡ moves desk b key (entry ∷ []) n []
     unfolding appendAt
     inline-moves h = refuse-no (leb n entry) _ _ (lt-leb n entry h)
 
     -- It moves to where both are placed.
-    pub inline-yes : entry < n → {place : ShHeadValue} {after : Space}
-        → placesFor (b .space) (entry ∷ n ∷ []) ≡ accepted (record { place = place; space = after })
-        → appendAt b key n (Inline entry used) ≡ accepted (appending key place 1 after b)
-    inline-yes h {place} {after} e =
-        inline-moves h ∙ moves-yes b key (entry ∷ []) n [] (entry ∷ n ∷ []) refl e
-        ∙ ap (λ (s : Space). accepted (appending key place 1 s b)) (release-none after)
+    pub inline-yes : entry < n → {place : ShHeadValue} {after : Space} {left : List ℕ}
+        → placesFor desk (b .space) (b .counts) (entry ∷ n ∷ []) ≡ accepted (record { place = place; space = after; counts = left })
+        → appendAt desk b key n (Inline entry used) ≡ accepted (appending key place 1 after left b)
+    inline-yes h {place} {after} {left} e =
+        inline-moves h ∙ moves-yes desk b key (entry ∷ []) n [] (entry ∷ n ∷ []) refl e
+        ∙ ap (λ (s : Space). accepted (appending key place 1 s left b)) (release-none after)
 
     -- It is refused where both can't be placed.
-    pub inline-no : entry < n → {number : ℕ} → placesFor (b .space) (entry ∷ n ∷ []) ≡ refused number
-        → appendAt b key n (Inline entry used) ≡ refused number
-    inline-no h e = inline-moves h ∙ moves-no b key (entry ∷ []) n [] (entry ∷ n ∷ []) refl e
+    pub inline-no : entry < n → {number : ℕ} → placesFor desk (b .space) (b .counts) (entry ∷ n ∷ []) ≡ refused number
+        → appendAt desk b key n (Inline entry used) ≡ refused number
+    inline-no h e = inline-moves h ∙ moves-no desk b key (entry ∷ []) n [] (entry ∷ n ∷ []) refl e
 
   module _ (class used off : ℕ) where
     -- A slab that isn't sound.
     pub slab-unsound : {number : ℕ} → slabScan (seen (b .space)) class used off ≡ refused number
-        → appendAt b key n (Slab class used off) ≡ refused keyUnsound
+        → appendAt desk b key n (Slab class used off) ≡ refused keyUnsound
     unfolding appendAt
     slab-unsound e = then-no _ _ (soundly-no _ e)
 
     -- A number above the last of a sound slab goes on.
     slab-above : (c : Scan) → slabScan (seen (b .space)) class used off ≡ accepted c → lastOf c < n
-        → appendAt b key n (Slab class used off) ≡ appendSlab b key n class off c
+        → appendAt desk b key n (Slab class used off) ≡ appendSlab desk b key n class off c
     unfolding appendAt
     slab-above c sound h = then-yes _ _ (soundly-yes _ sound) ∙ refuse-no (leb n (lastOf c)) _ _ (lt-leb n (lastOf c) h)
 
     -- A number that moves with the slab's list, as it is placed.
-    module _ (m : SlabMoves b key n class used off) (list : List ℕ) (is : list ≡ m .scan .numbers ++ (n ∷ [])) where
+    module _ (m : SlabMoves desk b key n class used off) (list : List ℕ) (is : list ≡ m .scan .numbers ++ (n ∷ [])) where
       -- It moves.
-      slab-moves : appendAt b key n (Slab class used off) ≡ moves b key (m .scan .numbers) n (record { class = class; off = off } ∷ [])
+      slab-moves : appendAt desk b key n (Slab class used off)
+          ≡ moves desk b key (m .scan .numbers) n (record { class = class; off = off } ∷ [])
       unfolding appendSlab
       slab-moves =
           let counted = slab-sound (seen (b .space)) class used off (m .scan) (m .sound) .counted in
           slab-above (m .scan) (m .sound) (m .above) ∙ rw (counted, m .leaves)
 
       -- It moves to where the list is placed, and the slab is given back.
-      pub slab-moved : {place : ShHeadValue} {after : Space} (freed : Space)
-          → placesFor (b .space) list ≡ accepted (record { place = place; space = after })
-          → freed ≡ release (record { class = class; off = off } ∷ []) after → appendAt b key n (Slab class used off)
-          ≡ accepted (appending key place used freed b)
+      pub slab-moved : {place : ShHeadValue} {after : Space} {left : List ℕ} (freed : Space)
+          → placesFor desk (b .space) (b .counts) list ≡ accepted (record { place = place; space = after; counts = left })
+          → freed ≡ release (record { class = class; off = off } ∷ []) after → appendAt desk b key n (Slab class used off)
+          ≡ accepted (appending key place used freed left b)
       slab-moved freed e given =
           let counted = slab-sound (seen (b .space)) class used off (m .scan) (m .sound) .counted in
-          slab-moves ∙ moves-yes b key (m .scan .numbers) n (record { class = class; off = off } ∷ []) list is e ∙ rw (counted, given)
+          slab-moves ∙ moves-yes desk b key (m .scan .numbers) n (record { class = class; off = off } ∷ []) list is e ∙ rw (counted, given)
 
       -- It is refused where the list can't be placed.
-      pub slab-unmoved : {number : ℕ} → placesFor (b .space) list ≡ refused number → appendAt b key n (Slab class used off) ≡ refused number
-      slab-unmoved e = slab-moves ∙ moves-no b key (m .scan .numbers) n (record { class = class; off = off } ∷ []) list is e
+      pub slab-unmoved : {number : ℕ} → placesFor desk (b .space) (b .counts) list ≡ refused number
+          → appendAt desk b key n (Slab class used off) ≡ refused number
+      slab-unmoved e = slab-moves ∙ moves-no desk b key (m .scan .numbers) n (record { class = class; off = off } ∷ []) list is e
 
     module _ {taken last : ℕ} (t : SlabTold (b .space) class used off taken last) where
       -- A number that isn't above the slab's last is refused.
-      pub slab-low : n ≤ last → appendAt b key n (Slab class used off) ≡ refused offeredNotRising
+      pub slab-low : n ≤ last → appendAt desk b key n (Slab class used off) ≡ refused offeredNotRising
       unfolding appendAt
       slab-low h =
           let low : n ≤ lastOf (t .scan) = omega (arith, t .last-is) in
@@ -299,16 +305,16 @@ module _ (b : Book) (key n : ℕ) where
         pub slab-stays : stays class (used + 1) (taken + ulebLen (n - last)) ≡ true → (size : ℕ) → size ≡ slabBytes class
             → (written : List ℕ) → written ≡ overwrite (b .space .body) off
             (slabWith (part (b .space .body) off size) used taken (n - last))
-            → appendAt b key n (Slab class used off) ≡ accepted
-            (appending key (Slab class (used + 1) off) 0 (space written (b .space .mark) (b .space .free)) b)
+            → appendAt desk b key n (Slab class used off) ≡ accepted
+            (appending key (Slab class (used + 1) off) 0 (space written (b .space .mark) (b .space .free)) (b .counts) b)
         unfolding appendSlab
         slab-stays e size is written w =
             let counted = slab-sound (seen (b .space)) class used off (t .scan) (t .sound) .counted in
             slab-above (t .scan) (t .sound) (omega (arith, t .last-is)) ∙ rw (counted, t .last-is, t .taken-is, e, w, is)
 
         -- One that doesn't stay moves.
-        pub slab-leaves : ToAppend b key n → stays class (used + 1) (taken + ulebLen (n - last)) ≡ false
-            → SlabMoves b key n class used off
+        pub slab-leaves : ToAppend desk b key n → stays class (used + 1) (taken + ulebLen (n - last)) ≡ false
+            → SlabMoves desk b key n class used off
         slab-leaves p e = record {
           to-append = p;
           scan = t .scan;
@@ -320,19 +326,20 @@ module _ (b : Book) (key n : ℕ) where
 
   module _ (last : ℕ) where
     -- A last page that isn't sound.
-    pub page-unsound : {number : ℕ} → tailAt (seen (b .space)) last ≡ refused number → appendAt b key n (Extent last) ≡ refused keyUnsound
+    pub page-unsound : {number : ℕ} → tailAt (seen (b .space)) last ≡ refused number
+        → appendAt desk b key n (Extent last) ≡ refused keyUnsound
     unfolding appendAt
     page-unsound e = then-no _ _ (soundly-no _ e)
 
     -- A number above the last of a sound last page goes on.
     page-above : (t : Tail) → tailAt (seen (b .space)) last ≡ accepted t → lastOf (t .scan) < n
-        → appendAt b key n (Extent last) ≡ appendPage b key n last t (spotBehind (pageAt (seen (b .space)) last) n (t .scan))
+        → appendAt desk b key n (Extent last) ≡ appendPage desk b key n last t (spotBehind (pageAt (seen (b .space)) last) n (t .scan))
     unfolding appendAt
     page-above t sound h = then-yes _ _ (soundly-yes _ sound) ∙ refuse-no (leb n (lastOf (t .scan))) _ _ (lt-leb n (lastOf (t .scan)) h)
 
     module _ {taken fk first creates : ℕ} (t : TailTold (b .space) last taken fk first creates) where
       -- A number that isn't above the page's last is refused.
-      pub page-low : n ≤ fk → appendAt b key n (Extent last) ≡ refused offeredNotRising
+      pub page-low : n ≤ fk → appendAt desk b key n (Extent last) ≡ refused offeredNotRising
       unfolding appendAt
       page-low h =
           let low : n ≤ lastOf (t .tail .scan) = omega (arith, t .fk-is) in
@@ -348,14 +355,15 @@ module _ (b : Book) (key n : ℕ) where
             → written ≡ overwrite (b .space .body) last
             (pageWith (part (b .space .body) last pageSize)
             (record { at = streamOff (part (b .space .body) last pageSize) + taken; difference = n - fk }) creates)
-            → appendAt b key n (Extent last) ≡ accepted (appending key (Extent last) 0 (space written (b .space .mark) (b .space .free)) b)
+            → appendAt desk b key n (Extent last) ≡ accepted
+            (appending key (Extent last) 0 (space written (b .space .mark) (b .space .free)) (b .counts) b)
         unfolding appendPage
         page-stays fits written w =
             let spot = spot-fits (pageAt (seen (b .space)) last) n (t .tail .scan) (rw (t .taken-is, t .fk-is) (omega (arith, starts))) in
             page-above (t .tail) (t .sound) (omega (arith, t .fk-is)) ∙ rw (spot, t .taken-is, t .fk-is, t .creates-is, w)
 
         -- One that it has no room for goes to a page more.
-        pub page-full : ToAppend b key n → pageSize < 24 + taken + ulebLen (n - fk) → ChainGrows b key n last first creates
+        pub page-full : ToAppend desk b key n → pageSize < 24 + taken + ulebLen (n - fk) → ChainGrows desk b key n last first creates
         page-full p over = record {
           to-append = p;
           tail = t .tail;
@@ -366,25 +374,26 @@ module _ (b : Book) (key n : ℕ) where
           creates-is = t .creates-is;
         }
 
-  module _ (last first creates : ℕ) (g : ChainGrows b key n last first creates) where
+  module _ (last first creates : ℕ) (g : ChainGrows desk b key n last first creates) where
     -- A chain grows.
-    growing : appendAt b key n (Extent last) ≡ growChain b key n last (g .tail)
+    growing : appendAt desk b key n (Extent last) ≡ growChain desk b key n last (g .tail)
     unfolding appendPage
     growing = page-above last (g .tail) (g .sound) (g .above) ∙ rw (g .full)
 
     -- It does so, and no page is left.
-    pub chain-no : {number : ℕ} → takeBlock pageClass (b .space) ≡ refused number → appendAt b key n (Extent last) ≡ refused number
+    pub chain-no : {number : ℕ} → pageFor desk (b .space) (b .counts) ≡ refused number
+        → appendAt desk b key n (Extent last) ≡ refused number
     unfolding growChain
-    chain-no e = growing ∙ then-no (takeBlock pageClass (b .space)) _ e
+    chain-no e = growing ∙ then-no (pageFor desk (b .space) (b .counts)) _ e
 
     -- It does so by a taken page: the old last page is linked to it, and it is written.
-    pub chain-yes : {off : ℕ} {after : Space} (linked written : List ℕ)
-        → takeBlock pageClass (b .space) ≡ accepted (record { off = off; space = after })
+    pub chain-yes : {off : ℕ} {after : Space} {left : List ℕ} (linked written : List ℕ)
+        → pageFor desk (b .space) (b .counts) ≡ accepted (record { off = off; space = after; counts = left })
         → linked ≡ overwrite (after .body) last (pageBefore (part (after .body) last pageSize) off)
         → written ≡ overwrite linked off (lastPageOf first off 1 (totalWith creates) (n ∷ []))
-        → appendAt b key n (Extent last) ≡ accepted (appending key (Extent off) 0 (space written (after .mark) (after .free)) b)
+        → appendAt desk b key n (Extent last) ≡ accepted (appending key (Extent off) 0 (space written (after .mark) (after .free)) left b)
     unfolding growChain
-    chain-yes linked written e links writes = growing ∙ then-yes (takeBlock pageClass (b .space)) _ e
+    chain-yes linked written e links writes = growing ∙ then-yes (pageFor desk (b .space) (b .counts)) _ e
         ∙ rw (writes, links, g .first-is, g .creates-is)
 
 -- ---- a number by itself
@@ -438,37 +447,46 @@ inline-above w entry used e = by-mode (eqb (modeOf w) 0) _ (by-kind (eqb (modeOf
 
 -- ---- an append
 
-module _ (b : Book) (key n : ℕ) where
+module _ (desk : ℕ) (b : Book) (key n : ℕ) where
   -- A book out of shape.
-  pub append-shape : shapeBroken (b .space) (length (b .heads)) ≡ true → appends b key n ≡ refused shapeBad
-  unfolding appends onKey
-  append-shape e = refuse-yes _ _ _ e
+  pub append-shape : shapeBroken (b .space) (length (b .heads)) ≡ true → appends desk b key n ≡ refused shapeBad
+  unfolding appends
+  append-shape e = desk-broken desk b key _ e
 
   module _ (shape : shapeBroken (b .space) (length (b .heads)) ≡ false) where
-    -- A key beyond the heads.
-    pub append-beyond : length (b .heads) ≤ key → appends b key n ≡ refused keyBeyond
-    unfolding appends onKey
-    append-beyond h = refuse-no _ _ _ shape ∙ refuse-yes _ _ _ (le-leb (length (b .heads)) key h)
+    -- No such desk.
+    pub append-none : desks ≤ desk → appends desk b key n ≡ refused desksBad
+    unfolding appends
+    append-none d = desk-none desk b key _ shape d
 
-    module _ (within : key < length (b .heads)) where
-      -- A key within them: the number is judged by itself.
-      append-within : appends b key n ≡ offeredNumber true 0 n (andThen (soundly (unpackHead (wordOf key b))) (appendAt b key n))
-      unfolding appends onKey
-      append-within = refuse-no _ _ _ shape ∙ refuse-no _ _ _ (lt-leb (length (b .heads)) key within)
+    module _ (known : desk < desks) where
+      -- A key beyond the heads.
+      pub append-beyond : length (b .heads) ≤ key → appends desk b key n ≡ refused keyBeyond
+      unfolding appends
+      append-beyond h = desk-beyond desk b key _ shape known h
 
-      -- A number that is refused by itself.
-      pub append-number : (x : ℕ) {number : ℕ} → offeredNumber true 0 n (accepted x) ≡ refused number → appends b key n ≡ refused number
-      append-number x e = append-within ∙ refused-on true 0 n x _ e
+      module _ (within : key < length (b .heads)) where
+        -- A key within them: the number is judged by itself.
+        append-within : appends desk b key n
+            ≡ offeredNumber true 0 n (andThen (soundly (unpackHead (wordOf key b))) (appendAt desk b key n))
+        unfolding appends
+        append-within = desk-there desk b key _ shape known within
 
-      module _ (above : 0 < n) (low : n < 2 ^ 62) where
-        -- A number that isn't refused: the head word decides.
-        append-on : appends b key n ≡ andThen (soundly (unpackHead (wordOf key b))) (appendAt b key n)
-        append-on = append-within ∙ rising-on true 0 n _ above low
+        -- A number that is refused by itself.
+        pub append-number : (x : ℕ) {number : ℕ} → offeredNumber true 0 n (accepted x) ≡ refused number
+            → appends desk b key n ≡ refused number
+        append-number x e = append-within ∙ refused-on true 0 n x _ e
 
-        -- A head word that tells no place.
-        pub append-unsound : {number : ℕ} → unpackHead (wordOf key b) ≡ refused number → appends b key n ≡ refused keyUnsound
-        append-unsound e = append-on ∙ then-no _ _ (soundly-no _ e)
+        module _ (above : 0 < n) (low : n < 2 ^ 62) where
+          -- A number that isn't refused: the head word decides.
+          append-on : appends desk b key n ≡ andThen (soundly (unpackHead (wordOf key b))) (appendAt desk b key n)
+          append-on = append-within ∙ rising-on true 0 n _ above low
 
-        -- A key's place decides.
-        pub append-at : {place : ShHeadValue} → unpackHead (wordOf key b) ≡ accepted place → appends b key n ≡ appendAt b key n place
-        append-at e = append-on ∙ then-yes _ _ (soundly-yes _ e)
+          -- A head word that tells no place.
+          pub append-unsound : {number : ℕ} → unpackHead (wordOf key b) ≡ refused number → appends desk b key n ≡ refused keyUnsound
+          append-unsound e = append-on ∙ then-no _ _ (soundly-no _ e)
+
+          -- A key's place decides.
+          pub append-at : {place : ShHeadValue} → unpackHead (wordOf key b) ≡ accepted place
+              → appends desk b key n ≡ appendAt desk b key n place
+          append-at e = append-on ∙ then-yes _ _ (soundly-yes _ e)

@@ -1,4 +1,5 @@
-// Appending a number to a key.
+// Appending a number to a key, for a desk.
+ghost use mathlib.Core.List.{List};
 ghost use mathlib.Core.Path.{_≡_};
 ghost use Prim.Native.Nat.{ℕ, _<_};
 ghost use lib.ListN.{length};
@@ -17,11 +18,11 @@ use crate::answers::BookAppend;
 use book::PlaceList;
 use book::move_list;
 use book::put_head;
+use book_desks::DESKS;
 use book_keys::TailEnd;
 use book_space::TakeBlock;
 use compact::uleb128_len;
 use scripthash_layout::SH_PAGE_SIZE;
-use scripthash_layout::SH_PAGE_SLAB_CLASS;
 use scripthash_layout::ShHeadValue;
 use scripthash_layout::Unpacked;
 use scripthash_stream::ScanStream;
@@ -34,8 +35,9 @@ const MOST_MOVED: usize = 257;
 // An accepted append gives the key its new place.
 fn accept_append(heads: &mut [u64], key: usize, place: ShHeadValue, rewritten: u64) -> BookAppend
     requires { ⌜ key < length (now heads) ⌝ }
-    ensures { λ r. ⌜ ((b : Book) (s : Space) → b .heads ≡ now (heads .entry)
-        → Does (accepted (appending key place rewritten s b)) b (record { heads = now (heads .exit); space = s }) (appendAnswer r)) ⌝ }
+    ensures { λ r. ⌜ ((b : Book) (s : Space) (counts : List ℕ) → b .heads ≡ now (heads .entry)
+        → Does (accepted (appending key place rewritten s counts b)) b
+        (record { heads = now (heads .exit); space = s; counts = counts }) (appendAnswer r)) ⌝ }
 {
     put_head(heads, key, place);
     BookAppend::Appended(AppendedTo { place, rewritten })
@@ -47,21 +49,24 @@ fn append_inline(
     heads: &mut [u64],
     mark: &mut u64,
     free: &mut [u64; 9],
+    counts: &mut [u64; 49],
+    desk: u64,
     key: usize,
     n: u64,
     entry: u64,
 ) -> BookAppend
-    requires { ⌜ AppendsInline (bookOf (now body) (now heads) (now mark) (now free)) key n entry ⌝ }
+    requires { ⌜ AppendsInline desk (bookOf (now body) (now heads) (now mark) (now free) (now counts)) key n entry ⌝ }
     ensures { λ r. ⌜ ((used : ℕ) → Does
-        (appendAt (bookOf (now (body .entry)) (now (heads .entry)) (now (mark .entry)) (now (free .entry))) key n (Inline entry used))
-        (bookOf (now (body .entry)) (now (heads .entry)) (now (mark .entry)) (now (free .entry)))
-        (bookOf (now (body .exit)) (now (heads .exit)) (now (mark .exit)) (now (free .exit))) (appendAnswer r)) ⌝ }
+        (appendAt desk (bookOf (now (body .entry)) (now (heads .entry)) (now (mark .entry)) (now (free .entry)) (now (counts .entry)))
+        key n (Inline entry used))
+        (bookOf (now (body .entry)) (now (heads .entry)) (now (mark .entry)) (now (free .entry)) (now (counts .entry)))
+        (bookOf (now (body .exit)) (now (heads .exit)) (now (mark .exit)) (now (free .exit)) (now (counts .exit))) (appendAnswer r)) ⌝ }
 {
     if n <= entry {
         return BookAppend::Refused(error::OFFERED_NOT_RISING);
     }
     let list = [entry, n];
-    let answer = move_list(body, mark, free, &list);
+    let answer = move_list(body, mark, free, counts, desk, &list);
     match answer {
         PlaceList::At(place) => accept_append(heads, key, place, 1),
         PlaceList::Refused(number) => BookAppend::Refused(number),
@@ -74,23 +79,26 @@ fn move_slab(
     heads: &mut [u64],
     mark: &mut u64,
     free: &mut [u64; 9],
+    counts: &mut [u64; 49],
+    desk: u64,
     key: usize,
     n: u64,
     class: u8,
     used: u16,
     off: u64,
 ) -> BookAppend
-    requires { ⌜ SlabMoves (bookOf (now body) (now heads) (now mark) (now free)) key n class used off ⌝ }
+    requires { ⌜ SlabMoves desk (bookOf (now body) (now heads) (now mark) (now free) (now counts)) key n class used off ⌝ }
     ensures { λ r. ⌜ Does
-        (appendAt (bookOf (now (body .entry)) (now (heads .entry)) (now (mark .entry)) (now (free .entry))) key n (Slab class used off))
-        (bookOf (now (body .entry)) (now (heads .entry)) (now (mark .entry)) (now (free .entry)))
-        (bookOf (now (body .exit)) (now (heads .exit)) (now (mark .exit)) (now (free .exit))) (appendAnswer r) ⌝ }
+        (appendAt desk (bookOf (now (body .entry)) (now (heads .entry)) (now (mark .entry)) (now (free .entry)) (now (counts .entry)))
+        key n (Slab class used off))
+        (bookOf (now (body .entry)) (now (heads .entry)) (now (mark .entry)) (now (free .entry)) (now (counts .entry)))
+        (bookOf (now (body .exit)) (now (heads .exit)) (now (mark .exit)) (now (free .exit)) (now (counts .exit))) (appendAnswer r) ⌝ }
 {
     let mut list = [0; MOST_MOVED];
     book_keys::slab_into(body, class, off, &mut list);
     let held = used as usize;
     list[held] = n;
-    let answer = move_list(body, mark, free, &list[0..held + 1]);
+    let answer = move_list(body, mark, free, counts, desk, &list[0..held + 1]);
     match answer {
         PlaceList::At(place) => {
             book_space::release_block(body, free, class, off);
@@ -106,17 +114,20 @@ fn append_slab(
     heads: &mut [u64],
     mark: &mut u64,
     free: &mut [u64; 9],
+    counts: &mut [u64; 49],
+    desk: u64,
     key: usize,
     n: u64,
     class: u8,
     used: u16,
     off: u64,
 ) -> BookAppend
-    requires { ⌜ ToAppend (bookOf (now body) (now heads) (now mark) (now free)) key n ⌝ }
+    requires { ⌜ ToAppend desk (bookOf (now body) (now heads) (now mark) (now free) (now counts)) key n ⌝ }
     ensures { λ r. ⌜ Does
-        (appendAt (bookOf (now (body .entry)) (now (heads .entry)) (now (mark .entry)) (now (free .entry))) key n (Slab class used off))
-        (bookOf (now (body .entry)) (now (heads .entry)) (now (mark .entry)) (now (free .entry)))
-        (bookOf (now (body .exit)) (now (heads .exit)) (now (mark .exit)) (now (free .exit))) (appendAnswer r) ⌝ }
+        (appendAt desk (bookOf (now (body .entry)) (now (heads .entry)) (now (mark .entry)) (now (free .entry)) (now (counts .entry)))
+        key n (Slab class used off))
+        (bookOf (now (body .entry)) (now (heads .entry)) (now (mark .entry)) (now (free .entry)) (now (counts .entry)))
+        (bookOf (now (body .exit)) (now (heads .exit)) (now (mark .exit)) (now (free .exit)) (now (counts .exit))) (appendAnswer r) ⌝ }
 {
     let end = book_keys::slab_end(body, *mark, class, used, off);
     let ScanStream::Scanned { taken, last } = end else {
@@ -136,7 +147,19 @@ fn append_slab(
         };
         return accept_append(heads, key, place, 0);
     }
-    move_slab(body, heads, mark, free, key, n, class, used, off)
+    move_slab(
+        body,
+        heads,
+        mark,
+        free,
+        counts,
+        desk,
+        key,
+        n,
+        class,
+        used,
+        off,
+    )
 }
 
 // A number in a page more of a chain: the old last page gets it as next, then it is written as the last.
@@ -145,19 +168,22 @@ fn grow_chain(
     heads: &mut [u64],
     mark: &mut u64,
     free: &mut [u64; 9],
+    counts: &mut [u64; 49],
+    desk: u64,
     key: usize,
     n: u64,
     last: u64,
     first: u64,
     creates: u32,
 ) -> BookAppend
-    requires { ⌜ ChainGrows (bookOf (now body) (now heads) (now mark) (now free)) key n last first creates ⌝ }
+    requires { ⌜ ChainGrows desk (bookOf (now body) (now heads) (now mark) (now free) (now counts)) key n last first creates ⌝ }
     ensures { λ r. ⌜ Does
-        (appendAt (bookOf (now (body .entry)) (now (heads .entry)) (now (mark .entry)) (now (free .entry))) key n (Extent last))
-        (bookOf (now (body .entry)) (now (heads .entry)) (now (mark .entry)) (now (free .entry)))
-        (bookOf (now (body .exit)) (now (heads .exit)) (now (mark .exit)) (now (free .exit))) (appendAnswer r) ⌝ }
+        (appendAt desk (bookOf (now (body .entry)) (now (heads .entry)) (now (mark .entry)) (now (free .entry)) (now (counts .entry)))
+        key n (Extent last))
+        (bookOf (now (body .entry)) (now (heads .entry)) (now (mark .entry)) (now (free .entry)) (now (counts .entry)))
+        (bookOf (now (body .exit)) (now (heads .exit)) (now (mark .exit)) (now (free .exit)) (now (counts .exit))) (appendAnswer r) ⌝ }
 {
-    let answer = book_space::take_block(body, mark, free, SH_PAGE_SLAB_CLASS);
+    let answer = book_space::page_for(body, mark, free, counts, desk);
     let TakeBlock::At(off) = answer else {
         return BookAppend::Refused(answer.refusal());
     };
@@ -174,15 +200,18 @@ fn append_page(
     heads: &mut [u64],
     mark: &mut u64,
     free: &mut [u64; 9],
+    counts: &mut [u64; 49],
+    desk: u64,
     key: usize,
     n: u64,
     last: u64,
 ) -> BookAppend
-    requires { ⌜ ToAppend (bookOf (now body) (now heads) (now mark) (now free)) key n ⌝ }
+    requires { ⌜ ToAppend desk (bookOf (now body) (now heads) (now mark) (now free) (now counts)) key n ⌝ }
     ensures { λ r. ⌜ Does
-        (appendAt (bookOf (now (body .entry)) (now (heads .entry)) (now (mark .entry)) (now (free .entry))) key n (Extent last))
-        (bookOf (now (body .entry)) (now (heads .entry)) (now (mark .entry)) (now (free .entry)))
-        (bookOf (now (body .exit)) (now (heads .exit)) (now (mark .exit)) (now (free .exit))) (appendAnswer r) ⌝ }
+        (appendAt desk (bookOf (now (body .entry)) (now (heads .entry)) (now (mark .entry)) (now (free .entry)) (now (counts .entry)))
+        key n (Extent last))
+        (bookOf (now (body .entry)) (now (heads .entry)) (now (mark .entry)) (now (free .entry)) (now (counts .entry)))
+        (bookOf (now (body .exit)) (now (heads .exit)) (now (mark .exit)) (now (free .exit)) (now (counts .exit))) (appendAnswer r) ⌝ }
 {
     let end = book_keys::tail_end(body, *mark, last);
     let TailEnd::Tail {
@@ -199,7 +228,19 @@ fn append_page(
     }
     let difference = n - fk;
     if SH_PAGE_SIZE < LAST_HEADER + taken + uleb128_len(difference) {
-        return grow_chain(body, heads, mark, free, key, n, last, first, creates);
+        return grow_chain(
+            body,
+            heads,
+            mark,
+            free,
+            counts,
+            desk,
+            key,
+            n,
+            last,
+            first,
+            creates,
+        );
     }
     book_blocks::grow_page(body, last as usize, taken, difference, creates);
     accept_append(heads, key, ShHeadValue::Extent { last_page: last }, 0)
@@ -211,49 +252,71 @@ fn append_at(
     heads: &mut [u64],
     mark: &mut u64,
     free: &mut [u64; 9],
+    counts: &mut [u64; 49],
+    desk: u64,
     key: usize,
     n: u64,
     place: ShHeadValue,
 ) -> BookAppend
-    requires { ⌜ AppendsAt (bookOf (now body) (now heads) (now mark) (now free)) key n place ⌝ }
+    requires { ⌜ AppendsAt desk (bookOf (now body) (now heads) (now mark) (now free) (now counts)) key n place ⌝ }
     ensures { λ r. ⌜ Does
-        (appendAt (bookOf (now (body .entry)) (now (heads .entry)) (now (mark .entry)) (now (free .entry))) key n place)
-        (bookOf (now (body .entry)) (now (heads .entry)) (now (mark .entry)) (now (free .entry)))
-        (bookOf (now (body .exit)) (now (heads .exit)) (now (mark .exit)) (now (free .exit))) (appendAnswer r) ⌝ }
+        (appendAt desk (bookOf (now (body .entry)) (now (heads .entry)) (now (mark .entry)) (now (free .entry)) (now (counts .entry)))
+        key n place)
+        (bookOf (now (body .entry)) (now (heads .entry)) (now (mark .entry)) (now (free .entry)) (now (counts .entry)))
+        (bookOf (now (body .exit)) (now (heads .exit)) (now (mark .exit)) (now (free .exit)) (now (counts .exit))) (appendAnswer r) ⌝ }
 {
     match place {
         ShHeadValue::Empty => {
             accept_append(heads, key, ShHeadValue::Inline { entry: n, used: 1 }, 0)
         }
         ShHeadValue::Inline { entry, used: _ } => {
-            append_inline(body, heads, mark, free, key, n, entry)
+            append_inline(body, heads, mark, free, counts, desk, key, n, entry)
         }
         ShHeadValue::Slab { class, used, off } => {
-            append_slab(body, heads, mark, free, key, n, class, used, off)
+            append_slab(
+                body,
+                heads,
+                mark,
+                free,
+                counts,
+                desk,
+                key,
+                n,
+                class,
+                used,
+                off,
+            )
         }
         ShHeadValue::Extent { last_page } => {
-            append_page(body, heads, mark, free, key, n, last_page)
+            append_page(body, heads, mark, free, counts, desk, key, n, last_page)
         }
     }
 }
 
-// Appends a number to a key: the number is judged by itself, then the key, then whether the number is above its last.
+// Appends a number to a key, for a desk: the number is judged by itself, then the key, then whether the number is above its last.
 pub fn append(
     body: &mut [u8],
     heads: &mut [u64],
     mark: &mut u64,
     free: &mut [u64; 9],
+    counts: &mut [u64; 49],
+    desk: u64,
     key: u64,
     n: u64,
 ) -> BookAppend
     ensures answer { λ r. ⌜ appendAnswer r
-        ≡ answerOf (appends (bookOf (now (body .entry)) (now (heads .entry)) (now (mark .entry)) (now (free .entry))) key n) ⌝ }
-    ensures book { λ r. ⌜ bookOf (now (body .exit)) (now (heads .exit)) (now (mark .exit)) (now (free .exit))
-        ≡ bookAfter (bookOf (now (body .entry)) (now (heads .entry)) (now (mark .entry)) (now (free .entry)))
-        (appends (bookOf (now (body .entry)) (now (heads .entry)) (now (mark .entry)) (now (free .entry))) key n) ⌝ }
+        ≡ answerOf (appends desk
+        (bookOf (now (body .entry)) (now (heads .entry)) (now (mark .entry)) (now (free .entry)) (now (counts .entry))) key n) ⌝ }
+    ensures book { λ r. ⌜ bookOf (now (body .exit)) (now (heads .exit)) (now (mark .exit)) (now (free .exit)) (now (counts .exit))
+        ≡ bookAfter (bookOf (now (body .entry)) (now (heads .entry)) (now (mark .entry)) (now (free .entry)) (now (counts .entry)))
+        (appends desk
+        (bookOf (now (body .entry)) (now (heads .entry)) (now (mark .entry)) (now (free .entry)) (now (counts .entry))) key n) ⌝ }
 {
     if book_space::shape_broken(body, heads.len(), *mark) {
         return BookAppend::Refused(error::SHAPE_BAD);
+    }
+    if DESKS as u64 <= desk {
+        return BookAppend::Refused(error::DESKS_BAD);
     }
     if heads.len() as u64 <= key {
         return BookAppend::Refused(error::KEY_BEYOND);
@@ -267,5 +330,5 @@ pub fn append(
     let Unpacked::Head(place) = head else {
         return BookAppend::Refused(error::KEY_UNSOUND);
     };
-    append_at(body, heads, mark, free, at, n, place)
+    append_at(body, heads, mark, free, counts, desk, at, n, place)
 }

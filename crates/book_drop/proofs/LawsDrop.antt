@@ -1,16 +1,18 @@
--- A drop: what its definition says of a key at its place, and the pages of a sound chain given back one after the other. Assumes nothing.
+-- A drop: what its definition says of a key at its place, by what giving back its pages tells, and the pages of a sound chain given back
+-- one after the other. Assumes nothing.
 use Prim.Native.Nat.{ℕ, zero, suc, _+_, _-_, _%_, _≤_, _<_}
 use mathlib.Core.Bool.{Bool, true, false}
 use mathlib.Core.List.{List, [], _∷_}
-use mathlib.Core.Logic.{_⊎_, inl, inr, ⊎-elim}
+use mathlib.Core.Logic.{_≢_, _⊎_, inl, inr, ⊎-elim}
 use mathlib.Core.Path.{_≡_, refl, sym, ap, _∙_}
 use native.Mathlib.Nat.{eq-or-lt-of-le}
 use native.Mathlib.Omega.{arith}
 use borrow.Author.Tests.{ltb-true, ltb-false}
 use lib.Dec.{ltb}
 use lib.ListN.{length}
-use Rattle.error.specs.Refusal.{Answer, accepted, refused, andThen, shapeBad, keyBeyond, keyUnsound}
+use Rattle.error.specs.Refusal.{Answer, accepted, refused, andThen, shapeBad, keyBeyond, keyUnsound, desksBad}
 use Rattle.error.proofs.LawsAnswer.{refused≢accepted, then-yes, then-no}
+use Rattle.error.proofs.LawsOut.{value-refused}
 use Rattle.scripthash_layout.specs.Sizes.{pageClass}
 use Rattle.scripthash_layout.specs.Head.{unpackHead, packHead}
 use Rattle.scripthash_layout.specs.declared.head.ShHeadValue.{ShHeadValue}
@@ -20,9 +22,13 @@ use Rattle.scripthash_fields.specs.Page.{linkOf, linkOffset}
 use Rattle.scripthash_free.specs.FreeList.{isBlock, Within}
 use Rattle.scripthash_free.proofs.LawsBlock.{block-stands}
 use Rattle.book_rules.specs.Outcomes.{droppedOf, Dropped}
+use Rattle.book_desks.specs.Desks.{desks}
 use Rattle.book_space.specs.Space.{Space, shapeBroken, release}
+use Rattle.book_space.specs.Desks.{givenBack}
+use Rattle.book_space.specs.Steps.{GivesBack}
 use Rattle.book_space.proofs.LawsLists.{stands-further, each-one}
 use Rattle.book_space.proofs.LawsTake.{InBody, release-none, release-first, release-mark, release-size, release-outside}
+use Rattle.book_space.proofs.LawsDesks.{back-yes, back-no}
 use Rattle.book_keys.specs.Keys.{soundly, pageAt, linkScan, pageThen, Chain, walk, Content, pageBlocks, contentAt, content}
 use Rattle.book_keys.proofs.LawsSound.{soundly-yes, soundly-no}
 use Rattle.book_keys.proofs.LawsPages.{link-sound}
@@ -30,11 +36,11 @@ use Rattle.book_keys.proofs.LawsWalk.{Ends, GoesOn, walk-step}
 use Rattle.book_keys.proofs.LawsContent.{content-at, content-nowhere}
 use Rattle.book_keys.proofs.LawsDistinct.{page-once, SameBehind, walk-same}
 use Rattle.book.specs.Book.{Book, Outcome, wordOf, headWord, placing, seen}
-use Rattle.book_drop.specs.Drops.{drops}
-use Rattle.book_drop.specs.Steps.{dropping, dropsAt}
+use Rattle.book_drop.specs.Drops.{dropped, drops}
+use Rattle.book_drop.specs.Steps.{dropsAt}
 use Rattle.book_keys.specs.Steps.{PagesLeft}
 use Rattle.book.specs.Steps.{Does}
-use Rattle.book.proofs.LawsKey.{key-broken, key-beyond, key-there, does-no}
+use Rattle.book.proofs.LawsKey.{desk-broken, desk-none, desk-beyond, desk-there, does-no}
 
 -- ---- a key's drop
 
@@ -48,49 +54,96 @@ pub empty-word : headWord Empty ≡ 0
 unfolding headWord packHead
 empty-word = refl
 
--- A drop of a key at a place.
-module _ (b : Book) (key : ℕ) (place : ShHeadValue) where
+-- Where no pages are given back a call goes on with the counts as they are.
+none-given : {A : Type 0} (end desk : ℕ) {pages : ℕ} (counts : List ℕ) (call : List ℕ → Answer A) → pages ≡ 0
+    → givenBack end desk pages counts call ≡ call counts
+unfolding givenBack
+none-given end desk counts call z = rw z
+
+-- A drop by a desk of a key at a place.
+module _ (desk : ℕ) (b : Book) (key : ℕ) (place : ShHeadValue) where
   -- One that isn't sound is refused.
-  pub drop-no : {number : ℕ} → contentAt (seen (b .space)) place ≡ refused number → dropsAt b key place ≡ refused keyUnsound
+  pub drop-no : {number : ℕ} → contentAt (seen (b .space)) place ≡ refused number → dropsAt desk b key place ≡ refused keyUnsound
   unfolding dropsAt
   drop-no e = then-no (soundly (contentAt (seen (b .space)) place)) _ (soundly-no (contentAt (seen (b .space)) place) e)
 
-  -- A sound one is emptied, in the space with its blocks given back.
-  pub drop-yes : (c : Content) (count : ℕ) (s : Space) → contentAt (seen (b .space)) place ≡ accepted c → length (c .numbers) ≡ count
-      → s ≡ release (c .blocks) (b .space)
-      → accepted (placing (droppedOf count) key Empty s b) ≡ dropsAt b key place
-  unfolding dropsAt
-  drop-yes c count s e n r =
-      ap (λ (m : ℕ). accepted (placing (droppedOf m) key Empty s b)) (sym n)
-      ∙ ap (λ (t : Space). accepted (placing (droppedOf (length (c .numbers))) key Empty t b)) r
-      ∙ sym (then-yes (soundly (contentAt (seen (b .space)) place)) _ (soundly-yes (contentAt (seen (b .space)) place) e))
+  -- What a sound one leaves with some counts: an empty key, in the space with its blocks given back.
+  module _ (c : Content) where
+    abbrev emptied : List ℕ → Answer (Outcome Dropped)
+    emptied counts = accepted (placing (droppedOf (length (c .numbers))) key Empty (release (c .blocks) (b .space)) counts b)
 
--- A drop of a key of a book.
-module _ (b : Book) (key : ℕ) where
+    -- It says so in other words.
+    same-emptied : (count : ℕ) (s : Space) (counts : List ℕ) → length (c .numbers) ≡ count → s ≡ release (c .blocks) (b .space)
+        → accepted (placing (droppedOf count) key Empty s counts b) ≡ emptied counts
+    same-emptied count s counts n r = rw (r, ← n)
+
+    -- Its pages decide.
+    by-pages : contentAt (seen (b .space)) place ≡ accepted c
+        → dropsAt desk b key place ≡ givenBack (length (b .space .body)) desk (c .pages) (b .counts) emptied
+    unfolding dropsAt dropped
+    by-pages is = then-yes (soundly (contentAt (seen (b .space)) place)) _ (soundly-yes (contentAt (seen (b .space)) place) is)
+
+    -- Without pages no count changes.
+    pub drop-yes : (count : ℕ) (s : Space) → contentAt (seen (b .space)) place ≡ accepted c → c .pages ≡ 0
+        → length (c .numbers) ≡ count → s ≡ release (c .blocks) (b .space)
+        → accepted (placing (droppedOf count) key Empty s (b .counts) b) ≡ dropsAt desk b key place
+    drop-yes count s is z n r =
+        same-emptied count s (b .counts) n r ∙ sym (by-pages is ∙ none-given (length (b .space .body)) desk (b .counts) emptied z)
+
+  -- One in pages, by what giving them back told and left.
+  module _ (c : Content) (pages : ℕ) (is : contentAt (seen (b .space)) place ≡ accepted c) (all : c .pages ≡ pages) (some : 0 < pages)
+      {after : List ℕ} {number : ℕ} (gives : GivesBack (length (b .space .body)) desk pages (b .counts) after number) where
+    abbrev size : ℕ
+    size = length (b .space .body)
+
+    -- With another number than 0 it is refused, and the counts are left.
+    pub drop-turned : number ≢ 0
+        → Does (dropsAt desk b key place) b (record { heads = b .heads; space = b .space; counts = after }) (refused number)
+    drop-turned h =
+        let stop : dropsAt desk b key place ≡ refused number
+        = by-pages c is ∙ rw all (back-no size desk pages (b .counts) some gives (emptied c) h) in
+        let kept : after ≡ b .counts
+        = gives .left ∙ sym (value-refused (λ (x : List ℕ). x) (b .counts) (back-no size desk pages (b .counts) some gives accepted h)) in
+        does-no b _ _ _ stop refl (ap (λ (counts : List ℕ). record { heads = b .heads; space = b .space; counts = counts }) kept)
+
+    -- With 0 it is emptied, with the counts as they are left.
+    pub drop-given : number ≡ 0 → (count : ℕ) (s : Space) → length (c .numbers) ≡ count → s ≡ release (c .blocks) (b .space)
+        → accepted (placing (droppedOf count) key Empty s after b) ≡ dropsAt desk b key place
+    drop-given z count s n r =
+        same-emptied c count s after n r ∙ sym (by-pages c is ∙ rw all (back-yes size desk pages (b .counts) some gives (emptied c) z))
+
+-- A drop by a desk of a key of a book.
+module _ (desk : ℕ) (b : Book) (key : ℕ) where
   -- The shape breaks the limits.
-  pub drop-broken : shapeBroken (b .space) (length (b .heads)) ≡ true → drops b key ≡ refused shapeBad
+  pub drop-broken : shapeBroken (b .space) (length (b .heads)) ≡ true → drops desk b key ≡ refused shapeBad
   unfolding drops
-  drop-broken e = key-broken b key _ e
+  drop-broken e = desk-broken desk b key _ e
 
   module _ (whole : shapeBroken (b .space) (length (b .heads)) ≡ false) where
-    -- The key is beyond the heads.
-    pub drop-beyond : length (b .heads) ≤ key → drops b key ≡ refused keyBeyond
+    -- There is no such desk.
+    pub drop-desk : desks ≤ desk → drops desk b key ≡ refused desksBad
     unfolding drops
-    drop-beyond h = key-beyond b key _ whole h
+    drop-desk h = desk-none desk b key _ whole h
 
-    module _ (h : key < length (b .heads)) where
-      -- Its word tells no place.
-      pub drop-nowhere : {number : ℕ} → unpackHead (wordOf key b) ≡ refused number → drops b key ≡ refused keyUnsound
+    module _ (known : desk < desks) where
+      -- The key is beyond the heads.
+      pub drop-beyond : length (b .heads) ≤ key → drops desk b key ≡ refused keyBeyond
       unfolding drops
-      drop-nowhere e = key-there b key _ whole h
-          ∙ then-no (content (seen (b .space)) (wordOf key b)) _ (content-nowhere (seen (b .space)) (wordOf key b) e)
+      drop-beyond h = desk-beyond desk b key _ whole known h
 
-      -- Its place decides.
-      pub drop-there : (place : ShHeadValue) → unpackHead (wordOf key b) ≡ accepted place → drops b key ≡ dropsAt b key place
-      unfolding drops dropsAt
-      drop-there place e =
-          key-there b key _ whole h
-          ∙ ap (λ (a : Answer Content). andThen a (λ c. accepted (dropping key c b))) (content-at (seen (b .space)) (wordOf key b) place e)
+      module _ (h : key < length (b .heads)) where
+        -- Its word tells no place.
+        pub drop-nowhere : {number : ℕ} → unpackHead (wordOf key b) ≡ refused number → drops desk b key ≡ refused keyUnsound
+        unfolding drops
+        drop-nowhere e = desk-there desk b key _ whole known h
+            ∙ then-no (content (seen (b .space)) (wordOf key b)) _ (content-nowhere (seen (b .space)) (wordOf key b) e)
+
+        -- Its place decides.
+        pub drop-there : (place : ShHeadValue) → unpackHead (wordOf key b) ≡ accepted place → drops desk b key ≡ dropsAt desk b key place
+        unfolding drops dropsAt
+        drop-there place e =
+            desk-there desk b key _ whole known h
+            ∙ ap (λ (a : Answer Content). andThen a (dropped desk b key)) (content-at (seen (b .space)) (wordOf key b) place e)
 
 -- ---- pages given back
 

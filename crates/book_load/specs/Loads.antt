@@ -16,37 +16,43 @@ use Rattle.book_rules.specs.declared.places.SlabFit.{SlabFit}
 use Rattle.book_rules.specs.Outcomes.{loadedIn, Loaded}
 use Rattle.book_rules.specs.Offered.{offeredList}
 use Rattle.book_rules.specs.Places.{loadsTo}
-use Rattle.book_space.specs.Space.{Space, space, takeBlock, takeRun}
+use Rattle.book_space.specs.Space.{Space, space}
+use Rattle.book_space.specs.Desks.{slabFor, runFor}
 use Rattle.book_blocks.specs.Blocks.{writeRun}
-use Rattle.book.specs.Book.{Book, Outcome, wordOf, onKey, placing, filled}
+use Rattle.book.specs.Book.{Book, Outcome, wordOf, byDesk, withDesks, placing, filled}
 
--- What a load leaves: the key's place, and the pages of its run.
-abbrev pub loading : ℕ → ShHeadValue → ℕ → Space → Book → Outcome Loaded
-loading key place pages s b = placing (loadedIn pages) key place s b
+-- What a load leaves: the key's place, the pages of its run, the space and the counts.
+abbrev pub loading : ℕ → ShHeadValue → ℕ → Space → List ℕ → Book → Outcome Loaded
+loading key place pages s counts b = placing (loadedIn pages) key place s counts b
 
 -- The offset of the last of so many pages from an offset on.
 abbrev pub lastOfRun : ℕ → ℕ → ℕ
 lastOfRun off pages = off + (pages - 1) * pageSize
 
--- A list of two or more goes into a taken slab of a class, or else into a run of pages, a part of its cutting in each.
-unfoldable pub loadInto : Book → ℕ → List ℕ → Option ℕ → Answer (Outcome Loaded)
-loadInto b key ns (some class) =
-    andThen (takeBlock class (b .space)) (λ t. accepted (loading key (Slab class (length ns) (t .off)) 0 (filled t (slabPayload ns)) b))
-loadInto b key ns none =
+-- A list of two or more goes into a slab of a class that a desk takes, or else into a run of pages, a part of its cutting in each.
+unfoldable pub loadInto : ℕ → Book → ℕ → List ℕ → Option ℕ → Answer (Outcome Loaded)
+loadInto desk b key ns (some class) =
+    andThen (slabFor desk class (b .space) (b .counts))
+    (λ t. accepted (loading key (Slab class (length ns) (t .off)) 0 (filled t (slabPayload ns)) (t .counts) b))
+loadInto desk b key ns none =
     let count = length (cutting ns) in
-    andThen (takeRun count (b .space))
+    andThen (runFor desk count (b .space) (b .counts))
     (λ t. accepted (loading key (Extent (lastOfRun (t .off) count)) count
-    (space (writeRun (t .off) count (length ns) (t .space .body) (t .off) (cutting ns)) (t .space .mark) (t .space .free)) b))
+    (space (writeRun (t .off) count (length ns) (t .space .body) (t .off) (cutting ns)) (t .space .mark) (t .space .free)) (t .counts) b))
 
 -- A load of a list onto an empty key: none changes nothing, one goes into the head word, and more go where the rule gives them a place.
-unfoldable pub loadAt : SlabFit → Book → ℕ → List ℕ → Answer (Outcome Loaded)
-loadAt fit b key [] = accepted (record { told = loadedIn 0; book = b })
-loadAt fit b key (n ∷ []) = accepted (loading key (Inline n 1) 0 (b .space) b)
-loadAt fit b key (n ∷ m ∷ ns) = loadInto b key (n ∷ m ∷ ns) (loadsTo fit (length (n ∷ m ∷ ns)) (streamLen (n ∷ m ∷ ns)))
+unfoldable pub loadAt : SlabFit → ℕ → Book → ℕ → List ℕ → Answer (Outcome Loaded)
+loadAt fit desk b key [] = accepted (record { told = loadedIn 0; book = b })
+loadAt fit desk b key (n ∷ []) = accepted (loading key (Inline n 1) 0 (b .space) (b .counts) b)
+loadAt fit desk b key (n ∷ m ∷ ns) = loadInto desk b key (n ∷ m ∷ ns) (loadsTo fit (length (n ∷ m ∷ ns)) (streamLen (n ∷ m ∷ ns)))
 
--- A load of a list onto a key.
-unfoldable pub loads : SlabFit → Book → ℕ → List ℕ → Answer (Outcome Loaded)
-loads fit b key ns =
-    onKey b key
+-- A load of a list onto a key, by a desk.
+unfoldable pub loads : SlabFit → ℕ → Book → ℕ → List ℕ → Answer (Outcome Loaded)
+loads fit desk b key ns =
+    byDesk desk b key
     (refuseIf (not (eqb (wordOf key b) 0)) keyInUse
-    (refuseIf (ltb maxOffered (length ns)) tooManyOffered (offeredList true 0 ns (loadAt fit b key ns))))
+    (refuseIf (ltb maxOffered (length ns)) tooManyOffered (offeredList true 0 ns (loadAt fit desk b key ns))))
+
+-- A load that is lent the list of desks: by the key's desk.
+abbrev pub loadsWith : SlabFit → List ℕ → Book → ℕ → List ℕ → Answer (Outcome Loaded)
+loadsWith fit ds b key ns = withDesks ds b key (λ desk. loads fit desk b key ns)

@@ -7,6 +7,7 @@ use Rattle.scripthash_layout.specs.Sizes.{maxSlabClass, slabBytes}
 use Rattle.scripthash_stream.specs.Stream.{Rising, streamLen, maxOffered}
 use Rattle.scripthash_cutting.specs.Cutting.{cutting, rangesFrom}
 use Rattle.book_rules.specs.Places.{payloadLen}
+use Rattle.book_desks.specs.Desks.{desks}
 use Rattle.book_space.specs.Space.{InShape}
 use Rattle.book.specs.Book.{Book}
 
@@ -15,35 +16,36 @@ pub record Judged (fks : List ℕ) : Type 0 where
   pub rises : Rising (2 ^ 62) 0 fks
   pub few : length fks ≤ maxOffered
 
--- What is known of a load whose shape and key passed their tests.
-pub record ToLoad (b : Book) (key : ℕ) : Type 0 where
+-- What is known of a load whose shape, desk and key passed their tests.
+pub record ToLoad (desk : ℕ) (b : Book) (key : ℕ) : Type 0 where
   pub shape : InShape (b .space)
+  pub known : desk < desks
   pub keyed : key < length (b .heads)
 
 -- What is known of a load whose list was judged too: how many bytes its stream takes.
-pub record ToLoadJudged (b : Book) (key : ℕ) (fks : List ℕ) (bytes : ℕ) : Type 0 where
-  pub to-load : ToLoad b key
+pub record ToLoadJudged (desk : ℕ) (b : Book) (key : ℕ) (fks : List ℕ) (bytes : ℕ) : Type 0 where
+  pub to-load : ToLoad desk b key
   pub judged : Judged fks
   pub bytes-are : bytes ≡ streamLen fks
 
 -- That is known of a load of two or more numbers.
-pub record ToLoadList (b : Book) (key : ℕ) (fks : List ℕ) (bytes : ℕ) : Type 0 where
-  pub to-load : ToLoad b key
+pub record ToLoadList (desk : ℕ) (b : Book) (key : ℕ) (fks : List ℕ) (bytes : ℕ) : Type 0 where
+  pub to-load : ToLoad desk b key
   pub two-fks : 2 ≤ length fks
   pub judged : Judged fks
   pub bytes-are : bytes ≡ streamLen fks
 
 -- What is known of a load into a slab of a class: the list rises and fits.
-pub record ToLoadSlab (b : Book) (key : ℕ) (fks : List ℕ) (class : ℕ) : Type 0 where
-  pub to-load : ToLoad b key
+pub record ToLoadSlab (desk : ℕ) (b : Book) (key : ℕ) (fks : List ℕ) (class : ℕ) : Type 0 where
+  pub to-load : ToLoad desk b key
   pub low : class ≤ maxSlabClass
   pub few : length fks ≤ 256
   pub rises : Rising (2 ^ 62) 0 fks
   pub fits : payloadLen (streamLen fks) ≤ slabBytes class
 
 -- What is known of a load into a run of pages.
-pub record ToLoadRun (b : Book) (key : ℕ) (fks : List ℕ) : Type 0 where
-  pub to-load : ToLoad b key
+pub record ToLoadRun (desk : ℕ) (b : Book) (key : ℕ) (fks : List ℕ) : Type 0 where
+  pub to-load : ToLoad desk b key
   pub some-fks : 0 < length fks
   pub judged : Judged fks
 
@@ -55,6 +57,6 @@ pub record Parts (fks : List ℕ) (ranges : List (List ℕ)) (count : ℕ) : Typ
   pub ranges-are : firstOf count ranges ≡ rangesFrom 0 (cutting fks)
 
 -- What is known of a load into a run of pages whose list was cut.
-pub record ToLoadParts (b : Book) (key : ℕ) (fks : List ℕ) (ranges : List (List ℕ)) (count : ℕ) : Type 0 where
-  pub to-load : ToLoad b key
+pub record ToLoadParts (desk : ℕ) (b : Book) (key : ℕ) (fks : List ℕ) (ranges : List (List ℕ)) (count : ℕ) : Type 0 where
+  pub to-load : ToLoad desk b key
   pub cut : Parts fks ranges count

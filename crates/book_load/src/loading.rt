@@ -1,7 +1,8 @@
-// Loading a list onto an empty key.
+// Loading a list onto an empty key, for a desk.
+ghost use mathlib.Core.List.{List};
 ghost use mathlib.Core.Option.{none, some};
 ghost use mathlib.Core.Path.{_≡_};
-ghost use Prim.Native.Nat.{_<_};
+ghost use Prim.Native.Nat.{ℕ, _<_};
 ghost use lib.ListN.{length};
 ghost use Rattle.error.specs.Refusal.{accepted};
 ghost use Rattle.scripthash_stream.specs.Stream.{streamLen};
@@ -18,6 +19,7 @@ use crate::answers::BookLoad;
 use book::PlaceList;
 use book::place_in_slab;
 use book::put_head;
+use book_desks::DESKS;
 use book_rules::SlabFit;
 use book_space::TakeBlock;
 use scripthash_cutting::ChunkRange;
@@ -31,58 +33,64 @@ use scripthash_stream::StreamBytes;
 // The most pages of a load's run: one for each 407 numbers, and two.
 const MOST_PAGES: usize = 163;
 
-// An accepted load gives the key its place, whatever the space is then.
+// An accepted load gives the key its place, whatever the space and the counts are then.
 fn accept_load(heads: &mut [u64], key: usize, place: ShHeadValue, pages: u64) -> BookLoad
     requires { ⌜ key < length (now heads) ⌝ }
-    ensures { λ r. ⌜ ((b : Book) (s : Space) → b .heads ≡ now (heads .entry)
-        → Does (accepted (loading key place pages s b)) b (record { heads = now (heads .exit); space = s }) (loadAnswer r)) ⌝ }
+    ensures { λ r. ⌜ ((b : Book) (s : Space) (counts : List ℕ) → b .heads ≡ now (heads .entry)
+        → Does (accepted (loading key place pages s counts b)) b
+        (record { heads = now (heads .exit); space = s; counts = counts }) (loadAnswer r)) ⌝ }
 {
     put_head(heads, key, place);
     BookLoad::Loaded(pages)
 }
 
-// Loads a list into a taken slab of a class.
+// Loads a list into a slab of a class that a desk takes: no count changes.
 fn load_slab(
     body: &mut [u8],
     heads: &mut [u64],
     mark: &mut u64,
     free: &mut [u64; 9],
+    counts: &[u64; 49],
+    desk: u64,
     key: usize,
     fks: &[u64],
     class: u8,
 ) -> BookLoad
-    requires { ⌜ ToLoadSlab (bookOf (now body) (now heads) (now mark) (now free)) key (now fks) class ⌝ }
+    requires { ⌜ ToLoadSlab desk (bookOf (now body) (now heads) (now mark) (now free) (now counts)) key (now fks) class ⌝ }
     ensures { λ r. ⌜ Does
-        (loadInto (bookOf (now (body .entry)) (now (heads .entry)) (now (mark .entry)) (now (free .entry))) key (now (fks .entry))
-        (some class))
-        (bookOf (now (body .entry)) (now (heads .entry)) (now (mark .entry)) (now (free .entry)))
-        (bookOf (now (body .exit)) (now (heads .exit)) (now (mark .exit)) (now (free .exit))) (loadAnswer r) ⌝ }
+        (loadInto desk (bookOf (now (body .entry)) (now (heads .entry)) (now (mark .entry)) (now (free .entry)) (now (counts .entry))) key
+        (now (fks .entry)) (some class))
+        (bookOf (now (body .entry)) (now (heads .entry)) (now (mark .entry)) (now (free .entry)) (now (counts .entry)))
+        (bookOf (now (body .exit)) (now (heads .exit)) (now (mark .exit)) (now (free .exit)) (now (counts .entry))) (loadAnswer r) ⌝ }
 {
-    let answer = place_in_slab(body, mark, free, fks, class);
+    let answer = place_in_slab(body, mark, free, counts, desk, fks, class);
     match answer {
         PlaceList::At(place) => accept_load(heads, key, place, 0),
         PlaceList::Refused(number) => BookLoad::Refused(number),
     }
 }
 
-// Loads a list into a run of pages, by the ranges of its parts, a part in each.
+// Loads a list into a run of pages that a desk takes, by the ranges of its parts, a part in each.
 fn load_parts(
     body: &mut [u8],
     heads: &mut [u64],
     mark: &mut u64,
     free: &mut [u64; 9],
+    counts: &mut [u64; 49],
+    desk: u64,
     key: usize,
     fks: &[u64],
     ranges: &[ChunkRange],
     count: usize,
 ) -> BookLoad
-    requires { ⌜ ToLoadParts (bookOf (now body) (now heads) (now mark) (now free)) key (now fks) (now ranges) count ⌝ }
+    requires { ⌜ ToLoadParts desk (bookOf (now body) (now heads) (now mark) (now free) (now counts)) key (now fks) (now ranges) count ⌝ }
     ensures { λ r. ⌜ Does
-        (loadInto (bookOf (now (body .entry)) (now (heads .entry)) (now (mark .entry)) (now (free .entry))) key (now (fks .entry)) none)
-        (bookOf (now (body .entry)) (now (heads .entry)) (now (mark .entry)) (now (free .entry)))
-        (bookOf (now (body .exit)) (now (heads .exit)) (now (mark .exit)) (now (free .exit))) (loadAnswer r) ⌝ }
+        (loadInto desk (bookOf (now (body .entry)) (now (heads .entry)) (now (mark .entry)) (now (free .entry)) (now (counts .entry))) key
+        (now (fks .entry)) none)
+        (bookOf (now (body .entry)) (now (heads .entry)) (now (mark .entry)) (now (free .entry)) (now (counts .entry)))
+        (bookOf (now (body .exit)) (now (heads .exit)) (now (mark .exit)) (now (free .exit)) (now (counts .exit))) (loadAnswer r) ⌝ }
 {
-    let answer = book_space::take_run(body, mark, free, count as u64);
+    let answer = book_space::run_for(body, mark, free, counts, desk, count as u64);
     let TakeBlock::At(off) = answer else {
         return BookLoad::Refused(answer.refusal());
     };
@@ -97,21 +105,35 @@ fn load_run(
     heads: &mut [u64],
     mark: &mut u64,
     free: &mut [u64; 9],
+    counts: &mut [u64; 49],
+    desk: u64,
     key: usize,
     fks: &[u64],
 ) -> BookLoad
-    requires { ⌜ ToLoadRun (bookOf (now body) (now heads) (now mark) (now free)) key (now fks) ⌝ }
+    requires { ⌜ ToLoadRun desk (bookOf (now body) (now heads) (now mark) (now free) (now counts)) key (now fks) ⌝ }
     ensures { λ r. ⌜ Does
-        (loadInto (bookOf (now (body .entry)) (now (heads .entry)) (now (mark .entry)) (now (free .entry))) key (now (fks .entry)) none)
-        (bookOf (now (body .entry)) (now (heads .entry)) (now (mark .entry)) (now (free .entry)))
-        (bookOf (now (body .exit)) (now (heads .exit)) (now (mark .exit)) (now (free .exit))) (loadAnswer r) ⌝ }
+        (loadInto desk (bookOf (now (body .entry)) (now (heads .entry)) (now (mark .entry)) (now (free .entry)) (now (counts .entry))) key
+        (now (fks .entry)) none)
+        (bookOf (now (body .entry)) (now (heads .entry)) (now (mark .entry)) (now (free .entry)) (now (counts .entry)))
+        (bookOf (now (body .exit)) (now (heads .exit)) (now (mark .exit)) (now (free .exit)) (now (counts .exit))) (loadAnswer r) ⌝ }
 {
     let mut ranges = [[0; 2]; MOST_PAGES];
     let cut = scripthash_cutting::sh_page_chunk_ranges(fks, &mut ranges);
     let ChunkRanges::Parts(count) = cut else {
         return BookLoad::Refused(cut.refusal());
     };
-    load_parts(body, heads, mark, free, key, fks, &ranges, count)
+    load_parts(
+        body,
+        heads,
+        mark,
+        free,
+        counts,
+        desk,
+        key,
+        fks,
+        &ranges,
+        count,
+    )
 }
 
 // Loads a list of two or more numbers that was judged, and whose stream takes so many bytes.
@@ -120,22 +142,34 @@ fn load_list(
     heads: &mut [u64],
     mark: &mut u64,
     free: &mut [u64; 9],
+    counts: &mut [u64; 49],
+    desk: u64,
     fit: SlabFit,
     key: usize,
     fks: &[u64],
     bytes: usize,
 ) -> BookLoad
-    requires { ⌜ ToLoadList (bookOf (now body) (now heads) (now mark) (now free)) key (now fks) bytes ⌝ }
+    requires { ⌜ ToLoadList desk (bookOf (now body) (now heads) (now mark) (now free) (now counts)) key (now fks) bytes ⌝ }
     ensures { λ r. ⌜ Does
-        (loadInto (bookOf (now (body .entry)) (now (heads .entry)) (now (mark .entry)) (now (free .entry))) key (now (fks .entry))
-        (loadsTo fit (length (now (fks .entry))) (streamLen (now (fks .entry)))))
-        (bookOf (now (body .entry)) (now (heads .entry)) (now (mark .entry)) (now (free .entry)))
-        (bookOf (now (body .exit)) (now (heads .exit)) (now (mark .exit)) (now (free .exit))) (loadAnswer r) ⌝ }
+        (loadInto desk (bookOf (now (body .entry)) (now (heads .entry)) (now (mark .entry)) (now (free .entry)) (now (counts .entry))) key
+        (now (fks .entry)) (loadsTo fit (length (now (fks .entry))) (streamLen (now (fks .entry)))))
+        (bookOf (now (body .entry)) (now (heads .entry)) (now (mark .entry)) (now (free .entry)) (now (counts .entry)))
+        (bookOf (now (body .exit)) (now (heads .exit)) (now (mark .exit)) (now (free .exit)) (now (counts .exit))) (loadAnswer r) ⌝ }
 {
     let class = book_rules::loads_to(fit, fks.len(), bytes);
     match class {
-        SlabClass::Class(class) => load_slab(body, heads, mark, free, key, fks, class),
-        SlabClass::Nothing => load_run(body, heads, mark, free, key, fks),
+        SlabClass::Class(class) => load_slab(
+            body,
+            heads,
+            mark,
+            free,
+            counts,
+            desk,
+            key,
+            fks,
+            class,
+        ),
+        SlabClass::Nothing => load_run(body, heads, mark, free, counts, desk, key, fks),
     }
 }
 
@@ -145,16 +179,19 @@ fn load_judged(
     heads: &mut [u64],
     mark: &mut u64,
     free: &mut [u64; 9],
+    counts: &mut [u64; 49],
+    desk: u64,
     fit: SlabFit,
     key: usize,
     fks: &[u64],
     bytes: usize,
 ) -> BookLoad
-    requires { ⌜ ToLoadJudged (bookOf (now body) (now heads) (now mark) (now free)) key (now fks) bytes ⌝ }
+    requires { ⌜ ToLoadJudged desk (bookOf (now body) (now heads) (now mark) (now free) (now counts)) key (now fks) bytes ⌝ }
     ensures { λ r. ⌜ Does
-        (loadAt fit (bookOf (now (body .entry)) (now (heads .entry)) (now (mark .entry)) (now (free .entry))) key (now (fks .entry)))
-        (bookOf (now (body .entry)) (now (heads .entry)) (now (mark .entry)) (now (free .entry)))
-        (bookOf (now (body .exit)) (now (heads .exit)) (now (mark .exit)) (now (free .exit))) (loadAnswer r) ⌝ }
+        (loadAt fit desk (bookOf (now (body .entry)) (now (heads .entry)) (now (mark .entry)) (now (free .entry)) (now (counts .entry))) key
+        (now (fks .entry)))
+        (bookOf (now (body .entry)) (now (heads .entry)) (now (mark .entry)) (now (free .entry)) (now (counts .entry)))
+        (bookOf (now (body .exit)) (now (heads .exit)) (now (mark .exit)) (now (free .exit)) (now (counts .exit))) (loadAnswer r) ⌝ }
 {
     if fks.len() == 0 {
         return BookLoad::Loaded(0);
@@ -163,28 +200,35 @@ fn load_judged(
         let entry = fks[0];
         return accept_load(heads, key, ShHeadValue::Inline { entry, used: 1 }, 0);
     }
-    load_list(body, heads, mark, free, fit, key, fks, bytes)
+    load_list(body, heads, mark, free, counts, desk, fit, key, fks, bytes)
 }
 
-// Loads a list onto an empty key: its slab has a spare slot, or fits tight.
+// Loads a list onto an empty key, for a desk: its slab has a spare slot, or fits tight.
 pub fn load(
     body: &mut [u8],
     heads: &mut [u64],
     mark: &mut u64,
     free: &mut [u64; 9],
+    counts: &mut [u64; 49],
+    desk: u64,
     fit: SlabFit,
     key: u64,
     fks: &[u64],
 ) -> BookLoad
     ensures answer { λ r. ⌜ loadAnswer r
         ≡ answerOf
-        (loads fit (bookOf (now (body .entry)) (now (heads .entry)) (now (mark .entry)) (now (free .entry))) key (now (fks .entry))) ⌝ }
-    ensures book { λ r. ⌜ bookOf (now (body .exit)) (now (heads .exit)) (now (mark .exit)) (now (free .exit))
-        ≡ bookAfter (bookOf (now (body .entry)) (now (heads .entry)) (now (mark .entry)) (now (free .entry)))
-        (loads fit (bookOf (now (body .entry)) (now (heads .entry)) (now (mark .entry)) (now (free .entry))) key (now (fks .entry))) ⌝ }
+        (loads fit desk (bookOf (now (body .entry)) (now (heads .entry)) (now (mark .entry)) (now (free .entry)) (now (counts .entry))) key
+        (now (fks .entry))) ⌝ }
+    ensures book { λ r. ⌜ bookOf (now (body .exit)) (now (heads .exit)) (now (mark .exit)) (now (free .exit)) (now (counts .exit))
+        ≡ bookAfter (bookOf (now (body .entry)) (now (heads .entry)) (now (mark .entry)) (now (free .entry)) (now (counts .entry)))
+        (loads fit desk (bookOf (now (body .entry)) (now (heads .entry)) (now (mark .entry)) (now (free .entry)) (now (counts .entry))) key
+        (now (fks .entry))) ⌝ }
 {
     if book_space::shape_broken(body, heads.len(), *mark) {
         return BookLoad::Refused(error::SHAPE_BAD);
+    }
+    if DESKS as u64 <= desk {
+        return BookLoad::Refused(error::DESKS_BAD);
     }
     if heads.len() as u64 <= key {
         return BookLoad::Refused(error::KEY_BEYOND);
@@ -200,5 +244,5 @@ pub fn load(
     let StreamBytes::Bytes(bytes) = judged else {
         return BookLoad::Refused(judged.refusal());
     };
-    load_judged(body, heads, mark, free, fit, at, fks, bytes)
+    load_judged(body, heads, mark, free, counts, desk, fit, at, fks, bytes)
 }

@@ -57,11 +57,12 @@ module _ (b : Book) (key room : ℕ) where
 abbrev pub ReadDoes : Answer Listed → List ℕ → List ℕ → Answer Counted → Type 0
 ReadDoes a before after tells = (tells ≡ answered countedOf a) × (after ≡ listAfter before a)
 
--- So with any free heads, in the two parts that a read promises.
-pub for-any : (a : List ℕ → Answer Listed) (before : List ℕ) {after : List ℕ} {tells : Answer Counted}
-    → ((free : List ℕ) → ReadDoes (a free) before after tells)
-    → ((free : List ℕ) → tells ≡ answered countedOf (a free)) × ((free : List ℕ) → after ≡ listAfter before (a free))
-for-any a before does = (λ free. does free .0, λ free. does free .1)
+-- So with any free heads and counts, in the two parts that a read promises.
+pub for-any : (a : List ℕ → List ℕ → Answer Listed) (before : List ℕ) {after : List ℕ} {tells : Answer Counted}
+    → ((free counts : List ℕ) → ReadDoes (a free counts) before after tells)
+    → ((free counts : List ℕ) → tells ≡ answered countedOf (a free counts))
+    × ((free counts : List ℕ) → after ≡ listAfter before (a free counts))
+for-any a before does = (λ free counts. does free counts .0, λ free counts. does free counts .1)
 
 -- A read that is refused, and leaves the list.
 pub read-no : (a : Answer Listed) (out : List ℕ) {number : ℕ} → a ≡ refused number → ReadDoes a out out (refused number)

@@ -7,7 +7,7 @@ use Rattle.error.specs.Refusal.{Answer, accepted, refused, refuseIf, andThen, l
 use Rattle.buffer.specs.Bytes.{overwrite}
 use Rattle.book_rules.specs.Outcomes.{listing, Listed}
 use Rattle.book_keys.specs.Keys.{content}
-use Rattle.book.specs.Book.{Book, wordOf, onKey, seen}
+use Rattle.book.specs.Book.{Book, wordOf, onKey, withDesks, seen}
 
 -- A read of a key into a lent list with room for some numbers.
 unfoldable pub reads : Book → ℕ → ℕ → Answer Listed
@@ -16,6 +16,10 @@ reads b key room =
     (andThen (content (seen (b .space)) (wordOf key b))
     (λ c. refuseIf (ltb room (length (c .numbers))) listTooShort
     (accepted (listing (c .numbers) (c .pages) (c .padded)))))
+
+-- A read that is lent the list of desks, which is judged before it.
+abbrev pub readsWith : List ℕ → Book → ℕ → ℕ → Answer Listed
+readsWith ds b key room = withDesks ds b key (λ desk. reads b key room)
 
 -- What a lent list holds after a read: the numbers at its start, or what it held where the read is refused.
 unfoldable pub listAfter : List ℕ → Answer Listed → List ℕ

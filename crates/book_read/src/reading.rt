@@ -10,14 +10,14 @@ ghost use Rattle.book_read.specs.Answers.{readAnswer, countedOf};
 use crate::answers::BookRead;
 use book_keys::KeyCounts;
 
-// Reads the list of a key into the start of a lent list, whatever the free heads are: all of the key is judged before the lent list, which
-// is left where the read is refused.
+// Reads the list of a key into the start of a lent list, whatever the free heads and the counts are: all of the key is judged before
+// the lent list, which is left where the read is refused.
 pub fn read(body: &[u8], heads: &[u64], mark: u64, key: u64, out: &mut [u64]) -> BookRead
-    ensures answer { λ r. ⌜ ((free : List ℕ) → readAnswer r
-        ≡ answered countedOf (reads (bookOf (now (body .entry)) (now (heads .entry)) mark free) key (length (now (out .entry))))) ⌝ }
-    ensures list { λ r. ⌜ ((free : List ℕ) → now (out .exit)
+    ensures answer { λ r. ⌜ ((free counts : List ℕ) → readAnswer r
+        ≡ answered countedOf (reads (bookOf (now (body .entry)) (now (heads .entry)) mark free counts) key (length (now (out .entry))))) ⌝ }
+    ensures list { λ r. ⌜ ((free counts : List ℕ) → now (out .exit)
         ≡ listAfter (now (out .entry))
-        (reads (bookOf (now (body .entry)) (now (heads .entry)) mark free) key (length (now (out .entry))))) ⌝ }
+        (reads (bookOf (now (body .entry)) (now (heads .entry)) mark free counts) key (length (now (out .entry))))) ⌝ }
 {
     if book_space::shape_broken(body, heads.len(), mark) {
         return BookRead::Refused(error::SHAPE_BAD);

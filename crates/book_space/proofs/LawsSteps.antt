@@ -6,7 +6,7 @@ use mathlib.Core.Bool.{true}
 use mathlib.Core.Path.{_≡_, refl, sym, ap, subst, _∙_}
 use borrow.Author.Tests.{lt-ltb, le-ltb, ne-eqb}
 use lib.ListN.{length}
-use Rattle.error.specs.Refusal.{Answer, accepted, refused, answered, noRoom}
+use Rattle.error.specs.Refusal.{Answer, accepted, refused, answered, refusalOf, noRoom}
 use Rattle.error.proofs.LawsAnswer.{refuse-yes, refuse-no, then-yes, then-no, answered-yes, answered-no, was-accepted, was-refused}
 use Rattle.scripthash_layout.specs.Sizes.{slabBytes, pageClass}
 use Rattle.scripthash_free.specs.FreeList.{Lists, Pop, isBlock, pushFree, popFree, pushAll, listsAfter, headsAfter}
@@ -15,6 +15,10 @@ use Rattle.book_limits.specs.Limits.{slabsEnd, popEnd}
 use Rattle.book_space.specs.Space.{takeSlab, Space, space, listsOf, withLists, Taken, takeMark, takeRun, takeFresh, takePopped, takeBlock}
 use Rattle.book_space.specs.Space.{spaceAfter, release}
 use Rattle.book_space.specs.Steps.{Takes}
+
+-- An answer that is a refusal refuses by the number that is asked of it.
+pub refused-as : {A : Type 0} (a : Answer A) (n : ℕ) {number : ℕ} → a ≡ refused number → n ≡ refusalOf a → a ≡ refused n
+refused-as a n is e = is ∙ ap refused (sym (e ∙ ap refusalOf is))
 
 -- The space of an accepted take stands afterwards.
 pub after-taken : (s : Space) (a : Answer Taken) {t : Taken} → a ≡ accepted t → spaceAfter s a ≡ t .space

@@ -2,3 +2,5 @@ pub mod LawsShape
 pub mod LawsLists
 pub mod LawsSteps
 pub mod LawsTake
+pub mod LawsDesks
+pub mod LawsPeek

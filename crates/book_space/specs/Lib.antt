@@ -1,3 +1,4 @@
 pub mod Space
+pub mod Desks
 pub mod Answers
 pub mod Steps

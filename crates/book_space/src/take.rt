@@ -30,7 +30,7 @@ impl TakeBlock {
 }
 
 // The end of slabs: a slab's head has 40 bits for its offset.
-const SLABS_END: u64 = 1 << 40;
+pub const SLABS_END: u64 = 1 << 40;
 
 // Where the gap from the mark to a page ends that is carved: past the end of slabs it is empty.
 fn gap_end(mark: u64, from: u64) -> u64
@@ -44,7 +44,7 @@ fn gap_end(mark: u64, from: u64) -> u64
 }
 
 // The end up to which a freed block of a class may lie that is popped.
-fn pop_end(class: u8, mark: u64) -> u64
+pub fn pop_end(class: u8, mark: u64) -> u64
     ensures { λ r. ⌜ r ≡ popEnd class mark ⌝ }
 {
     if class == SH_PAGE_SLAB_CLASS {

@@ -59,30 +59,30 @@ enum-known-class c = search needs
 
 place-in-slab-requires : tie.Need-place-in-slab-requires
 place-in-slab-requires c κs =
-    let k = c .before .before .before in
+    let k = c .before .before .before .before in
     let pre = start (choosing k) .pre in
     let m = moves-to (length (list (start (choosing k)))) (streamLen (list (start (choosing k)))) (to-slab k) in
-    record { shape = pre .shape; low = m .slab; few = m .few; rises = pre .rises; fits = m .fits }
+    record { shape = pre .shape; known = pre .known; low = m .slab; few = m .few; rises = pre .rises; fits = m .fits }
 
 enum-told : tie.Need-enum-told
 enum-told c = search needs
 
 place-in-page-requires : tie.Need-place-in-page-requires
 place-in-page-requires c κs =
-    let s = start (choosing-page (c .before .before .before)) in
-    record { shape = s .pre .shape; few = s .pre .few; rises = s .pre .rises; fits = omega (arith, bytes s) }
+    let s = start (choosing-page (c .before .before .before .before)) in
+    record { shape = s .pre .shape; known = s .pre .known; few = s .pre .few; rises = s .pre .rises; fits = omega (arith, bytes s) }
 
 same-length : tie.Need-same-length
 same-length c = search needs
 
 returns : tie.Need-returns
-returns c = let p = c .before .before in rw (to-slab (p .before .before .before .before)) (p .place-in-slab .ensures)
+returns c = let p = c .before .before in rw (to-slab (p .before .before .before .before .before)) (p .place-in-slab .ensures)
 
 same-length-2 : tie.Need-same-length-2
 same-length-2 c = search needs
 
 returns-2 : tie.Need-returns-2
-returns-2 c = let p = c .before .before in rw (to-page (p .before .before .before .before)) (p .place-in-page .ensures)
+returns-2 c = let p = c .before .before in rw (to-page (p .before .before .before .before .before)) (p .place-in-page .ensures)
 
 pub move-list-spec : {M : Type 1} → statement M
 move-list-spec =

@@ -11,9 +11,9 @@ use borrow.Author.Needs.{needs}
 use Rattle.book_append.proofs.appending.accept_append.Statement.{statement}
 use Rattle.book_append.proofs.appending.accept_append.Tie as tie
 
--- a book of head words and a space
-abbrev withHeads : List ℕ → Space → Book
-withHeads heads s = record { heads = heads; space = s }
+-- a book of head words, a space and counts
+abbrev withHeads : List ℕ → Space → List ℕ → Book
+withHeads heads s counts = record { heads = heads; space = s; counts = counts }
 
 put-head-requires : tie.Need-put-head-requires
 put-head-requires c κs = search needs
@@ -23,11 +23,11 @@ same-length c = search needs
 
 returns : tie.Need-returns
 unfolding bookAfter answered
-returns c b s e =
+returns c b s counts e =
     let a = c .before .before .before .before .before .args in
     record {
       told = refl;
-      left = ap (λ (h : List ℕ). withHeads h s) (c .before .before .put-head .ensures
+      left = ap (λ (h : List ℕ). withHeads h s counts) (c .before .before .put-head .ensures
           ∙ ap (λ (h : List ℕ). set h (a .key) (headWord (a .place))) (sym e));
     }
 

@@ -13,12 +13,13 @@ use Rattle.book_append.proofs.appending.append_at.Tie as tie
 -- the book before, and an append where its key stands
 module _ (s : tie.Start) where
   abbrev b : Book
-  b = bookOf (s .args .body .now) (s .args .heads .now) (s .args .mark .now) (s .args .free .now)
+  b = bookOf (s .args .body .now) (s .args .heads .now) (s .args .mark .now) (s .args .free .now) (s .args .counts .now)
 
   -- a key at one place is appended to as at another that is the same
   placed : {place : ShHeadValue} → s .args .place ≡ place
-      → appendAt b (s .args .key) (s .args .n) (s .args .place) ≡ appendAt b (s .args .key) (s .args .n) place
-  placed e = ap (appendAt b (s .args .key) (s .args .n)) e
+      → appendAt (s .args .desk) b (s .args .key) (s .args .n) (s .args .place) ≡ appendAt (s .args .desk) b (s .args .key)
+      (s .args .n) place
+  placed e = ap (appendAt (s .args .desk) b (s .args .key) (s .args .n)) e
 
 enum-told : tie.Need-enum-told
 enum-told c = search needs
@@ -31,7 +32,7 @@ enum-known-place c = search needs
 
 append-inline-requires : tie.Need-append-inline-requires
 append-inline-requires c κs =
-    let p = c .before .before .before .before .before in
+    let p = c .before .before .before .before .before .before in
     let s = p .before .before .before .before in
     record {
       to-append = s .pre .to-append;
@@ -57,8 +58,8 @@ returns : tie.Need-returns
 returns c =
     let t = c .before .before .before .before in
     let s = t .before .before .before .before in
-    does-as (placed s (t .enum-told .given .1) ∙ at-empty (b s) (s .args .key) (s .args .n))
-    (c .before .before .accept-append .ensures (b s) (b s .space) refl)
+    does-as (placed s (t .enum-told .given .1) ∙ at-empty (s .args .desk) (b s) (s .args .key) (s .args .n))
+    (c .before .before .accept-append .ensures (b s) (b s .space) (b s .counts) refl)
 
 same-length-2 : tie.Need-same-length-2
 same-length-2 c = search needs
@@ -69,7 +70,7 @@ same-length-3 c = search needs
 returns-2 : tie.Need-returns-2
 returns-2 c =
     let f = c .before .before .before .before in
-    let p = f .before .before .before .before .before .before in
+    let p = f .before .before .before .before .before .before .before in
     does-as (placed (p .before .before .before .before) (p .place .given .1)) (f .append-inline .ensures _)
 
 same-length-4 : tie.Need-same-length-4
@@ -81,7 +82,7 @@ same-length-5 c = search needs
 returns-3 : tie.Need-returns-3
 returns-3 c =
     let f = c .before .before .before .before in
-    let p = f .before .before .before .before .before .before in
+    let p = f .before .before .before .before .before .before .before in
     does-as (placed (p .before .before .before .before) (p .place2 .given .1)) (f .append-slab .ensures)
 
 same-length-6 : tie.Need-same-length-6
@@ -93,7 +94,7 @@ same-length-7 c = search needs
 returns-4 : tie.Need-returns-4
 returns-4 c =
     let f = c .before .before .before .before in
-    let p = f .before .before .before .before .before .before in
+    let p = f .before .before .before .before .before .before .before in
     does-as (placed (p .before .before .before .before) (p .place3 .given .1)) (f .append-page .ensures)
 
 pub append-at-spec : {M : Type 1} → statement M

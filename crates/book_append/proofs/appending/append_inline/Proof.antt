@@ -8,7 +8,7 @@ use Rattle.scripthash_stream.specs.Stream.{Rising}
 use Rattle.book_space.specs.Space.{Space, space}
 use Rattle.book.specs.Book.{Book}
 use Rattle.book.specs.Answers.{bookOf}
-use Rattle.book.proofs.LawsKey.{does-from}
+use Rattle.book.proofs.LawsKey.{does-still}
 use Rattle.book.proofs.LawsPlace.{placed-at, placed-none}
 use Rattle.book.specs.Steps.{placeAnswer}
 use Rattle.book_append.proofs.LawsAppend.{does-as, does-none, placesFor, inline-low, inline-yes, inline-no}
@@ -18,12 +18,12 @@ use Rattle.book_append.proofs.appending.append_inline.Tie as tie
 -- the book before
 module _ (s : tie.Start) where
   abbrev b : Book
-  b = bookOf (s .args .body .now) (s .args .heads .now) (s .args .mark .now) (s .args .free .now)
+  b = bookOf (s .args .body .now) (s .args .heads .now) (s .args .mark .now) (s .args .free .now) (s .args .counts .now)
 
 -- both numbers were placed, or not
 module _ (p : tie.After-move-list) where
   abbrev start : tie.Start
-  start = p .before .before .before .before .before .before .before .before
+  start = p .before .before .before .before .before .before .before .before .before
 
   abbrev list : List ℕ
   list = start .args .entry ∷ start .args .n ∷ []
@@ -31,11 +31,14 @@ module _ (p : tie.After-move-list) where
   abbrev after : Space
   after = space (p .move-list .last .0) (p .move-list .last .1 .0) (p .move-list .last .1 .1 .0)
 
+  abbrev left : List ℕ
+  left = p .move-list .last .1 .1 .1 .0
+
 returns : tie.Need-returns
 returns c used =
     let s = c .before .before .before in
     let a = s .args in
-    does-none (b s) (inline-low (b s) (a .key) (a .n) (a .entry) used (c .if1 .taken))
+    does-none (b s) (inline-low (a .desk) (b s) (a .key) (a .n) (a .entry) used (c .if1 .taken))
 
 slice-aggregate-move-list : tie.Need-slice-aggregate-move-list
 slice-aggregate-move-list c = search needs
@@ -43,11 +46,12 @@ slice-aggregate-move-list c = search needs
 move-list-requires : tie.Need-move-list-requires
 unfolding Rising
 move-list-requires c κs =
-    let s = c .before .before .before .before .before .before .before in
-    let above = c .before .before .before .before .if1 .left in
+    let s = c .before .before .before .before .before .before .before .before in
+    let above = c .before .before .before .before .before .if1 .left in
     let known = s .pre .to-append in
     record {
       shape = known .shape;
+      known = known .known;
       two = omega arith;
       few = omega arith;
       rises = (s .pre .some, omega (arith, known .low), (omega arith, known .low, tt));
@@ -74,10 +78,13 @@ returns-2 c used =
     let p = k .before .before .before .before .before in
     let s = start p in
     let a = s .args in
-    let here = placed-at (b s .space) (after p) (placesFor (b s .space) (list p)) (p .move-list .ensures)
+    let here = placed-at (b s .space) (b s .counts) (after p) (left p) (placesFor (a .desk) (b s .space) (b s .counts) (list p))
+    (p .move-list .ensures)
     (ap placeAnswer (k .before .answer .given .1)) in
-    does-as (inline-yes (b s) (a .key) (a .n) (a .entry) used (omega (arith, p .before .before .before .before .before .if1 .left)) here)
-    (c .before .before .accept-append .ensures (b s) (after p) refl)
+    does-as
+    (inline-yes (a .desk) (b s) (a .key) (a .n) (a .entry) used
+    (omega (arith, p .before .before .before .before .before .before .if1 .left)) here)
+    (c .before .before .accept-append .ensures (b s) (after p) (left p) refl)
 
 same-length-3 : tie.Need-same-length-3
 same-length-3 c = search needs
@@ -87,11 +94,13 @@ returns-3 c used =
     let p = c .before .before .before .before .before in
     let s = start p in
     let a = s .args in
-    let none = placed-none (b s .space) (after p) (placesFor (b s .space) (list p)) (p .move-list .ensures)
+    let none = placed-none (b s .space) (b s .counts) (after p) (left p) (placesFor (a .desk) (b s .space) (b s .counts) (list p))
+    (p .move-list .ensures)
     (ap placeAnswer (c .before .answer2 .given .1)) in
-    does-from (none .1)
-    (does-none (record { heads = a .heads .now; space = after p })
-    (inline-no (b s) (a .key) (a .n) (a .entry) used (omega (arith, p .before .before .before .before .before .if1 .left)) (none .0)))
+    does-still (b s)
+    (inline-no (a .desk) (b s) (a .key) (a .n) (a .entry) used
+    (omega (arith, p .before .before .before .before .before .before .if1 .left)) (none .0))
+    (none .1) (none .2)
 
 pub append-inline-spec : {M : Type 1} → statement M
 append-inline-spec =

@@ -19,7 +19,7 @@ use Rattle.book_append.proofs.appending.append_page.Tie as tie
 -- the book before
 module _ (s : tie.Start) where
   abbrev b : Book
-  b = bookOf (s .args .body .now) (s .args .heads .now) (s .args .mark .now) (s .args .free .now)
+  b = bookOf (s .args .body .now) (s .args .heads .now) (s .args .mark .now) (s .args .free .now) (s .args .counts .now)
 
 -- the last page's end was told
 module _ (k : tie.After-known-told) where
@@ -75,7 +75,7 @@ returns c =
     let a = s .args in
     let is = tail-untold (a .body .now) (a .mark .now) (a .free .now) (a .last) (t .tail-end .ensures)
     (ap tailAnswer (c .enum-told .given .1)) in
-    does-none (b s) (page-unsound (b s) (a .key) (a .n) (a .last) (is .1))
+    does-none (b s) (page-unsound (a .desk) (b s) (a .key) (a .n) (a .last) (is .1))
 
 same-length-2 : tie.Need-same-length-2
 same-length-2 c = search needs
@@ -84,7 +84,7 @@ returns-2 : tie.Need-returns-2
 returns-2 c =
     let k = c .before in
     let a = start k .args in
-    does-none (b (start k)) (page-low (b (start k)) (a .key) (a .n) (a .last) (told k) (c .if1 .taken))
+    does-none (b (start k)) (page-low (a .desk) (b (start k)) (a .key) (a .n) (a .last) (told k) (c .if1 .taken))
 
 sub-difference : tie.Need-sub-difference
 sub-difference c = search needs
@@ -102,11 +102,11 @@ add-if2-2 c =
 
 grow-chain-requires : tie.Need-grow-chain-requires
 grow-chain-requires c κs =
-    let l = c .before .before .before .before .before in
+    let l = c .before .before .before .before .before .before in
     let k = l .before .before in
     let a = start k .args in
-    page-full (b (start k)) (a .key) (a .n) (a .last) (told k) (omega (arith, l .before .if1 .left)) (start k .pre)
-    (omega (arith, l .uleb128-len .ensures, c .before .before .before .before .if2 .taken))
+    page-full (a .desk) (b (start k)) (a .key) (a .n) (a .last) (told k) (omega (arith, l .before .if1 .left)) (start k .pre)
+    (omega (arith, l .uleb128-len .ensures, c .before .before .before .before .before .if2 .taken))
 
 same-length-3 : tie.Need-same-length-3
 same-length-3 c = search needs
@@ -148,10 +148,11 @@ returns-4 c =
     let k = l .before .before in
     let a = start k .args in
     does-as
-    (page-stays (b (start k)) (a .key) (a .n) (a .last) (told k) (omega (arith, l .before .if1 .left))
+    (page-stays (a .desk) (b (start k)) (a .key) (a .n) (a .last) (told k) (omega (arith, l .before .if1 .left))
     (omega (arith, l .uleb128-len .ensures, g .before .before .if2 .left))
     (g .grow-page .last .0) (g .grow-page .ensures))
-    (c .before .before .accept-append .ensures (b (start k)) (space (g .grow-page .last .0) (a .mark .now) (a .free .now)) refl)
+    (c .before .before .accept-append .ensures (b (start k)) (space (g .grow-page .last .0) (a .mark .now) (a .free .now))
+    (a .counts .now) refl)
 
 pub append-page-spec : {M : Type 1} → statement M
 append-page-spec =

@@ -23,7 +23,7 @@ use Rattle.book_append.proofs.appending.append_slab.Tie as tie
 -- the book before
 module _ (s : tie.Start) where
   abbrev b : Book
-  b = bookOf (s .args .body .now) (s .args .heads .now) (s .args .mark .now) (s .args .free .now)
+  b = bookOf (s .args .body .now) (s .args .heads .now) (s .args .mark .now) (s .args .free .now) (s .args .counts .now)
 
 -- the slab's end was told
 module _ (k : tie.After-known-told) where
@@ -104,7 +104,7 @@ returns c =
     let a = s .args in
     let is = slab-untold (a .body .now) (a .mark .now) (a .free .now) (a .class) (a .used) (a .off) (t .slab-end .ensures)
     (ap scanAnswer (c .enum-told .given .1)) in
-    does-none (b s) (slab-unsound (b s) (a .key) (a .n) (a .class) (a .used) (a .off) (is .1))
+    does-none (b s) (slab-unsound (a .desk) (b s) (a .key) (a .n) (a .class) (a .used) (a .off) (is .1))
 
 same-length-2 : tie.Need-same-length-2
 same-length-2 c = search needs
@@ -113,7 +113,7 @@ returns-2 : tie.Need-returns-2
 returns-2 c =
     let k = c .before in
     let a = start k .args in
-    does-none (b (start k)) (slab-low (b (start k)) (a .key) (a .n) (a .class) (a .used) (a .off) (told k) (c .if1 .taken))
+    does-none (b (start k)) (slab-low (a .desk) (b (start k)) (a .key) (a .n) (a .class) (a .used) (a .off) (told k) (c .if1 .taken))
 
 sub-difference : tie.Need-sub-difference
 sub-difference c = search needs
@@ -158,8 +158,8 @@ grow-slab-requires c κs =
       fits = omega (arith, size d, holds .2);
     }
 
-add-t30 : tie.Need-add-t30
-add-t30 c = omega (arith, sound (known (staying (c .before .before .before .before))) .used-to-256)
+add-t32 : tie.Need-add-t32
+add-t32 c = omega (arith, sound (known (staying (c .before .before .before .before))) .used-to-256)
 
 accept-append-requires : tie.Need-accept-append-requires
 accept-append-requires c κs = search needs
@@ -176,18 +176,19 @@ returns-3 c =
     let d = g .before .before in
     let a = from d .args in
     does-as
-    (slab-stays (b (from d)) (a .key) (a .n) (a .class) (a .used) (a .off) (told (known (staying d))) (above (staying d))
+    (slab-stays (a .desk) (b (from d)) (a .key) (a .n) (a .class) (a .used) (a .off) (told (known (staying d))) (above (staying d))
     (test (staying d) (d .before .if2 .taken))
     (d .slab-bytes .result) (size d) (g .grow-slab .last .0) (g .grow-slab .ensures))
-    (c .before .before .accept-append .ensures (b (from d)) (space (g .grow-slab .last .0) (a .mark .now) (a .free .now)) refl)
+    (c .before .before .accept-append .ensures (b (from d)) (space (g .grow-slab .last .0) (a .mark .now) (a .free .now))
+    (a .counts .now) refl)
 
 move-slab-requires : tie.Need-move-slab-requires
 move-slab-requires c κs =
-    let t = c .before .before .before .before .before in
+    let t = c .before .before .before .before .before .before in
     let s = start (known t) in
     let a = s .args in
-    slab-leaves (b s) (a .key) (a .n) (a .class) (a .used) (a .off) (told (known t)) (above t) (s .pre)
-    (test t (c .before .before .before .before .if2 .left))
+    slab-leaves (a .desk) (b s) (a .key) (a .n) (a .class) (a .used) (a .off) (told (known t)) (above t) (s .pre)
+    (test t (c .before .before .before .before .before .if2 .left))
 
 same-length-5 : tie.Need-same-length-5
 same-length-5 c = search needs
@@ -216,7 +217,7 @@ append-slab-spec =
     stays-requires
     slab-bytes-requires
     grow-slab-requires
-    add-t30
+    add-t32
     accept-append-requires
     same-length-3
     same-length-4

@@ -1,6 +1,6 @@
 -- `grow_chain` meets its contract: what the take tells decides; the pages' writes are those of the definition. Assumes nothing.
 use Prim.Native.Nat.{ℕ, _+_, _≤_}
-use mathlib.Core.List.{[], _∷_}
+use mathlib.Core.List.{List, [], _∷_}
 use mathlib.Core.Path.{_≡_, refl, ap, _∙_}
 use native.Mathlib.Omega.{arith}
 use borrow.Author.Needs.{needs}
@@ -8,28 +8,34 @@ use lib.ListN.{length}
 use Rattle.error.specs.Refusal.{accepted}
 use Rattle.buffer.specs.Bytes.{overwrite}
 use Rattle.scripthash_layout.specs.Sizes.{pageClass, pageSize}
-use Rattle.book_space.specs.Space.{Space, space, takeBlock}
+use Rattle.book_space.specs.Space.{Space, space}
+use Rattle.book_space.specs.Desks.{TakenFor, pageFor}
 use Rattle.book_space.specs.Answers.{takeAnswer}
 use Rattle.book_keys.proofs.LawsPages.{page-inside}
 use Rattle.book_blocks.specs.Blocks.{lastPageOf}
 use Rattle.book.specs.Book.{Book, seen}
 use Rattle.book.specs.Answers.{bookOf}
-use Rattle.book.proofs.LawsKey.{does-from}
-use Rattle.book.proofs.LawsPlace.{refused-as, took-at, took-none, block-lies, page-named}
-use Rattle.book_append.proofs.LawsAppend.{SoundTail, tail-sound, does-as, does-none, one-fits, chain-no, chain-yes}
+use Rattle.book.proofs.LawsKey.{does-still}
+use Rattle.book_space.proofs.LawsSteps.{refused-as}
+use Rattle.book_space.proofs.LawsDesks.{page-for}
+use Rattle.book.proofs.LawsPlace.{took-at, took-none, block-lies, page-named}
+use Rattle.book_append.proofs.LawsAppend.{SoundTail, tail-sound, does-as, one-fits, chain-no, chain-yes}
 use Rattle.book_append.proofs.appending.grow_chain.Statement.{statement}
 use Rattle.book_append.proofs.appending.grow_chain.Tie as tie
 
 -- the arguments, the book before, and the space after the take
-module _ (t : tie.After-take-block) where
+module _ (t : tie.After-page-for) where
   abbrev start : tie.Start
-  start = t .before .before .before .before .before .before
+  start = t .before .before .before .before .before .before .before
 
   abbrev b : Book
-  b = bookOf (start .args .body .now) (start .args .heads .now) (start .args .mark .now) (start .args .free .now)
+  b = bookOf (start .args .body .now) (start .args .heads .now) (start .args .mark .now) (start .args .free .now) (start .args .counts .now)
 
   abbrev after : Space
-  after = space (t .take-block .last .0) (t .take-block .last .1 .0) (t .take-block .last .1 .1 .0)
+  after = space (t .page-for .last .0) (t .page-for .last .1 .0) (t .page-for .last .1 .1 .0)
+
+  abbrev left : List ℕ
+  left = t .page-for .last .1 .1 .1 .0
 
   -- the old last page is sound
   sound : SoundTail (b .space) (start .args .last) (start .pre .tail)
@@ -42,18 +48,23 @@ module _ (t : tie.After-take-block) where
 
 -- a page was taken
 module _ (k : tie.After-known-told) where
-  abbrev taking : tie.After-take-block
+  abbrev taking : tie.After-page-for
   taking = k .before .before .before .before .before
 
   abbrev off : ℕ
   off = k .before .answer .given .0 .0
 
-  -- the take is of that page
-  took : takeBlock pageClass (b taking .space) ≡ accepted (record { off = off; space = after taking })
-  took = took-at (b taking .space) (after taking) _ (taking .take-block .ensures) (ap takeAnswer (k .before .answer .given .1))
+  abbrev taken : TakenFor
+  taken = record { off = off; space = after taking; counts = left taking }
 
-take-block-requires : tie.Need-take-block-requires
-take-block-requires c κs = record { shape = c .before .before .before .before .before .pre .to-append .shape; low = omega arith }
+  -- the take is of that page
+  took : pageFor (start taking .args .desk) (b taking .space) (b taking .counts) ≡ accepted taken
+  took =
+      took-at (b taking .space) (b taking .counts) (after taking) (left taking) _ (taking .page-for .ensures)
+      (ap takeAnswer (k .before .answer .given .1))
+
+page-for-requires : tie.Need-page-for-requires
+page-for-requires c κs = search needs
 
 enum-known-answer : tie.Need-enum-known-answer
 enum-known-answer c = search needs
@@ -72,10 +83,11 @@ returns c =
     let t = c .before .before .before .before .before in
     let a = start t .args in
     let is = refused-as _ _ (ap takeAnswer (c .before .enum-told .given .1)) (c .refusal .ensures) in
-    let none = took-none (b t .space) (after t) (takeBlock pageClass (b t .space)) (t .take-block .ensures) is in
-    does-from (none .1)
-    (does-none (record { heads = a .heads .now; space = after t })
-    (chain-no (b t) (a .key) (a .n) (a .last) (a .first) (a .creates) (start t .pre) (none .0)))
+    let none = took-none (b t .space) (b t .counts) (after t) (left t) (pageFor (a .desk) (b t .space) (b t .counts))
+    (t .page-for .ensures) is in
+    does-still (b t)
+    (chain-no (a .desk) (b t) (a .key) (a .n) (a .last) (a .first) (a .creates) (start t .pre) (none .0))
+    (none .1) (none .2)
 
 link-page-requires : tie.Need-link-page-requires
 link-page-requires c κs = let h = last-inside (taking (c .before)) in omega arith
@@ -91,12 +103,13 @@ put-last-page-requires c κs =
     let k = c .before .before .before .before .before .before .before in
     let t = taking k in
     let pre = start t .pre .to-append in
-    let lies = block-lies pageClass (off k) (b t .space) (after t) (pre .shape) (omega arith) (took k) in
+    let page = page-for (start t .args .desk) (b t .space) (b t .counts) (took k) in
+    let lies = block-lies pageClass (b t .space) (taken k) (pre .shape) (omega arith) page in
     record {
       inside = omega (arith, lies .ends);
       last = record {
         numbers = one-fits (start t .args .n) (pre .above) (pre .low);
-        base-named = page-named (off k) (b t .space) (after t) (pre .shape) (took k);
+        base-named = page-named (b t .space) (taken k) (pre .shape) page;
         some-extents = omega arith;
       };
     }
@@ -119,19 +132,20 @@ returns-2 c =
     let t = taking k in
     let a = start t .args in
     does-as
-    (chain-yes (b t) (a .key) (a .n) (a .last) (a .first) (a .creates) (start t .pre) (linked .link-page .last .0)
+    (chain-yes (a .desk) (b t) (a .key) (a .n) (a .last) (a .first) (a .creates) (start t .pre) (linked .link-page .last .0)
     (written .put-last-page .last .0) (took k)
     (linked .link-page .ensures)
     (written .put-last-page .ensures
     ∙ ap (λ (n : ℕ). overwrite (linked .link-page .last .0) (off k) (lastPageOf (a .first) (off k) 1 n (a .n ∷ [])))
     (total .total-with .ensures)))
-    (c .before .before .accept-append .ensures (b t) (space (written .put-last-page .last .0) (after t .mark) (after t .free)) refl)
+    (c .before .before .accept-append .ensures (b t) (space (written .put-last-page .last .0) (after t .mark) (after t .free))
+    (left t) refl)
 
 pub grow-chain-spec : {M : Type 1} → statement M
 grow-chain-spec =
     tie.close
     (tie.spec
-    take-block-requires
+    page-for-requires
     enum-known-answer
     enum-told
     refusal-requires

@@ -14,10 +14,10 @@ use Rattle.book_keys.proofs.LawsSound.{soundly-yes}
 use Rattle.book_keys.proofs.LawsSlab.{SoundSlab, slab-sound}
 use Rattle.book.specs.Book.{Book, seen}
 use Rattle.book.specs.Answers.{bookOf}
-use Rattle.book.proofs.LawsKey.{does-from}
+use Rattle.book.proofs.LawsKey.{does-still}
 use Rattle.book.proofs.LawsPlace.{placed-at, placed-none}
 use Rattle.book.specs.Steps.{placeAnswer}
-use Rattle.book_append.proofs.LawsAppend.{slab-free, does-as, does-none, placesFor, list-behind, rises-behind}
+use Rattle.book_append.proofs.LawsAppend.{slab-free, does-as, placesFor, list-behind, rises-behind}
 use Rattle.book_append.proofs.LawsAppend.{slab-moved, slab-unmoved}
 use Rattle.book_append.proofs.appending.move_slab.Statement.{statement}
 use Rattle.book_append.proofs.appending.move_slab.Tie as tie
@@ -25,7 +25,7 @@ use Rattle.book_append.proofs.appending.move_slab.Tie as tie
 -- the book before, and its slab
 module _ (s : tie.Start) where
   abbrev b : Book
-  b = bookOf (s .args .body .now) (s .args .heads .now) (s .args .mark .now) (s .args .free .now)
+  b = bookOf (s .args .body .now) (s .args .heads .now) (s .args .mark .now) (s .args .free .now) (s .args .counts .now)
 
   -- what is known of the slab
   sound : SoundSlab (seen (b .space)) (s .args .class) (s .args .used) (s .args .off) (s .pre .scan)
@@ -70,10 +70,13 @@ module _ (r : tie.After-slab-into) where
 -- the list was placed, or not
 module _ (p : tie.After-move-list) where
   abbrev read : tie.After-slab-into
-  read = p .before .before .before .before .before .before .before
+  read = p .before .before .before .before .before .before .before .before
 
   abbrev after : Space
   after = space (p .move-list .last .0) (p .move-list .last .1 .0) (p .move-list .last .1 .1 .0)
+
+  abbrev left : List ℕ
+  left = p .move-list .last .1 .1 .1 .0
 
 slice-aggregate-slab-into : tie.Need-slice-aggregate-slab-into
 slice-aggregate-slab-into c = search needs
@@ -101,15 +104,17 @@ part-move-list-start : tie.Need-part-move-list-start
 part-move-list-start c = search needs
 
 part-move-list-end : tie.Need-part-move-list-end
-part-move-list-end c = let r = c .before .before .before .before .before in let size = room r in omega (arith, sound (start r) .used-to-256)
+part-move-list-end c = let r = c .before .before .before .before .before .before in let size = room r in omega
+    (arith, sound (start r) .used-to-256)
 
 move-list-requires : tie.Need-move-list-requires
 move-list-requires c κs =
-    let r = c .before .before .before .before .before .before in
+    let r = c .before .before .before .before .before .before .before in
     let s = start r in
     let known = sound s in
     record {
       shape = s .pre .to-append .shape;
+      known = s .pre .to-append .known;
       two = omega (arith, long r, known .some);
       few = omega (arith, long r, known .used-to-256);
       rises = rw (list-is r) (rises-behind _ (s .args .n) (known .rising) (s .pre .above) (s .pre .to-append .low));
@@ -144,12 +149,13 @@ returns c =
     let r = read p in
     let a = start r .args in
     let freed = space (f .release-block .last .0) (after p .mark) (f .release-block .last .1 .0) in
-    let here = placed-at (b (start r) .space) (after p) (placesFor (b (start r) .space) (list r)) (p .move-list .ensures)
+    let here = placed-at (b (start r) .space) (b (start r) .counts) (after p) (left p)
+    (placesFor (a .desk) (b (start r) .space) (b (start r) .counts) (list r)) (p .move-list .ensures)
     (ap placeAnswer (k .before .answer .given .1)) in
     does-as
-    (slab-moved (b (start r)) (a .key) (a .n) (a .class) (a .used) (a .off) (start r .pre) (list r) (list-is r)
+    (slab-moved (a .desk) (b (start r)) (a .key) (a .n) (a .class) (a .used) (a .off) (start r .pre) (list r) (list-is r)
     freed here (f .release-block .ensures (after p .mark)))
-    (c .before .before .accept-append .ensures (b (start r)) freed refl)
+    (c .before .before .accept-append .ensures (b (start r)) freed (left p) refl)
 
 same-length-3 : tie.Need-same-length-3
 same-length-3 c = search needs
@@ -159,11 +165,12 @@ returns-2 c =
     let p = c .before .before .before .before .before in
     let r = read p in
     let a = start r .args in
-    let none = placed-none (b (start r) .space) (after p) (placesFor (b (start r) .space) (list r)) (p .move-list .ensures)
+    let none = placed-none (b (start r) .space) (b (start r) .counts) (after p) (left p)
+    (placesFor (a .desk) (b (start r) .space) (b (start r) .counts) (list r)) (p .move-list .ensures)
     (ap placeAnswer (c .before .answer2 .given .1)) in
-    does-from (none .1)
-    (does-none (record { heads = a .heads .now; space = after p })
-    (slab-unmoved (b (start r)) (a .key) (a .n) (a .class) (a .used) (a .off) (start r .pre) (list r) (list-is r) (none .0)))
+    does-still (b (start r))
+    (slab-unmoved (a .desk) (b (start r)) (a .key) (a .n) (a .class) (a .used) (a .off) (start r .pre) (list r) (list-is r) (none .0))
+    (none .1) (none .2)
 
 pub move-slab-spec : {M : Type 1} → statement M
 move-slab-spec =

@@ -16,7 +16,7 @@ same-length : tie.Need-same-length
 same-length c = search needs
 
 returns : tie.Need-returns
-returns c b s e = does-yes _ _ _ _ refl refl (rw (e, empty-word))
+returns c b s counts e = does-yes _ _ _ _ refl refl (rw (e, empty-word))
 
 pub accept-drop-spec : {M : Type 1} → statement M
 accept-drop-spec = tie.close (tie.spec mul-heads slice-write-heads same-length returns)

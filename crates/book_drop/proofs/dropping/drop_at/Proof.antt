@@ -16,7 +16,7 @@ use Rattle.book_drop.proofs.dropping.drop_at.Tie as tie
 -- the book of the call
 module _ (t : tie.Start) where
   abbrev book : Book
-  book = bookOf (t .args .body .now) (t .args .heads .now) (t .args .mark .now) (t .args .free .now)
+  book = bookOf (t .args .body .now) (t .args .heads .now) (t .args .mark .now) (t .args .free .now) (t .args .counts .now)
 
 enum-told : tie.Need-enum-told
 enum-told c = search needs
@@ -50,12 +50,13 @@ returns c =
     let d = c .before .before .before .before in
     let t = d .before .before .before .before in
     let b = book t in
+    let desk = t .args .desk in
     let key = t .args .key in
     does-same
-    (drop-yes b key Empty (record { numbers = []; blocks = []; pages = 0; padded = 0 }) 0 (b .space) (content-empty (seen (b .space))) refl
-    (sym (release-none (b .space)))
-    ∙ ap (dropsAt b key) (sym (d .enum-told .given .1)))
-    (c .before .before .accept-drop .ensures b (b .space) refl)
+    (drop-yes desk b key Empty (record { numbers = []; blocks = []; pages = 0; padded = 0 }) 0 (b .space)
+    (content-empty (seen (b .space))) refl refl (sym (release-none (b .space)))
+    ∙ ap (dropsAt desk b key) (sym (d .enum-told .given .1)))
+    (c .before .before .accept-drop .ensures b (b .space) (b .counts) refl)
 
 same-length-2 : tie.Need-same-length-2
 same-length-2 c = search needs
@@ -65,14 +66,15 @@ returns-2 c =
     let d = c .before .before .before .before in
     let t = d .before .before .before .before in
     let b = book t in
+    let desk = t .args .desk in
     let key = t .args .key in
     let entry = d .enum-told2 .given .0 .0 in
     let used = d .enum-told2 .given .0 .1 .0 in
     does-same
-    (drop-yes b key (Inline entry used) (record { numbers = entry ∷ []; blocks = []; pages = 0; padded = 0 }) 1 (b .space)
-    (content-inline (seen (b .space)) entry used) refl
-    (sym (release-none (b .space))) ∙ ap (dropsAt b key) (sym (d .enum-told2 .given .1)))
-    (c .before .before .accept-drop2 .ensures b (b .space) refl)
+    (drop-yes desk b key (Inline entry used) (record { numbers = entry ∷ []; blocks = []; pages = 0; padded = 0 }) 1 (b .space)
+    (content-inline (seen (b .space)) entry used) refl refl
+    (sym (release-none (b .space))) ∙ ap (dropsAt desk b key) (sym (d .enum-told2 .given .1)))
+    (c .before .before .accept-drop2 .ensures b (b .space) (b .counts) refl)
 
 same-length-3 : tie.Need-same-length-3
 same-length-3 c = search needs
@@ -84,7 +86,8 @@ returns-3 : tie.Need-returns-3
 returns-3 c =
     let s = c .before .before .before .before in
     let d = s .before .before .before .before .before .before in
-    rw (d .place .given .1) (s .drop-slab .ensures)
+    let a = d .before .before .before .before .args in
+    rw (d .place .given .1) (s .drop-slab .ensures (a .desk) (a .counts .now))
 
 same-length-5 : tie.Need-same-length-5
 same-length-5 c = search needs
@@ -95,7 +98,7 @@ same-length-6 c = search needs
 returns-4 : tie.Need-returns-4
 returns-4 c =
     let s = c .before .before .before .before in
-    let d = s .before .before .before .before .before .before in
+    let d = s .before .before .before .before .before .before .before in
     rw (d .place2 .given .1) (s .drop-chain .ensures)
 
 pub drop-at-spec : {M : Type 1} → statement M

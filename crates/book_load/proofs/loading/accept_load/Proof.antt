@@ -12,7 +12,7 @@ same-length : tie.Need-same-length
 same-length c = search needs
 
 returns : tie.Need-returns
-returns c b s e = does-yes _ _ _ _ refl refl (rw (e, c .before .before .put-head .ensures))
+returns c b s counts e = does-yes _ _ _ _ refl refl (rw (e, c .before .before .put-head .ensures))
 
 pub accept-load-spec : {M : Type 1} → statement M
 accept-load-spec = tie.close (tie.spec put-head-requires same-length returns)

@@ -14,13 +14,15 @@ use Rattle.book_load.proofs.loading.load_judged.Tie as tie
 -- the book before, and the list
 module _ (c : tie.Start) where
   abbrev book : Book
-  book = bookOf (c .args .body .now) (c .args .heads .now) (c .args .mark .now) (c .args .free .now)
+  book = bookOf (c .args .body .now) (c .args .heads .now) (c .args .mark .now) (c .args .free .now) (c .args .counts .now)
 
   abbrev list : List ℕ
   list = c .args .fks .now
 
 returns : tie.Need-returns
-returns c = let s = c .before .before .before .before in ends-same (book s) _ (load-none (s .args .fit) (book s) (s .args .key) (list s) (c .if1 .taken))
+returns c =
+    let s = c .before .before .before .before in
+    ends-same (book s) _ (load-none (s .args .fit) (s .args .desk) (book s) (s .args .key) (list s) (c .if1 .taken))
 
 shared-slice-read-entry : tie.Need-shared-slice-read-entry
 shared-slice-read-entry c = search needs
@@ -36,12 +38,12 @@ returns-2 c =
     let a = c .before .before in
     let one = a .before .before .before in
     let s = one .before .before .before .before .before in
-    does-same (sym (load-one (s .args .fit) (book s) (s .args .key) (list s) (one .if2 .taken)))
-    (a .accept-load .ensures (book s) (book s .space) refl)
+    does-same (sym (load-one (s .args .fit) (s .args .desk) (book s) (s .args .key) (list s) (one .if2 .taken)))
+    (a .accept-load .ensures (book s) (book s .space) (book s .counts) refl)
 
 load-list-requires : tie.Need-load-list-requires
 load-list-requires c κs =
-    let more = c .before .before .before .before in
+    let more = c .before .before .before .before .before in
     let pre = more .before .before .before .before .before .pre in
     record {
       to-load = pre .to-load;
@@ -59,9 +61,10 @@ same-length-3 c = search needs
 returns-3 : tie.Need-returns-3
 returns-3 c =
     let p = c .before .before .before .before in
-    let more = p .before .before .before .before .before in
+    let more = p .before .before .before .before .before .before in
     let s = more .before .before .before .before .before in
-    rw (load-more (s .args .fit) (book s) (s .args .key) (list s) (omega (arith, more .if2 .left, more .before .if1 .left))) (p .load-list .ensures)
+    rw (load-more (s .args .fit) (s .args .desk) (book s) (s .args .key) (list s)
+    (omega (arith, more .if2 .left, more .before .if1 .left))) (p .load-list .ensures)
 
 pub load-judged-spec : {M : Type 1} → statement M
 load-judged-spec =

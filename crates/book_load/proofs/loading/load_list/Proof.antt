@@ -41,15 +41,17 @@ module _ (e : tie.After-enum-told) where
 loads-to-requires : tie.Need-loads-to-requires
 loads-to-requires c κs =
     let start = c .before .before .before in
-    let pre = start .pre in
-    (omega (arith, pre .two-fks), omega (arith, pre .bytes-are, pre .judged .few, stream-at-most 0 (start .args .fks .now) (pre .judged .rises)))
+    let pre = start .pre in (
+      omega (arith, pre .two-fks),
+      omega (arith, pre .bytes-are, pre .judged .few, stream-at-most 0 (start .args .fks .now) (pre .judged .rises)),
+    )
 
 enum-known-class : tie.Need-enum-known-class
 enum-known-class c = search needs
 
 load-slab-requires : tie.Need-load-slab-requires
 load-slab-requires c κs =
-    let k = c .before .before .before .before in
+    let k = c .before .before .before .before .before in
     let t = choosing k in
     let pre = start t .pre in
     let (few, low, fits) = loads-to (start t .args .fit) (length (list t)) (streamLen (list t)) (to-slab k) in
@@ -60,7 +62,7 @@ enum-told c = search needs
 
 load-run-requires : tie.Need-load-run-requires
 load-run-requires c κs =
-    let pre = start (c .before .before .before .before .before .before) .pre in
+    let pre = start (c .before .before .before .before .before .before .before) .pre in
     record { to-load = pre .to-load; some-fks = omega (arith, pre .two-fks); judged = pre .judged }
 
 same-length : tie.Need-same-length
@@ -70,7 +72,9 @@ same-length-2 : tie.Need-same-length-2
 same-length-2 c = search needs
 
 returns : tie.Need-returns
-returns c = let p = c .before .before .before .before in rw (to-slab (p .before .before .before .before .before)) (p .load-slab .ensures)
+returns c =
+    let p = c .before .before .before .before in
+    rw (to-slab (p .before .before .before .before .before .before)) (p .load-slab .ensures)
 
 same-length-3 : tie.Need-same-length-3
 same-length-3 c = search needs
@@ -79,7 +83,9 @@ same-length-4 : tie.Need-same-length-4
 same-length-4 c = search needs
 
 returns-2 : tie.Need-returns-2
-returns-2 c = let p = c .before .before .before .before in rw (to-run (p .before .before .before .before .before)) (p .load-run .ensures)
+returns-2 c =
+    let p = c .before .before .before .before in
+    rw (to-run (p .before .before .before .before .before .before)) (p .load-run .ensures)
 
 pub load-list-spec : {M : Type 1} → statement M
 load-list-spec =

@@ -6,27 +6,34 @@ use mathlib.Core.Path.{_≡_, refl, sym, ap}
 use native.Mathlib.Omega.{arith}
 use borrow.Author.Needs.{needs}
 use lib.ListN.{length}
-use Rattle.error.specs.Refusal.{accepted}
+use Rattle.error.specs.Refusal.{Answer, accepted}
 use Rattle.book_blocks.specs.Steps.{Run}
 use Rattle.book_blocks.proofs.LawsWrites.{run-start}
-use Rattle.book_space.specs.Space.{Space, space, takeRun}
+use Rattle.book_space.specs.Space.{Space, space}
+use Rattle.book_space.specs.Desks.{TakenFor, runFor}
 use Rattle.book_space.specs.Answers.{takeAnswer}
+use Rattle.book_space.proofs.LawsSteps.{refused-as}
 use Rattle.book.specs.Book.{Book}
 use Rattle.book_load.specs.Loads.{loadInto}
 use Rattle.book.specs.Answers.{bookOf}
-use Rattle.book.proofs.LawsKey.{does-same, does-from}
-use Rattle.book.proofs.LawsPlace.{refused-as, took-at, took-none}
-use Rattle.book_load.proofs.LawsLoad.{ends-refused, parts-few, run-loaded, run-not-loaded, run-lies}
+use Rattle.book.proofs.LawsKey.{does-same}
+use Rattle.book.proofs.LawsPlace.{took-at, took-none}
+use Rattle.book_load.proofs.LawsLoad.{ends-still, parts-few, run-loaded, run-not-loaded, run-lies}
 use Rattle.book_load.proofs.loading.load_parts.Statement.{statement}
 use Rattle.book_load.proofs.loading.load_parts.Tie as tie
 
--- the book before, its list with the ranges of its parts, and the space after taking
-module _ (t : tie.After-take-run) where
+-- the book before, its list with the ranges of its parts, the take, and the space and the counts after it
+module _ (t : tie.After-run-for) where
   abbrev start : tie.Start
-  start = t .before .before .before .before .before .before .before
+  start = t .before .before .before .before .before .before .before .before
 
   abbrev book : Book
-  book = bookOf (start .args .body .now) (start .args .heads .now) (start .args .mark .now) (start .args .free .now)
+  book =
+      bookOf (start .args .body .now) (start .args .heads .now) (start .args .mark .now) (start .args .free .now)
+      (start .args .counts .now)
+
+  abbrev desk : ℕ
+  desk = start .args .desk
 
   abbrev list : List ℕ
   list = start .args .fks .now
@@ -37,34 +44,45 @@ module _ (t : tie.After-take-run) where
   abbrev count : ℕ
   count = start .args .count
 
+  abbrev takes : Answer TakenFor
+  takes = runFor desk count (book .space) (book .counts)
+
   abbrev after : Space
-  after = space (t .take-run .last .0) (t .take-run .last .1 .0) (t .take-run .last .1 .1 .0)
+  after = space (t .run-for .last .0) (t .run-for .last .1 .0) (t .run-for .last .1 .1 .0)
+
+  abbrev counted : List ℕ
+  counted = t .run-for .last .1 .1 .1 .0
 
 -- a run was taken, and can be written
 module _ (k : tie.After-known-told) where
-  abbrev taking : tie.After-take-run
+  abbrev taking : tie.After-run-for
   taking = k .before .before .before .before .before
 
-  abbrev off : ℕ
-  off = k .before .answer .given .0 .0
+  abbrev taken : TakenFor
+  taken = record { off = k .before .answer .given .0 .0; space = after taking; counts = counted taking }
 
-  took : takeRun (count taking) (book taking .space) ≡ accepted (record { off = off; space = after taking })
-  took = took-at (book taking .space) (after taking) _ (taking .take-run .ensures) (ap takeAnswer (k .before .answer .given .1))
+  took : takes taking ≡ accepted taken
+  took =
+      let b = book taking in
+      took-at (b .space) (b .counts) (after taking) (counted taking) (takes taking) (taking .run-for .ensures)
+      (ap takeAnswer (k .before .answer .given .1))
 
-  lies : Run (length (after taking .body)) off (list taking) (ranges taking) (count taking)
+  lies : Run (length (taken .space .body)) (taken .off) (list taking) (ranges taking) (count taking)
   lies =
+      let b = book taking in
       let pre = start taking .pre in
-      run-lies (book taking .space) (after taking) (list taking) (ranges taking) (count taking) off (pre .to-load .shape) (pre .cut) took
+      run-lies (desk taking) (b .space) (b .counts) taken (list taking) (ranges taking) (count taking) (pre .to-load .shape) (pre .cut) took
 
   some-pages : 1 ≤ count taking
-  some-pages = run-start (length (after taking .body)) off (list taking) (ranges taking) (count taking) lies .0
+  some-pages = run-start (length (taken .space .body)) (taken .off) (list taking) (ranges taking) (count taking) lies .0
 
-take-run-requires : tie.Need-take-run-requires
-take-run-requires c κs =
-    let start = c .before .before .before .before .before .before in
+run-for-requires : tie.Need-run-for-requires
+run-for-requires c κs =
+    let start = c .before .before .before .before .before .before .before in
     let pre = start .pre in
     record {
       shape = pre .to-load .shape;
+      known = pre .to-load .known;
       low = omega (arith, pre .cut .parts, parts-few (start .args .fks .now) (pre .cut .judged));
     }
 
@@ -85,11 +103,11 @@ returns c =
     let e = c .before in
     let t = e .before .before .before .before in
     let number = refused-as _ _ (ap takeAnswer (e .enum-told .given .1)) (c .refusal .ensures) in
-    let (is, same) = took-none (book t .space) (after t) (takeRun (count t) (book t .space)) (t .take-run .ensures) number in
+    let b = book t in
     let key = start t .args .key in
-    does-from same
-    (ends-refused (record { heads = book t .heads; space = after t }) (loadInto (book t) key (list t) none)
-    (run-not-loaded (book t) key (list t) (count t) (start t .pre .cut .parts) is))
+    let (is, same, kept) = took-none (b .space) (b .counts) (after t) (counted t) (takes t) (t .run-for .ensures) number in
+    ends-still b (loadInto (desk t) b key (list t) none)
+    (run-not-loaded (desk t) b key (list t) (count t) (start t .pre .cut .parts) is, same, kept)
 
 put-run-requires : tie.Need-put-run-requires
 put-run-requires c κs = lies (c .before)
@@ -119,15 +137,15 @@ returns-2 c =
     let k = p .before .before in
     let t = taking k in
     does-same
-    (sym (run-loaded (book t) (start t .args .key) (list t) (count t) (start t .pre .cut .parts) (after t) (took k) (p .put-run .last .0)
-    (p .put-run .ensures)))
-    (a .accept-load .ensures (book t) (space (p .put-run .last .0) (after t .mark) (after t .free)) refl)
+    (sym (run-loaded (desk t) (book t) (start t .args .key) (list t) (count t) (start t .pre .cut .parts) (taken k) (took k)
+    (p .put-run .last .0) (p .put-run .ensures)))
+    (a .accept-load .ensures (book t) (space (p .put-run .last .0) (after t .mark) (after t .free)) (counted t) refl)
 
 pub load-parts-spec : {M : Type 1} → statement M
 load-parts-spec =
     tie.close
     (tie.spec
-    take-run-requires
+    run-for-requires
     enum-known-answer
     enum-told
     refusal-requires

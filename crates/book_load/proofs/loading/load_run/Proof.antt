@@ -49,7 +49,7 @@ slice-aggregate-load-parts c = search needs
 
 load-parts-requires : tie.Need-load-parts-requires
 load-parts-requires c κs =
-    let k = c .before .before .before .before .before .before in
+    let k = c .before .before .before .before .before .before .before in
     let t = k .before .before .before in
     let pre = start t .pre in
     let told = sym (t .sh-page-chunk-ranges .ensures .0) ∙ ap chunkAnswer (k .cut .given .1) in

@@ -15,12 +15,12 @@ use Rattle.book_keys.specs.Answers.{countsAnswer}
 use Rattle.book.specs.Book.{Book}
 use Rattle.book_read.specs.Reads.{reads}
 use Rattle.book.specs.Answers.{bookOf}
-use Rattle.book.proofs.LawsPlace.{refused-as}
+use Rattle.book_space.proofs.LawsSteps.{refused-as}
 use Rattle.book_read.proofs.LawsRead.{reading, read-broken, read-beyond, read-key, for-any, read-no, read-refused, read-accepted}
 use Rattle.book_read.proofs.reading.read.Statement.{statement}
 use Rattle.book_read.proofs.reading.read.Tie as tie
 
--- the call: the word of its key, the room of the lent list, and what the key holds, whatever the free heads are
+-- the call: the word of its key, the room of the lent list, and what the key holds, whatever the free heads and the counts are
 module _ (t : tie.Start) where
   abbrev word : ℕ
   word = getD (t .args .heads .now) (t .args .key) 0
@@ -31,10 +31,10 @@ module _ (t : tie.Start) where
   abbrev held : Answer Content
   held = content (ground (t .args .body .now) (t .args .mark)) word
 
--- its book with some free heads, and what is asked of it
-module _ (t : tie.Start) (free : List ℕ) where
+-- its book with some free heads and counts, and what is asked of it
+module _ (t : tie.Start) (free counts : List ℕ) where
   abbrev book : Book
-  book = bookOf (t .args .body .now) (t .args .heads .now) (t .args .mark) free
+  book = bookOf (t .args .body .now) (t .args .heads .now) (t .args .mark) free counts
 
   abbrev asked : Answer Listed
   asked = reads book (t .args .key) (room t)
@@ -44,11 +44,11 @@ module _ (c : tie.Else1) where
   abbrev at : tie.Start
   at = c .before .before .before .before .before
 
-  whole : (free : List ℕ) → shapeBroken (book at free .space) (length (book at free .heads)) ≡ false
-  whole free = sym (c .before .shape-broken .ensures free) ∙ c .if1 .left
+  whole : (free counts : List ℕ) → shapeBroken (book at free counts .space) (length (book at free counts .heads)) ≡ false
+  whole free counts = sym (c .before .shape-broken .ensures free) ∙ c .if1 .left
 
   within : at .args .mark ≤ length (at .args .body .now)
-  within = shape-holds (book at [] .space) (length (book at [] .heads)) (whole []) .0 .within
+  within = shape-holds (book at [] [] .space) (length (book at [] [] .heads)) (whole [] []) .0 .within
 
 -- the key was read
 module _ (c : tie.After-read-key) where
@@ -58,8 +58,8 @@ module _ (c : tie.After-read-key) where
   abbrev call : tie.Start
   call = at (there .before)
 
-  is : (free : List ℕ) → asked call free ≡ answered reading (inRoom (room call) (held call))
-  is free = read-key (book call free) (call .args .key) (room call) (whole (there .before) free) (there .if2 .left)
+  is : (free counts : List ℕ) → asked call free counts ≡ answered reading (inRoom (room call) (held call))
+  is free counts = read-key (book call free counts) (call .args .key) (room call) (whole (there .before) free counts) (there .if2 .left)
 
 shape-broken-requires : tie.Need-shape-broken-requires
 shape-broken-requires c κs = search needs
@@ -67,15 +67,15 @@ shape-broken-requires c κs = search needs
 returns : tie.Need-returns
 returns c =
     let t = c .before .before .before .before .before in
-    for-any (asked t) (t .args .out .now) (λ free. read-no (asked t free) (t .args .out .now)
-    (read-broken (book t free) (t .args .key) (room t) (sym (c .before .shape-broken .ensures free) ∙ c .if1 .taken)))
+    for-any (asked t) (t .args .out .now) (λ free counts. read-no (asked t free counts) (t .args .out .now)
+    (read-broken (book t free counts) (t .args .key) (room t) (sym (c .before .shape-broken .ensures free) ∙ c .if1 .taken)))
 
 returns-2 : tie.Need-returns-2
 returns-2 c =
     let e = c .before in
     let t = at e in
-    for-any (asked t) (t .args .out .now) (λ free. read-no (asked t free) (t .args .out .now)
-    (read-beyond (book t free) (t .args .key) (room t) (whole e free) (c .if2 .taken)))
+    for-any (asked t) (t .args .out .now) (λ free counts. read-no (asked t free counts) (t .args .out .now)
+    (read-beyond (book t free counts) (t .args .key) (room t) (whole e free counts) (c .if2 .taken)))
 
 mul-word : tie.Need-mul-word
 mul-word c = search needs
@@ -103,9 +103,9 @@ returns-3 c =
     let r = c .before .before .before .before .before in
     let t = call r in
     let number = refused-as _ _ (ap countsAnswer (c .before .enum-told .given .1)) (c .refusal .ensures) in
-    for-any (asked t) (t .args .out .now) (λ free.
-    read-refused (asked t free) (held t) (countsAnswer (r .read-key .result)) (t .args .out .now) _ (is r free) (r .read-key .ensures)
-    number)
+    for-any (asked t) (t .args .out .now) (λ free counts.
+    read-refused (asked t free counts) (held t) (countsAnswer (r .read-key .result)) (t .args .out .now) _ (is r free counts)
+    (r .read-key .ensures) number)
 
 same-length-2 : tie.Need-same-length-2
 same-length-2 c = search needs
@@ -115,8 +115,9 @@ returns-4 c =
     let d = c .before in
     let r = d .before .before .before .before in
     let t = call r in
-    for-any (asked t) (t .args .out .now) (λ free.
-    read-accepted (asked t free) (held t) (countsAnswer (r .read-key .result)) (t .args .out .now) _ (is r free) (r .read-key .ensures)
+    for-any (asked t) (t .args .out .now) (λ free counts.
+    read-accepted (asked t free counts) (held t) (countsAnswer (r .read-key .result)) (t .args .out .now) _ (is r free counts)
+    (r .read-key .ensures)
     (record { length = d .counts .given .0 .0; pages = d .counts .given .0 .1 .0; padded = d .counts .given .0 .1 .1 .0 })
     (ap countsAnswer (d .counts .given .1)))
 
