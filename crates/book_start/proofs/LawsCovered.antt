@@ -17,7 +17,7 @@ use Rattle.scripthash_free.proofs.LawsBlock.{bytes-from-16, block-stands}
 use Rattle.scripthash_free.proofs.LawsGap.{each-map}
 use Rattle.book.specs.Book.{Book}
 use Rattle.book_start.specs.Start.{claimed, claimAll, AllApart, Stands, blocksAt, bytesTaken, followedFrom, heldBy, freedBy, blocksOf, heldOf, listOf}
-use Rattle.book_start.specs.Start.{GoodStart}
+use Rattle.book_start.specs.Start.{GoodBlocks}
 use Rattle.book_start.specs.Covered.{Has, OneHas, lostIn, Covered}
 use Rattle.book_start.proofs.LawsClaims.{claims-first, claim-step}
 use Rattle.book_start.proofs.LawsPairs.{gather, gather-same, held-gathered, freed-gathered, held-stand}
@@ -210,7 +210,7 @@ each-gather P zero f e = tt
 each-gather P (suc n) f e =
     each-both P (f 0) (gather n (λ i. f (suc i))) (e 0 (omega arith)) (each-gather P n (λ i. f (suc i)) (λ i l. e (suc i) (omega arith)))
 
-module _ (b : Book) (g : GoodStart b) where
+module _ (b : Book) (g : GoodBlocks b) where
   -- All its blocks stand below the mark.
   pub all-stand : Each (Stands (b .space .mark)) (blocksOf b)
   all-stand =

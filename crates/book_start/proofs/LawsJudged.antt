@@ -1,6 +1,6 @@
 -- The judgement of a book: it is good exactly where the book is a good start, and tells the units that belong to nobody. Assumes nothing.
 use Prim.Native.Nat.{ℕ, zero, suc, _+_, _-_, _*_, _/_, _≤_, _<_}
-use mathlib.Core.Bool.{false}
+use mathlib.Core.Bool.{false, _||_}
 use mathlib.Core.List.{List, [], _∷_}
 use mathlib.Core.Path.{_≡_, refl, sym, ap, _∙_}
 use native.Mathlib.Nat.{zero-add}
@@ -8,19 +8,22 @@ use native.Mathlib.Omega.{arith}
 use lib.Dec.{ltb}
 use lib.ListN.{length, getD}
 use borrow.Author.Tests.{le-ltb}
-use Rattle.error.specs.Refusal.{Answer, accepted, refused, shapeBad, listTooShort}
-use Rattle.error.proofs.LawsAnswer.{accepted-inj, refuse-no, passed}
+use Rattle.error.specs.Refusal.{Answer, accepted, refused, shapeBad, desksBad, listTooShort}
+use Rattle.error.proofs.LawsAnswer.{accepted-inj, refuse-no, passed, neither}
 use Rattle.scripthash_free.specs.FreeList.{Block, Each}
+use Rattle.book_desks.specs.Desks.{listBad}
+use Rattle.book_desks.specs.Counts.{countWords, countsHigh}
 use Rattle.book_space.specs.Space.{Space, shapeBroken}
 use Rattle.book_space.proofs.LawsShape.{shape-holds}
 use Rattle.book_keys.specs.Keys.{Content, content}
 use Rattle.book.specs.Book.{Book, seen}
-use Rattle.book_start.specs.Start.{blocksAt, bytesTaken, blocksIn, heldBy, followedFrom, freedBy, blocksOf, GoodStart}
+use Rattle.book_start.specs.Start.{blocksAt, bytesTaken, blocksIn, heldBy, followedFrom, freedBy, blocksOf, GoodBlocks, GoodStart}
 use Rattle.book_start.specs.Start.{Verdict, good, keyUnsound, keyShares, freeStrays, freeShares, Claim, claimed, unfit, shared}
-use Rattle.book_start.specs.Start.{claimAll, claimContent, claimFreed, onward, judgeLists, judgeKeys, verdictOf, judges}
+use Rattle.book_start.specs.Start.{claimAll, claimContent, claimFreed, onward, judgeLists, judgeKeys, blocksVerdict, countsBehind, verdictOf, judges}
 use Rattle.book_start.specs.Covered.{lostIn}
 use Rattle.book_start.proofs.LawsClaims.{Claims, Cross, claim-none, claim-both, claims-left, claims-apart, apart-claims}
 use Rattle.book_start.proofs.LawsCovered.{whole-units, claimed-bytes}
+use Rattle.book_start.proofs.LawsCounts.{counts-good, good-counts, behind-good}
 use Rattle.book_start.proofs.LawsFreed.{Ending, freed-claimed, claimed-freed, followed-few}
 
 -- ---- going on
@@ -192,9 +195,9 @@ left-lost b shape c =
 
 module _ (b : Book) (nine : length (b .space .free) ≡ 9) where
   -- A book in shape that is judged good is a good start, and the figure is what belongs to nobody.
-  pub judged-start : (n : ℕ) → shapeBroken (b .space) (length (b .heads)) ≡ false → verdictOf b ≡ good n
-      → GoodStart b × (n * 16 ≡ lostIn b)
-  unfolding verdictOf
+  pub judged-start : (n : ℕ) → shapeBroken (b .space) (length (b .heads)) ≡ false → blocksVerdict b ≡ good n
+      → GoodBlocks b × (n * 16 ≡ lostIn b)
+  unfolding blocksVerdict
   judged-start n shape e =
       let within = shape-holds (b .space) (length (b .heads)) shape .0 .within in
       let k = keys-good (b .space) 0 (b .heads) [] n e in
@@ -216,8 +219,8 @@ module _ (b : Book) (nine : length (b .space .free) ≡ 9) where
       )
 
 -- A good start is judged good, with what belongs to nobody.
-pub start-judged : (b : Book) → GoodStart b → verdictOf b ≡ good (lostIn b / 16)
-unfolding verdictOf
+pub start-judged : (b : Book) → GoodBlocks b → blocksVerdict b ≡ good (lostIn b / 16)
+unfolding blocksVerdict
 start-judged b g =
     let held = heldBy (b .space) (b .heads) in
     let freed = freedBy (b .space) 0 (b .space .free) in
@@ -235,17 +238,24 @@ start-judged b g =
 
 -- With a work list that is long enough, the call accepts a book as good exactly where it is a good start, and tells exactly the units that
 -- belong to nobody.
-module _ (b : Book) (nine : length (b .space .free) ≡ 9) (room : ℕ) where
-  pub judges-start : (n : ℕ) → judges b room ≡ accepted (good n) → GoodStart b × (n * 16 ≡ lostIn b)
-  unfolding judges
-  judges-start n e =
-      let p = passed (shapeBroken (b .space) (length (b .heads))) shapeBad _ e in
-      let q = passed (ltb room (length (b .space .body) / 128)) listTooShort _ (p .1) in
-      judged-start b nine n (p .0) (accepted-inj (q .1))
+module _ (ds : List ℕ) (b : Book) (room : ℕ) where
+  pub judges-start : (n : ℕ) → length (b .space .free) ≡ 9 → length (b .counts) ≡ countWords → judges ds b room ≡ accepted (good n)
+      → GoodStart ds b × (n * 16 ≡ lostIn b)
+  unfolding judges verdictOf
+  judges-start n nine words e =
+      let p = passed (shapeBroken (b .space) (length (b .heads)) || countsHigh (length (b .space .body)) (b .counts)) shapeBad _ e in
+      let (shape, low) = neither (shapeBroken (b .space) (length (b .heads))) (countsHigh (length (b .space .body)) (b .counts)) (p .0) in
+      let q = passed (listBad ds (length (b .heads))) desksBad _ (p .1) in
+      let r = passed (ltb room (length (b .space .body) / 128)) listTooShort _ (q .1) in
+      let (lost, blocks, counts) = behind-good ds b (blocksVerdict b) n (accepted-inj (r .1)) in
+      let (g, units) = judged-start b nine lost shape blocks in
+      let (c, same) = counts-good ds b lost n words low (q .0) counts in
+      (record { blocks = g; counts = c }, rw (← same) units)
 
-  pub start-judges : length (b .space .body) / 128 ≤ room → GoodStart b → judges b room ≡ accepted (good (lostIn b / 16))
-  unfolding judges
+  pub start-judges : length (b .space .body) / 128 ≤ room → GoodStart ds b → judges ds b room ≡ accepted (good (lostIn b / 16))
+  unfolding judges verdictOf countsBehind
   start-judges long g =
-      refuse-no (shapeBroken (b .space) (length (b .heads))) shapeBad _ (g .shape)
+      refuse-no _ shapeBad _ (rw (g .blocks .shape) (g .counts .low))
+      ∙ refuse-no (listBad ds (length (b .heads))) desksBad _ (g .counts .named)
       ∙ refuse-no (ltb room (length (b .space .body) / 128)) listTooShort _ (le-ltb room (length (b .space .body) / 128) long)
-      ∙ ap accepted (start-judged b g)
+      ∙ ap accepted (rw (start-judged b (g .blocks)) (good-counts ds b (lostIn b / 16) (g .counts)))

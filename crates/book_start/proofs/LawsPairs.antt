@@ -22,7 +22,7 @@ use Rattle.book_keys.proofs.LawsKeys.{Every, chain-known}
 use Rattle.book.specs.Book.{Book, wordOf, seen}
 use Rattle.error.proofs.LawsAnswer.{accepted-inj}
 use Rattle.book_start.specs.Start.{AllApart, Stands, blocksAt, blocksIn, heldBy, followedFrom, freedBy, heldOf, listOf}
-use Rattle.book_start.specs.Start.{GoodStart}
+use Rattle.book_start.specs.Start.{GoodBlocks}
 use Rattle.book_start.proofs.LawsClaims.{Cross, disjoint-sym}
 
 -- ---- blocks of several lists
@@ -140,7 +140,7 @@ freed-gathered s class (h ∷ hs) =
     (freed-gathered s (class + 1) hs ∙ gather-same (length hs) (λ i. blocksAt (class + 1 + i) (followedFrom s (getD hs i 0)))
     (λ i. blocksAt (class + suc i) (followedFrom s (getD hs i 0))) (λ i. let same : class + 1 + i ≡ class + suc i = omega arith in rw same)))
 
-module _ (b : Book) (g : GoodStart b) where
+module _ (b : Book) (g : GoodBlocks b) where
   held-all : AllApart (gather (length (b .heads)) (heldOf b))
   held-all = rw (held-gathered (b .space) (b .heads)) at (apart-left (heldBy (b .space) (b .heads)) (freedBy (b .space) 0
       (b .space .free)) (g .apart))
@@ -206,6 +206,6 @@ pub content-stands : (s : Space) (word : ℕ) (c : Content) → content (seen s)
 content-stands s word c e = let w = was-content (seen s) word c e in place-stands s (w .0) c (w .2)
 
 -- So do those of a key of a good start.
-pub held-stand : (b : Book) → GoodStart b → (key : ℕ) → key < length (b .heads) → Each (Stands (b .space .mark)) (heldOf b key)
+pub held-stand : (b : Book) → GoodBlocks b → (key : ℕ) → key < length (b .heads) → Each (Stands (b .space .mark)) (heldOf b key)
 unfolding blocksIn
 held-stand b g key l = let c = g .sound key l in rw (c .1) (content-stands (b .space) (wordOf key b) (c .0) (c .1))

@@ -1,7 +1,8 @@
 -- Judging by a work list: a turn of the loop over free lists and of that over keys, and their ends. Assumes nothing.
 use Prim.Native.Nat.{ℕ, _+_, _-_, _*_, _/_, _%_, _≤_, _<_}
-use mathlib.Core.Bool.{true, false}
+use mathlib.Core.Bool.{false, _||_}
 use mathlib.Core.List.{List, []}
+use mathlib.Core.Logic.{_≢_}
 use mathlib.Core.Path.{_≡_, refl, sym, ap, subst, _∙_}
 use native.Mathlib.Numerals.{add-one}
 use native.Mathlib.Omega.{arith}
@@ -9,22 +10,29 @@ use borrow.Author.Tests.{lt-ltb, le-ltb}
 use lib.Dec.{ltb}
 use lib.ListN.{length, getD, drop, replicate, drop-of-length-le}
 use lib.Seq.{drop-cons}
-use Rattle.error.specs.Refusal.{Answer, accepted, refused, shapeBad, listTooShort}
-use Rattle.error.proofs.LawsAnswer.{refuse-yes, refuse-no}
+use Rattle.error.specs.Refusal.{Answer, accepted, refused, refuseIf, shapeBad, desksBad, listTooShort}
+use Rattle.error.proofs.LawsAnswer.{refuse-yes, refuse-no, passed, neither}
 use Rattle.buffer.specs.Bytes.{overwrite}
 use Rattle.scripthash_free.specs.FreeList.{Block, Each}
-use Rattle.book_space.specs.Space.{Space, space, shapeBroken}
+use Rattle.book_desks.specs.Desks.{listBad}
+use Rattle.book_desks.specs.Counts.{countsHigh}
+use Rattle.book_space.specs.Space.{Space, shapeBroken}
 use Rattle.book_keys.specs.Keys.{content, ground}
-use Rattle.book.specs.Book.{Book}
+use Rattle.book.specs.Book.{Book, withDesks}
+use Rattle.book.specs.Steps.{callNumber}
+use Rattle.book.proofs.LawsKey.{call-on, call-off}
 use Rattle.book_start.specs.Start.{AllApart, bytesTaken, Verdict, good, keyUnsound, keyShares, freeStrays, freeShares, Claim}
 use Rattle.book_start.specs.Start.{claimed, unfit, shared}
-use Rattle.book_start.specs.Start.{claimContent, claimFreed, onward, judgeLists, judgeKeys, verdictOf, judges}
+use Rattle.book_start.specs.Start.{claimContent, claimFreed, onward, judgeLists, judgeKeys, blocksVerdict, countsVerdict}
+use Rattle.book_start.specs.Start.{countsBehind, verdictOf, judges}
+use Rattle.book_start.specs.Answers.{groundOf, lostOf}
 use Rattle.book_start.specs.Units.{unitsOf, cleared, markAll, workAfter, Marked, Leaves, claimOf, Took, ClaimsAs, JudgesAs}
 use Rattle.book_start.specs.declared.claiming.Claiming.{Claiming}
 use Rattle.book_start.specs.declared.claiming.Claiming.the-variants.{Done, Unfit, Shared}
 use Rattle.book_start.specs.declared.judging.JudgeStart.the-variants.{Good, KeyUnsound, KeyShares, FreeStrays, FreeShares}
 use Rattle.book_start.proofs.LawsBits.{units-overwrite, units-zero, units-same}
 use Rattle.book_start.proofs.LawsShown.{shown-room}
+use Rattle.book_start.proofs.LawsTally.{ground-stays, groundless}
 use Rattle.book_start.proofs.LawsUnits.{placed-all, cleared-again}
 
 -- What comes behind a claim.
@@ -207,28 +215,52 @@ module _ (units : ℕ) (lent : List ℕ) (want : Verdict) (s : Space) (heads : L
 
 -- ---- the call
 
-module _ (b : Book) (work : List ℕ) where
-  -- The shape breaks the limits.
-  pub judges-broken : shapeBroken (b .space) (length (b .heads)) ≡ true → judges b (length work) ≡ refused shapeBad
-  unfolding judges
-  judges-broken e = refuse-yes (shapeBroken (b .space) (length (b .heads))) shapeBad _ e
+module _ (ds : List ℕ) (b : Book) (work : List ℕ) where
+  -- Lengths, mark, counts or the list turn it back.
+  pub judges-off : callNumber ds b ≢ 0 → judges ds b (length work) ≡ refused (callNumber ds b)
+  unfolding judges withDesks
+  judges-off n =
+      call-off ds b 0 (λ desk. refuseIf (ltb (length work) (length (b .space .body) / 128)) listTooShort (accepted (verdictOf ds b))) n
 
-  module _ (shape : shapeBroken (b .space) (length (b .heads)) ≡ false) where
+  module _ (z : callNumber ds b ≡ 0) where
+    judges-on : judges ds b (length work)
+        ≡ refuseIf (ltb (length work) (length (b .space .body) / 128)) listTooShort (accepted (verdictOf ds b))
+    unfolding judges withDesks
+    judges-on =
+        call-on ds b 0 (λ desk. refuseIf (ltb (length work) (length (b .space .body) / 128)) listTooShort (accepted (verdictOf ds b))) z
+
     -- The work list is too short.
-    pub judges-short : length work < length (b .space .body) / 128 → judges b (length work) ≡ refused listTooShort
-    unfolding judges
-    judges-short h =
-        refuse-no (shapeBroken (b .space) (length (b .heads))) shapeBad _ shape
-        ∙ refuse-yes (ltb (length work) (length (b .space .body) / 128)) listTooShort _ (lt-ltb (length work) (length
-        (b .space .body) / 128) h)
+    pub judges-short : length work < length (b .space .body) / 128 → judges ds b (length work) ≡ refused listTooShort
+    judges-short h = judges-on ∙ refuse-yes _ listTooShort _ (lt-ltb (length work) (length (b .space .body) / 128) h)
 
     -- It is judged.
-    pub judges-all : length (b .space .body) / 128 ≤ length work → judges b (length work) ≡ accepted (verdictOf b)
-    unfolding judges
-    judges-all h =
-        refuse-no (shapeBroken (b .space) (length (b .heads))) shapeBad _ shape
-        ∙ refuse-no (ltb (length work) (length (b .space .body) / 128)) listTooShort _ (le-ltb (length work) (length
-        (b .space .body) / 128) h)
+    pub judges-all : length (b .space .body) / 128 ≤ length work → judges ds b (length work) ≡ accepted (verdictOf ds b)
+    judges-all h = judges-on ∙ refuse-no _ listTooShort _ (le-ltb (length work) (length (b .space .body) / 128) h)
+
+    -- Shape, counts and list passed their tests.
+    pub judges-passed : (shapeBroken (b .space) (length (b .heads)) ≡ false) × (countsHigh (length (b .space .body)) (b .counts) ≡ false)
+        × (listBad ds (length (b .heads)) ≡ false)
+    unfolding withDesks
+    judges-passed =
+        let w : withDesks {A = Unit {0}} ds b 0 (λ desk. accepted tt) ≡ accepted tt = call-on ds b 0 (λ desk. accepted tt) z in
+        let p = passed (shapeBroken (b .space) (length (b .heads)) || countsHigh (length (b .space .body)) (b .counts)) shapeBad _ w in
+        let q = neither (shapeBroken (b .space) (length (b .heads))) (countsHigh (length (b .space .body)) (b .counts)) (p .0) in
+        (q .0, q .1, passed (listBad ds (length (b .heads))) desksBad _ (p .1) .0)
+
+  -- A judgement begins with the blocks; where these are good it goes on with the counts, and else it ends.
+  pub judged-ends : groundOf (judgeKeys (b .space) 0 (b .heads) []) ≢ 0 → verdictOf ds b ≡ judgeKeys (b .space) 0 (b .heads) []
+  unfolding verdictOf blocksVerdict
+  judged-ends n = ground-stays ds b (judgeKeys (b .space) 0 (b .heads) []) n
+
+  pub judged-blocks : groundOf (judgeKeys (b .space) 0 (b .heads) []) ≡ 0
+      → blocksVerdict b ≡ good (lostOf (judgeKeys (b .space) 0 (b .heads) []))
+  unfolding blocksVerdict
+  judged-blocks e = groundless (judgeKeys (b .space) 0 (b .heads) []) e
+
+  pub judged-on : groundOf (judgeKeys (b .space) 0 (b .heads) []) ≡ 0
+      → verdictOf ds b ≡ countsVerdict ds b (lostOf (judgeKeys (b .space) 0 (b .heads) []))
+  unfolding verdictOf countsBehind
+  judged-on e = ap (countsBehind ds b) (judged-blocks e)
 
 -- The work list after the call.
 pub after-refused : (units : ℕ) (work : List ℕ) (a : Answer Verdict) {number : ℕ} → a ≡ refused number → work ≡ workAfter units work a
@@ -240,7 +272,7 @@ pub after-judged : (units : ℕ) (work : List ℕ) (a : Answer Verdict) {v : Ver
 unfolding workAfter
 after-judged units work a e = rw e
 
--- Clearing, as the code does it; and a judgement begins with the keys.
+-- Clearing, as the code does it.
 pub cleared-is : (units : ℕ) (work : List ℕ) → overwrite work 0 (replicate units 0) ≡ cleared units work
 unfolding cleared
 cleared-is units work = refl
@@ -250,10 +282,6 @@ pub cleared-bytes : (bytes units : ℕ) (work : List ℕ) → 8 * bytes ≡ unit
 unfolding cleared
 cleared-bytes bytes units work e =
     units-overwrite work 0 (replicate bytes 0) ∙ ap (overwrite (unitsOf work) 0) (units-zero bytes ∙ ap (λ (n : ℕ). replicate n 0) e)
-
-pub judged-is : (b : Book) → verdictOf b ≡ judgeKeys (b .space) 0 (b .heads) []
-unfolding verdictOf
-judged-is b = refl
 
 -- A cleared work list shows no claims.
 pub shows-none : (units mark : ℕ) (work after : List ℕ) → 4096 ≤ mark → mark ≤ 16 * units → units ≤ length work

@@ -2,9 +2,13 @@ pub mod Examples
 pub mod LawsClaims
 pub mod LawsFreed
 pub mod LawsJudged
+pub mod LawsCounts
+pub mod LawsFaults
 pub mod LawsPairs
 pub mod LawsBits
 pub mod LawsUnits
 pub mod LawsShown
 pub mod LawsVerdict
 pub mod LawsCovered
+pub mod LawsMaking
+pub mod LawsTally

@@ -28,8 +28,9 @@ Covered b = (o : ℕ) → 4096 ≤ o → o < b .space .mark → OneHas o (blocks
 
 -- A book in which a key's head word became 0.
 abbrev pub forgot : ℕ → Book → Book
-forgot key b = record { heads = set (b .heads) key 0; space = b .space }
+forgot key b = record { heads = set (b .heads) key 0; space = b .space; counts = b .counts }
 
 -- A book in which the head of a class's free list became 0.
 abbrev pub forgotList : ℕ → Book → Book
-forgotList class b = record { heads = b .heads; space = space (b .space .body) (b .space .mark) (set (b .space .free) class 0) }
+forgotList class b =
+    record { heads = b .heads; space = space (b .space .body) (b .space .mark) (set (b .space .free) class 0); counts = b .counts }

@@ -1,14 +1,17 @@
 -- A book that starts from bytes written elsewhere: what a good start is, said of its bytes, head words, mark and free heads alone, and a
 -- judgement that finds the first fault of one that isn't good.
 use Prim.Native.Nat.{ℕ, zero, suc, _+_, _-_, _/_, _<_, _≤_}
-use mathlib.Core.Bool.{Bool, true, false, cond, _&&_, _||_}
+use mathlib.Core.Bool.{Bool, true, false, cond, not, _&&_, _||_}
 use mathlib.Core.List.{List, [], _∷_, _++_}
+use mathlib.Core.Option.{Option, none, some}
 use mathlib.Core.Path.{_≡_}
 use lib.Dec.{ltb, eqb}
 use lib.ListN.{length, getD}
-use Rattle.error.specs.Refusal.{Answer, accepted, refused, refuseIf, shapeBad, listTooShort}
-use Rattle.scripthash_layout.specs.Sizes.{slabBytes, pageClass}
+use Rattle.error.specs.Refusal.{Answer, accepted, refused, refuseIf, valueOr, shapeBad, desksBad, listTooShort}
+use Rattle.scripthash_layout.specs.Sizes.{slabBytes, pageClass, pageSize}
 use Rattle.scripthash_free.specs.FreeList.{Block, Disjoint, isBlock, nextOf, IsFreeList, Each}
+use Rattle.book_desks.specs.Desks.{desks, countOf, sumTo, total, lacks, toBeHad, listBad, deskOf}
+use Rattle.book_desks.specs.Counts.{countWords, freedCount, heldCount, heldIn, limitsIn, countsHigh}
 use Rattle.book_space.specs.Space.{Space, shapeBroken}
 use Rattle.book_keys.specs.Keys.{Content, content}
 use Rattle.book.specs.Book.{Book, wordOf, seen}
@@ -80,8 +83,49 @@ freedBy s class (h ∷ hs) = blocksAt class (followedFrom s h) ++ freedBy s (cla
 abbrev pub blocksOf : Book → List Block
 blocksOf b = heldBy (b .space) (b .heads) ++ freedBy (b .space) 0 (b .space .free)
 
--- A good start: a book that is covered from the lists that it then reads.
-pub record GoodStart (b : Book) : Type 0 where
+-- ---- desks
+
+-- How many pages there are in what a key holds; none where it isn't sound.
+abbrev pub pagesIn : Answer Content → ℕ
+pagesIn a = valueOr (λ c. c .pages) a 0
+
+-- How many pages a key holds.
+abbrev pub pagesHeld : Book → ℕ → ℕ
+pagesHeld b key = pagesIn (content (seen (b .space)) (wordOf key b))
+
+-- The pages that a desk has of a key: those that the key holds, where it is the key's desk.
+abbrev pub pagesFor : List ℕ → Book → ℕ → ℕ → ℕ
+pagesFor ds b desk key = cond (eqb (deskOf ds key) desk) (pagesHeld b key) 0
+
+-- The pages of all keys of a desk.
+abbrev pub pagesOfDesk : List ℕ → Book → ℕ → ℕ
+pagesOfDesk ds b desk = sumTo (length (b .heads)) (pagesFor ds b desk)
+
+-- Pages to be had, as the counts tell.
+abbrev pub toBeHadIn : Book → ℕ
+toBeHadIn b = toBeHad (length (b .space .body)) (freedCount (b .counts)) (b .space .mark)
+
+-- The desks of a start are good: their counts are true, and nothing is promised that can't be kept.
+pub record GoodCounts (ds : List ℕ) (b : Book) : Type 0 where
+  -- There are as many counts as there should be, and none of freed and held pages and of reserves is above the body's pages.
+  pub words : length (b .counts) ≡ countWords
+  pub low : countsHigh (length (b .space .body)) (b .counts) ≡ false
+  -- The list names a desk for each key.
+  pub named : listBad ds (length (b .heads)) ≡ false
+  -- With the first page, what is held and what is to be had is no more than the body's pages.
+  pub balanced : 1 + (total (heldIn (b .counts)) + toBeHadIn b) ≤ length (b .space .body) / pageSize
+  -- The count of freed pages is the length of their free list.
+  pub freed : freedCount (b .counts) ≡ length (freedOf (b .space) pageClass)
+  -- Each desk's count is the pages of its keys.
+  pub exact : (d : ℕ) → d < desks → heldCount d (b .counts) ≡ pagesOfDesk ds b d
+  -- No desk holds more than its ceiling, and no reserve is above its ceiling.
+  pub ceilings : (d : ℕ) → d < desks → heldCount d (b .counts) ≤ countOf d (limitsIn (b .counts) .ceiling)
+  pub reserves : (d : ℕ) → d < desks → countOf d (limitsIn (b .counts) .reserve) ≤ countOf d (limitsIn (b .counts) .ceiling)
+  -- The pages to be had cover what the desks lack.
+  pub covered : lacks (limitsIn (b .counts)) (heldIn (b .counts)) ≤ toBeHadIn b
+
+-- The blocks of a start are good: keys and free lists lead to blocks that can stand, and no two share a byte.
+pub record GoodBlocks (b : Book) : Type 0 where
   -- Lengths and mark keep the limits.
   pub shape : shapeBroken (b .space) (length (b .heads)) ≡ false
   -- There is a free head for each of the classes 0 to 8.
@@ -94,6 +138,13 @@ pub record GoodStart (b : Book) : Type 0 where
   pub stand : (class : ℕ) → class ≤ pageClass → Each (Stands (b .space .mark)) (blocksAt class (freedOf (b .space) class))
   -- No two blocks, held or free, share a byte.
   pub apart : AllApart (blocksOf b)
+
+-- A good start: a book that is covered from the lists that it then reads, with a list of desks.
+pub record GoodStart (ds : List ℕ) (b : Book) : Type 0 where
+  -- Its blocks are good.
+  pub blocks : GoodBlocks b
+  -- Its desks are good.
+  pub counts : GoodCounts ds b
 
 -- ---- the judgement
 
@@ -110,6 +161,18 @@ pub data Verdict : Type 0 where
   freeStrays : ℕ → Verdict
   -- A block of the class's free list shares a byte with one claimed before; a list that doesn't end comes to such a block.
   freeShares : ℕ → Verdict
+  -- The counts tell of more pages than the body has behind its first.
+  countsExceed : Verdict
+  -- The count of freed pages isn't the length of their free list.
+  freedDiffers : Verdict
+  -- A desk's count isn't the pages of its keys.
+  heldDiffers : ℕ → Verdict
+  -- A desk holds more than its ceiling.
+  heldHigh : ℕ → Verdict
+  -- A desk's reserve is above its ceiling.
+  reserveHigh : ℕ → Verdict
+  -- Fewer pages are to be had than the desks lack of their reserves.
+  lacksOpen : Verdict
 
 -- Two blocks share a byte: neither ends at or below the other's beginning.
 unfoldable pub shares : Block → Block → Bool
@@ -168,12 +231,57 @@ judgeKeys s key [] before = judgeLists s 0 (s .free) before
 judgeKeys s key (w ∷ ws) before =
     onward (claimContent before (content (seen s) w)) (keyUnsound key) (keyShares key) (λ bs. judgeKeys s (key + 1) ws bs)
 
--- The verdict on a book in shape: blocks are claimed one after the other, keys rising and then classes rising, and the first fault decides.
-unfoldable pub verdictOf : Book → Verdict
-verdictOf b = judgeKeys (b .space) 0 (b .heads) []
+-- The verdict on the blocks of a book in shape: they are claimed one after the other, keys rising and then classes rising, and the first
+-- fault decides.
+unfoldable pub blocksVerdict : Book → Verdict
+blocksVerdict b = judgeKeys (b .space) 0 (b .heads) []
+
+-- The verdict on a desk's count, reserve and ceiling, where there is a fault.
+unfoldable pub deskFault : List ℕ → Book → ℕ → Option Verdict
+deskFault ds b d =
+    cond (not (eqb (heldCount d (b .counts)) (pagesOfDesk ds b d))) (some (heldDiffers d))
+    (cond (ltb (countOf d (limitsIn (b .counts) .ceiling)) (heldCount d (b .counts))) (some (heldHigh d))
+    (cond (ltb (countOf d (limitsIn (b .counts) .ceiling)) (countOf d (limitsIn (b .counts) .reserve))) (some (reserveHigh d)) none))
+
+-- A fault where there is one, or else another verdict.
+unfoldable pub faultOr : Option Verdict → Verdict → Verdict
+faultOr (some v) after = v
+faultOr none after = after
+
+-- The verdict on the first desk with a fault, of so many from one on, or else another.
+unfoldable pub judgeDesks : List ℕ → Book → ℕ → ℕ → Verdict → Verdict
+judgeDesks ds b d zero after = after
+judgeDesks ds b d (suc k) after = faultOr (deskFault ds b d) (judgeDesks ds b (d + 1) k after)
+
+-- The verdict on the counts of a book whose blocks are good, with so many units that belong to nobody.
+unfoldable pub countsVerdict : List ℕ → Book → ℕ → Verdict
+countsVerdict ds b lost =
+    cond (ltb (length (b .space .body) / pageSize) (1 + (total (heldIn (b .counts)) + toBeHadIn b))) countsExceed
+    (cond (not (eqb (freedCount (b .counts)) (length (freedOf (b .space) pageClass)))) freedDiffers
+    (judgeDesks ds b 0 desks
+    (cond (ltb (toBeHadIn b) (lacks (limitsIn (b .counts)) (heldIn (b .counts)))) lacksOpen (good lost))))
+
+-- The verdict on the counts behind one on the blocks, where that is good.
+unfoldable pub countsBehind : List ℕ → Book → Verdict → Verdict
+countsBehind ds b (good lost) = countsVerdict ds b lost
+countsBehind ds b (keyUnsound key) = keyUnsound key
+countsBehind ds b (keyShares key) = keyShares key
+countsBehind ds b (freeStrays class) = freeStrays class
+countsBehind ds b (freeShares class) = freeShares class
+countsBehind ds b countsExceed = countsExceed
+countsBehind ds b freedDiffers = freedDiffers
+countsBehind ds b (heldDiffers d) = heldDiffers d
+countsBehind ds b (heldHigh d) = heldHigh d
+countsBehind ds b (reserveHigh d) = reserveHigh d
+countsBehind ds b lacksOpen = lacksOpen
+
+-- The verdict on a book in shape: on its blocks, and then on its counts.
+unfoldable pub verdictOf : List ℕ → Book → Verdict
+verdictOf ds b = countsBehind ds b (blocksVerdict b)
 
 -- The call that judges a start, with a work list of so many bytes, one for each 128 bytes of the body: a bit for each 16.
-unfoldable pub judges : Book → ℕ → Answer Verdict
-judges b room =
-    refuseIf (shapeBroken (b .space) (length (b .heads))) shapeBad
-    (refuseIf (ltb room (length (b .space .body) / 128)) listTooShort (accepted (verdictOf b)))
+unfoldable pub judges : List ℕ → Book → ℕ → Answer Verdict
+judges ds b room =
+    refuseIf (shapeBroken (b .space) (length (b .heads)) || countsHigh (length (b .space .body)) (b .counts)) shapeBad
+    (refuseIf (listBad ds (length (b .heads))) desksBad
+    (refuseIf (ltb room (length (b .space .body) / 128)) listTooShort (accepted (verdictOf ds b))))

@@ -1,14 +1,18 @@
 -- What the steps of judging promise each other: no answer of a public function is defined here.
-use Prim.Native.Nat.{ℕ, _+_, _*_, _%_, _^_, _≤_, _<_}
-use mathlib.Core.Bool.{Bool, true}
+use Prim.Native.Nat.{ℕ, _+_, _*_, _/_, _%_, _^_, _≤_, _<_}
+use mathlib.Core.Bool.{Bool, true, false}
 use mathlib.Core.List.{List, []}
 use mathlib.Core.Path.{_≡_}
 use lib.ListN.{length}
 use Rattle.scripthash_layout.specs.Sizes.{slabBytes, pageClass, pageSize}
-use Rattle.scripthash_free.specs.FreeList.{Block, isBlock}
+use Rattle.scripthash_free.specs.FreeList.{Block, isBlock, IsFreeList, Each}
 use Rattle.book_keys.specs.Keys.{ground}
 use Rattle.book_keys.specs.Steps.{PagesLeft}
-use Rattle.book_start.specs.Start.{block}
+use Rattle.book_limits.specs.Limits.{mostBody, mostHeads}
+use Rattle.book_desks.specs.Desks.{desks, listBad, countOf}
+use Rattle.book_desks.specs.Counts.{heldCount, countsHigh}
+use Rattle.book.specs.Book.{Book}
+use Rattle.book_start.specs.Start.{Stands, block, blocksAt, followed, pagesOfDesk, GoodBlocks}
 use Rattle.book_start.specs.Units.{unitsFree, claimUnits, Marked, Shows, Leaves}
 
 -- ---- claiming
@@ -97,3 +101,36 @@ pub record KeysToJudge (body : List ℕ) (mark : ℕ) (free work : List ℕ) : T
   pub units : ℕ
   pub lent : List ℕ
   pub marked : Marked units mark lent [] work
+
+-- ---- judging counts
+
+-- What is known before the pages of keys are tallied.
+pub record KeysToTally (body heads : List ℕ) (mark : ℕ) (ds : List ℕ) : Type 0 where
+  -- The mark isn't beyond the body, nor the body too long.
+  pub within : mark ≤ length body
+  pub most : length body ≤ mostBody
+  -- There are not too many heads, and the list names a desk for each.
+  pub few : length heads ≤ mostHeads
+  pub named : listBad ds (length heads) ≡ false
+
+-- A tally by desk tells the pages of each desk's keys.
+abbrev pub Tallied : List ℕ → Book → List ℕ → Type 0
+Tallied ds b tally = (d : ℕ) → d < desks → countOf d tally ≡ pagesOfDesk ds b d
+
+-- No desk holds more than the pages of the largest body.
+abbrev pub SmallHeld : List ℕ → Type 0
+SmallHeld counts = (d : ℕ) → d < desks → heldCount d counts ≤ 2 ^ 29
+
+-- What is known before a free list of pages is followed: it ends, and its pages stand below the mark.
+pub record ListToFollow (body : List ℕ) (mark head : ℕ) : Type 0 where
+  pub within : mark ≤ length body
+  pub ends : IsFreeList body head (followed (mark / 16) body head)
+  pub stand : Each (Stands mark) (blocksAt pageClass (followed (mark / 16) body head))
+
+-- What is known before counts are judged.
+pub record CountsToJudge (ds : List ℕ) (b : Book) : Type 0 where
+  -- The blocks are good.
+  pub blocks : GoodBlocks b
+  -- No count is above the body's pages, and the list names a desk for each key.
+  pub low : countsHigh (length (b .space .body)) (b .counts) ≡ false
+  pub named : listBad ds (length (b .heads)) ≡ false

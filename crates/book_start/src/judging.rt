@@ -1,4 +1,4 @@
-// Judging a start: keys rising, then classes rising, and the first fault decides.
+// Judging a start: keys rising, then classes rising, then the counts, desks rising, and the first fault decides.
 ghost use mathlib.Core.List.{List, []};
 ghost use mathlib.Core.Path.{_≡_};
 ghost use Prim.Native.Nat.{ℕ, _/_};
@@ -14,19 +14,26 @@ ghost use Rattle.book_start.specs.Steps.{ListsToJudge, KeysToJudge};
 use crate::claiming::Claiming;
 use crate::claiming::claim_freed;
 use crate::claiming::claim_key;
+use crate::counts::judge_counts;
 use crate::units::PAGE_UNITS;
 use crate::units::WORK_BYTES;
 use crate::units::fill_bytes;
 use error::Refusal;
 
-// What judging a start answers: it is good, with the units below the mark that belong to nobody; or the first fault, with its key or the
-// class of its free list; or a refusal.
+// What judging a start answers: it is good, with the units below the mark that belong to nobody; or the first fault, with its key, the
+// class of its free list or its desk; or a refusal.
 pub enum JudgeStart {
     Good(u64),
     KeyUnsound(u64),
     KeyShares(u64),
     FreeStrays(u64),
     FreeShares(u64),
+    CountsExceed,
+    FreedDiffers,
+    HeldDiffers(u64),
+    HeldHigh(u64),
+    ReserveHigh(u64),
+    LacksOpen,
     Refused(Refusal),
 }
 
@@ -41,6 +48,12 @@ impl JudgeStart {
             JudgeStart::KeyShares(_) => 0,
             JudgeStart::FreeStrays(_) => 0,
             JudgeStart::FreeShares(_) => 0,
+            JudgeStart::CountsExceed => 0,
+            JudgeStart::FreedDiffers => 0,
+            JudgeStart::HeldDiffers(_) => 0,
+            JudgeStart::HeldHigh(_) => 0,
+            JudgeStart::ReserveHigh(_) => 0,
+            JudgeStart::LacksOpen => 0,
             JudgeStart::Refused(number) => number,
         }
     }
@@ -55,11 +68,17 @@ impl JudgeStart {
             JudgeStart::KeyShares(_) => 2,
             JudgeStart::FreeStrays(_) => 3,
             JudgeStart::FreeShares(_) => 4,
+            JudgeStart::CountsExceed => 5,
+            JudgeStart::FreedDiffers => 6,
+            JudgeStart::HeldDiffers(_) => 7,
+            JudgeStart::HeldHigh(_) => 8,
+            JudgeStart::ReserveHigh(_) => 9,
+            JudgeStart::LacksOpen => 10,
             JudgeStart::Refused(_) => 0,
         }
     }
 
-    // The key of a fault, or the class of its free list, 0 where there is none.
+    // The key of a fault, the class of its free list or its desk, 0 where there is none.
     pub fn which(self) -> u64
         ensures { λ r. ⌜ r ≡ valueOr whichOf (startAnswer self) 0 ⌝ }
     {
@@ -69,6 +88,12 @@ impl JudgeStart {
             JudgeStart::KeyShares(key) => key,
             JudgeStart::FreeStrays(class) => class,
             JudgeStart::FreeShares(class) => class,
+            JudgeStart::CountsExceed => 0,
+            JudgeStart::FreedDiffers => 0,
+            JudgeStart::HeldDiffers(desk) => desk,
+            JudgeStart::HeldHigh(desk) => desk,
+            JudgeStart::ReserveHigh(desk) => desk,
+            JudgeStart::LacksOpen => 0,
             JudgeStart::Refused(_) => 0,
         }
     }
@@ -83,6 +108,12 @@ impl JudgeStart {
             JudgeStart::KeyShares(_) => 0,
             JudgeStart::FreeStrays(_) => 0,
             JudgeStart::FreeShares(_) => 0,
+            JudgeStart::CountsExceed => 0,
+            JudgeStart::FreedDiffers => 0,
+            JudgeStart::HeldDiffers(_) => 0,
+            JudgeStart::HeldHigh(_) => 0,
+            JudgeStart::ReserveHigh(_) => 0,
+            JudgeStart::LacksOpen => 0,
             JudgeStart::Refused(_) => 0,
         }
     }
@@ -133,22 +164,25 @@ fn judge_keys(body: &[u8], heads: &[u64], mark: u64, free: &[u64], work: &mut [u
     judge_lists(body, mark, free, work, lost)
 }
 
-// Judges whether a body, its head words, its mark and its free heads are a good start. The work list has a bit for each 16 bytes of the
-// body, a byte for each 128; these are 0 afterwards.
+// Judges whether a body, its head words, its mark, its free heads and its counts are a good start, with a list that names each key's desk.
+// The work list has a bit for each 16 bytes of the body, a byte for each 128; these are 0 afterwards.
 pub fn judge_start(
     body: &[u8],
     heads: &[u64],
     mark: u64,
     free: [u64; 9],
+    counts: &[u64; 49],
+    desks: &[u8],
     work: &mut [u8],
 ) -> JudgeStart
-    ensures answer { λ r. ⌜ startAnswer r
-        ≡ judges (bookOf (now (body .entry)) (now (heads .entry)) mark free) (length (now (work .entry))) ⌝ }
-    ensures list { λ r. ⌜ now (work .exit) ≡ workAfter (length (now (body .entry)) / 128) (now (work .entry))
-        (judges (bookOf (now (body .entry)) (now (heads .entry)) mark free) (length (now (work .entry)))) ⌝ }
+    ensures answer { λ r. ⌜ startAnswer r ≡ judges (now (desks .entry))
+        (bookOf (now (body .entry)) (now (heads .entry)) mark free (now (counts .entry))) (length (now (work .entry))) ⌝ }
+    ensures list { λ r. ⌜ now (work .exit) ≡ workAfter (length (now (body .entry)) / 128) (now (work .entry)) (judges (now (desks .entry))
+        (bookOf (now (body .entry)) (now (heads .entry)) mark free (now (counts .entry))) (length (now (work .entry)))) ⌝ }
 {
-    if book_space::shape_broken(body, heads.len(), mark) {
-        return JudgeStart::Refused(error::SHAPE_BAD);
+    let number = book::judge_call(body, heads.len(), mark, counts, desks);
+    if number != 0 {
+        return JudgeStart::Refused(number);
     }
     let bytes = body.len() / WORK_BYTES;
     if work.len() < bytes {
@@ -157,5 +191,8 @@ pub fn judge_start(
     fill_bytes(work, 0, bytes, 0);
     let got = judge_keys(body, heads, mark, &free, work);
     fill_bytes(work, 0, bytes, 0);
-    got
+    if got.ground() != 0 {
+        return got;
+    }
+    judge_counts(body, heads, mark, &free, counts, desks, got.lost())
 }
