@@ -6,7 +6,7 @@ use mathlib.Core.Bool.{false}
 use mathlib.Core.List.{List, [], _∷_, append-nil}
 use mathlib.Core.Path.{_≡_, refl, sym, ap, subst, _∙_}
 use native.Mathlib.Omega.{arith}
-use lib.ListN.{length, length-append, length-replicate}
+use lib.ListN.{length, length-append}
 use Rattle.error.specs.Refusal.{accepted}
 use Rattle.error.proofs.LawsAnswer.{accepted-inj, passed, went-on}
 use Rattle.scripthash_layout.specs.Head.{packHead}
@@ -19,11 +19,12 @@ use Rattle.book_rules.specs.Outcomes.{Listed}
 use Rattle.book_statements.specs.Calls.{Call, Answers}
 use Rattle.book_limits.specs.Limits.{outOfShape}
 use Rattle.book_statements.specs.Recorded.{recorded}
-use Rattle.plain_book.specs.Key.{Key, emptyKey}
-use Rattle.plain_book.specs.Book.{Book as PlainBook, fresh as plainFresh, keyOf, after as plainAfter}
+use Rattle.book_desks.specs.Desks.{Limits}
+use Rattle.plain_book.specs.Key.{Key}
+use Rattle.plain_book.specs.Book.{Book as PlainBook, fresh as plainFresh, makes, keyOf, after as plainAfter}
 use Rattle.plain_book.specs.Good.{GoodPlain}
-use Rattle.plain_book.proofs.LawsGood.{fresh-good, calls-good, shapes-kept}
-use Rattle.plain_book.proofs.LawsHistory.{fresh-key}
+use Rattle.plain_book.proofs.LawsGood.{calls-good, shapes-kept}
+use Rattle.plain_book.proofs.LawsHistory.{all-same}
 use Rattle.plain_book.proofs.LawsRecorded.{recorded-from}
 use Rattle.book_keys.specs.Keys.{pageAt, linkScan, Chain, pageThen, chainAt, Content, content, contentAt, Ground}
 use Rattle.book_keys.proofs.LawsPages.{link-sound}
@@ -36,14 +37,14 @@ use Rattle.book_read.specs.Reads.{reads}
 use Rattle.book_history.specs.Calls.{after, answers}
 use Rattle.book_start.specs.Start.{GoodStart}
 use Rattle.book_history.specs.Agrees.{Agrees}
-use Rattle.book_history.specs.PlainOf.{plainOf, startList}
+use Rattle.book_history.specs.PlainOf.{listFrom, keyFrom, plainOf, startList, Sixteen}
 use Rattle.book_history.specs.Counts.{IsCount, PagesCount, PlaceCounts, KeyCounts}
 use Rattle.book_history.proofs.LawsWritesLoad.{on-key}
 use Rattle.book_history.proofs.LawsContent.{content-agrees}
 use Rattle.book_history.proofs.LawsCalls.{answers-alike, books-agree}
 use Rattle.book_history.proofs.LawsEach.{each-alike, each-same}
-use Rattle.book_history.proofs.LawsStart.{start-list, start-shape, start-good, start-agrees}
-use Rattle.book_history.proofs.LawsStartFresh.{fresh-agrees}
+use Rattle.book_history.proofs.LawsStart.{key-none, start-list, start-shape, start-good, start-agrees}
+use Rattle.book_history.proofs.LawsStartFresh.{fresh-start}
 
 -- ---- a sound key
 
@@ -125,34 +126,41 @@ module _ (b : Book) (key room : ℕ) (l : Listed) (e : reads b key room ≡ acce
 -- A book that stands for a good plain book, in shape, after any calls: the counts of each key are those of what is recorded for it.
 counts-good : (plain : PlainBook) (b : Book) (cs : List Call) → GoodPlain plain → Agrees plain b
     → outOfShape (plain .size) (length (plain .keys)) ≡ false
-    → (key : ℕ) → KeyCounts (seen (after b cs .space)) (wordOf key (after b cs)) (recorded key (answers b cs) (keyOf key plain .list))
+    → (key : ℕ) → let b' = after (plain .desks) b cs in
+    KeyCounts (seen (b' .space)) (wordOf key b') (recorded key (answers (plain .desks) b cs) (keyOf key plain .list))
 counts-good plain b cs g a shape key =
-    let (size, keys) = shapes-kept plain cs in
+    let (size, keys, lent, limits) = shapes-kept plain cs in
+    let b' = after (plain .desks) b cs in
     let then = books-agree each-alike plain b cs g a in
     let in-shape : outOfShape (plainAfter plain cs .size) (length (plainAfter plain cs .keys)) ≡ false = rw (size, keys) shape in
-    let list : keyOf key (plainAfter plain cs) .list ≡ recorded key (answers b cs) (keyOf key plain .list)
+    let list : keyOf key (plainAfter plain cs) .list ≡ recorded key (answers (plain .desks) b cs) (keyOf key plain .list)
     = recorded-from plain key cs (g .keys key)
     ∙ ap (λ (told : Answers cs). recorded key told (keyOf key plain .list)) (sym (answers-alike each-alike each-same plain b cs g a)) in
-    subst (KeyCounts (seen (after b cs .space)) (wordOf key (after b cs))) list
-    (key-counts (seen (after b cs .space)) (wordOf key (after b cs)) _
-    (content-agrees (plainAfter plain cs) (after b cs) (calls-good cs g) in-shape (then .inside in-shape) key))
+    subst (KeyCounts (seen (b' .space)) (wordOf key b')) list
+    (key-counts (seen (b' .space)) (wordOf key b') _
+    (content-agrees (plainAfter plain cs) b' (calls-good cs g) in-shape (then .inside in-shape) key))
 
 -- No history leads to a count of 0: after any calls from a good start the counts of each key are those of what is recorded for it, which
 -- begins with what it was read as at the start.
-pub counts-from : (b : Book) (cs : List Call) → GoodStart b
-    → (key : ℕ) → KeyCounts (seen (after b cs .space)) (wordOf key (after b cs)) (recorded key (answers b cs) (startList b key))
-counts-from b cs g key =
-    subst (λ (list : List ℕ). KeyCounts (seen (after b cs .space)) (wordOf key (after b cs)) (recorded key (answers b cs) list)) (start-list b key)
-    (counts-good (plainOf b) b cs (start-good b g) (start-agrees b g) (start-shape b g) key)
+pub counts-from : (ds : List ℕ) (b : Book) (cs : List Call) → GoodStart ds b
+    → (key : ℕ) → let b' = after ds b cs in
+    KeyCounts (seen (b' .space)) (wordOf key b') (recorded key (answers ds b cs) (startList b key))
+unfolding plainOf
+counts-from ds b cs g key =
+    let b' = after ds b cs in
+    subst (λ (list : List ℕ). KeyCounts (seen (b' .space)) (wordOf key b') (recorded key (answers ds b cs) list)) (start-list ds b key)
+    (counts-good (plainOf ds b) b cs (start-good ds b g) (start-agrees ds b g) (start-shape ds b (g .blocks)) key)
 
--- No history leads to a count of 0: after any calls on a fresh book in shape, whatever its body holds, the counts of each key are those of
--- what is recorded for it.
-pub counts-fresh : (body : List ℕ) (heads : ℕ) (cs : List Call) → outOfShape (length body) heads ≡ false
-    → let b = fresh body heads in
-    (key : ℕ) → KeyCounts (seen (after b cs .space)) (wordOf key (after b cs)) (recorded key (answers b cs) [])
-counts-fresh body heads cs shape key =
-    let b = fresh body heads in
-    subst (λ (list : List ℕ). KeyCounts (seen (after b cs .space)) (wordOf key (after b cs)) (recorded key (answers b cs) list))
-    (ap (λ (k : Key). k .list) (fresh-key (length body) heads key))
-    (counts-good (plainFresh (length body) heads) b cs (fresh-good (length body) heads) (fresh-agrees body heads)
-    (rw (length-replicate heads emptyKey) shape) key)
+-- No history leads to a count of 0: after any calls on a fresh book, whatever its body holds, the counts of each key are those of what is
+-- recorded for it.
+pub counts-fresh : (ds body : List ℕ) (heads : ℕ) (l : Limits) (cs : List Call)
+    → makes ds (length body) heads l ≡ accepted (plainFresh ds (length body) heads l) → Sixteen l
+    → (key : ℕ) → let b' = after ds (fresh body heads l) cs in
+    KeyCounts (seen (b' .space)) (wordOf key b') (recorded key (answers ds (fresh body heads l) cs) [])
+unfolding keyFrom
+counts-fresh ds body heads l cs made sixteen key =
+    let b = fresh body heads l in
+    let b' = after ds b cs in
+    subst (λ (list : List ℕ). KeyCounts (seen (b' .space)) (wordOf key b') (recorded key (answers ds b cs) list))
+    (ap (listFrom (b .space)) (all-same 0 heads key) ∙ ap (λ (k : Key). k .list) (key-none (b .space)))
+    (counts-from ds b cs (fresh-start ds body heads l made sixteen) key)

@@ -2,7 +2,7 @@
 use Prim.Native.Nat.{ℕ, zero, suc, _+_, _*_, _^_}
 use mathlib.Core.List.{List, [], _∷_}
 use mathlib.Core.Path.{_≡_, refl}
-use lib.ListN.{replicate}
+use lib.ListN.{length, replicate}
 use Rattle.scripthash_layout.specs.declared.head.ShHeadValue.{ShHeadValue}
 use Rattle.scripthash_layout.specs.declared.head.ShHeadValue.the-variants.{Inline, Slab, Extent}
 use Rattle.error.specs.Refusal.{Answer, accepted, refused, refuseIf, andThen, answered}
@@ -22,15 +22,19 @@ use Rattle.book_statements.specs.Calls.{load, append, read, drop, Call, ask, ch
 use Rattle.book_rules.specs.Offered.{offeredNumber, offeredList}
 use Rattle.book_limits.specs.Limits.{outOfShape, popEnd}
 use Rattle.book_rules.specs.Places.{stays, larger, movesTo, loadsTo}
+use Rattle.book_desks.specs.Desks.{Limits, beyondDesks, listBad, sumTo, lacksWith, above, permitted}
+use Rattle.book_desks.specs.Counts.{listed, heldIn, limitsIn, freshCounts, countsHigh, counted}
+use Rattle.plain_book.specs.Book.{unlimited}
 use Rattle.book_space.specs.Space.{markBad, shapeBroken, takeMark, takeSlab, rounded, takeFresh, takePopped, takeBlock, release, runAtMark}
+use Rattle.book_space.specs.Desks.{judged, slabFor, freedUntrue, pageFor, runFor, givenBack}
 use Rattle.book_keys.specs.Keys.{soundly, sure, goOn, slabScan, linkScan, goodExtent, lastAt, pageThen, walk, totalGood, chainAt, pageBlocks}
 use Rattle.book_keys.specs.Keys.{contentAt, content, tailAt}
-use Rattle.book.specs.Book.{Book, book, fresh, headWord, onKey}
+use Rattle.book.specs.Book.{Book, book, fresh, headWord, onKey, byDesk, withDesks}
 use Rattle.book_blocks.specs.Blocks.{slabWith, lastPageOf, totalWith, pageWith, pageBefore, writeRun}
 use Rattle.book_append.specs.Appends.{movesInto, moves, appendSlab, growChain, appendPage, appendAt, appends}
 use Rattle.book_load.specs.Loads.{loadInto, loadAt, loads}
 use Rattle.book_read.specs.Reads.{reads}
-use Rattle.book_drop.specs.Drops.{drops}
+use Rattle.book_drop.specs.Drops.{dropped, drops}
 use Rattle.book_history.specs.Calls.{asks, serves, after, does}
 
 -- The answers to some calls of a book that does so with each, so that they can be computed.
@@ -44,12 +48,21 @@ unfolding refuseIf andThen answered part overwrite isForm value formAt overflows
     sure
     goOn slabScan linkScan goodExtent lastAt pageThen walk totalGood chainAt pageBlocks contentAt content tailAt headWord onKey
     movesInto moves slabWith appendSlab totalWith pageWith pageBefore growChain appendPage appendAt appends writeRun loadInto loadAt loads
-    reads drops asks does
+    reads dropped drops asks does beyondDesks listBad sumTo lacksWith above permitted listed heldIn limitsIn freshCounts countsHigh judged slabFor
+    freedUntrue pageFor runFor givenBack byDesk withDesks
 computed k b cs = answersTo k b cs
 
--- Those of our book.
+-- Those of our book, where all keys are of one desk.
 abbrev pub runs : Book → (cs : List Call) → Answers cs
-runs b cs = computed serves b cs
+runs b cs = computed (serves (replicate (length (b .heads)) 0)) b cs
+
+-- A fresh book of one desk without limits.
+abbrev pub alone : List ℕ → ℕ → Book
+alone body heads = fresh body heads unlimited
+
+-- The counts of such a desk that holds so many pages.
+abbrev holding : ℕ → List ℕ
+holding pages = counted 0 0 pages (freshCounts unlimited)
 
 -- An append that is accepted: the key's new place, and the records rewritten.
 abbrev at : ShHeadValue → ℕ → Answer Appended
@@ -73,29 +86,29 @@ abbrev pub bodyOf : ℕ → List ℕ
 bodyOf size = replicate size 165
 
 -- 5, 300, 301, 302, 303 to key 0 move at 300 and at 303; 9, 10 to key 1 take the block that was freed.
-pub run-case : runs (fresh (bodyOf 8192) 2)
+pub run-case : runs (alone (bodyOf 8192) 2)
     (change (append 0 5) ∷ change (append 0 300) ∷ change (append 0 301) ∷ change (append 0 302) ∷ change (append 0 303) ∷ change (append 1 9) ∷ change (append 1 10) ∷ ask (read 0 5) ∷ ask (read 1 2) ∷ [])
     ≡ changed (at (Inline 5 1) 0) (changed (at (Slab 0 2 4096) 1) (changed (at (Slab 0 3 4096) 0) (changed (at (Slab 0 4 4096) 0) (changed (at (Slab 1 5 4112) 4) (changed (at (Inline 9 1) 0) (changed (at (Slab 0 2 4096) 1) (asked (lists-as (5 ∷ 300 ∷ 301 ∷ 302 ∷ 303 ∷ []) 0 0) (asked (lists-as (9 ∷ 10 ∷ []) 0 0) done))))))))
 unfolding computed
 run-case = refl
 
 -- What is turned back.
-pub turned-back : (runs (fresh (bodyOf 4096) 1) (ask (read 0 0) ∷ [])
+pub turned-back : (runs (alone (bodyOf 4096) 1) (ask (read 0 0) ∷ [])
     ≡ asked (refused 1) done)
-    × (runs (fresh (bodyOf 8192) 1) (change (append 1 5) ∷ change (append 0 0) ∷ change (append 0 (2 ^ 63)) ∷ change (append 0 (2 ^ 62)) ∷ change (append 0 5) ∷ change (append 0 5) ∷ change (load Spare 0 []) ∷ ask (read 0 0) ∷ change (drop 0) ∷ ask (read 0 0) ∷ [])
+    × (runs (alone (bodyOf 8192) 1) (change (append 1 5) ∷ change (append 0 0) ∷ change (append 0 (2 ^ 63)) ∷ change (append 0 (2 ^ 62)) ∷ change (append 0 5) ∷ change (append 0 5) ∷ change (load Spare 0 []) ∷ ask (read 0 0) ∷ change (drop 0) ∷ ask (read 0 0) ∷ [])
     ≡ changed (refused 2) (changed (refused 12) (changed (refused 13) (changed (refused 14) (changed (at (Inline 5 1) 0) (changed (refused 32) (changed (refused 3) (asked (refused 34) (changed (accepted (droppedOf 1)) (asked (lists-as [] 0 0) done))))))))))
 unfolding computed
 turned-back = (refl, refl)
 
 -- A page of 4,072 bytes is full, so that the next number begins another. A drop frees the first page first, so that the last one is taken
 -- again, here by a list that moves out of its slab.
-pub full-page : runs (fresh (bodyOf 16384) 2) (change (load Spare 0 (inARow 1 4072)) ∷ change (append 0 4073) ∷ change (append 0 4074) ∷ ask (read 0 4074) ∷ change (drop 0) ∷ change (load Spare 1 (inARow 1 256)) ∷ change (append 1 257) ∷ ask (read 1 257) ∷ [])
+pub full-page : runs (alone (bodyOf 16384) 2) (change (load Spare 0 (inARow 1 4072)) ∷ change (append 0 4073) ∷ change (append 0 4074) ∷ ask (read 0 4074) ∷ change (drop 0) ∷ change (load Spare 1 (inARow 1 256)) ∷ change (append 1 257) ∷ ask (read 1 257) ∷ [])
     ≡ changed (loads-in 1) (changed (at (Extent 8192) 0) (changed (at (Extent 8192) 0) (asked (lists-as (inARow 1 4074) 2 0) (changed (accepted (droppedOf 4074)) (changed (loads-in 0) (changed (at (Extent 8192) 256) (asked (lists-as (inARow 1 257) 1 0) done)))))))
 unfolding computed inARow
 full-page = refl
 
 -- A list of 4,073 goes to a run of two pages, behind the mark rounded up; the body is full then, but the gap before the run was carved.
-pub loaded-run : runs (fresh (bodyOf 16384) 3)
+pub loaded-run : runs (alone (bodyOf 16384) 3)
     (change (append 0 1) ∷ change (append 0 2) ∷ change (load Spare 1 (inARow 1 4073)) ∷ change (append 1 4074) ∷ change (load Spare 2 (inARow 1 300)) ∷ change (load Spare 2 (inARow 1 256)) ∷ ask (read 1 4074) ∷ [])
     ≡ changed (at (Inline 1 1) 0) (changed (at (Slab 0 2 4096) 1) (changed (loads-in 2) (changed (at (Extent 12288) 0) (changed (refused 36) (changed (loads-in 0) (asked (lists-as (inARow 1 4074) 2 0) done))))))
 unfolding computed inARow
@@ -103,14 +116,14 @@ loaded-run = refl
 
 -- What damage gets: a slab whose stored count isn't its head's is no sound key, a free head that no block can have isn't popped, and there
 -- is no room behind a mark at the body's end. A number is judged before the key, and the key before its last number.
-pub damaged : (runs (book (bodyOf 8192) (slabWord 0 2 4096 ∷ []) 4112 (replicate 9 0))
+pub damaged : (runs (book (bodyOf 8192) (slabWord 0 2 4096 ∷ []) 4112 (replicate 9 0) (holding 0))
     (ask (read 0 5) ∷ change (append 0 9) ∷ change (drop 0) ∷ change (append 0 0) ∷ change (load Spare 0 []) ∷ [])
     ≡ asked (refused 31) (changed (refused 31) (changed (refused 31) (changed (refused 12) (changed (refused 3) done)))))
-    × (runs (book (bodyOf 8192) (5 ∷ []) 4112 (4104 ∷ replicate 8 0)) (change (append 0 6) ∷ change (append 0 5) ∷ [])
+    × (runs (book (bodyOf 8192) (5 ∷ []) 4112 (4104 ∷ replicate 8 0) (holding 0)) (change (append 0 6) ∷ change (append 0 5) ∷ [])
     ≡ changed (refused 35) (changed (refused 32) done))
-    × (runs (book (bodyOf 8192) (5 ∷ []) 8192 (replicate 9 0)) (change (append 0 6) ∷ ask (read 0 1) ∷ [])
+    × (runs (book (bodyOf 8192) (5 ∷ []) 8192 (replicate 9 0) (holding 0)) (change (append 0 6) ∷ ask (read 0 1) ∷ [])
     ≡ changed (refused 36) (asked (lists-as (5 ∷ []) 0 0) done))
-    × (runs (book (bodyOf 8192) (5 ∷ []) 8200 (replicate 9 0)) (ask (read 0 1) ∷ [])
+    × (runs (book (bodyOf 8192) (5 ∷ []) 8200 (replicate 9 0) (holding 0)) (ask (read 0 1) ∷ [])
     ≡ asked (refused 1) done)
 unfolding computed
 damaged = (refl, refl, refl, refl)
@@ -118,12 +131,12 @@ damaged = (refl, refl, refl, refl)
 -- A body whose second page is a key's last, with a total, and that key's head word.
 abbrev pub pageBook : ℕ → List ℕ → Book
 pageBook creates ns =
-    book (overwrite (bodyOf 8192) 4096 (lastPageOf 4096 4096 1 creates ns)) ((3 * 2 ^ 62 + 4096) ∷ []) 8192 (replicate 9 0)
+    book (overwrite (bodyOf 8192) 4096 (lastPageOf 4096 4096 1 creates ns)) ((3 * 2 ^ 62 + 4096) ∷ []) 8192 (replicate 9 0) (holding 1)
 
 -- The total that it tells after some calls.
 unfoldable pub totalAfter : Book → List Call → ℕ
 unfolding computed afterCalls
-totalAfter b cs = createsFieldOf (part (after b cs .space .body) 4096 4096)
+totalAfter b cs = createsFieldOf (part (after (0 ∷ []) b cs .space .body) 4096 4096)
 
 -- A total of 0 says that it was never counted: such a key is read, appended to, which leaves it 0, and dropped. One that is the length
 -- counts on, and another is no sound key's for a read or a drop, while an append looks at the last page only.
@@ -141,7 +154,27 @@ never-counted = (refl, refl, refl, refl)
 -- its class is by shortest forms. Reads tell two padded numbers until then, and none afterwards.
 pub padded :
     let slab : List ℕ = 2 ∷ 0 ∷ 133 ∷ 128 ∷ 128 ∷ 128 ∷ 128 ∷ 128 ∷ 0 ∷ 129 ∷ 128 ∷ 128 ∷ 128 ∷ 128 ∷ 0 ∷ [] in
-    runs (book (overwrite (bodyOf 8192) 4096 slab) (slabWord 0 2 4096 ∷ []) 4112 (replicate 9 0)) (ask (read 0 4) ∷ change (append 0 7) ∷ ask (read 0 4) ∷ change (append 0 8) ∷ ask (read 0 4) ∷ [])
+    runs (book (overwrite (bodyOf 8192) 4096 slab) (slabWord 0 2 4096 ∷ []) 4112 (replicate 9 0) (holding 0)) (ask (read 0 4) ∷ change (append 0 7) ∷ ask (read 0 4) ∷ change (append 0 8) ∷ ask (read 0 4) ∷ [])
     ≡ asked (lists-as (5 ∷ 6 ∷ []) 0 2) (changed (at (Slab 0 3 4096) 0) (asked (lists-as (5 ∷ 6 ∷ 7 ∷ []) 0 2) (changed (at (Slab 1 4 4112) 3) (asked (lists-as (5 ∷ 6 ∷ 7 ∷ 8 ∷ []) 0 0) done))))
 unfolding computed
 padded = refl
+
+-- ---- desks
+
+-- A slab for key 2, two loads of a page onto keys 0 and 1, and a number more for which the slab is too small.
+abbrev callsOfTwo : List Call
+callsOfTwo =
+    change (load Spare 2 (inARow 1 256)) ∷ change (load Spare 0 (inARow 1 300)) ∷ change (load Spare 1 (inARow 1 300)) ∷ change (append 2 257)
+    ∷ []
+
+-- What they answer over four pages, where keys 0 and 1 are of desk 0 with a ceiling, and key 2 of desk 1, for which a page is kept.
+abbrev keptFor1 : ℕ → Answers callsOfTwo
+keptFor1 most =
+    computed (serves (0 ∷ 0 ∷ 1 ∷ [])) (fresh (bodyOf 16384) 3 (record { reserve = 0 ∷ 1 ∷ replicate 14 0; ceiling = most ∷ replicate 15 1 }))
+    callsOfTwo
+
+-- The page kept for desk 1 isn't taken by desk 0: 41, or 40 where its ceiling is met.
+pub kept-page : (keptFor1 9 ≡ changed (loads-in 0) (changed (loads-in 1) (changed (refused 41) (changed (at (Extent 12288) 256) done))))
+    × (keptFor1 1 ≡ changed (loads-in 0) (changed (loads-in 1) (changed (refused 40) (changed (at (Extent 12288) 256) done))))
+unfolding computed inARow
+kept-page = (refl, refl)

@@ -3,16 +3,22 @@ use Prim.Native.Nat.{ℕ, zero, suc}
 use mathlib.Core.List.{List, [], _∷_}
 use mathlib.Core.Path.{_≡_, refl, sym, ap, _∙_}
 use native.Mathlib.Omega.{arith}
-use lib.ListN.{length}
-use Rattle.error.specs.Refusal.{accepted, refused, noRoom, keyUnsound}
+use lib.ListN.{length, replicate}
+use Rattle.error.specs.Refusal.{accepted, refused, refuseIf, noRoom, keyUnsound}
 use Rattle.book.specs.Book.{Book, fresh}
 use Rattle.book_rules.specs.declared.places.SlabFit.the-variants.{Spare, Tight}
-use Rattle.book_statements.specs.Calls.{Enquiry, read, Change, load, append, drop, Call, ask, change, Said, Made, Serves, Answers, done, asked, changed}
+use Rattle.book_statements.specs.Calls.{Enquiry, read, Change, load, append, drop, Call, ask, change, Said, Made, Serves, Answers}
+use Rattle.book_statements.specs.Calls.{done, asked, changed}
+use Rattle.book_limits.specs.Limits.{outOfShape}
+use Rattle.book_desks.specs.Desks.{Limits, making, sumTo, above, beyondDesks, listBad, reserveHigh}
+use Rattle.plain_book.specs.Book.{fresh as plainFresh, unlimited, makes}
 use Rattle.book_history.specs.Calls.{serves}
-use Rattle.book_history.specs.Hollow.{Hollow, always, emptyAnswer, readsEmpty, writesNothing, appendsNothing, writesFirst, firstOnly, pageMore}
-use Rattle.book_history.specs.Hollow.{rewrittenMore, invents, loadsAs, oneRule}
+use Rattle.book_history.specs.PlainOf.{Sixteen}
+use Rattle.book_history.specs.Hollow.{Hollow, always, emptyAnswer, readsEmpty, writesNothing, appendsNothing, writesFirst, firstOnly}
+use Rattle.book_history.specs.Hollow.{pageMore, rewrittenMore, invents, loadsAs, oneRule}
+use Rattle.book_history.specs.Hollow.{noReserves, noCeilings, ignores, oneDesk, keepsCount, dropsUncounted}
 use Rattle.book_history.proofs.Demand3.{demand-3}
-use Rattle.book_history.proofs.Examples.{computed, bodyOf}
+use Rattle.book_history.proofs.Examples.{computed, bodyOf, inARow}
 
 -- ---- what tells them apart
 
@@ -35,16 +41,33 @@ figureAt zero (changed {c = c} (accepted told) rest) = madeFigure c told
 figureAt zero (changed (refused number) rest) = number
 figureAt (suc i) (changed a rest) = figureAt i rest
 
--- The answers of a book, made fresh over two pages with one key.
-abbrev answersBy : Serves Book → (cs : List Call) → Answers cs
-answersBy k cs = computed k (fresh (bodyOf 8192) 1) cs
+-- The answers of a book, made fresh with a list of desks and some limits over a body of so many bytes, with one key.
+abbrev answersBy : Serves Book → Limits → ℕ → (cs : List Call) → Answers cs
+answersBy k l size cs = computed k (fresh (bodyOf size) 1 l) cs
 
 -- It is enough that one figure differs from our book's.
-differs : (k : Serves Book) (cs : List Call) (i m n : ℕ) → figureAt i (answersBy k cs) ≡ m → figureAt i (answersBy serves cs) ≡ n
-    → (m ≡ n → ⊥) → Hollow k
+differs-by : (k : List ℕ → Serves Book) (d : ℕ) (l : Limits) (size : ℕ)
+    → makes (d ∷ []) (length (bodyOf size)) 1 l ≡ accepted (plainFresh (d ∷ []) (length (bodyOf size)) 1 l) → Sixteen l
+    → (cs : List Call) (i m n : ℕ) → figureAt i (answersBy (k (d ∷ [])) l size cs) ≡ m
+    → figureAt i (answersBy (serves (d ∷ [])) l size cs) ≡ n → (m ≡ n → ⊥) → Hollow k
 unfolding Hollow computed
+differs-by k d l size made sixteen cs i m n one other apart = (
+  d ∷ [],
+  l,
+  bodyOf size,
+  1,
+  cs,
+  made,
+  sixteen,
+  λ e. apart (sym one ∙ ap (λ (a : Answers cs). figureAt i a) (e ∙ sym (demand-3 (d ∷ []) (bodyOf size) 1 l cs made sixteen .0)) ∙ other),
+)
+
+-- So it is with one desk without limits, over two pages.
+differs : (k : List ℕ → Serves Book) (cs : List Call) (i m n : ℕ) → figureAt i (answersBy (k (0 ∷ [])) unlimited 8192 cs) ≡ m
+    → figureAt i (answersBy (serves (0 ∷ [])) unlimited 8192 cs) ≡ n → (m ≡ n → ⊥) → Hollow k
+unfolding makes making outOfShape above sumTo listBad beyondDesks reserveHigh refuseIf
 differs k cs i m n one other apart =
-    (bodyOf 8192, 1, cs, λ e. apart (sym one ∙ ap (λ (a : Answers cs). figureAt i a) (e ∙ sym (demand-3 (bodyOf 8192) 1 cs .0)) ∙ other))
+    differs-by k 0 unlimited 8192 refl (record { reserve = refl; ceiling = refl }) cs i m n one other apart
 
 -- ---- each of them
 
@@ -90,3 +113,42 @@ pub always-spare : Hollow (oneRule Spare)
 unfolding computed loadsAs figureAt madeFigure saidFigure
 always-spare =
     differs (oneRule Spare) (change (load Tight 0 (1 ∷ 2 ∷ 3 ∷ 4 ∷ [])) ∷ change (append 0 5) ∷ []) 1 0 4 refl refl (λ e. omega arith)
+
+-- ---- desks
+
+-- Ceilings of the first desk and of the others, with a reserve of the second.
+abbrev limitsOf : ℕ → ℕ → ℕ → Limits
+limitsOf own others kept = record { reserve = 0 ∷ kept ∷ replicate 14 0; ceiling = own ∷ replicate 15 others }
+
+-- A load of 300 numbers, which takes a page.
+abbrev onePage : Call
+onePage = change (load Spare 0 (inARow 1 300))
+
+-- It is enough that one figure differs with these limits.
+differs-at : (k : List ℕ → Serves Book) (d own kept size : ℕ)
+    → makes (d ∷ []) (length (bodyOf size)) 1 (limitsOf own 9 kept)
+    ≡ accepted (plainFresh (d ∷ []) (length (bodyOf size)) 1 (limitsOf own 9 kept))
+    → (cs : List Call) (i m n : ℕ) → figureAt i (answersBy (k (d ∷ [])) (limitsOf own 9 kept) size cs) ≡ m
+    → figureAt i (answersBy (serves (d ∷ [])) (limitsOf own 9 kept) size cs) ≡ n → (m ≡ n → ⊥) → Hollow k
+differs-at k d own kept size made = differs-by k d (limitsOf own 9 kept) size made (record { reserve = refl; ceiling = refl })
+
+-- A book that ignores ceilings: a desk whose ceiling is 0 gets no page.
+pub ceilings-ignored : Hollow (ignores noCeilings)
+unfolding computed figureAt madeFigure inARow makes making outOfShape above sumTo listBad beyondDesks reserveHigh refuseIf
+ceilings-ignored = differs-at (ignores noCeilings) 0 0 0 8192 refl (onePage ∷ []) 0 1 40 refl refl (λ e. omega arith)
+
+-- A book that ignores reserves: the only page is kept for the second desk.
+pub reserves-ignored : Hollow (ignores noReserves)
+unfolding computed figureAt madeFigure inARow makes making outOfShape above sumTo listBad beyondDesks reserveHigh refuseIf
+reserves-ignored = differs-at (ignores noReserves) 0 9 1 8192 refl (onePage ∷ []) 0 1 41 refl refl (λ e. omega arith)
+
+-- A book that takes every key for one of the first desk, whose ceiling is 0: the second desk gets the page that is kept for it.
+pub desks-ignored : Hollow oneDesk
+unfolding computed figureAt madeFigure inARow makes making outOfShape above sumTo listBad beyondDesks reserveHigh refuseIf
+desks-ignored = differs-at oneDesk 1 0 1 8192 refl (onePage ∷ []) 0 40 1 refl refl (λ e. omega arith)
+
+-- A book whose drop keeps the desk's count: a desk whose ceiling is 1 gets a page again once it has given one back.
+pub drops-uncounted : Hollow dropsUncounted
+unfolding computed keepsCount figureAt madeFigure inARow makes making outOfShape above sumTo listBad beyondDesks reserveHigh refuseIf
+drops-uncounted =
+    differs-at dropsUncounted 0 1 0 12288 refl (onePage ∷ change (drop 0) ∷ onePage ∷ []) 2 40 1 refl refl (λ e. omega arith)

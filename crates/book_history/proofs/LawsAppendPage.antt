@@ -24,30 +24,35 @@ use Rattle.scripthash_free.specs.FreeList.{Block, isBlock}
 use Rattle.scripthash_free.proofs.LawsBlock.{block-stands}
 use Rattle.book_limits.specs.Limits.{outOfShape, mostBody}
 use Rattle.book_limits.proofs.LawsLimits.{in-shape}
+use Rattle.book_desks.specs.Desks.{desks}
+use Rattle.book_desks.specs.Counts.{heldCount, counted}
 use Rattle.plain_book.specs.Space.{Space as PlainSpace, Taken as PlainTaken, takeBlock as plainTake}
 use Rattle.plain_book.specs.Key.{written, longer, Page, Place, pages, lastPage, noPage, totalOf, headOf, Placed, longerPage, joins}
-use Rattle.plain_book.specs.Key.{joinedTo, begunAt, beginPage, appendPages, appendPlace}
-use Rattle.plain_book.specs.Book.{Book as PlainBook, Outcome as PlainOutcome, keyOf, extended, appends as plainAppends}
+use Rattle.plain_book.specs.Key.{joinedTo, begunAt, beginPage, appendPages, appendPlace, pagesOf, keyIn}
+use Rattle.plain_book.specs.Book.{Book as PlainBook, Outcome as PlainOutcome, keyOf, withKey, deskIn, freedIn, leaveOf, extended, appends as plainAppends}
 use Rattle.plain_book.specs.Owners.{Owner, hand, stack, slabOf, pageOf, pageNo, pageIn, has, places}
 use Rattle.plain_book.specs.Good.{Good, GoodPlain}
 use Rattle.plain_book.proofs.LawsOwners.{some-inj, none-some, kindOf, depthOf, atKey, key-slab, key-page}
+use Rattle.plain_book.proofs.LawsHistory.{leave-refuses}
 use Rattle.plain_book.proofs.LawsTaking.{good-taken}
 use Rattle.plain_book.proofs.LawsBlocks.{joined-at}
 use Rattle.plain_book.proofs.LawsChain.{chain, mark-most}
 use Rattle.plain_book.proofs.LawsTotals.{total-most}
-use Rattle.book_space.specs.Space.{Space, space, Taken, takeBlock as takes}
+use Rattle.book_space.specs.Space.{Space, space}
+use Rattle.book_space.specs.Desks.{TakenFor}
 use Rattle.book_keys.specs.Keys.{goodExtent, Tail}
 use Rattle.book_keys.specs.Keys.{pageAt as pageBytes}
 use Rattle.book_blocks.specs.Blocks.{lastPageOf, totalWith, pageWith, pageBefore}
 use Rattle.book_blocks.proofs.LawsTotals.{total-fits}
 use Rattle.book_blocks.proofs.LawsReadsMore.{spot-fits, spot-none, page-more, page-before, page-before-padded}
 use Rattle.book.specs.Book.{Book, seen}
-use Rattle.book_append.specs.Appends.{appending, growChain, appendPage, appendAt, appends}
+use Rattle.book_append.specs.Appends.{appending, growChain, appendPage, appendAt, appendsWith}
 use Rattle.book_history.specs.Agrees.{scanOf, PageReads, LastReads, NextReads, ChainReads, firstPageOff, SlabIn, PageIn, BlockReads}
-use Rattle.book_history.specs.Agrees.{contentsOf, AgreesSpace, Agrees}
+use Rattle.book_history.specs.Agrees.{contentsOf, AgreesSpace, AgreesCounts, Agrees}
 use Rattle.book_history.proofs.LawsFrame.{block-ends}
 use Rattle.book_history.proofs.LawsStep.{Alike, refused-alike, alike-both, placedContents}
-use Rattle.book_history.proofs.LawsTake.{inHandOf, taken-then, take-agrees}
+use Rattle.book_history.proofs.LawsTake.{inHandOf}
+use Rattle.book_history.proofs.LawsDesks.{key-desk, held-same, counts-placed, counts-stay, for-then, page-for-alike}
 use Rattle.book_history.proofs.LawsHand.{agrees-same, agrees-written, Filled, filled-whole, fill-agrees, fill-long, Meanwhile}
 use Rattle.book_history.proofs.LawsHand.{meanwhile-placed, withHand, placed-page}
 use Rattle.book_history.proofs.LawsContent.{last-written, some-pages, last-page-at, last-reads, last-fits, tail-agrees}
@@ -375,20 +380,30 @@ module _ (plain : PlainBook) (b : Book) (g : GoodPlain plain) (a : Agrees plain 
           (λ (other, f). (pageOf j i, f, λ block r. r))
           (key-page key (joinedTo n ps) (places plain) j i x e)
 
+  -- the key's desk
+  abbrev own : ℕ
+  own = deskIn plain key
+
+  known : own < desks
+  known = key-desk plain key (g .desks)
+
   -- What the plain book tells and leaves, once the key's new place is known.
   abbrev placing : Placed → Answer (PlainOutcome Appended)
   placing = appendLeaves plain key n (keyOf key plain .counted)
 
   -- Both books answer alike where the number joins the last page.
   joined-alike : (w : Spot) → spotBehind (pageBytes (seen (b .space)) last) n (tail .scan) ≡ some w
-      → Alike (placing (record { place = joinedTo n ps; space = plain .space; rewritten = 0 })) (appendPage b key n last tail (some w))
+      → Alike (placing (record { place = joinedTo n ps; space = plain .space; rewritten = 0 })) (appendPage own b key n last tail (some w))
   unfolding appendPage headOf
   joined-alike w spot =
-      append-ends plain b key more (joinedTo n ps) (keyOf key plain .counted) (totalWith total) (Extent last) 0 (plain .space) _ a shape low
+      append-ends plain b key more (joinedTo n ps) (keyOf key plain .counted) (totalWith total) (Extent last) 0 (plain .space) _ (b .counts) a
+      shape low
       (ap (λ (p : Page). Extent (p .off)) (joined-last n noPage ps one)) (total-is (joinedTo n ps))
       (last-long (plain .space) (b .space) none (pageWith (pageBytes (seen (b .space)) last) w total) (g .space) (a .inside shape .space)
       (joined-reads w spot .0))
       (joined-agrees w spot)
+      (counts-stay plain (b .counts) key known (a .inside shape .counts) (keyIn more (joinedTo n ps) (keyOf key plain .counted)) (plain .space)
+      refl (joined-long n ps ∙ sym (ap (λ (p : Place). pagesOf p) is)))
 
   -- The number begins a page in hand, and the old last page names it: the spaces agree, and the body is as long.
   begun-agrees : (inside : PlainSpace) (s : Space) (off : ℕ) → Good inside (places plain) (some (record { class = pageClass; off = off }))
@@ -472,37 +487,50 @@ module _ (plain : PlainBook) (b : Book) (g : GoodPlain plain) (a : Agrees plain 
           let m = meanwhile-placed plain key (totalWith total) (begunAt off n ps) (Filled pageClass ys) in
           record { stand = λ j other. refl; slabs = m .slabs; pages = m .pages }
 
+  -- The counts tell of the page more.
+  begun-counts : (t : PlainTaken) (u : TakenFor)
+      → u .counts ≡ counted (freedIn (t .space)) own (heldCount own (b .counts) + 1) (b .counts)
+      → AgreesCounts (withKey key (keyIn more (begunAt (t .off) n ps) (keyOf key plain .counted)) (t .space) plain) (u .counts)
+  begun-counts t u left =
+      let held = held-same plain (b .counts) key known (a .inside shape .counts) in
+      let was : pagesOf (keyOf key plain .place) ≡ length ps = ap (λ (p : Place). pagesOf p) is in
+      let long : pagesOf (begunAt (t .off) n ps) ≡ length ps + 1 = length-append ps _ in
+      subst (AgreesCounts (withKey key (keyIn more (begunAt (t .off) n ps) (keyOf key plain .counted)) (t .space) plain)) (sym left)
+      (counts-placed plain (b .counts) key known (a .inside shape .counts)
+      (keyIn more (begunAt (t .off) n ps) (keyOf key plain .counted)) (t .space) (freedIn (t .space)) _ refl (omega arith))
+
   -- Both books answer alike where the number begins a taken page.
-  begun-alike : Alike (andThen (beginPage (plain .size) ps n (plain .space)) placing) (growChain b key n last tail)
+  begun-alike : Alike (andThen (beginPage (plain .size) (leaveOf plain key) ps n (plain .space)) placing) (growChain own b key n last tail)
   unfolding beginPage growChain andThen headOf
   begun-alike =
-      subst (λ (end : ℕ). Alike (andThen (beginPage end ps n (plain .space)) placing) (growChain b key n last tail)) (a .size)
-      (taken-then (λ x y. Alike (andThen x placing) y) (places plain) (inHandOf pageClass) (contentsOf plain) (length (b .space .body))
+      for-then (λ x y. Alike (andThen x placing) y) (places plain) (inHandOf pageClass) (contentsOf plain) (plain .size) own 1 (b .counts)
       _ _ _ _ (λ number. refused-alike) go
-      (take-agrees (plain .space) (b .space) (places plain) (contentsOf plain) pageClass (omega arith) (g .space)
-      (rw (a .size) (in-shape (plain .size) (length (plain .keys)) shape .paged)) (a .inside shape .space)))
+      (page-for-alike plain (b .space) (b .counts) key (places plain) (contentsOf plain) (g .space) (g .desks) (a .inside shape .counts)
+      (a .size) (a .inside shape .space))
     where
-      go : (t : PlainTaken) (u : Taken) → plainTake (length (b .space .body)) pageClass (plain .space) ≡ accepted t
-          → takes pageClass (b .space) ≡ accepted u → u .off ≡ t .off
-          → length (u .space .body) ≡ length (b .space .body)
+      go : (t : PlainTaken) (u : TakenFor) → leaveOf plain key 1 (plainTake (plain .size) pageClass (plain .space)) ≡ accepted t
+          → u .off ≡ t .off → length (u .space .body) ≡ plain .size
           → AgreesSpace (t .space) (u .space) (places plain) (some (record { class = pageClass; off = t .off })) (contentsOf plain)
+          → u .counts ≡ counted (freedIn (t .space)) own (heldCount own (b .counts) + 1) (b .counts)
           → Alike (placing (record { place = begunAt (t .off) n ps; space = t .space; rewritten = 0 }))
           (accepted (appending key (Extent (u .off)) 0
           (space (overwrite (overwrite (u .space .body) last (pageBefore (pageBytes (seen (u .space)) last) (u .off))) (u .off)
           (lastPageOf (firstPageOff ps) (u .off) 1 (totalWith total) (n ∷ [])))
-          (u .space .mark) (u .space .free)) b))
-      go t u took took' same long h =
-          let good = good-taken (length (b .space .body)) pageClass (plain .space) (places plain) (omega arith) took (g .space) in
+          (u .space .mark) (u .space .free)) (u .counts) b))
+      go t u took same long h left =
+          let good = good-taken (plain .size) pageClass (plain .space) (places plain) (omega arith) (leave-refuses plain key 1 _ t took)
+          (g .space) in
           let (all, kept) = begun-agrees (t .space) (u .space) (t .off) good h in
           rw same
           (append-ends plain b key more (begunAt (t .off) n ps) (keyOf key plain .counted) (totalWith total) (Extent (t .off)) 0 (t .space)
-          _ a shape low
+          _ (u .counts) a shape low
           (ap (λ (p : Page). Extent (p .off)) (begun-last noPage ps
-          (record { off = t .off; room = lastPageRoom; part = written (n ∷ []) }))) (total-is (begunAt (t .off) n ps)) (kept ∙ long) all)
+          (record { off = t .off; room = lastPageRoom; part = written (n ∷ []) }))) (total-is (begunAt (t .off) n ps))
+          (kept ∙ long ∙ sym (a .size)) all (begun-counts t u left))
 
   -- Both books answer alike: they judge by one test whether the number joins the last page.
-  behind-alike : Alike (andThen (appendPages (plain .size) ps n (plain .space)) placing)
-      (appendPage b key n last tail (spotBehind (pageBytes (seen (b .space)) last) n (tail .scan)))
+  behind-alike : Alike (andThen (appendPages (plain .size) (leaveOf plain key) ps n (plain .space)) placing)
+      (appendPage own b key n last tail (spotBehind (pageBytes (seen (b .space)) last) n (tail .scan)))
   unfolding appendPages appendPage joins longer andThen
   behind-alike = go (joins n ps) refl
     where
@@ -511,8 +539,8 @@ module _ (plain : PlainBook) (b : Book) (g : GoodPlain plain) (a : Agrees plain 
 
       go : (t : Bool) → joins n ps ≡ t
           → Alike (andThen (cond t (accepted (record { place = joinedTo n ps; space = plain .space; rewritten = 0 }))
-          (beginPage (plain .size) ps n (plain .space))) placing)
-          (appendPage b key n last tail (spotBehind (pageBytes (seen (b .space)) last) n (tail .scan)))
+          (beginPage (plain .size) (leaveOf plain key) ps n (plain .space))) placing)
+          (appendPage own b key n last tail (spotBehind (pageBytes (seen (b .space)) last) n (tail .scan)))
       go true e =
           let fits = leb-true (longer n (lastPage noPage ps .part) .bytes) (lastPage noPage ps .room) e in
           let spot = spot-fits (pageBytes (seen (b .space)) last) n (tail .scan) (rw room fits) in
@@ -524,7 +552,7 @@ module _ (plain : PlainBook) (b : Book) (g : GoodPlain plain) (a : Agrees plain 
 -- The two books answer an append alike, where the key has pages.
 pub append-pages : (plain : PlainBook) (b : Book) (key n : ℕ) (ps : List Page) → GoodPlain plain → Agrees plain b
     → keyOf key plain .place ≡ pages ps
-    → Alike (plainAppends plain key n) (appends b key n)
+    → Alike (plainAppends plain key n) (appendsWith (plain .desks) b key n)
 unfolding appendPlace appendAt headOf
 append-pages plain b key n ps g a is =
     append-begins plain b key n g a
@@ -532,7 +560,7 @@ append-pages plain b key n ps g a is =
     rw (
       is,
       then-yes _ (λ (t : Tail). refuseIf (leb n (lastOf (t .scan))) offeredNotRising
-          (appendPage b key n (lastPage noPage ps .off) t (spotBehind (pageBytes (seen (b .space)) (lastPage noPage ps .off)) n (t .scan))))
+          (appendPage (deskIn plain key) b key n (lastPage noPage ps .off) t (spotBehind (pageBytes (seen (b .space)) (lastPage noPage ps .off)) n (t .scan))))
           (tail-agrees plain b g shape h key ps is),
     )
     (alike-both _ _ _ _ _ (ap (leb n) (chain key ps g is .last))

@@ -22,11 +22,12 @@ use Rattle.scripthash_cutting.specs.Cutting.{lastPageRoom}
 use Rattle.scripthash_free.specs.FreeList.{Block, isBlock}
 use Rattle.scripthash_free.proofs.LawsBlock.{block-stands}
 use Rattle.book_rules.specs.Outcomes.{appendedTo, Appended}
+use Rattle.book_rules.specs.Offered.{offeredNumber}
 use Rattle.book_limits.specs.Limits.{outOfShape, mostBody, mostCounted, totalTold}
 use Rattle.plain_book.specs.Space.{Space as PlainSpace}
 use Rattle.plain_book.specs.Key.{Kept, written, Page, Place, empty, inline, slab, pages, lastPage, noPage, totalOf, headOf, pagesOf, paddedPages, paddedOf, countedAfter, keyIn}
 use Rattle.plain_book.specs.Key.{Placed, appendPlace}
-use Rattle.plain_book.specs.Book.{Book as PlainBook, Outcome as PlainOutcome, keyOf, withKey, extended, appends as plainAppends}
+use Rattle.plain_book.specs.Book.{Book as PlainBook, Outcome as PlainOutcome, keyOf, withKey, deskIn, leaveOf, extended, appends as plainAppends}
 use Rattle.plain_book.specs.Book.{reads as plainReads}
 use Rattle.plain_book.specs.Sound.{held, FitsPage, FitPages, RisesFrom, Fits}
 use Rattle.plain_book.specs.Owners.{pageOf, slabOf, slabAt, pageNo, pageIn, has, places}
@@ -43,10 +44,10 @@ use Rattle.book_blocks.specs.Blocks.{lastPageOf, totalWith}
 use Rattle.book_blocks.proofs.LawsTotals.{total-unknown, total-known}
 use Rattle.book_blocks.proofs.LawsReadsPage.{last-page-reads, last-page-padded}
 use Rattle.book.specs.Book.{Book, wordOf, seen}
-use Rattle.book_append.specs.Appends.{appending, appendAt, appends}
-use Rattle.book_read.specs.Reads.{reads}
+use Rattle.book_append.specs.Appends.{appending, appendAt, appends, appendsWith}
+use Rattle.book_read.specs.Reads.{reads, readsWith}
 use Rattle.book_history.specs.Agrees.{scanOf, SlabIn, PageIn, SlabReads, PageReads, LastReads, ChainReads, firstPageOff, AgreesSpace}
-use Rattle.book_history.specs.Agrees.{AgreesInside, Agrees}
+use Rattle.book_history.specs.Agrees.{AgreesCounts, AgreesInside, Agrees}
 use Rattle.book_history.proofs.LawsWords.{stored-told}
 use Rattle.book_history.proofs.LawsStep.{same-on-key, Alike, told-alike, alike-on-key, alike-offered, placedContents, agrees-placed}
 
@@ -369,7 +370,8 @@ module _ (plain : PlainBook) (b : Book) (g : GoodPlain plain) (shape : outOfShap
 -- ---- a read
 
 -- The two books give a read the same answer.
-pub read-step : (plain : PlainBook) (b : Book) (key room : ℕ) → GoodPlain plain → Agrees plain b → reads b key room ≡ plainReads plain key room
+pub read-step : (plain : PlainBook) (b : Book) (key room : ℕ) → GoodPlain plain → Agrees plain b
+    → readsWith (plain .desks) b key room ≡ plainReads plain key room
 unfolding plainReads reads
 read-step plain b key room g a =
     same-on-key plain b key _ _ g a (λ shape h low. then-yes _ _ (content-agrees plain b g shape h key))
@@ -424,8 +426,8 @@ appendLeaves plain key n counted p =
 -- What a plain book's append does once the number is known to be above the key's last.
 abbrev pub plainAppending : PlainBook → ℕ → ℕ → Bool → Answer (PlainOutcome Appended)
 plainAppending plain key n counted =
-    andThen (appendPlace (plain .size) (length (keyOf key plain .list)) (extended (keyOf key plain .list) n) n (keyOf key plain .place)
-    (plain .space))
+    andThen (appendPlace (plain .size) (leaveOf plain key) (length (keyOf key plain .list)) (extended (keyOf key plain .list) n) n
+    (keyOf key plain .place) (plain .space))
     (appendLeaves plain key n counted)
 
 -- The two books answer an append alike, where they do so once the key's place is known.
@@ -433,29 +435,31 @@ pub append-begins : (plain : PlainBook) (b : Book) (key n : ℕ) → GoodPlain p
     → (outOfShape (plain .size) (length (plain .keys)) ≡ false → AgreesInside plain b → key < length (plain .keys) → 0 < n → n < 2 ^ 62
     → Alike (refuseIf (leb n (lastFrom 0 (keyOf key plain .list))) offeredNotRising
     (plainAppending plain key n (countedAfter (keyOf key plain .place) (keyOf key plain .counted))))
-    (appendAt b key n (headOf (keyOf key plain .list) (keyOf key plain .place))))
-    → Alike (plainAppends plain key n) (appends b key n)
+    (appendAt (deskIn plain key) b key n (headOf (keyOf key plain .list) (keyOf key plain .place))))
+    → Alike (plainAppends plain key n) (appendsWith (plain .desks) b key n)
 unfolding plainAppends appends
 append-begins plain b key n g a go =
-    alike-on-key plain b key _ _ g a
+    alike-on-key plain b key _ (λ desk. offeredNumber true 0 n (andThen (soundly (unpackHead (wordOf key b))) (appendAt desk b key n))) g a
     (λ shape h low.
     alike-offered (lastFrom 0 (keyOf key plain .list)) n _ _
-    (λ some' small. rw (then-yes _ (appendAt b key n) (soundly-yes _ (head-agrees plain b g shape h key))) (go shape h low some' small)))
+    (λ some' small. rw (then-yes _ (appendAt (deskIn plain key) b key n) (soundly-yes _ (head-agrees plain b g shape h key)))
+    (go shape h low some' small)))
 
 -- The two books end an append alike: the key gets its longer list and its place in both, and the spaces agree.
 pub append-ends : (plain : PlainBook) (b : Book) (key : ℕ) (list : List ℕ) (place : Place) (counted : Bool) (total : ℕ)
     (value : ShHeadValue) (rewritten : ℕ) (inside : PlainSpace)
-    (s : Space) → Agrees plain b
+    (s : Space) (counts : List ℕ) → Agrees plain b
     → outOfShape (plain .size) (length (plain .keys)) ≡ false → key < length (plain .keys) → headOf list place ≡ value
     → totalOf (keyIn list place counted) ≡ total → length (s .body) ≡ length (b .space .body)
     → AgreesSpace inside s (atKey key place (places plain)) none (placedContents plain key total place)
+    → AgreesCounts (withKey key (keyIn list place counted) inside plain) counts
     → Alike (accepted (record {
       told = appendedTo (headOf list place) rewritten;
       book =
           withKey key (keyIn list place counted) inside plain;
     }))
-    (accepted (appending key value rewritten s b))
-append-ends plain b key list place counted total value rewritten inside s a shape low is told long h =
+    (accepted (appending key value rewritten s counts b))
+append-ends plain b key list place counted total value rewritten inside s counts a shape low is told long h desks =
     let placed : AgreesSpace inside s (atKey key place (places plain)) none
     (placedContents plain key (totalOf (keyIn list place counted)) place) = rw told h in
-    rw (← is) (told-alike refl (agrees-placed plain key list place counted inside low b s a shape long placed))
+    rw (← is) (told-alike refl (agrees-placed plain key list place counted inside low b s counts a shape long placed desks))

@@ -1,36 +1,45 @@
 -- A place is given up in both spaces: its slab, or its pages, the first first, go onto their free lists; and so a drop is answered alike.
 -- Assumes nothing.
-use Prim.Native.Nat.{ℕ, suc}
+use Prim.Native.Nat.{ℕ, suc, _+_, _-_, _<_}
 use mathlib.Core.Bool.{Bool, true, false, cond}
 use mathlib.Core.List.{List, [], _∷_}
 use mathlib.Core.Logic.{⊎-elim, _≢_}
 use mathlib.Core.Option.{Option, none, some}
 use mathlib.Core.Path.{_≡_, refl, sym, ap, subst, _∙_}
 use native.Mathlib.Omega.{arith}
-use lib.Dec.{eqb}
+use lib.Dec.{ltb, eqb}
 use lib.ListN.{length}
-use borrow.Author.Tests.{eq-eqb}
-use Rattle.error.proofs.LawsAnswer.{then-yes}
+use borrow.Author.Tests.{eqb-true, eq-eqb, le-ltb}
+use Rattle.error.specs.Refusal.{Answer, refuseIf, andThen, shapeBad, keyUnsound}
+use Rattle.error.proofs.LawsAnswer.{refuse-no, then-yes}
 use Rattle.scripthash_layout.specs.Sizes.{pageClass}
 use Rattle.scripthash_free.specs.FreeList.{Block, pushAll}
 use Rattle.scripthash_free.proofs.LawsBlock.{block-stands}
 use Rattle.book_statements.specs.Calls.{drop}
+use Rattle.book_limits.specs.Limits.{outOfShape}
+use Rattle.book_desks.specs.Desks.{desks}
+use Rattle.book_desks.specs.Counts.{freedCount, heldCount, countsHigh, counted}
 use Rattle.plain_book.specs.Space.{Space as PlainSpace, freed}
-use Rattle.plain_book.specs.Key.{Page, Place, empty, inline, slab, pages, headOf, freedPages, freedPlace}
-use Rattle.plain_book.specs.Book.{Book as PlainBook, drops as plainDrops, does as plainDoes}
+use Rattle.plain_book.specs.Key.{Page, Place, empty, inline, slab, pages, headOf, emptyKey, pagesOf, freedPages, freedPlace}
+use Rattle.plain_book.specs.Book.{Book as PlainBook, keyOf, withKey, deskIn, freedIn, drops as plainDrops, does as plainDoes}
 use Rattle.plain_book.specs.Owners.{Owner, hand, stack, slabOf, pageOf, pageNo, slabAt, pageIn, has, places}
 use Rattle.plain_book.specs.Good.{Good, GoodPlain}
 use Rattle.plain_book.proofs.LawsOwners.{none-some, kindOf, depthOf, atKey, key-slab, key-page, good-first-freed}
+use Rattle.plain_book.proofs.LawsDesks.{place-back}
+use Rattle.plain_book.proofs.LawsCounts.{own-held}
 use Rattle.book_space.specs.Space.{Space, release}
-use Rattle.book_keys.specs.Keys.{pageBlocks}
-use Rattle.book.specs.Book.{Book}
-use Rattle.book_drop.specs.Drops.{drops}
+use Rattle.book_space.specs.Desks.{givenBack}
+use Rattle.book_space.proofs.LawsDesks.{countsBack}
+use Rattle.book_keys.specs.Keys.{pageBlocks, content}
+use Rattle.book.specs.Book.{Book, wordOf, seen}
+use Rattle.book_drop.specs.Drops.{drops, dropped}
 use Rattle.book_history.specs.Calls.{does}
-use Rattle.book_history.specs.Agrees.{Contents, BlockReads, AgreesSpace, Agrees, contentsOf}
+use Rattle.book_history.specs.Agrees.{Contents, BlockReads, AgreesSpace, AgreesCounts, AgreesInside, Agrees, contentsOf}
 use Rattle.book_history.proofs.LawsFrame.{block-ends}
 use Rattle.book_history.proofs.LawsStep.{Alike, told-alike, alike-on-key, placedContents, agrees-placed}
 use Rattle.book_space.proofs.LawsTake.{release-first}
 use Rattle.book_history.proofs.LawsPush.{FromOther, push-agrees, release-long}
+use Rattle.book_history.proofs.LawsDesks.{key-desk, counts-fine, held-same, counts-placed, counts-stay}
 use Rattle.book_history.proofs.LawsContent.{offsOf, blocksOf, content-agrees}
 use Rattle.book_history.proofs.LawsHand.{bare-placed, withHand, OthersKept, meanwhile-first, others-kept}
 
@@ -177,17 +186,70 @@ gone-placed plain key R =
       any = λ i block. rw (eq-eqb key key refl) tt;
     }
 
+module _ (plain : PlainBook) (b : Book) (key : ℕ) (g : GoodPlain plain) (a : Agrees plain b) (low : key < length (plain .keys))
+    (shape : outOfShape (plain .size) (length (plain .keys)) ≡ false) (h : AgreesInside plain b) where
+  -- the key's desk, and its pages
+  abbrev own : ℕ
+  own = deskIn plain key
+
+  abbrev given : ℕ
+  given = pagesOf (keyOf key plain .place)
+
+  known : own < desks
+  known = key-desk plain key (g .desks)
+
+  -- The pages that are given back are its desk's, so that the drop goes on.
+  back-passes : {A : Type 0} (after : List ℕ → Answer A)
+      → givenBack (length (b .space .body)) own given (b .counts) after ≡ after (countsBack own given (b .counts))
+  unfolding givenBack
+  back-passes {A} after = go (eqb given 0)
+    where
+      fine : countsHigh (length (b .space .body)) (b .counts) ≡ false
+      fine = rw (a .size) (counts-fine plain (b .counts) (g .desks) (h .counts))
+
+      enough : ltb (heldCount own (b .counts)) given ≡ false
+      enough =
+          le-ltb (heldCount own (b .counts)) given (let e = held-same plain (b .counts) key known (h .counts) in let o = own-held plain key (g .desks) low in omega arith)
+
+      go : (t : Bool) → cond t (after (b .counts)) (refuseIf (countsHigh (length (b .space .body)) (b .counts)) shapeBad
+          (refuseIf (ltb (heldCount own (b .counts)) given) keyUnsound
+          (after (counted (freedCount (b .counts) + given) own (heldCount own (b .counts) - given) (b .counts)))))
+          ≡ after (cond t (b .counts) (counted (freedCount (b .counts) + given) own (heldCount own (b .counts) - given) (b .counts)))
+      go true = refl
+      go false = refuse-no _ shapeBad _ fine ∙ refuse-no _ keyUnsound _ enough
+
+  -- The counts tell of what is given back.
+  back-counts : AgreesCounts (withKey key emptyKey (freedPlace (keyOf key plain .place) (plain .space)) plain) (countsBack own given (b .counts))
+  back-counts = go (eqb given 0) refl
+    where
+      more : freedIn (freedPlace (keyOf key plain .place) (plain .space)) ≡ freedIn (plain .space) + given
+      more = place-back (keyOf key plain .list) (keyOf key plain .place) (plain .space) (g .keys key .fits) (g .space .nine) .more
+
+      go : (t : Bool) → eqb given 0 ≡ t → AgreesCounts (withKey key emptyKey (freedPlace (keyOf key plain .place) (plain .space)) plain)
+          (cond t (b .counts) (counted (freedCount (b .counts) + given) own (heldCount own (b .counts) - given) (b .counts)))
+      go true e =
+          let none' = eqb-true given 0 e in
+          counts-stay plain (b .counts) key known (h .counts) emptyKey (freedPlace (keyOf key plain .place) (plain .space))
+          (let m = more in omega arith) (sym none')
+      go false e =
+          let held = held-same plain (b .counts) key known (h .counts) in
+          let freed = h .counts .freed in
+          let f : freedCount (b .counts) + given ≡ freedIn (freedPlace (keyOf key plain .place) (plain .space)) = omega (arith, more) in
+          counts-placed plain (b .counts) key known (h .counts) emptyKey (freedPlace (keyOf key plain .place) (plain .space)) _ _ f
+          (omega arith)
+
 -- The two books answer a drop alike.
 pub drop-step : (plain : PlainBook) (b : Book) (key : ℕ) → GoodPlain plain → Agrees plain b
-    → Alike (plainDoes plain (drop key)) (does b (drop key))
-unfolding plainDoes does plainDrops drops headOf
+    → Alike (plainDoes plain (drop key)) (does (plain .desks) b (drop key))
+unfolding plainDoes does plainDrops drops headOf dropped
 drop-step plain b key g a =
-    alike-on-key plain b key _ _ g a
+    alike-on-key plain b key _ (λ desk. andThen (content (seen (b .space)) (wordOf key b)) (dropped desk b key)) g a
     (λ shape h low.
     let k = place-gone key none (places plain key) (plain .space) (b .space) (places plain) (contentsOf plain)
     (placedContents plain key 0 empty) refl
     (gone-placed plain key (λ block. Unit {0})) (g .space) (h .space) in
-    rw (then-yes _ _ (content-agrees plain b g shape h key))
+    rw (then-yes _ (dropped (deskIn plain key) b key) (content-agrees plain b g shape h key), back-passes plain b key g a low shape h _)
     (told-alike refl
     (agrees-placed plain key [] empty true (freedPlace (places plain key) (plain .space)) low b
-    (release (blocksOf (places plain key)) (b .space)) a shape (k .size) (k .agrees))))
+    (release (blocksOf (places plain key)) (b .space)) (countsBack (deskIn plain key) (pagesOf (places plain key)) (b .counts)) a shape (k .size)
+    (k .agrees) (back-counts plain b key g a low shape h))))

@@ -7,11 +7,11 @@ use mathlib.Core.Option.{Option, none, some}
 use mathlib.Core.Path.{_≡_, refl, sym, ap, subst, _∙_}
 use native.Mathlib.Nat.{le-refl}
 use native.Mathlib.Omega.{arith}
-use lib.Dec.{eqb}
+use lib.Dec.{ltb, eqb}
 use lib.ListN.{length, set, length-append}
 use lib.Seq.{set-getD}
 use borrow.Author.Tests.{leb-false, ltb-false, eq-eqb, ne-eqb, le-leb}
-use Rattle.error.specs.Refusal.{Answer, accepted, andThen}
+use Rattle.error.specs.Refusal.{Answer, accepted, refuseIf, andThen, keyInUse, tooManyOffered}
 use Rattle.error.proofs.LawsAnswer.{accepted-inj}
 use Rattle.buffer.specs.Bytes.{part, overwrite}
 use Rattle.buffer.specs.LittleEndian.{bytesOf}
@@ -38,11 +38,14 @@ use Rattle.book_limits.specs.Limits.{outOfShape, mostBody, mostCounted, totalTo
 use Rattle.book_rules.specs.Places.{loadsTo}
 use Rattle.book_limits.proofs.LawsLimits.{in-shape}
 use Rattle.book_rules.proofs.LawsRules.{loads-to}
+use Rattle.book_desks.specs.Desks.{countOf}
+use Rattle.book_desks.specs.Counts.{heldCount, counted}
 use Rattle.plain_book.specs.Space.{Space as PlainSpace, Taken as PlainTaken, takeBlock as plainTake, rounded as plainRounded}
 use Rattle.plain_book.specs.Space.{takeRun as plainTakeRun, runAtMark as plainRunAtMark}
 use Rattle.plain_book.specs.Key.{Page, Place, empty, inline, slab, pages, written, lastPage, noPage, headOf, Key, emptyKey, pagesOf, Placed, keyIn}
 use Rattle.plain_book.specs.Key.{runPages, loadInto as plainLoadInto, loadPlace}
-use Rattle.plain_book.specs.Book.{Book as PlainBook, Outcome as PlainOutcome, keyOf, withKey, inUse, loads as plainLoads, does as plainDoes}
+use Rattle.plain_book.specs.Book.{Book as PlainBook, Outcome as PlainOutcome, keyOf, withKey, deskIn, freedIn, leaveOf, inUse, loads as plainLoads}
+use Rattle.plain_book.specs.Book.{does as plainDoes}
 use Rattle.plain_book.specs.Sound.{Fits, SoundKey}
 use Rattle.plain_book.specs.Owners.{Owner, hand, stack, slabOf, pageOf, Apart, slabAt, pageNo, pageIn, has, places}
 use Rattle.plain_book.specs.Good.{Good, GoodPlain}
@@ -50,8 +53,10 @@ use Rattle.plain_book.proofs.LawsApart.{apart-fewer}
 use Rattle.plain_book.proofs.LawsOwners.{some-inj, none-some, atKey, key-slab, key-page}
 use Rattle.plain_book.proofs.LawsCeilings.{run-length}
 use Rattle.plain_book.proofs.LawsSound.{some-parts}
+use Rattle.plain_book.proofs.LawsHistory.{leave-refuses}
 use Rattle.plain_book.proofs.LawsTaking.{good-taken, good-rounded, rounded-mark, took-mark}
-use Rattle.book_space.specs.Space.{Space, space, Taken, takeBlock as takes, takeRun}
+use Rattle.book_space.specs.Space.{Space, space}
+use Rattle.book_space.specs.Desks.{TakenFor}
 use Rattle.book_keys.specs.Keys.{goodExtent}
 use Rattle.book_blocks.specs.Blocks.{lastPageOf, pageTo, writeRun}
 use Rattle.book_blocks.proofs.LawsReadsSlab.{slab-written, slab-written-padded}
@@ -60,14 +65,15 @@ use Rattle.book.specs.Book.{Book, Outcome, wordOf, filled}
 use Rattle.book_load.specs.Loads.{loading, lastOfRun, loadInto, loadAt, loads}
 use Rattle.book_history.specs.Calls.{does}
 use Rattle.book_history.specs.Agrees.{SlabReads, PageReads, LastReads, NextReads, ChainReads, firstPageOff, SlabIn, PageIn, Contents}
-use Rattle.book_history.specs.Agrees.{BlockReads, contentsOf, AgreesSpace, AgreesInside, Agrees}
+use Rattle.book_history.specs.Agrees.{BlockReads, contentsOf, AgreesSpace, AgreesCounts, AgreesInside, Agrees}
 use Rattle.book_history.proofs.LawsFrame.{blockOf, block-ends, block-written}
 use Rattle.book_history.proofs.LawsWords.{empty-told}
 use Rattle.book_history.proofs.LawsStep.{Alike, told-alike, refused-alike, alike-both, alike-on-key, placedContents, agrees-placed}
 use Rattle.book_history.proofs.LawsContent.{head-agrees}
 use Rattle.book_history.proofs.LawsHand.{Filled, fill-long, fill-agrees, Meanwhile, meanwhile-first, OthersKept, others-kept}
 use Rattle.book_history.proofs.LawsHand.{placed-slab}
-use Rattle.book_history.proofs.LawsTake.{anyHand, inHandOf, TakenAlike, taken-then, take-agrees, run-agrees}
+use Rattle.book_history.proofs.LawsTake.{anyHand, inHandOf}
+use Rattle.book_history.proofs.LawsDesks.{key-desk, held-same, counts-placed, counts-stay, for-then, slab-for-alike, run-for-alike}
 
 -- ---- a run of pages is written
 
@@ -302,7 +308,23 @@ payload-reads class ns block rises few f =
 
 module _ (plain : PlainBook) (b : Book) (key : ℕ) (ns : List ℕ) (g : GoodPlain plain) (a : Agrees plain b)
     (shape : outOfShape (plain .size) (length (plain .keys)) ≡ false)
-    (h : AgreesInside plain b) (l : key < length (plain .keys)) (rises : Rising (2 ^ 62) 0 ns) (few : length ns ≤ maxOffered) where
+    (h : AgreesInside plain b) (l : key < length (plain .keys)) (rises : Rising (2 ^ 62) 0 ns) (few : length ns ≤ maxOffered)
+    (vacant : keyOf key plain .place ≡ empty) where
+  -- the key's desk
+  abbrev own : ℕ
+  own = deskIn plain key
+
+  -- The counts tell what was taken for the list.
+  load-counts : (place : Place) (inside : PlainSpace) (n : ℕ) (counts : List ℕ) → pagesOf place ≡ n
+      → counts ≡ counted (freedIn inside) own (heldCount own (b .counts) + n) (b .counts)
+      → AgreesCounts (withKey key (keyIn ns place true) inside plain) counts
+  load-counts place inside n counts many left =
+      let known = key-desk plain key (g .desks) in
+      let held = held-same plain (b .counts) key known (h .counts) in
+      let was : pagesOf (keyOf key plain .place) ≡ 0 = ap (λ (p : Place). pagesOf p) vacant in
+      subst (AgreesCounts (withKey key (keyIn ns place true) inside plain)) (sym left)
+      (counts-placed plain (b .counts) key known (h .counts) (keyIn ns place true) inside (freedIn inside) _ refl (omega arith))
+
   -- what the plain book answers, once the list has a place
   abbrev loadedTo : Placed → Answer (PlainOutcome Loaded)
   loadedTo p = accepted (record {
@@ -311,33 +333,31 @@ module _ (plain : PlainBook) (b : Book) (key : ℕ) (ns : List ℕ) (g : GoodPla
         withKey key (keyIn ns (p .place) true) (p .space) plain;
   })
 
-  whole : length (b .space .body) % 4096 ≡ 0
-  whole = ap (λ (n : ℕ). n % 4096) (a .size) ∙ in-shape (plain .size) (length (plain .keys)) shape .paged
-
   -- a slab is taken and filled
   load-slab : (fit : SlabFit) (class : ℕ) → loadsTo fit (length ns) (streamLen ns) ≡ some class
-      → Alike (andThen (plainLoadInto (plain .size) (some class) ns (plain .space)) loadedTo) (loadInto b key ns (some class))
+      → Alike (andThen (plainLoadInto (plain .size) (leaveOf plain key) (some class) ns (plain .space)) loadedTo)
+      (loadInto own b key ns (some class))
   unfolding plainLoadInto loadInto headOf andThen
   load-slab fit class is =
-      taken-then (λ x y. Alike (andThen x loadedTo) y) (places plain) (inHandOf class) (anyHand (contentsOf plain)) (plain .size) _ _ _ _
-      (λ number. refused-alike) go
-      (subst (λ (n : ℕ). TakenAlike (places plain) (inHandOf class) (anyHand (contentsOf plain)) n (plainTake n class (plain .space))
-      (takes class (b .space))) (a .size)
-      (take-agrees (plain .space) (b .space) (places plain) (contentsOf plain) class to-8 (g .space) whole (h .space)))
+      for-then (λ x y. Alike (andThen x loadedTo) y) (places plain) (inHandOf class) (anyHand (contentsOf plain)) (plain .size) own 0 (b .counts)
+      _ _ _ _ (λ number. refused-alike) go
+      (slab-for-alike plain (b .space) (b .counts) key (places plain) (contentsOf plain) (g .space) (g .desks) (h .counts) (a .size)
+      (h .space) class (let (many, to-7, fits) = loads-to fit (length ns) (streamLen ns) is in to-7))
     where
       to-8 : class ≤ 8
       to-8 = let (many, to-7, fits) = loads-to fit (length ns) (streamLen ns) is in omega arith
 
-      go : (t : PlainTaken) (u : Taken) → plainTake (plain .size) class (plain .space) ≡ accepted t → takes class (b .space) ≡ accepted u
+      go : (t : PlainTaken) (u : TakenFor) → leaveOf plain key 0 (plainTake (plain .size) class (plain .space)) ≡ accepted t
           → u .off ≡ t .off
           → length (u .space .body) ≡ plain .size → AgreesSpace (t .space) (u .space) (places plain) (inHandOf class (t .off))
           (anyHand (contentsOf plain))
+          → u .counts ≡ counted (freedIn (t .space)) own (heldCount own (b .counts) + 0) (b .counts)
           → Alike (loadedTo (record { place = slab class (t .off) (written ns); space = t .space; rewritten = 0 }))
-          (accepted (loading key (Slab class (length ns) (u .off)) 0 (filled u (slabPayload ns)) b))
-      go t u took took' off long agrees =
+          (accepted (loading key (Slab class (length ns) (u .off)) 0 (filled u (slabPayload ns)) (u .counts) b))
+      go t u took off long agrees left =
           let (many, to-7, fits) = loads-to fit (length ns) (streamLen ns) is in
           let short : length (slabPayload ns) ≤ slabBytes class = omega (arith, payload-long ns) in
-          let good = good-taken (plain .size) class (plain .space) (places plain) to-8 took (g .space) in
+          let good = good-taken (plain .size) class (plain .space) (places plain) to-8 (leave-refuses plain key 0 _ t took) (g .space) in
           let c = anyHand (contentsOf plain) in
           let bytes = fill-long (t .space) (u .space) (places plain) class (t .off) c (slabPayload ns) short good agrees in
           let placed =
@@ -348,10 +368,10 @@ module _ (plain : PlainBook) (b : Book) (key : ℕ) (ns : List ℕ) (g : GoodPla
           subst
           (λ (o : ℕ). Alike (loadedTo (record { place = slab class (t .off) (written ns); space = t .space; rewritten = 0 }))
           (accepted (loading key (Slab class (length ns) o) 0
-          (space (overwrite (u .space .body) o (slabPayload ns)) (u .space .mark) (u .space .free)) b)))
+          (space (overwrite (u .space .body) o (slabPayload ns)) (u .space .mark) (u .space .free)) (u .counts) b)))
           (sym off)
-          (told-alike refl (agrees-placed plain key ns (slab class (t .off) (written ns)) true (t .space) l b _ a shape
-          (bytes ∙ long ∙ sym (a .size)) placed))
+          (told-alike refl (agrees-placed plain key ns (slab class (t .off) (written ns)) true (t .space) l b _ (u .counts) a shape
+          (bytes ∙ long ∙ sym (a .size)) placed (load-counts (slab class (t .off) (written ns)) (t .space) 0 (u .counts) refl left)))
 
   -- a run is written beyond all blocks, and becomes the key's pages
   run-placed : (inside : PlainSpace) (s : Space) (start : ℕ) (parts : List (List ℕ)) → 0 < length parts → joined parts ≡ ns
@@ -380,20 +400,20 @@ module _ (plain : PlainBook) (b : Book) (key : ℕ) (ns : List ℕ) (g : GoodPla
 
   -- a run is taken and written
   load-run : 0 < length (cutting ns)
-      → Alike (andThen (plainLoadInto (plain .size) none ns (plain .space)) loadedTo) (loadInto b key ns none)
+      → Alike (andThen (plainLoadInto (plain .size) (leaveOf plain key) none ns (plain .space)) loadedTo) (loadInto own b key ns none)
   unfolding plainLoadInto loadInto headOf andThen plainRunAtMark has
   load-run some' =
-      taken-then (λ x y. Alike (andThen x loadedTo) y) (places plain) (λ off. none) (contentsOf plain) (plain .size) _ _ _ _
-      (λ number. refused-alike)
-      (λ t u took took' off long agrees.
+      for-then (λ x y. Alike (andThen x loadedTo) y) (places plain) (λ off. none) (contentsOf plain) (plain .size) own (length parts) (b .counts)
+      _ _ _ _ (λ number. refused-alike)
+      (λ t u took off long agrees left.
       subst
       (λ (t : PlainTaken). u .off ≡ t .off → AgreesSpace (t .space) (u .space) (places plain) none (contentsOf plain)
+      → u .counts ≡ counted (freedIn (t .space)) own (heldCount own (b .counts) + length parts) (b .counts)
       → Alike (loadedTo (placedAt t)) (written-at u))
-      (sym (took-mark (plain .size) (length parts * pageSize) (plainRounded (plain .space)) took)) (λ off agrees. placed u off long agrees)
-      off agrees)
-      (subst (λ (n : ℕ). TakenAlike (places plain) (λ off. none) (contentsOf plain) n (plainTakeRun n (length parts) (plain .space))
-      (takeRun (length parts) (b .space))) (a .size)
-      (run-agrees (plain .space) (b .space) (places plain) (contentsOf plain) (length parts) (g .space) whole (h .space)))
+      (sym (took-mark (plain .size) (length parts * pageSize) (plainRounded (plain .space)) (leave-refuses plain key (length parts) _ t took)))
+      (λ off agrees left. placed u off long agrees left) off agrees left)
+      (run-for-alike plain (b .space) (b .counts) key (places plain) (contentsOf plain) (g .space) (g .desks) (h .counts) (a .size)
+      (h .space) (length parts))
     where
       parts : List (List ℕ)
       parts = cutting ns
@@ -407,10 +427,11 @@ module _ (plain : PlainBook) (b : Book) (key : ℕ) (ns : List ℕ) (g : GoodPla
       placedAt : PlainTaken → Placed
       placedAt t = record { place = pages (runPages (t .off) parts); space = t .space; rewritten = 0 }
 
-      written-at : Taken → Answer (Outcome Loaded)
+      written-at : TakenFor → Answer (Outcome Loaded)
       written-at u =
           accepted (loading key (Extent (lastOfRun (u .off) (length parts))) (length parts)
-          (space (writeRun (u .off) (length parts) (length ns) (u .space .body) (u .off) parts) (u .space .mark) (u .space .free)) b)
+          (space (writeRun (u .off) (length parts) (length ns) (u .space .body) (u .off) parts) (u .space .mark) (u .space .free))
+          (u .counts) b)
 
       good : Good (plainRounded (plain .space)) (places plain) none
       good = good-rounded (plain .space) (places plain) none (g .space)
@@ -425,25 +446,27 @@ module _ (plain : PlainBook) (b : Book) (key : ℕ) (ns : List ℕ) (g : GoodPla
           to (slabOf j) x e = e
           to (pageOf j i) x e = e
 
-      placed : (u : Taken) → u .off ≡ start → length (u .space .body) ≡ plain .size
+      placed : (u : TakenFor) → u .off ≡ start → length (u .space .body) ≡ plain .size
           → AgreesSpace beyond (u .space) (places plain) none (contentsOf plain)
+          → u .counts ≡ counted (freedIn beyond) own (heldCount own (b .counts) + length parts) (b .counts)
           → Alike (loadedTo (placedAt (record { off = start; space = beyond }))) (written-at u)
-      placed u off long agrees =
+      placed u off long agrees left =
           let ok = cut-allowed ns rises in
           let exact : totalTold (length ns) ≡ length ns = rw (le-leb (length ns) mostCounted (omega arith)) refl in
           let (bytes, run) =
           run-placed beyond (u .space) start parts some' (ok .consecutive) (ok .fit) (rounded-mark (plain .space)) (good .from)
           (le-refl (beyond .mark)) apart agrees in
           subst (λ (o : ℕ). Alike (loadedTo (placedAt (record { off = start; space = beyond })))
-          (written-at (record { off = o; space = u .space }))) (sym off)
+          (written-at (record { off = o; space = u .space; counts = u .counts }))) (sym off)
           (subst
           (λ (last : ℕ). Alike (loadedTo (placedAt (record { off = start; space = beyond })))
           (accepted (loading key (Extent last) (length parts)
-          (space (writeRun start (length parts) (length ns) (u .space .body) start parts) (u .space .mark) (u .space .free)) b)))
+          (space (writeRun start (length parts) (length ns) (u .space .body) start parts) (u .space .mark) (u .space .free))
+          (u .counts) b)))
           (run-last start noPage parts some')
           (told-alike (ap (λ (n : ℕ). loadedIn n) (run-length start parts))
-          (agrees-placed plain key ns (pages (runPages start parts)) true beyond l b _ a shape (bytes ∙ long ∙ sym (a .size))
-          (rw exact run))))
+          (agrees-placed plain key ns (pages (runPages start parts)) true beyond l b _ (u .counts) a shape (bytes ∙ long ∙ sym (a .size))
+          (rw exact run) (load-counts (pages (runPages start parts)) beyond (length parts) (u .counts) (run-length start parts) left))))
 
 -- ---- a load
 
@@ -452,35 +475,50 @@ load-alike : (fit : SlabFit) (plain : PlainBook) (b : Book) (key : ℕ) (ns : Li
     → outOfShape (plain .size) (length (plain .keys)) ≡ false
     → AgreesInside plain b → key < length (plain .keys) → keyOf key plain .place ≡ empty → Rising (2 ^ 62) 0 ns → length ns ≤ maxOffered
     → Alike
-    (andThen (loadPlace fit (plain .size) ns (plain .space))
+    (andThen (loadPlace fit (plain .size) (leaveOf plain key) ns (plain .space))
     (λ p. accepted (record {
       told = loadedIn (pagesOf (p .place));
       book =
           withKey key (keyIn ns (p .place) true) (p .space) plain;
     })))
-    (loadAt fit b key ns)
+    (loadAt fit (deskIn plain key) b key ns)
 unfolding loadPlace loadAt andThen headOf lastFrom
 load-alike fit plain b key [] g a shape h l is rises few = told-alike refl (subst (λ (p : PlainBook). Agrees p b) (sym same) a)
   where
     same : withKey key emptyKey (plain .space) plain ≡ plain
     same =
-        ap (λ (k : Key). record { size = plain .size; keys = set (plain .keys) key k; space = plain .space })
-        (sym (empty-key (keyOf key plain) (g .keys key) is))
-        ∙ ap (λ (ks : List Key). record { size = plain .size; keys = ks; space = plain .space }) (set-getD (plain .keys) key emptyKey)
+        let was : pagesOf (keyOf key plain .place) ≡ 0 = ap (λ (p : Place). pagesOf p) is in
+        let none' : countOf (deskIn plain key) (plain .held) + 0 - pagesOf (keyOf key plain .place) ≡ countOf (deskIn plain key) (plain .held)
+        = omega arith in
+        let keys : set (plain .keys) key emptyKey ≡ plain .keys
+        = ap (set (plain .keys) key) (sym (empty-key (keyOf key plain) (g .keys key) is)) ∙ set-getD (plain .keys) key emptyKey in
+        let held : set (plain .held) (deskIn plain key) (countOf (deskIn plain key) (plain .held) + 0 - pagesOf (keyOf key plain .place))
+        ≡ plain .held
+        = ap (set (plain .held) (deskIn plain key)) none' ∙ set-getD (plain .held) (deskIn plain key) 0 in
+        λ i. record {
+          size = plain .size;
+          keys = keys i;
+          space = plain .space;
+          desks = plain .desks;
+          held = held i;
+          limits = plain .limits;
+        }
 load-alike fit plain b key (n ∷ []) g a shape h l is rises few =
     told-alike refl
-    (agrees-placed plain key (n ∷ []) inline true (plain .space) l b (b .space) a shape refl
+    (agrees-placed plain key (n ∷ []) inline true (plain .space) l b (b .space) (b .counts) a shape refl
     (placed-stored plain key 1 inline (plain .space) (b .space) (contentsOf plain) (meanwhile-first plain key (λ block. Unit {0}))
     (λ x e. absurd (none-some e))
-    (λ i x e. absurd (none-some e)) (h .space)))
+    (λ i x e. absurd (none-some e)) (h .space))
+    (counts-stay plain (b .counts) key (key-desk plain key (g .desks)) (h .counts) (keyIn (n ∷ []) inline true) (plain .space) refl
+    (sym (ap (λ (p : Place). pagesOf p) is))))
 load-alike fit plain b key (n ∷ m ∷ ns) g a shape h l is rises few = go (loadsTo fit (length (n ∷ m ∷ ns)) (streamLen (n ∷ m ∷ ns))) refl
   where
     go : (to : Option ℕ) → loadsTo fit (length (n ∷ m ∷ ns)) (streamLen (n ∷ m ∷ ns)) ≡ to
-        → Alike (andThen (plainLoadInto (plain .size) to (n ∷ m ∷ ns) (plain .space))
-        (loadedTo plain b key (n ∷ m ∷ ns) g a shape h l rises few)) (loadInto b key (n ∷ m ∷ ns) to)
-    go (some class) e = load-slab plain b key (n ∷ m ∷ ns) g a shape h l rises few fit class e
+        → Alike (andThen (plainLoadInto (plain .size) (leaveOf plain key) to (n ∷ m ∷ ns) (plain .space))
+        (loadedTo plain b key (n ∷ m ∷ ns) g a shape h l rises few is)) (loadInto (deskIn plain key) b key (n ∷ m ∷ ns) to)
+    go (some class) e = load-slab plain b key (n ∷ m ∷ ns) g a shape h l rises few is fit class e
     go none e =
-        load-run plain b key (n ∷ m ∷ ns) g a shape h l rises few
+        load-run plain b key (n ∷ m ∷ ns) g a shape h l rises few is
         (some-parts n (m ∷ ns) (cutting (n ∷ m ∷ ns)) (cut-allowed (n ∷ m ∷ ns) rises .consecutive))
 
 -- A place that isn't in use is none.
@@ -492,10 +530,12 @@ unused (pages ps) e = absurd (true≢false e)
 
 -- The two books answer a load alike.
 pub load-step : (fit : SlabFit) (plain : PlainBook) (b : Book) (key : ℕ) (ns : List ℕ) → GoodPlain plain → Agrees plain b
-    → Alike (plainDoes plain (load fit key ns)) (does b (load fit key ns))
+    → Alike (plainDoes plain (load fit key ns)) (does (plain .desks) b (load fit key ns))
 unfolding plainDoes does plainLoads loads
 load-step fit plain b key ns g a =
-    alike-on-key plain b key _ _ g a
+    alike-on-key plain b key _
+    (λ desk. refuseIf (not (eqb (wordOf key b) 0)) keyInUse
+    (refuseIf (ltb maxOffered (length ns)) tooManyOffered (offeredList true 0 ns (loadAt fit desk b key ns)))) g a
     (λ shape h l.
     alike-both _ _ _ _ _ (in-use-alike plain b key g shape h)
     (λ free. alike-both _ _ _ _ _ refl

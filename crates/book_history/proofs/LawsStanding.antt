@@ -118,5 +118,8 @@ agrees-stands plain b g a shape =
       heads = λ key. head-agrees plain b g shape h key;
       mark = h .space .mark;
       free = λ class l. free-list-is (plain .space) (b .space) (places plain) (contentsOf plain) (g .space) (h .space) class;
+      freed = h .counts .freed;
+      held = h .counts .held;
+      limits = h .counts .limits;
       reads = λ key room s l fits. reads-list plain b key room g a shape l fits;
     }

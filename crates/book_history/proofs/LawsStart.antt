@@ -7,7 +7,7 @@ use mathlib.Core.Option.{none, some}
 use mathlib.Core.Path.{_≡_, refl, sym, ap, ap₂, _∙_}
 use native.Mathlib.Omega.{arith}
 use lib.Dec.{eqb}
-use lib.ListN.{length, getD}
+use lib.ListN.{length, getD, List·getD-eq-default}
 use borrow.Author.Tests.{eqb-true, eqb-false, eq-eqb, ne-eqb}
 use Rattle.error.specs.Refusal.{accepted, andThen}
 use Rattle.error.proofs.LawsAnswer.{neither}
@@ -21,7 +21,7 @@ use Rattle.scripthash_free.specs.FreeList.{Disjoint, Block, nextOf, IsFreeList}
 use Rattle.scripthash_free.proofs.LawsBlock.{bytes-from-16}
 use Rattle.book_limits.specs.Limits.{outOfShape}
 use Rattle.plain_book.specs.Space.{stackOf}
-use Rattle.plain_book.specs.Key.{Place, empty, inline, slab, pages, Key, emptyKey, headOf}
+use Rattle.plain_book.specs.Key.{Place, empty, inline, slab, pages, Key, emptyKey, headOf, pagesOf}
 use Rattle.plain_book.specs.Book.{keyOf}
 use Rattle.plain_book.specs.Owners.{Owner, hand, stack, slabOf, pageOf, atDepth, slabAt, pageIn, has, places}
 use Rattle.plain_book.specs.Good.{GoodPlain}
@@ -32,25 +32,20 @@ use Rattle.book_space.specs.Space.{Space, shapeBroken}
 use Rattle.book_space.proofs.LawsShape.{shape-holds}
 use Rattle.book_keys.specs.Keys.{soundly, Content, contentAt, content}
 use Rattle.book.specs.Book.{Book, wordOf, headWord, seen}
-use Rattle.book_start.specs.Start.{Stands, blocksAt, blocksIn, followedFrom, freedOf, GoodStart, heldOf, listOf}
+use Rattle.book_start.specs.Start.{Stands, blocksAt, blocksIn, followedFrom, freedOf, GoodBlocks, GoodStart, heldOf, listOf, pagesHeld}
 use Rattle.book_start.proofs.LawsClaims.{disjoint-sym}
 use Rattle.book_start.proofs.LawsFreed.{followed-end}
 use Rattle.book_start.proofs.LawsPairs.{each-in, cross-in, key-apart, keys-apart, list-apart, lists-apart, key-list-apart}
-use Rattle.book_history.specs.Agrees.{top, under, BlockReads, contentsOf, AgreesSpace, Agrees}
+use Rattle.book_history.specs.Agrees.{top, under, BlockReads, contentsOf, AgreesSpace, AgreesCounts, Agrees}
 use Rattle.book_history.specs.PlainOf.{placeFrom, countedFrom, listFrom, keyFrom, keysFrom, stacksFrom, plainOf, startList}
 use Rattle.book_history.proofs.LawsTake.{part-start}
 use Rattle.book_history.proofs.LawsWords.{stored-told}
 use Rattle.book_history.proofs.LawsStartApart.{blockNo, no-in, two-apart}
 use Rattle.book_history.proofs.LawsStartPages.{BlockAs}
-use Rattle.book_history.proofs.LawsStartKeys.{KeyRead, key-read}
+use Rattle.book_history.proofs.LawsStartKeys.{KeyRead, key-read, key-pages}
+use Rattle.book_history.proofs.LawsStartDesks.{SameDesks, counts-desks}
 
 -- ---- keys and stacks by their numbers
-
--- Behind a list's end there is nothing but 0.
-beyond : (xs : List ℕ) (i : ℕ) → length xs ≤ i → getD xs i 0 ≡ 0
-beyond [] i l = refl
-beyond (x ∷ xs) zero l = absurd (omega arith)
-beyond (x ∷ xs) (suc i) l = beyond xs i (omega arith)
 
 module _ (s : Space) where
   -- The word 0 holds nothing, and its key is empty.
@@ -127,17 +122,17 @@ one-kind (pages ps) i x y e f = none-some e
 -- ---- a good start
 
 -- A key of the plain book of any book, and its list.
-pub key-is : (b : Book) (key : ℕ) → keyOf key (plainOf b) ≡ keyFrom (b .space) (wordOf key b)
+pub key-is : (ds : List ℕ) (b : Book) (key : ℕ) → keyOf key (plainOf ds b) ≡ keyFrom (b .space) (wordOf key b)
 unfolding plainOf
-key-is b key = keys-at (b .space) (b .heads) key
+key-is ds b key = keys-at (b .space) (b .heads) key
 
-pub start-list : (b : Book) (key : ℕ) → keyOf key (plainOf b) .list ≡ startList b key
+pub start-list : (ds : List ℕ) (b : Book) (key : ℕ) → keyOf key (plainOf ds b) .list ≡ startList b key
 unfolding keyFrom
-start-list b key = ap (λ (k : Key). k .list) (key-is b key)
+start-list ds b key = ap (λ (k : Key). k .list) (key-is ds b key)
 
-module _ (b : Book) (g : GoodStart b) where
+module _ (ds : List ℕ) (b : Book) (g : GoodBlocks b) where
   -- It is in shape.
-  pub start-shape : outOfShape (plainOf b .size) (length (plainOf b .keys)) ≡ false
+  pub start-shape : outOfShape (plainOf ds b .size) (length (plainOf ds b .keys)) ≡ false
   unfolding plainOf shapeBroken
   start-shape = rw (keys-many (b .space) (b .heads)) (neither _ _ (g .shape) .0)
 
@@ -145,28 +140,33 @@ module _ (b : Book) (g : GoodStart b) where
   sound-all : (key : ℕ) → (c : Content) × (content (seen (b .space)) (wordOf key b) ≡ accepted c)
   sound-all key =
       ⊎-elim (λ (l : key < length (b .heads)). g .sound key l)
-      (λ (l : length (b .heads) ≤ key). (_, ap (content (seen (b .space))) (beyond (b .heads) key l) ∙ word-none (b .space)))
+      (λ (l : length (b .heads) ≤ key). (_, ap (content (seen (b .space))) (List·getD-eq-default (b .heads) 0 l) ∙ word-none (b .space)))
       (lt-or-ge key (length (b .heads)))
 
   -- What is known of it.
   known : (key : ℕ) → (v : ShHeadValue) × (unpackHead (wordOf key b) ≡ accepted v)
-      × KeyRead (b .space) (keyOf key (plainOf b)) v (heldOf b key)
+      × KeyRead (b .space) (keyOf key (plainOf ds b)) v (heldOf b key)
   unfolding blocksIn
   known key =
       let (c, e) = sound-all key in
       let (v, told, k) = key-read (b .space) (wordOf key b) c e in
-      (v, told, rw (key-is b key, e) k)
+      (v, told, rw (key-is ds b key, e) k)
+
+  -- It holds as many pages as its place has.
+  key-held : (key : ℕ) → pagesHeld b key ≡ pagesOf (keyOf key (plainOf ds b) .place)
+  key-held key =
+      let (c, e) = sound-all key in rw (key-is ds b key, e) (sym (key-pages (b .space) (wordOf key b) c e))
 
   -- A key that has a block is one of the heads'.
   key-lies : (key i : ℕ) (x : Block) → blockNo i (heldOf b key) ≡ some x → key < length (b .heads)
   unfolding blocksIn blockNo
   key-lies key i x e =
       ⊎-elim (λ (l : key < length (b .heads)). l)
-      (λ (l : length (b .heads) ≤ key). absurd (none-some (rw (beyond (b .heads) key l, word-none (b .space)) at e)))
+      (λ (l : length (b .heads) ≤ key). absurd (none-some (rw (List·getD-eq-default (b .heads) 0 l, word-none (b .space)) at e)))
       (lt-or-ge key (length (b .heads)))
 
   -- A stack of the plain book is what its free list names.
-  stack-is : (class : ℕ) → stackOf class (plainOf b .space) ≡ freedOf (b .space) class
+  stack-is : (class : ℕ) → stackOf class (plainOf ds b .space) ≡ freedOf (b .space) class
   unfolding plainOf
   stack-is class = stacks-at (b .space) (b .space .free) class
 
@@ -174,7 +174,7 @@ module _ (b : Book) (g : GoodStart b) where
   freed-none : (class : ℕ) → 9 ≤ class → (getD (b .space .free) class 0 ≡ 0) × (freedOf (b .space) class ≡ [])
   freed-none class l =
       let n = g .nine in
-      let z = beyond (b .space .free) class (omega arith) in
+      let z : getD (b .space .free) class 0 ≡ 0 = List·getD-eq-default (b .space .free) 0 (omega arith) in
       (z, ap (followedFrom (b .space)) z ∙ followed-end (b .space .mark / 16) (b .space .body) 0 refl)
 
   -- Each free list names its stack.
@@ -185,7 +185,7 @@ module _ (b : Book) (g : GoodStart b) where
       (lt-or-ge class 9)
 
   -- The block at a depth of a stack is one of its free list's.
-  stack-has : (class d : ℕ) (x : Block) → atDepth class d (stackOf class (plainOf b .space)) ≡ some x
+  stack-has : (class d : ℕ) (x : Block) → atDepth class d (stackOf class (plainOf ds b .space)) ≡ some x
       → (i : ℕ) × (class ≤ pageClass) × (i + suc d ≡ length (freedOf (b .space) class)) × (blockNo i (listOf b class) ≡ some x)
   stack-has class d x e =
       let (i, sum, at) = depth-block class d (freedOf (b .space) class) x (rw (stack-is class) at e) in
@@ -209,8 +209,8 @@ module _ (b : Book) (g : GoodStart b) where
           cross-in x y (heldOf b k) (heldOf b l) apart (no-in i x (heldOf b k) e) (no-in j y (heldOf b l) f)
 
   -- Blocks of free lists.
-  two-freed : (c c' d d' : ℕ) (x y : Block) → atDepth c d (stackOf c (plainOf b .space)) ≡ some x
-      → atDepth c' d' (stackOf c' (plainOf b .space)) ≡ some y
+  two-freed : (c c' d d' : ℕ) (x y : Block) → atDepth c d (stackOf c (plainOf ds b .space)) ≡ some x
+      → atDepth c' d' (stackOf c' (plainOf ds b .space)) ≡ some y
       → (c ≡ c' → d ≢ d') → Disjoint x y
   two-freed c c' d d' x y e f n = go (eqb c c') refl
     where
@@ -227,7 +227,7 @@ module _ (b : Book) (g : GoodStart b) where
           cross-in x y (listOf b c) (listOf b c') apart (no-in i x (listOf b c) at) (no-in j y (listOf b c') at')
 
   -- One of a key and one of a free list.
-  held-freed : (k i c d : ℕ) (x y : Block) → blockNo i (heldOf b k) ≡ some x → atDepth c d (stackOf c (plainOf b .space)) ≡ some y
+  held-freed : (k i c d : ℕ) (x y : Block) → blockNo i (heldOf b k) ≡ some x → atDepth c d (stackOf c (plainOf ds b .space)) ≡ some y
       → Disjoint x y
   held-freed k i c d x y e f =
       let (j, low, sum, at) = stack-has c d y f in
@@ -235,20 +235,21 @@ module _ (b : Book) (g : GoodStart b) where
       cross-in x y (heldOf b k) (listOf b c) apart (no-in i x (heldOf b k) e) (no-in j y (listOf b c) at)
 
   -- A key's slab, and its page at an index, among the blocks that it holds.
-  slab-no : (k : ℕ) (x : Block) → slabAt (places (plainOf b) k) ≡ some x → blockNo 0 (heldOf b k) ≡ some x
+  slab-no : (k : ℕ) (x : Block) → slabAt (places (plainOf ds b) k) ≡ some x → blockNo 0 (heldOf b k) ≡ some x
   slab-no k x e = known k .2 .slabs x e .0
 
-  page-no : (k i : ℕ) (x : Block) → pageIn i (places (plainOf b) k) ≡ some x → blockNo i (heldOf b k) ≡ some x
+  page-no : (k i : ℕ) (x : Block) → pageIn i (places (plainOf ds b) k) ≡ some x → blockNo i (heldOf b k) ≡ some x
   page-no k i x e = known k .2 .pages i x e .0
 
   -- A key's slab and a key's page.
-  slab-page : (k l j : ℕ) (x y : Block) → slabAt (places (plainOf b) k) ≡ some x → pageIn j (places (plainOf b) l) ≡ some y → Disjoint x y
+  slab-page : (k l j : ℕ) (x y : Block) → slabAt (places (plainOf ds b) k) ≡ some x → pageIn j (places (plainOf ds b) l) ≡ some y
+      → Disjoint x y
   slab-page k l j x y e f =
-      two-held k l 0 j x y (slab-no k x e) (page-no l j y f) (λ z w. one-kind (places (plainOf b) l) j x y (rw z at e) f)
+      two-held k l 0 j x y (slab-no k x e) (page-no l j y f) (λ z w. one-kind (places (plainOf ds b) l) j x y (rw z at e) f)
 
   -- Those of any two owners.
-  owners-apart : (v w : Owner) (x y : Block) → v ≢ w → has (plainOf b .space) (places (plainOf b)) none v ≡ some x
-      → has (plainOf b .space) (places (plainOf b)) none w ≡ some y → Disjoint x y
+  owners-apart : (v w : Owner) (x y : Block) → v ≢ w → has (plainOf ds b .space) (places (plainOf ds b)) none v ≡ some x
+      → has (plainOf ds b .space) (places (plainOf ds b)) none w ≡ some y → Disjoint x y
   unfolding has
   owners-apart hand w x y n e f = absurd (none-some e)
   owners-apart (stack c d) hand x y n e f = absurd (none-some f)
@@ -267,8 +268,8 @@ module _ (b : Book) (g : GoodStart b) where
   -- ---- each stands, and reads as it should
 
   -- The block at a depth of a stack stands below the mark, and names the offset under it.
-  stack-reads : (class d : ℕ) (x : Block) → atDepth class d (stackOf class (plainOf b .space)) ≡ some x
-      → BlockAs (b .space) (λ bytes. littleEndian (part bytes 0 8) ≡ under d (stackOf class (plainOf b .space))) x
+  stack-reads : (class d : ℕ) (x : Block) → atDepth class d (stackOf class (plainOf ds b .space)) ≡ some x
+      → BlockAs (b .space) (λ bytes. littleEndian (part bytes 0 8) ≡ under d (stackOf class (plainOf ds b .space))) x
   stack-reads class d x e =
       let (i, low, sum, at) = stack-has class d x e in
       let there : atDepth class d (freedOf (b .space) class) ≡ some x = rw (stack-is class) at e in
@@ -279,52 +280,83 @@ module _ (b : Book) (g : GoodStart b) where
       )
 
   -- Each owner's block.
-  owner-reads : (w : Owner) (x : Block) → has (plainOf b .space) (places (plainOf b)) none w ≡ some x
-      → BlockAs (b .space) (BlockReads (plainOf b .space) (contentsOf (plainOf b)) w) x
+  owner-reads : (w : Owner) (x : Block) → has (plainOf ds b .space) (places (plainOf ds b)) none w ≡ some x
+      → BlockAs (b .space) (BlockReads (plainOf ds b .space) (contentsOf (plainOf ds b)) w) x
   unfolding has
   owner-reads hand x e = absurd (none-some e)
   owner-reads (stack class d) x e = stack-reads class d x e
   owner-reads (slabOf k) x e = known k .2 .slabs x e .1
   owner-reads (pageOf k i) x e = known k .2 .pages i x e .1
 
-  -- ---- so it is good, and stands for the start
+-- ---- so it is good, and stands for the start
+
+module _ (ds : List ℕ) (b : Book) (g : GoodStart ds b) where
+  -- The counts are the plain book's.
+  start-counts : AgreesCounts (plainOf ds b) (b .counts)
+  unfolding plainOf
+  start-counts =
+      record {
+        words = g .counts .words;
+        freed = g .counts .freed ∙ ap length (sym (stack-is ds b (g .blocks) pageClass));
+        held = refl;
+        limits = refl;
+      }
+
+  -- It tells the same of its desks.
+  start-desks : SameDesks (plainOf ds b) b
+  unfolding plainOf
+  start-desks =
+      record {
+        size = refl;
+        count = sym (keys-many (b .space) (b .heads));
+        mark = refl;
+        freed = ap length (sym (stack-is ds b (g .blocks) pageClass));
+        pages = λ key l. key-held ds b (g .blocks) key;
+        counts = start-counts;
+      }
 
   -- The plain book of a good start is good.
-  pub start-good : GoodPlain (plainOf b)
+  pub start-good : GoodPlain (plainOf ds b)
   unfolding plainOf
   start-good =
-      let (s, many, few) = shape-holds (b .space) (length (b .heads)) (g .shape) in
+      let (s, many, few) = shape-holds (b .space) (length (b .heads)) (g .blocks .shape) in
       record {
         space = record {
-          nine = stacks-many (b .space) (b .space .free) ∙ g .nine;
+          nine = stacks-many (b .space) (b .space .free) ∙ g .blocks .nine;
           aligned = s .aligned;
           from = s .begins;
-          apart = record { stands = λ w x e. owner-reads w x e .0; apart = owners-apart };
+          apart = record { stands = λ w x e. owner-reads ds b (g .blocks) w x e .0; apart = owners-apart ds b (g .blocks) };
         };
-        keys = λ key. known key .2 .sound;
+        keys = λ key. known ds b (g .blocks) key .2 .sound;
         within = λ shape. s .within;
+        desks = counts-desks (plainOf ds b) b start-desks (s .paged) (g .counts);
       }
 
   -- It stands for the start.
-  pub start-agrees : Agrees (plainOf b) b
+  pub start-agrees : Agrees (plainOf ds b) b
   unfolding plainOf
   start-agrees =
-      record { size = refl; count = sym (keys-many (b .space) (b .heads)); inside = λ shape. record { heads = heads shape; space = space } }
+      record {
+        size = refl;
+        count = sym (keys-many (b .space) (b .heads));
+        inside = λ shape. record { heads = heads shape; space = space; counts = start-counts };
+      }
     where
-      heads : outOfShape (plainOf b .size) (length (plainOf b .keys)) ≡ false → (key : ℕ)
-          → unpackHead (wordOf key b) ≡ unpackHead (headWord (headOf (keyOf key (plainOf b) .list) (keyOf key (plainOf b) .place)))
+      heads : outOfShape (plainOf ds b .size) (length (plainOf ds b .keys)) ≡ false → (key : ℕ)
+          → unpackHead (wordOf key b) ≡ unpackHead (headWord (headOf (keyOf key (plainOf ds b) .list) (keyOf key (plainOf ds b) .place)))
       heads shape key =
           let t = head-told key start-good (omega (arith, mark-most start-good shape)) in
-          known key .1 ∙ ap accepted (sym (known key .2 .head)) ∙ sym (stored-told t)
+          let k = known ds b (g .blocks) key in
+          k .1 ∙ ap accepted (sym (k .2 .head)) ∙ sym (stored-told t)
 
-      space : AgreesSpace (plainOf b .space) (b .space) (places (plainOf b)) none (contentsOf (plainOf b))
+      space : AgreesSpace (plainOf ds b .space) (b .space) (places (plainOf ds b)) none (contentsOf (plainOf ds b))
       space =
-          let (s, many, few) = shape-holds (b .space) (length (b .heads)) (g .shape) in
+          let (s, many, few) = shape-holds (b .space) (length (b .heads)) (g .blocks .shape) in
           record {
             mark = refl;
-            nine = g .nine;
-            tops = λ class. rw (stack-is class) (free-list-top (b .space .body) _ _ (followed-all class));
+            nine = g .blocks .nine;
+            tops = λ class. rw (stack-is ds b (g .blocks) class) (free-list-top (b .space .body) _ _ (followed-all ds b (g .blocks) class));
             within = s .within;
             small = s .most;
-            stored = λ w x e. owner-reads w x e .1;
+            stored = λ w x e. owner-reads ds b (g .blocks) w x e .1;
           }

@@ -11,6 +11,7 @@ use native.Mathlib.Omega.{arith}
 use lib.Dec.{eqb}
 use lib.ListN.{length, getD}
 use borrow.Author.Tests.{eqb-true, eqb-false}
+use Rattle.scripthash_layout.specs.Sizes.{pageClass}
 use Rattle.scripthash_free.specs.FreeList.{Disjoint, Block, Each, nextOf, IsFreeList}
 use Rattle.scripthash_free.proofs.LawsBlock.{bytes-from-16, block-stands}
 use Rattle.book_statements.specs.Calls.{Call}
@@ -27,7 +28,8 @@ use Rattle.book_space.specs.Space.{shapeBroken}
 use Rattle.book_keys.specs.Keys.{pageBlocks}
 use Rattle.book.specs.Book.{Book}
 use Rattle.book_history.specs.Calls.{after}
-use Rattle.book_start.specs.Start.{AllApart, Stands, blocksAt, blocksIn, followed, followedFrom, freedOf, freedBy, GoodStart, heldOf, listOf}
+use Rattle.book_start.specs.Start.{AllApart, Stands, blocksAt, blocksIn, followed, followedFrom, freedOf, freedBy, heldOf, listOf}
+use Rattle.book_start.specs.Start.{GoodBlocks, GoodStart}
 use Rattle.book_start.proofs.LawsClaims.{Cross}
 use Rattle.book_start.proofs.LawsFreed.{followed-end, followed-more}
 use Rattle.book_start.proofs.LawsPairs.{gather, gather-same, held-gathered, freed-gathered}
@@ -40,6 +42,7 @@ use Rattle.book_history.proofs.LawsCalls.{books-agree}
 use Rattle.book_history.proofs.LawsEach.{each-alike}
 use Rattle.book_history.proofs.LawsStartApart.{blockNo}
 use Rattle.book_history.proofs.LawsStart.{start-shape, start-good, start-agrees}
+use Rattle.book_history.proofs.LawsStartDesks.{SameDesks, desks-counts}
 
 -- ---- lists of blocks
 
@@ -251,8 +254,8 @@ module _ (plain : PlainBook) (b : Book) (g : GoodPlain plain) (a : Agrees plain 
 
   pub freed-is : (class : ℕ) → freedOf (b .space) class ≡ stackOf class (plain .space)
   freed-is class =
-      free-list-followed (b .space .mark / 16) (b .space .body) (getD (b .space .free) class 0) (stackOf class (plain .space)) (free-list-stack class)
-      (stack-few class)
+      free-list-followed (b .space .mark / 16) (b .space .body) (getD (b .space .free) class 0) (stackOf class (plain .space))
+      (free-list-stack class) (stack-few class)
 
   -- ---- all blocks
 
@@ -290,10 +293,10 @@ module _ (plain : PlainBook) (b : Book) (g : GoodPlain plain) (a : Agrees plain 
       ∙ gather-same (length (b .space .free)) (λ i. blocksAt (0 + i) (followedFrom (b .space) (getD (b .space .free) i 0))) (listOf b)
       (λ i. rw (zero-add i))
 
-  -- Such a book is a good start.
-  pub agrees-start : GoodStart b
+  -- Its blocks are good.
+  agrees-blocks : GoodBlocks b
   unfolding shapeBroken
-  agrees-start =
+  agrees-blocks =
       let out : outOfShape (length (b .space .body)) (length (b .heads)) ≡ false = rw (a .size, a .count) shape in
       let bad = mark-good plain b g shape (a .size) (a .inside shape) in
       let n = length (b .heads) in
@@ -302,18 +305,50 @@ module _ (plain : PlainBook) (b : Book) (g : GoodPlain plain) (a : Agrees plain 
         shape = rw (out, bad);
         nine = a .inside shape .space .nine;
         sound = λ key l. (_, content-agrees plain b g shape (a .inside shape) key);
-        ends = λ class l. subst (IsFreeList (b .space .body) (getD (b .space .free) class 0)) (sym (freed-is class)) (free-list-stack class);
+        ends = λ class l. rw (freed-is class) (free-list-stack class);
         stand = λ class l. each-of (Stands (b .space .mark)) (listOf b class)
             (λ i x e. let (d, sum, mine) = stack-owner class i x (rw (freed-is class) at e) in stands (stack class d) x mine);
         apart = rw (held-gathered (b .space) (b .heads), freed-gather)
             (apart-both (gather n (heldOf b)) (gather m (listOf b)) keys-all (lists-all m) (across n m));
       }
 
+  -- It tells the same of its desks.
+  agrees-desks : SameDesks plain b
+  agrees-desks =
+      record {
+        size = a .size;
+        count = a .count;
+        mark = marked;
+        freed = ap length (freed-is pageClass);
+        pages = λ key l. rw (content-agrees plain b g shape (a .inside shape) key);
+        counts = a .inside shape .counts;
+      }
+
+  -- Such a book is a good start.
+  pub agrees-start : GoodStart (plain .desks) b
+  agrees-start = record { blocks = agrees-blocks; counts = desks-counts plain b agrees-desks (g .desks) }
+
 -- ---- after any calls
 
+-- Calls on a good start leave its plain book's shape and desks.
+pub shape-after : (ds : List ℕ) (b : Book) (cs : List Call) → GoodBlocks b
+    → (outOfShape (plainAfter (plainOf ds b) cs .size) (length (plainAfter (plainOf ds b) cs .keys)) ≡ false)
+    × (plainAfter (plainOf ds b) cs .desks ≡ ds)
+unfolding plainOf
+shape-after ds b cs g =
+    let (size, keys, same, limits) = shapes-kept (plainOf ds b) cs in
+    (rw (size, keys) (start-shape ds b g), same)
+
+-- It stands for the plain book after them.
+pub after-agrees : (ds : List ℕ) (b : Book) (cs : List Call) → GoodStart ds b
+    → Agrees (plainAfter (plainOf ds b) cs) (after ds b cs)
+unfolding plainOf
+after-agrees ds b cs g = books-agree each-alike (plainOf ds b) b cs (start-good ds b g) (start-agrees ds b g)
+
 -- Whatever is called on a good start, it stays one.
-pub start-kept : (b : Book) (cs : List Call) → GoodStart b → GoodStart (after b cs)
-start-kept b cs g =
-    let (size, keys) = shapes-kept (plainOf b) cs in
-    agrees-start (plainAfter (plainOf b) cs) (after b cs) (calls-good cs (start-good b g))
-    (books-agree each-alike (plainOf b) b cs (start-good b g) (start-agrees b g)) (rw (size, keys) (start-shape b g))
+pub start-kept : (ds : List ℕ) (b : Book) (cs : List Call) → GoodStart ds b → GoodStart ds (after ds b cs)
+start-kept ds b cs g =
+    let (shape, same) = shape-after ds b cs (g .blocks) in
+    subst (λ (list : List ℕ). GoodStart list (after ds b cs)) same
+    (agrees-start (plainAfter (plainOf ds b) cs) (after ds b cs) (calls-good cs (start-good ds b g))
+    (after-agrees ds b cs g) shape)

@@ -23,7 +23,7 @@ use Rattle.scripthash_slabs.specs.Slab.{slabUsed, slabPadded}
 use Rattle.scripthash_fields.specs.Page.{createsFieldOf}
 use Rattle.scripthash_pages.proofs.LawsAppended.{count-least}
 use Rattle.scripthash_free.specs.FreeList.{Block}
-use Rattle.plain_book.specs.Key.{Kept, slab, pages, Key, totalOf, noPage, headOf, keptAs}
+use Rattle.plain_book.specs.Key.{Kept, slab, pages, Key, totalOf, noPage, headOf, keptAs, pagesOf}
 use Rattle.plain_book.specs.Sound.{Fits, SoundKey}
 use Rattle.plain_book.specs.Owners.{pageNo, slabAt, pageIn}
 use Rattle.plain_book.proofs.LawsOwners.{some-inj, none-some}
@@ -89,7 +89,8 @@ module _ (s : Space) where
       let n = k .counted in
       let few = k .used-to-256 in
       let fits = k .taken-fits in
-      let each = scan-accepted 0 (slabUsed (blockAt (seen s) class off)) (drop 2 (blockAt (seen s) class off)) c (k .payload .scanned) .at-least in
+      let each =
+      scan-accepted 0 (slabUsed (blockAt (seen s) class off)) (drop 2 (blockAt (seen s) class off)) c (k .payload .scanned) .at-least in
       let least = count-least 0 (c .numbers) in
       let kept : Kept = keptAs (c .numbers) (c .taken) (slabPadded (blockAt (seen s) class off)) in
       let reads : SlabReads kept (blockAt (seen s) class off) =
@@ -178,3 +179,21 @@ module _ (s : Space) where
       → (v : ShHeadValue) × (unpackHead word ≡ accepted v) × KeyRead s (keyFrom s word) v (c .blocks)
   unfolding keyFrom listFrom
   key-read word c e = let (v, told, at) = was-content (seen s) word c e in (v, told, rw (e, told) (place-read word v c told at))
+
+  -- As many pages are at some offsets as there are offsets.
+  pages-many : (os : List ℕ) → length (pagesFrom s os) ≡ length os
+  unfolding pagesFrom
+  pages-many [] = refl
+  pages-many (o ∷ os) = ap suc (pages-many os)
+
+  -- A key of a sound head word has as many pages as it holds.
+  pub key-pages : (word : ℕ) (c : Content) → content (seen s) word ≡ accepted c → pagesOf (keyFrom s word .place) ≡ c .pages
+  unfolding keyFrom placeFrom contentAt
+  key-pages word c e = let (v, told, at) = was-content (seen s) word c e in rw told (go v at)
+    where
+      go : (v : ShHeadValue) → contentAt (seen s) v ≡ accepted c → pagesOf (placeFrom s v) ≡ c .pages
+      go Empty at = ap (λ (x : Content). x .pages) (accepted-inj at)
+      go (Inline entry used) at = ap (λ (x : Content). x .pages) (accepted-inj at)
+      go (Slab class used off) at = ap (λ (x : Content). x .pages) (was-slab (seen s) class used off c at .2)
+      go (Extent last) at =
+          let (got, is, same) = was-pages (seen s) last c at in rw is (pages-many (got .offs) ∙ ap (λ (x : Content). x .pages) same)

@@ -11,22 +11,25 @@ use lib.Dec.{leb, ltb, eqb}
 use lib.ListN.{length, getD, set, length-set}
 use lib.Seq.{getD-set-same, getD-set-other}
 use borrow.Author.Tests.{eqb-true, eqb-false, eq-eqb, leb-false, le-ltb, lt-leb}
-use Rattle.error.specs.Refusal.{Answer, accepted, refused, refuseIf, shapeBad, keyBeyond, offeredNotRising}
-use Rattle.error.proofs.LawsAnswer.{refuse-no}
+use Rattle.error.specs.Refusal.{Answer, accepted, refused, refuseIf, shapeBad, keyBeyond, offeredNotRising, desksBad}
+use Rattle.error.proofs.LawsAnswer.{refuse-no, refuse-yes}
 use Rattle.scripthash_layout.specs.Head.{unpackHead}
 use Rattle.book_rules.specs.Offered.{offeredNumber}
 use Rattle.book_limits.specs.Limits.{outOfShape}
+use Rattle.book_desks.specs.Desks.{desks, listBad}
+use Rattle.book_desks.specs.Counts.{countsHigh}
 use Rattle.plain_book.specs.Space.{Space as PlainSpace}
 use Rattle.plain_book.specs.Key.{Place, Key, totalOf, headOf, keyIn}
-use Rattle.plain_book.specs.Book.{Book as PlainBook, Outcome as PlainOutcome, keyOf, withKey, onKey as plainOnKey}
+use Rattle.plain_book.specs.Book.{Book as PlainBook, Outcome as PlainOutcome, keyOf, withKey, deskIn, onKey as plainOnKey}
 use Rattle.plain_book.specs.Owners.{places}
 use Rattle.plain_book.specs.Good.{GoodPlain}
 use Rattle.plain_book.proofs.LawsOwners.{atKey}
 use Rattle.plain_book.proofs.LawsHistory.{key-with}
 use Rattle.plain_book.proofs.LawsBlocks.{key-place}
 use Rattle.book_space.specs.Space.{Space, markBad, shapeBroken}
-use Rattle.book.specs.Book.{Book, Outcome, headWord, onKey}
-use Rattle.book_history.specs.Agrees.{Contents, SlabIn, PageIn, contentsOf, AgreesSpace, AgreesInside, Agrees}
+use Rattle.book.specs.Book.{Book, Outcome, headWord, onKey, byDesk, withDesks}
+use Rattle.book_history.specs.Agrees.{Contents, SlabIn, PageIn, contentsOf, AgreesSpace, AgreesCounts, AgreesInside, Agrees}
+use Rattle.book_history.proofs.LawsDesks.{key-desk, counts-fine}
 
 -- ---- answers alike
 
@@ -75,31 +78,64 @@ mark-good plain b g shape size h =
     let u : ltb (length (b .space .body)) (b .space .mark) ≡ false = le-ltb (length (b .space .body)) (b .space .mark) (omega arith) in
     rw (a, l, u)
 
--- A call on a key: both books judge the shape and the key alike.
-pub alike-on-key : {T : Type 0} (plain : PlainBook) (b : Book) (key : ℕ) (x : Answer (PlainOutcome T)) (y : Answer (Outcome T)) → GoodPlain plain
-    → Agrees plain b
-    → (outOfShape (plain .size) (length (plain .keys)) ≡ false → AgreesInside plain b → key < length (plain .keys) → Alike x y)
-    → Alike (plainOnKey plain key x) (onKey b key y)
-unfolding plainOnKey onKey shapeBroken
-alike-on-key plain b key x y g a go =
-    rw (a .size, a .count)
-    (shape (outOfShape (plain .size) (length (plain .keys))) refl)
+-- A plain book out of shape turns a call on a key back.
+unshaped-key : {A : Type 0} (plain : PlainBook) (key : ℕ) (after : Answer A) → outOfShape (plain .size) (length (plain .keys)) ≡ true
+    → plainOnKey plain key after ≡ refused shapeBad
+unfolding plainOnKey
+unshaped-key plain key after e = refuse-yes _ _ _ e
+
+-- A call that is lent the plain book's desks, on bytes that agree: it goes on to the key's desk where the shape is kept.
+pub desks-pass : {A : Type 0} (plain : PlainBook) (b : Book) (key : ℕ) (call : ℕ → Answer A) → GoodPlain plain → Agrees plain b
+    → outOfShape (plain .size) (length (plain .keys)) ≡ false → withDesks (plain .desks) b key call ≡ call (deskIn plain key)
+unfolding withDesks shapeBroken
+desks-pass plain b key call g a shape =
+    let inside = a .inside shape in
+    let out : outOfShape (length (b .space .body)) (length (b .heads)) ≡ false = rw (a .size, a .count) shape in
+    let bad = mark-good plain b g shape (a .size) inside in
+    let fine : countsHigh (length (b .space .body)) (b .counts) ≡ false = rw (a .size) (counts-fine plain (b .counts) (g .desks) (inside .counts)) in
+    let named : listBad (plain .desks) (length (b .heads)) ≡ false = rw (a .count) (g .desks .named) in
+    refuse-no _ _ _ (rw (out, bad, fine) refl) ∙ refuse-no _ _ _ named
+
+-- Out of shape, it is turned back as in the plain book.
+desks-stop : {A : Type 0} (plain : PlainBook) (b : Book) (key : ℕ) (call : ℕ → Answer A) → Agrees plain b
+    → outOfShape (plain .size) (length (plain .keys)) ≡ true → withDesks (plain .desks) b key call ≡ refused shapeBad
+unfolding withDesks shapeBroken
+desks-stop plain b key call a shape =
+    let out : outOfShape (length (b .space .body)) (length (b .heads)) ≡ true = rw (a .size, a .count) shape in
+    refuse-yes _ _ _ (rw out refl)
+
+-- The plain book's tests, in shape: its list names a desk for each key, so that only the key is left.
+plain-passes : {A : Type 0} (plain : PlainBook) (key : ℕ) (after : Answer A) → GoodPlain plain
+    → outOfShape (plain .size) (length (plain .keys)) ≡ false
+    → plainOnKey plain key after ≡ refuseIf (leb (length (plain .keys)) key) keyBeyond after
+unfolding plainOnKey
+plain-passes plain key after g shape = refuse-no _ _ _ shape ∙ refuse-no _ _ _ (g .desks .named)
+
+-- A change on a key: both books judge the shape, the desks and the key alike.
+pub alike-on-key : {T : Type 0} (plain : PlainBook) (b : Book) (key : ℕ) (x : Answer (PlainOutcome T)) (y : ℕ → Answer (Outcome T))
+    → GoodPlain plain → Agrees plain b
+    → (outOfShape (plain .size) (length (plain .keys)) ≡ false → AgreesInside plain b → key < length (plain .keys)
+    → Alike x (y (deskIn plain key)))
+    → Alike (plainOnKey plain key x) (withDesks (plain .desks) b key (λ desk. byDesk desk b key (y desk)))
+unfolding byDesk shapeBroken
+alike-on-key {T} plain b key x y g a go = shape (outOfShape (plain .size) (length (plain .keys))) refl
   where
-    inner : (shape : outOfShape (plain .size) (length (plain .keys)) ≡ false)
-        → Alike (refuseIf (leb (length (plain .keys)) key) keyBeyond x) (refuseIf (leb (length (plain .keys)) key) keyBeyond y)
-    inner shape =
-        alike-both (leb (length (plain .keys)) key) (leb (length (plain .keys)) key) keyBeyond x y refl
-        (λ e. go shape (a .inside shape) (leb-false (length (plain .keys)) key e))
+    call : ℕ → Answer (Outcome T)
+    call desk = byDesk desk b key (y desk)
 
     shape : (t : Bool) → outOfShape (plain .size) (length (plain .keys)) ≡ t
-        → Alike (refuseIf (outOfShape (plain .size) (length (plain .keys))) shapeBad
-        (refuseIf (leb (length (plain .keys)) key) keyBeyond x))
-        (refuseIf (outOfShape (plain .size) (length (plain .keys)) || markBad (plain .size) (b .space .mark)) shapeBad
-        (refuseIf (leb (length (plain .keys)) key) keyBeyond y))
-    shape true e = rw e (alike-both true true shapeBad _ _ refl (λ z. absurd (true≢false z)))
+        → Alike (plainOnKey plain key x) (withDesks (plain .desks) b key call)
+    shape true e = subst (λ (z : Answer (PlainOutcome T)). Alike z (withDesks (plain .desks) b key call)) (sym (unshaped-key plain key x e))
+        (subst (λ (z : Answer (Outcome T)). Alike (refused shapeBad) z) (sym (desks-stop plain b key call a e)) refused-alike)
     shape false e =
-        let m : markBad (plain .size) (b .space .mark) ≡ false = rw (← a .size) (mark-good plain b g e (a .size) (a .inside e)) in
-        alike-both _ _ shapeBad _ _ (e ∙ sym (ap (λ (t : Bool). t || markBad (plain .size) (b .space .mark)) e ∙ m)) (λ z. inner e)
+        let out : outOfShape (length (b .space .body)) (length (b .heads)) ≡ false = rw (a .size, a .count) e in
+        let bad = mark-good plain b g e (a .size) (a .inside e) in
+        let known : leb desks (deskIn plain key) ≡ false = lt-leb desks (deskIn plain key) (key-desk plain key (g .desks)) in
+        let same : leb (length (plain .keys)) key ≡ leb (length (b .heads)) key = rw (a .count) refl in
+        rw (plain-passes plain key x g e, desks-pass plain b key call g a e)
+        (alike-passed (shapeBroken (b .space) (length (b .heads))) shapeBad _ _ (rw (out, bad) refl)
+        (alike-passed (leb desks (deskIn plain key)) desksBad _ _ known
+        (alike-both _ _ keyBeyond x (y (deskIn plain key)) same (λ f. go e (a .inside e) (leb-false (length (plain .keys)) key f)))))
 
 -- A book over bytes that agrees, in shape, goes on with a call on one of its keys.
 pub on-key-passes : {A : Type 0} (plain : PlainBook) (b : Book) (key : ℕ) (after : Answer A) → GoodPlain plain → Agrees plain b
@@ -111,12 +147,12 @@ on-key-passes plain b key after g a shape l =
     let within : key < length (b .heads) = rw (a .count) l in
     refuse-no _ _ _ (rw (out, bad)) ∙ refuse-no _ _ _ (lt-leb (length (b .heads)) key within)
 
--- An enquiry on a key: both books judge the shape and the key alike, and where what comes after is the same, so are the answers.
+-- An enquiry on a key: both books judge the shape, the desks and the key alike, and where what comes after is the same, so are the answers.
 pub same-on-key : {A : Type 0} (plain : PlainBook) (b : Book) (key : ℕ) (x y : Answer A) → GoodPlain plain → Agrees plain b
     → (outOfShape (plain .size) (length (plain .keys)) ≡ false → AgreesInside plain b → key < length (plain .keys) → y ≡ x)
-    → onKey b key y ≡ plainOnKey plain key x
-unfolding plainOnKey onKey shapeBroken refuseIf
-same-on-key plain b key x y g a go = rw (a .size, a .count) (shape (outOfShape (plain .size) (length (plain .keys))) refl)
+    → withDesks (plain .desks) b key (λ desk. onKey b key y) ≡ plainOnKey plain key x
+unfolding onKey shapeBroken refuseIf
+same-on-key plain b key x y g a go = shape (outOfShape (plain .size) (length (plain .keys))) refl
   where
     there : outOfShape (plain .size) (length (plain .keys)) ≡ false → (t : Bool) → leb (length (plain .keys)) key ≡ t
         → cond t (refused keyBeyond) y ≡ cond t (refused keyBeyond) x
@@ -124,13 +160,15 @@ same-on-key plain b key x y g a go = rw (a .size, a .count) (shape (outOfShape (
     there out false e = go out (a .inside out) (leb-false (length (plain .keys)) key e)
 
     shape : (t : Bool) → outOfShape (plain .size) (length (plain .keys)) ≡ t
-        → cond (outOfShape (plain .size) (length (plain .keys)) || markBad (plain .size) (b .space .mark)) (refused shapeBad)
-        (cond (leb (length (plain .keys)) key) (refused keyBeyond) y)
-        ≡ cond (outOfShape (plain .size) (length (plain .keys))) (refused shapeBad) (cond (leb (length (plain .keys)) key) (refused keyBeyond) x)
-    shape true e = rw e refl
+        → withDesks (plain .desks) b key (λ desk. onKey b key y) ≡ plainOnKey plain key x
+    shape true e = desks-stop plain b key (λ desk. onKey b key y) a e ∙ sym (unshaped-key plain key x e)
     shape false e =
-        let m : markBad (plain .size) (b .space .mark) ≡ false = rw (← a .size) (mark-good plain b g e (a .size) (a .inside e)) in
-        rw (e, m) (there e (leb (length (plain .keys)) key) refl)
+        let out : outOfShape (length (b .space .body)) (length (b .heads)) ≡ false = rw (a .size, a .count) e in
+        let bad = mark-good plain b g e (a .size) (a .inside e) in
+        let last : cond (leb (length (b .heads)) key) (refused keyBeyond) y ≡ cond (leb (length (plain .keys)) key) (refused keyBeyond) x
+        = rw (a .count) (there e (leb (length (plain .keys)) key) refl) in
+        desks-pass plain b key (λ desk. onKey b key y) g a e
+        ∙ refuse-no (shapeBroken (b .space) (length (b .heads))) shapeBad _ (rw (out, bad) refl) ∙ last ∙ sym (plain-passes plain key x g e)
 
 -- A number that is offered: the plain book knows the number before it, the bytes find it later.
 pub alike-offered : {T : Type 0} (last n : ℕ) (x : Answer (PlainOutcome T)) (y : Answer (Outcome T))
@@ -186,15 +224,16 @@ module _ (plain : PlainBook) (key : ℕ) (list : List ℕ) (place : Place) (coun
           inside false = refl
 
   -- A key gets another list and place in both books: they agree where the spaces do.
-  pub agrees-placed : (b : Book) (s : Space) → Agrees plain b → outOfShape (plain .size) (length (plain .keys)) ≡ false
+  pub agrees-placed : (b : Book) (s : Space) (counts : List ℕ) → Agrees plain b → outOfShape (plain .size) (length (plain .keys)) ≡ false
       → length (s .body) ≡ length (b .space .body)
       → AgreesSpace space s (atKey key place (places plain)) none (placedContents plain key (totalOf new) place)
-      → Agrees changed (record { heads = set (b .heads) key (headWord (headOf list place)); space = s })
-  agrees-placed b s a shape long h =
+      → AgreesCounts changed counts
+      → Agrees changed (record { heads = set (b .heads) key (headWord (headOf list place)); space = s; counts = counts })
+  agrees-placed b s counts a shape long h told =
       record {
         size = long ∙ a .size;
         count = length-set (b .heads) key _ ∙ a .count ∙ sym (length-set (plain .keys) key _);
-        inside = λ z. record { heads = heads; space = spaces };
+        inside = λ z. record { heads = heads; space = spaces; counts = told };
       }
     where
       heads : (j : ℕ) → unpackHead (getD (set (b .heads) key (headWord (headOf list place))) j 0)

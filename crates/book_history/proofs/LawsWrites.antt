@@ -19,8 +19,10 @@ use Rattle.scripthash_free.specs.FreeList.{isBlock, Each, Within}
 use Rattle.scripthash_free.proofs.LawsBlock.{block-stands}
 use Rattle.scripthash_free.proofs.LawsGap.{each-map}
 use Rattle.book_rules.specs.Outcomes.{Listed, Dropped, bookAfter}
-use Rattle.book_statements.specs.Calls.{Change, load, append, drop, keyOfChange, Made}
+use Rattle.book_statements.specs.Calls.{read, Change, load, append, drop, keyOfChange, Made}
+use Rattle.book_desks.specs.Desks.{Limits, deskOf, making}
 use Rattle.book_space.specs.Space.{Space}
+use Rattle.book_space.proofs.LawsDesks.{given-back}
 use Rattle.book_keys.specs.Keys.{Content, content, contentAt, pageBlocks}
 use Rattle.book_keys.proofs.LawsSlab.{slab-sound}
 use Rattle.book_keys.proofs.LawsContent.{was-content, was-slab, was-pages}
@@ -28,10 +30,11 @@ use Rattle.book_keys.proofs.LawsKeys.{Every, chain-known}
 use Rattle.book.specs.Book.{Book, Outcome, wordOf, seen}
 use Rattle.book_start.specs.Making.{makesFresh, madeAfter}
 use Rattle.book_read.specs.Reads.{reads, listAfter}
-use Rattle.book_drop.specs.Drops.{drops}
-use Rattle.book_history.specs.Calls.{does}
-use Rattle.book_history.specs.Writes.{region, Outside, Only, wordAnd, freeingAll, writes, Differs, Changes}
+use Rattle.book_drop.specs.Drops.{dropped, drops}
+use Rattle.book_history.specs.Calls.{asks, does}
+use Rattle.book_history.specs.Writes.{region, Outside, Only, wordAnd, freeingAll, dropCounts, writes, Differs, Changes}
 use Rattle.book_history.proofs.LawsOnly.{only-bytes}
+use Rattle.book_history.proofs.LawsWritesDesks.{back-counts, by-desk, with-desks}
 use Rattle.book_history.proofs.LawsWritesSpace.{wrote-released}
 use Rattle.book_history.proofs.LawsWritesLoad.{on-key, differs-not, differs-placed, load-only}
 use Rattle.book_history.proofs.LawsWritesAppend.{append-only}
@@ -45,7 +48,8 @@ pages-within mark [] e = tt
 pages-within mark (o ∷ os) e = ((omega arith, block-stands pageClass o mark (e .0) .ends), pages-within mark os (e .1))
 
 -- The blocks of a place that holds something lie below the mark.
-place-within : (s : Space) (place : ShHeadValue) (k : Content) → contentAt (seen s) place ≡ accepted k → Each (Within 0 (s .mark)) (k .blocks)
+place-within : (s : Space) (place : ShHeadValue) (k : Content) → contentAt (seen s) place ≡ accepted k
+    → Each (Within 0 (s .mark)) (k .blocks)
 unfolding contentAt Each
 place-within s Empty k e = subst (λ (k : Content). Each (Within 0 (s .mark)) (k .blocks)) (accepted-inj e) tt
 place-within s (Inline entry used) k e = subst (λ (k : Content). Each (Within 0 (s .mark)) (k .blocks)) (accepted-inj e) tt
@@ -56,30 +60,38 @@ place-within s (Slab class used off) k e =
     ((omega arith, block-stands class off (s .mark) (known .stands) .ends), tt)
 place-within s (Extent last) k e =
     let (c, is, same) = was-pages (seen s) last k e in
-    subst (λ (k : Content). Each (Within 0 (s .mark)) (k .blocks)) same (pages-within (s .mark) (c .offs) (chain-known (seen s) last c is .stands))
+    subst (λ (k : Content). Each (Within 0 (s .mark)) (k .blocks)) same
+    (pages-within (s .mark) (c .offs) (chain-known (seen s) last c is .stands))
 
--- A drop.
-drop-only : (b : Book) (key : ℕ) {o : Outcome Dropped} → drops b key ≡ accepted o → Changes b (o .book) (drop key)
-unfolding drops writes
-drop-only b key e =
-    let k = on-key b key _ e in
+-- A drop by a key's desk.
+drop-only : (ds : List ℕ) (b : Book) (key : ℕ) {o : Outcome Dropped} → drops (deskOf ds key) b key ≡ accepted o
+    → Changes ds b (o .book) (drop key)
+unfolding drops dropped writes
+drop-only ds b key e =
+    let desk = deskOf ds key in
+    let k = by-desk desk b key _ e in
     let (c, is, out) = went-on (content (seen (b .space)) (wordOf key b)) _ (k .2) in
     let (place, at, holds) = was-content (seen (b .space)) (wordOf key b) c is in
     let within = k .0 .within in
     let blocks = each-map (Within 0 (b .space .mark)) (Within 0 (length (b .space .body))) (λ x h. (h .0, omega (arith, h .1))) (c .blocks)
     (place-within (b .space) place c holds) in
     rw is
-    (subst (λ (o : Outcome Dropped). Differs (wordAnd key (freeingAll (c .blocks))) b (o .book)) (accepted-inj out)
-    (differs-placed key _ _ b (wrote-released (c .blocks) (b .space) blocks)))
+    (subst (λ (o : Outcome Dropped). Differs (wordAnd key (freeingAll (c .blocks)) (dropCounts desk (c .pages))) b (o .book))
+    (accepted-inj (given-back _ desk (c .pages) (b .counts) _ out))
+    (differs-placed key _ _ _ b (wrote-released (c .blocks) (b .space) blocks) (back-counts desk (b .counts) (c .pages))))
 
 -- ---- a read
 
+-- What a read of a key into a lent list answers.
+abbrev pub readInto : List ℕ → Book → ℕ → List ℕ → Answer Listed
+readInto ds b key out = asks ds b (read key (length out))
+
 -- A read writes its numbers at the beginning of its lent list, and nothing else there.
-pub list-only : (b : Book) (key : ℕ) (out : List ℕ) {l : Listed} → reads b key (length out) ≡ accepted l
-    → Only (region 0 (length (l .numbers)) ∷ []) out (listAfter out (reads b key (length out)))
-unfolding reads listAfter
-list-only b key out {l} e =
-    let k = on-key b key _ e in
+pub list-only : (ds : List ℕ) (b : Book) (key : ℕ) (out : List ℕ) {l : Listed} → readInto ds b key out ≡ accepted l
+    → Only (region 0 (length (l .numbers)) ∷ []) out (listAfter out (readInto ds b key out))
+unfolding asks reads listAfter
+list-only ds b key out {l} e =
+    let k = on-key b key _ (with-desks ds b key _ e) in
     let (c, held, answer) = went-on (content (seen (b .space)) (wordOf key b)) _ (k .2) in
     let p = passed _ _ _ answer in
     let numbers : c .numbers ≡ l .numbers = ap (λ (x : Listed). x .numbers) (accepted-inj (p .1)) in
@@ -87,50 +99,51 @@ list-only b key out {l} e =
     rw e (only-bytes out 0 (length (l .numbers)) (l .numbers) refl (omega arith))
 
 -- A refused read leaves its lent list.
-pub list-refused : (b : Book) (key : ℕ) (out : List ℕ) {number : ℕ} → reads b key (length out) ≡ refused number
-    → listAfter out (reads b key (length out)) ≡ out
+pub list-refused : (ds : List ℕ) (b : Book) (key : ℕ) (out : List ℕ) {number : ℕ} → readInto ds b key out ≡ refused number
+    → listAfter out (readInto ds b key out) ≡ out
 unfolding listAfter
-list-refused b key out e = rw e
+list-refused ds b key out e = rw e
 
 -- ---- a fresh book
 
 -- A book that is made fresh keeps its body's bytes, and as many head words.
-pub fresh-only : (b : Book) {made : Book} → makesFresh b ≡ accepted made
+pub fresh-only : (ds : List ℕ) (l : Limits) (b : Book) {made : Book} → makesFresh ds l b ≡ accepted made
     → (made .space .body ≡ b .space .body) × (length (made .heads) ≡ length (b .heads))
-unfolding makesFresh
-fresh-only b e =
-    let is = accepted-inj (passed _ _ _ e .1) in
+unfolding makesFresh making
+fresh-only ds l b e =
+    let is = accepted-inj (passed _ _ _ (passed _ _ _ e .1) .1) in
     (ap (λ (a : Book). a .space .body) (sym is), ap (λ (a : Book). length (a .heads)) (sym is) ∙ length-replicate (length (b .heads)) 0)
 
 -- A book that isn't is as it was.
-pub fresh-refused : (b : Book) {number : ℕ} → makesFresh b ≡ refused number → madeAfter b (makesFresh b) ≡ b
+pub fresh-refused : (ds : List ℕ) (l : Limits) (b : Book) {number : ℕ} → makesFresh ds l b ≡ refused number
+    → madeAfter b (makesFresh ds l b) ≡ b
 unfolding madeAfter
-fresh-refused b e = rw e
+fresh-refused ds l b e = rw e
 
 -- ---- any change
 
 -- A refused change leaves the book as it was.
-pub refused-nothing : (b : Book) (c : Change) {number : ℕ} → does b c ≡ refused number → bookAfter b (does b c) ≡ b
+pub refused-nothing : (ds : List ℕ) (b : Book) (c : Change) {number : ℕ} → does ds b c ≡ refused number → bookAfter b (does ds b c) ≡ b
 unfolding bookAfter
-refused-nothing b c e = rw e
+refused-nothing ds b c e = rw e
 
 -- An accepted change writes what it may only.
-pub accepted-only : (b : Book) (c : Change) {o : Outcome (Made c)} → does b c ≡ accepted o → Changes b (o .book) c
+pub accepted-only : (ds : List ℕ) (b : Book) (c : Change) {o : Outcome (Made c)} → does ds b c ≡ accepted o → Changes ds b (o .book) c
 unfolding does writes
-accepted-only b (load fit key ns) e = load-only fit b key ns e
-accepted-only b (append key n) e = append-only b key n e
-accepted-only b (drop key) e = drop-only b key e
+accepted-only ds b (load fit key ns) e = load-only fit ds b key ns (with-desks ds b key _ e)
+accepted-only ds b (append key n) e = append-only ds b key n (with-desks ds b key _ e)
+accepted-only ds b (drop key) e = drop-only ds b key (with-desks ds b key _ e)
 
 -- What an answer leaves.
-after-answer : (b : Book) (c : Change) (a : Answer (Outcome (Made c))) → ((o : Outcome (Made c)) → a ≡ accepted o → Changes b (o .book) c)
-    → Changes b (bookAfter b a) c
+after-answer : (ds : List ℕ) (b : Book) (c : Change) (a : Answer (Outcome (Made c)))
+    → ((o : Outcome (Made c)) → a ≡ accepted o → Changes ds b (o .book) c) → Changes ds b (bookAfter b a) c
 unfolding bookAfter
-after-answer b c (accepted o) f = f o refl
-after-answer b c (refused number) f = differs-not (writes b c) b
+after-answer ds b c (accepted o) f = f o refl
+after-answer ds b c (refused number) f = differs-not (writes ds b c) b
 
 -- So after any change the book differs from the one before only in what the change may write.
-pub call-only : (b : Book) (c : Change) → Changes b (bookAfter b (does b c)) c
-call-only b c = after-answer b c (does b c) (λ o e. accepted-only b c e)
+pub call-only : (ds : List ℕ) (b : Book) (c : Change) → Changes ds b (bookAfter b (does ds b c)) c
+call-only ds b c = after-answer ds b c (does ds b c) (λ o e. accepted-only ds b c e)
 
 -- A key other than another is outside of its head word.
 outside-key : (k key : ℕ) → k ≢ key → (k < key) ⊎ (key + 1 ≤ k)
@@ -139,14 +152,14 @@ outside-key k key other =
     (lt-or-ge k key)
 
 -- A change may write no head word but its key's.
-words-named : (b : Book) (c : Change) (k : ℕ) → k ≢ keyOfChange c → Outside (writes b c .heads) k
+words-named : (ds : List ℕ) (b : Book) (c : Change) (k : ℕ) → k ≢ keyOfChange c → Outside (writes ds b c .heads) k
 unfolding writes Outside
-words-named b (load fit key []) k other = tt
-words-named b (load fit key (n ∷ [])) k other = (outside-key k key other, tt)
-words-named b (load fit key (n ∷ m ∷ ns)) k other = (outside-key k key other, tt)
-words-named b (append key n) k other = (outside-key k key other, tt)
-words-named b (drop key) k other = (outside-key k key other, tt)
+words-named ds b (load fit key []) k other = tt
+words-named ds b (load fit key (n ∷ [])) k other = (outside-key k key other, tt)
+words-named ds b (load fit key (n ∷ m ∷ ns)) k other = (outside-key k key other, tt)
+words-named ds b (append key n) k other = (outside-key k key other, tt)
+words-named ds b (drop key) k other = (outside-key k key other, tt)
 
 -- So after any change each head word but its key's is as before.
-pub other-words : (b : Book) (c : Change) (k : ℕ) → k ≢ keyOfChange c → wordOf k (bookAfter b (does b c)) ≡ wordOf k b
-other-words b c k other = call-only b c .heads .same k (words-named b c k other)
+pub other-words : (ds : List ℕ) (b : Book) (c : Change) (k : ℕ) → k ≢ keyOfChange c → wordOf k (bookAfter b (does ds b c)) ≡ wordOf k b
+other-words ds b c k other = call-only ds b c .heads .same k (words-named ds b c k other)

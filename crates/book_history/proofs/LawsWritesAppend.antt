@@ -30,7 +30,10 @@ use Rattle.book_rules.specs.Places.{payloadLen, stays, movesTo}
 use Rattle.book_rules.proofs.LawsOffered.{offered-on}
 use Rattle.book_rules.proofs.LawsRules.{stays-holds, moves-to, bytes-mono}
 use Rattle.book_rules.specs.Outcomes.{Appended}
-use Rattle.book_space.specs.Space.{Space, space, InShape, Taken, takeBlock, release}
+use Rattle.book_desks.specs.Desks.{deskOf}
+use Rattle.book_space.specs.Space.{Space, space, InShape, takeBlock, release}
+use Rattle.book_space.specs.Desks.{TakenFor, slabFor, pageFor}
+use Rattle.book_space.proofs.LawsDesks.{taken, took-is, slab-for, page-for}
 use Rattle.book_space.proofs.LawsLists.{each-one}
 use Rattle.book_space.proofs.LawsTake.{take-took}
 use Rattle.book_keys.specs.Keys.{blockAt, pageAt, slabScan, Tail, tailAt}
@@ -42,62 +45,69 @@ use Rattle.book_blocks.proofs.LawsWrites.{length-payload, length-lastPage}
 use Rattle.book.specs.Book.{Book, Outcome, filled, seen}
 use Rattle.book_append.specs.Appends.{movesInto, moves, appendSlab, growChain, appendPage, appendAt, appends}
 use Rattle.book_history.specs.Writes.{region, nothing, bytesAt, wordAnd, both, freeingAll, filling, writing, moving, growingSlab}
-use Rattle.book_history.specs.Writes.{growingPage, appendWrites, writes, Wrote, Differs, Changes}
-use Rattle.book_history.proofs.LawsOnly.{shifted}
+use Rattle.book_history.specs.Writes.{growingPage, appendWrites, pageCounts, movingCounts, slabCounts, chainCounts, appendCounts}
+use Rattle.book_history.specs.Writes.{writes, Wrote, Differs, Changes}
+use Rattle.book_history.proofs.LawsOnly.{only-same, shifted}
 use Rattle.book_history.proofs.LawsWritesBlocks.{only-slab, only-before, only-joined}
 use Rattle.book_history.proofs.LawsWritesSpace.{wrote-between, wrote-same, wrote-then, wrote-bytes, wrote-part, wrote-released}
 use Rattle.book_history.proofs.LawsWritesSpace.{wrote-took, wrote-filled}
-use Rattle.book_history.proofs.LawsWritesLoad.{on-key, differs-placed}
+use Rattle.book_history.proofs.LawsWritesDesks.{slab-counts, page-counts, by-desk}
+use Rattle.book_history.proofs.LawsWritesLoad.{differs-placed}
 
 -- ---- moving
 
 -- A list moves, with the blocks that it had within the body: by the class of the slab that it moves to.
-module _ (b : Book) (key : ℕ) (ns : List ℕ) (n : ℕ) (old : List Block) (i : InShape (b .space))
+module _ (desk : ℕ) (b : Book) (key : ℕ) (ns : List ℕ) (n : ℕ) (old : List Block) (i : InShape (b .space))
     (here : Each (Within 0 (length (b .space .body))) old) where
   -- The list with its new number.
   abbrev list : List ℕ
   list = ns ++ (n ∷ [])
 
   -- The list is written to a taken block, then the old blocks are freed.
-  moved-wrote : (class len : ℕ) (ys : List ℕ) {t : Taken} → class ≤ pageClass → length ys ≡ len → len ≤ slabBytes class
-      → takeBlock class (b .space) ≡ accepted t
+  moved-wrote : (class len : ℕ) (ys : List ℕ) (t : TakenFor) → class ≤ pageClass → length ys ≡ len → len ≤ slabBytes class
+      → takeBlock class (b .space) ≡ accepted (taken t)
       → Wrote (both (filling class len (b .space)) (freeingAll old)) (b .space) (release old (filled t ys))
-  moved-wrote class len ys {t} small long fits e =
-      let w = wrote-filled class (b .space) small i len ys long fits e in
+  moved-wrote class len ys t small long fits e =
+      let w = wrote-filled class (b .space) small i len ys t long fits e in
       wrote-then w (wrote-released old (filled t ys) (rw (w .body .long) here))
 
   -- It moves.
   into-only : (to : Option ℕ) {o : Outcome Appended} → movesTo (length list) (streamLen list) ≡ to → streamLen list ≤ lastPageRoom
-      → movesInto b key ns n old to ≡ accepted o
-      → Differs (wordAnd key (both (writing list to (b .space)) (freeingAll old))) b (o .book)
-  unfolding movesInto writing
+      → movesInto desk b key ns n old to ≡ accepted o
+      → Differs (wordAnd key (both (writing list to (b .space)) (freeingAll old)) (movingCounts desk to (b .space))) b (o .book)
+  unfolding movesInto writing movingCounts
   into-only (some class) is fits e =
       let m = moves-to (length list) (streamLen list) is in
-      let w = went-on (takeBlock class (b .space)) _ e in
-      subst (λ (o : Outcome Appended). Differs (wordAnd key (both (writing list (some class) (b .space)) (freeingAll old))) b (o .book))
-      (accepted-inj (w .2))
-      (differs-placed key _ _ b (moved-wrote class (payloadLen (streamLen list)) (slabPayload list) (omega (arith, m .slab))
-      (length-payload list) (m .fits) (w .1)))
+      let (t, took, out) = went-on (slabFor desk class (b .space) (b .counts)) _ e in
+      subst (λ (o : Outcome Appended). Differs (wordAnd key (both (writing list (some class) (b .space)) (freeingAll old)) []) b (o .book))
+      (accepted-inj out)
+      (differs-placed key _ _ (t .counts) b
+      (moved-wrote class (payloadLen (streamLen list)) (slabPayload list) t (omega (arith, m .slab)) (length-payload list) (m .fits)
+      (took-is (slab-for desk (b .space) (b .counts) class took) .0))
+      (slab-counts desk (b .counts) class (b .space) took))
   into-only none is fits e =
-      let w = went-on (takeBlock pageClass (b .space)) _ e in
-      let off = w .0 .off in
-      subst (λ (o : Outcome Appended). Differs (wordAnd key (both (writing list none (b .space)) (freeingAll old))) b (o .book))
-      (accepted-inj (w .2))
-      (differs-placed key _ _ b
-      (moved-wrote pageClass pageSize (lastPageOf off off 1 (length list) list) (omega arith)
-      (length-lastPage off off 1 (length list) list fits) (omega arith) (w .1)))
+      let (t, took, out) = went-on (pageFor desk (b .space) (b .counts)) _ e in
+      let off = t .off in
+      subst (λ (o : Outcome Appended). Differs
+      (wordAnd key (both (writing list none (b .space)) (freeingAll old)) (pageCounts desk (b .space))) b (o .book))
+      (accepted-inj out)
+      (differs-placed key _ _ (t .counts) b
+      (moved-wrote pageClass pageSize (lastPageOf off off 1 (length list) list) t (omega arith)
+      (length-lastPage off off 1 (length list) list fits) (omega arith) (took-is (page-for desk (b .space) (b .counts) took) .0))
+      (page-counts desk (b .counts) (b .space) took))
 
   -- It moves to the class for it.
-  moves-only : {o : Outcome Appended} → streamLen list ≤ lastPageRoom → moves b key ns n old ≡ accepted o
-      → Differs (wordAnd key (moving list old (b .space))) b (o .book)
+  moves-only : {o : Outcome Appended} → streamLen list ≤ lastPageRoom → moves desk b key ns n old ≡ accepted o
+      → Differs (wordAnd key (moving list old (b .space)) (movingCounts desk (movesTo (length list) (streamLen list)) (b .space))) b
+      (o .book)
   unfolding moves moving
   moves-only fits e = into-only (movesTo (length list) (streamLen list)) refl fits e
 
 -- ---- a slab
 
 -- A number behind the stream of a sound slab.
-module _ (b : Book) (key n class used off : ℕ) (c : Scan) (i : InShape (b .space)) (known : SoundSlab (seen (b .space)) class used off c)
-    (small : n < 2 ^ 62) where
+module _ (desk : ℕ) (b : Book) (key n class used off : ℕ) (c : Scan) (i : InShape (b .space))
+    (known : SoundSlab (seen (b .space)) class used off c) (small : n < 2 ^ 62) where
   -- The space.
   abbrev s : Space
   s = b .space
@@ -113,7 +123,8 @@ module _ (b : Book) (key n class used off : ℕ) (c : Scan) (i : InShape (b .spa
   -- Where it stays, the count and the number's bytes are written.
   stays-wrote : stays class (length (c .numbers) + 1) (c .taken + ulebLen difference) ≡ true
       → Wrote (both (bytesAt off 2) (bytesAt (off + (2 + c .taken)) (ulebLen difference))) s
-      (space (overwrite (s .body) off (slabWith (blockAt (seen s) class off) (length (c .numbers)) (c .taken) difference)) (s .mark) (s .free))
+      (space (overwrite (s .body) off (slabWith (blockAt (seen s) class off) (length (c .numbers)) (c .taken) difference)) (s .mark)
+      (s .free))
   unfolding both shifted
   stays-wrote e =
       let held = stays-holds class (length (c .numbers) + 1) (c .taken + ulebLen difference) e in
@@ -136,24 +147,25 @@ module _ (b : Book) (key n class used off : ℕ) (c : Scan) (i : InShape (b .spa
 
   -- It stays there, or moves.
   grown-only : (there : Bool) {o : Outcome Appended} → stays class (length (c .numbers) + 1) (c .taken + ulebLen difference) ≡ there
-      → appendSlab b key n class off c ≡ accepted o
-      → Differs (wordAnd key (growingSlab n class off c s)) b (o .book)
-  unfolding appendSlab growingSlab
+      → appendSlab desk b key n class off c ≡ accepted o
+      → Differs (wordAnd key (growingSlab n class off c s) (slabCounts desk n class c s)) b (o .book)
+  unfolding appendSlab growingSlab slabCounts
   grown-only true t e =
       rw t
-      (subst (λ (o : Outcome Appended). Differs (wordAnd key (both (bytesAt off 2) (bytesAt (off + (2 + c .taken)) (ulebLen difference)))) b
-      (o .book))
-      (accepted-inj (rw t at e)) (differs-placed key _ _ b (stays-wrote t)))
+      (subst (λ (o : Outcome Appended). Differs
+      (wordAnd key (both (bytesAt off 2) (bytesAt (off + (2 + c .taken)) (ulebLen difference))) []) b (o .book))
+      (accepted-inj (rw t at e)) (differs-placed key _ _ (b .counts) b (stays-wrote t) (only-same [] (b .counts))))
   grown-only false t e =
       let block : Block = record { class = class; off = off } in
       rw t
-      (moves-only b key (c .numbers) n (block ∷ []) i (each-one (Within 0 (length (s .body))) block (omega arith, slab-ends)) slab-fits-page
-      (rw t at e))
+      (moves-only desk b key (c .numbers) n (block ∷ []) i (each-one (Within 0 (length (s .body))) block (omega arith, slab-ends))
+      slab-fits-page (rw t at e))
 
 -- ---- pages
 
 -- A number behind the stream of a sound key's last page.
-module _ (b : Book) (key n last : ℕ) (t : Tail) (i : InShape (b .space)) (known : SoundTail (seen (b .space)) last t) (small : n < 2 ^ 62) where
+module _ (desk : ℕ) (b : Book) (key n last : ℕ) (t : Tail) (i : InShape (b .space)) (known : SoundTail (seen (b .space)) last t)
+    (small : n < 2 ^ 62) where
   -- The space.
   abbrev room : Space
   room = b .space
@@ -175,7 +187,7 @@ module _ (b : Book) (key n last : ℕ) (t : Tail) (i : InShape (b .space)) (know
       (known .header .version) e)
 
   -- The link and creates of the page are written.
-  old-wrote : (p : Taken) → last + pageSize ≤ length (p .space .body)
+  old-wrote : (p : TakenFor) → last + pageSize ≤ length (p .space .body)
       → Wrote (both (bytesAt (last + 3) 5) (bytesAt (last + 20) 4)) (p .space)
       (space (overwrite (p .space .body) last (pageBefore (pageAt (seen (p .space)) last) (p .off))) (p .space .mark) (p .space .free))
   unfolding both shifted
@@ -190,7 +202,7 @@ module _ (b : Book) (key n last : ℕ) (t : Tail) (i : InShape (b .space)) (know
   one-fits = omega (arith, len-at-most (n - 0) (omega arith))
 
   -- Otherwise a page is taken and filled, and of the old one the link and creates are written.
-  chain-wrote : (p : Taken) → takeBlock pageClass room ≡ accepted p
+  chain-wrote : (p : TakenFor) → takeBlock pageClass room ≡ accepted (taken p)
       → let body = overwrite (p .space .body) last (pageBefore (pageAt (seen (p .space)) last) (p .off)) in
       Wrote (growingPage last none room) room
       (space (overwrite body (p .off) (lastPageOf (t .last .first) (p .off) 1 (totalWith (t .last .creates)) (n ∷ []))) (p .space .mark)
@@ -210,50 +222,55 @@ module _ (b : Book) (key n last : ℕ) (t : Tail) (i : InShape (b .space)) (know
 
   -- A number in the page, or in a page more.
   page-only : (spot : Option Spot) {o : Outcome Appended} → spotBehind (pageAt (seen room) last) n (t .scan) ≡ spot
-      → appendPage b key n last t spot ≡ accepted o
-      → Differs (wordAnd key (growingPage last spot room)) b (o .book)
-  unfolding appendPage growChain
+      → appendPage desk b key n last t spot ≡ accepted o
+      → Differs (wordAnd key (growingPage last spot room) (chainCounts desk spot room)) b (o .book)
+  unfolding appendPage growChain chainCounts
   page-only (some w) is e =
-      subst (λ (o : Outcome Appended). Differs (wordAnd key (growingPage last (some w) room)) b (o .book)) (accepted-inj e)
-      (differs-placed key _ _ b (joined-wrote w is))
+      subst (λ (o : Outcome Appended). Differs (wordAnd key (growingPage last (some w) room) []) b (o .book)) (accepted-inj e)
+      (differs-placed key _ _ (b .counts) b (joined-wrote w is) (only-same [] (b .counts)))
   page-only none is e =
-      let g = went-on (takeBlock pageClass room) _ e in
-      subst (λ (o : Outcome Appended). Differs (wordAnd key (growingPage last none room)) b (o .book)) (accepted-inj (g .2))
-      (differs-placed key _ _ b (chain-wrote (g .0) (g .1)))
+      let (p, took, out) = went-on (pageFor desk room (b .counts)) _ e in
+      subst (λ (o : Outcome Appended). Differs (wordAnd key (growingPage last none room) (pageCounts desk room)) b (o .book))
+      (accepted-inj out)
+      (differs-placed key _ _ (p .counts) b (chain-wrote p (took-is (page-for desk room (b .counts) took) .0))
+      (page-counts desk (b .counts) room took))
 
 -- ---- an append
 
 -- An append to a key that stands where its head word tells.
-at-only : (b : Book) (key n : ℕ) (place : ShHeadValue) {o : Outcome Appended} → InShape (b .space) → n < 2 ^ 62 → appendAt b key n place ≡ accepted o
-    → Differs (wordAnd key (appendWrites n (b .space) place)) b (o .book)
-unfolding appendAt appendWrites streamLenFrom Each
-at-only b key n Empty i small e =
-    subst (λ (o : Outcome Appended). Differs (wordAnd key nothing) b (o .book)) (accepted-inj e)
-    (differs-placed key _ (b .space) b (wrote-same nothing (b .space)))
-at-only b key n (Inline entry used) i small e =
+at-only : (desk : ℕ) (b : Book) (key n : ℕ) (place : ShHeadValue) {o : Outcome Appended} → InShape (b .space) → n < 2 ^ 62
+    → appendAt desk b key n place ≡ accepted o
+    → Differs (wordAnd key (appendWrites n (b .space) place) (appendCounts desk n (b .space) place)) b (o .book)
+unfolding appendAt appendWrites appendCounts streamLenFrom Each
+at-only desk b key n Empty i small e =
+    subst (λ (o : Outcome Appended). Differs (wordAnd key nothing []) b (o .book)) (accepted-inj e)
+    (differs-placed key _ (b .space) (b .counts) b (wrote-same nothing (b .space)) (only-same [] (b .counts)))
+at-only desk b key n (Inline entry used) i small e =
     let p = passed _ _ _ e in
     let less = leb-false n entry (p .0) in
-    moves-only b key (entry ∷ []) n [] i tt (omega (arith, len-at-most (entry - 0) (omega arith), len-at-most (n - entry) (omega arith)))
-    (p .1)
-at-only b key n (Slab class used off) i small e =
+    moves-only desk b key (entry ∷ []) n [] i tt
+    (omega (arith, len-at-most (entry - 0) (omega arith), len-at-most (n - entry) (omega arith))) (p .1)
+at-only desk b key n (Slab class used off) i small e =
     let g = went-on _ _ e in
     let scanned = was-sound (slabScan (seen (b .space)) class used off) (g .1) in
     let p = passed _ _ _ (g .2) in
     rw scanned
-    (grown-only b key n class used off (g .0) i (slab-sound (seen (b .space)) class used off (g .0) scanned) small (stays _ _ _) refl (p .1))
-at-only b key n (Extent last) i small e =
+    (grown-only desk b key n class used off (g .0) i (slab-sound (seen (b .space)) class used off (g .0) scanned) small (stays _ _ _) refl
+    (p .1))
+at-only desk b key n (Extent last) i small e =
     let g = went-on _ _ e in
     let tail = was-sound (tailAt (seen (b .space)) last) (g .1) in
     let p = passed _ _ _ (g .2) in
     rw tail
-    (page-only b key n last (g .0) i (tail-sound (seen (b .space)) last (g .0) tail) small (spotBehind (pageAt (seen (b .space)) last) n (g .0 .scan))
-    refl (p .1))
+    (page-only desk b key n last (g .0) i (tail-sound (seen (b .space)) last (g .0) tail) small
+    (spotBehind (pageAt (seen (b .space)) last) n (g .0 .scan)) refl (p .1))
 
--- An append.
-pub append-only : (b : Book) (key n : ℕ) {o : Outcome Appended} → appends b key n ≡ accepted o → Changes b (o .book) (append key n)
+-- An append by a key's desk.
+pub append-only : (ds : List ℕ) (b : Book) (key n : ℕ) {o : Outcome Appended} → appends (deskOf ds key) b key n ≡ accepted o
+    → Changes ds b (o .book) (append key n)
 unfolding appends writes
-append-only b key n e =
-    let k = on-key b key _ e in
+append-only ds b key n e =
+    let k = by-desk (deskOf ds key) b key _ e in
     let p = offered-on true 0 n _ (k .2) in
     let g = went-on _ _ (p .2) in
-    rw (was-sound _ (g .1)) (at-only b key n (g .0) (k .0) (p .1) (g .2))
+    rw (was-sound _ (g .1)) (at-only (deskOf ds key) b key n (g .0) (k .0) (p .1) (g .2))

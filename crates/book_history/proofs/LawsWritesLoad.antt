@@ -24,16 +24,20 @@ use Rattle.book_limits.specs.Limits.{pageAfter}
 use Rattle.book_rules.proofs.LawsOffered.{offered-all}
 use Rattle.book_rules.proofs.LawsRules.{loads-to}
 use Rattle.book_rules.specs.Outcomes.{Loaded}
-use Rattle.book_space.specs.Space.{Space, space, InShape, Taken, takeBlock, takeRun}
+use Rattle.book_desks.specs.Desks.{deskOf}
+use Rattle.book_space.specs.Space.{Space, space, InShape, takeRun}
+use Rattle.book_space.specs.Desks.{TakenFor, slabFor, runFor}
+use Rattle.book_space.proofs.LawsDesks.{taken, took-is, slab-for, run-for}
 use Rattle.book_space.proofs.LawsShape.{shape-holds}
 use Rattle.book_space.proofs.LawsTake.{run-ran}
 use Rattle.book_blocks.specs.Blocks.{writeRun}
 use Rattle.book_blocks.proofs.LawsWrites.{length-payload}
 use Rattle.book.specs.Book.{Book, Outcome, headWord, onKey, filled}
 use Rattle.book_load.specs.Loads.{loadInto, loadAt, loads}
-use Rattle.book_history.specs.Writes.{SpaceWrites, CallWrites, nothing, bytesAt, wordAnd, both, takingPages, filling, loadWrites, writes}
-use Rattle.book_history.specs.Writes.{Wrote, Differs, Changes}
+use Rattle.book_history.specs.Writes.{Region, Only, SpaceWrites, CallWrites, nothing, bytesAt, wordAnd, both, takingPages, filling}
+use Rattle.book_history.specs.Writes.{loadWrites, deskWord, loadCounts, writes, Wrote, Differs, Changes}
 use Rattle.book_history.proofs.LawsOnly.{only-same, only-set}
+use Rattle.book_history.proofs.LawsWritesDesks.{slab-counts, run-counts, by-desk}
 use Rattle.book_history.proofs.LawsWritesSpace.{wrote-same, wrote-then, wrote-run, wrote-filled, only-run}
 
 -- A call on a key that is accepted: the shape is within its limits, the key has a head word, and what comes after the two tests is
@@ -48,20 +52,25 @@ on-key b key after e =
 
 -- A book that differs in nothing.
 pub differs-not : (n : CallWrites) (b : Book) → Differs n b b
-differs-not n b = record { heads = only-same (n .heads) (b .heads); space = wrote-same (n .space) (b .space) }
+differs-not n b = record {
+  heads = only-same (n .heads) (b .heads);
+  space = wrote-same (n .space) (b .space);
+  counts = only-same (n .counts) (b .counts);
+}
 
--- A key's head word is set, in a space that differs in what is named only.
-pub differs-placed : {n : SpaceWrites} (key word : ℕ) (s : Space) (b : Book) → Wrote n (b .space) s
-    → Differs (wordAnd key n) b (record { heads = set (b .heads) key word; space = s })
-differs-placed key word s b w = record { heads = only-set [] (b .heads) key word; space = w }
+-- A key's head word is set, in a space and with counts that differ in what is named only.
+pub differs-placed : {n : SpaceWrites} {rs : List Region} (key word : ℕ) (s : Space) (counts : List ℕ) (b : Book) → Wrote n (b .space) s
+    → Only rs (b .counts) counts → Differs (wordAnd key n rs) b (record { heads = set (b .heads) key word; space = s; counts = counts })
+differs-placed key word s counts b w o = record { heads = only-set [] (b .heads) key word; space = w; counts = o }
 
 -- ---- a load
 
 -- The parts of a list of rising numbers, written to the pages of a taken run.
-run-wrote : (ns : List ℕ) (s : Space) {t : Taken} → InShape s → Rising (2 ^ 62) 0 ns → takeRun (length (cutting ns)) s ≡ accepted t
+run-wrote : (ns : List ℕ) (s : Space) (t : TakenFor) → InShape s → Rising (2 ^ 62) 0 ns
+    → takeRun (length (cutting ns)) s ≡ accepted (taken t)
     → Wrote (both (takingPages s) (bytesAt (pageAfter (s .mark)) (length (cutting ns) * pageSize))) s
     (space (writeRun (t .off) (length (cutting ns)) (length ns) (t .space .body) (t .off) (cutting ns)) (t .space .mark) (t .space .free))
-run-wrote ns s {t} i r e =
+run-wrote ns s t i r e =
     let count = length (cutting ns) in
     let ran = run-ran count s i e in
     let ends = ran .ends in
@@ -76,38 +85,47 @@ run-wrote ns s {t} i r e =
     })
 
 -- A list of rising numbers, by the class that it is given.
-into-only : (fit : SlabFit) (b : Book) (key : ℕ) (ns : List ℕ) (to : Option ℕ) {o : Outcome Loaded} → InShape (b .space) → Rising (2 ^ 62) 0 ns
-    → loadsTo fit (length ns) (streamLen ns) ≡ to → loadInto b key ns to ≡ accepted o
-    → Differs (wordAnd key (loadWrites ns to (b .space))) b (o .book)
-unfolding loadInto loadWrites
-into-only fit b key ns (some class) i r is e =
+into-only : (fit : SlabFit) (desk : ℕ) (b : Book) (key : ℕ) (ns : List ℕ) (to : Option ℕ) {o : Outcome Loaded} → InShape (b .space)
+    → Rising (2 ^ 62) 0 ns → loadsTo fit (length ns) (streamLen ns) ≡ to → loadInto desk b key ns to ≡ accepted o
+    → Differs (wordAnd key (loadWrites ns to (b .space)) (loadCounts desk to)) b (o .book)
+unfolding loadInto loadWrites loadCounts
+into-only fit desk b key ns (some class) i r is e =
     let l = loads-to fit (length ns) (streamLen ns) is in
-    let w = went-on (takeBlock class (b .space)) _ e in
-    subst (λ (o : Outcome Loaded). Differs (wordAnd key (filling class (payloadLen (streamLen ns)) (b .space))) b (o .book)) (accepted-inj (w .2))
-    (differs-placed key (headWord (Slab class (length ns) (w .0 .off))) (filled (w .0) (slabPayload ns)) b
-    (wrote-filled class (b .space) (omega (arith, l .1)) i (payloadLen (streamLen ns)) (slabPayload ns) (length-payload ns) (l .2) (w .1)))
-into-only fit b key ns none i r is e =
-    let w = went-on (takeRun (length (cutting ns)) (b .space)) _ e in
-    subst (λ (o : Outcome Loaded). Differs (wordAnd key (loadWrites ns none (b .space))) b (o .book)) (accepted-inj (w .2))
-    (differs-placed key _ _ b (run-wrote ns (b .space) i r (w .1)))
+    let (t, took, out) = went-on (slabFor desk class (b .space) (b .counts)) _ e in
+    subst (λ (o : Outcome Loaded). Differs (wordAnd key (filling class (payloadLen (streamLen ns)) (b .space)) []) b (o .book))
+    (accepted-inj out)
+    (differs-placed key (headWord (Slab class (length ns) (t .off))) (filled t (slabPayload ns)) (t .counts) b
+    (wrote-filled class (b .space) (omega (arith, l .1)) i (payloadLen (streamLen ns)) (slabPayload ns) t (length-payload ns) (l .2)
+    (took-is (slab-for desk (b .space) (b .counts) class took) .0))
+    (slab-counts desk (b .counts) class (b .space) took))
+into-only fit desk b key ns none i r is e =
+    let count = length (cutting ns) in
+    let (t, took, out) = went-on (runFor desk count (b .space) (b .counts)) _ e in
+    subst (λ (o : Outcome Loaded). Differs (wordAnd key (loadWrites ns none (b .space)) (deskWord desk)) b (o .book)) (accepted-inj out)
+    (differs-placed key _ _ (t .counts) b (run-wrote ns (b .space) t i r (took-is (run-for desk (b .space) (b .counts) count took) .0))
+    (run-counts desk (b .counts) count (b .space) took))
 
 -- A list of rising numbers.
-at-only : (fit : SlabFit) (b : Book) (key : ℕ) (ns : List ℕ) {o : Outcome Loaded} → InShape (b .space) → Rising (2 ^ 62) 0 ns → loadAt fit b key ns ≡ accepted o
-    → Changes b (o .book) (load fit key ns)
+at-only : (fit : SlabFit) (ds : List ℕ) (b : Book) (key : ℕ) (ns : List ℕ) {o : Outcome Loaded} → InShape (b .space) → Rising (2 ^ 62) 0 ns
+    → loadAt fit (deskOf ds key) b key ns ≡ accepted o → Changes ds b (o .book) (load fit key ns)
 unfolding loadAt writes
-at-only fit b key [] i r e = subst (λ (o : Outcome Loaded). Differs (record { heads = []; space = nothing }) b (o .book)) (accepted-inj e)
-    (differs-not (record { heads = []; space = nothing }) b)
-at-only fit b key (n ∷ []) i r e =
-    subst (λ (o : Outcome Loaded). Differs (wordAnd key nothing) b (o .book)) (accepted-inj e)
-    (differs-placed {n = nothing} key (headWord (Inline n 1)) (b .space) b (wrote-same nothing (b .space)))
-at-only fit b key (n ∷ m ∷ ns) i r e = into-only fit b key (n ∷ m ∷ ns) (loadsTo fit (length (n ∷ m ∷ ns)) (streamLen (n ∷ m ∷ ns))) i r refl e
+at-only fit ds b key [] i r e =
+    subst (λ (o : Outcome Loaded). Differs (record { heads = []; space = nothing; counts = [] }) b (o .book)) (accepted-inj e)
+    (differs-not (record { heads = []; space = nothing; counts = [] }) b)
+at-only fit ds b key (n ∷ []) i r e =
+    subst (λ (o : Outcome Loaded). Differs (wordAnd key nothing []) b (o .book)) (accepted-inj e)
+    (differs-placed {n = nothing} key (headWord (Inline n 1)) (b .space) (b .counts) b (wrote-same nothing (b .space))
+    (only-same [] (b .counts)))
+at-only fit ds b key (n ∷ m ∷ ns) i r e =
+    into-only fit (deskOf ds key) b key (n ∷ m ∷ ns) (loadsTo fit (length (n ∷ m ∷ ns)) (streamLen (n ∷ m ∷ ns))) i r refl e
 
--- A load.
-pub load-only : (fit : SlabFit) (b : Book) (key : ℕ) (ns : List ℕ) {o : Outcome Loaded} → loads fit b key ns ≡ accepted o → Changes b (o .book) (load fit key ns)
+-- A load by a key's desk.
+pub load-only : (fit : SlabFit) (ds : List ℕ) (b : Book) (key : ℕ) (ns : List ℕ) {o : Outcome Loaded}
+    → loads fit (deskOf ds key) b key ns ≡ accepted o → Changes ds b (o .book) (load fit key ns)
 unfolding loads
-load-only fit b key ns e =
-    let k = on-key b key _ e in
+load-only fit ds b key ns e =
+    let k = by-desk (deskOf ds key) b key _ e in
     let used = passed _ _ _ (k .2) in
     let many = passed _ _ _ (used .1) in
-    let l = offered-all true 0 ns (loadAt fit b key ns) (many .1) in
-    at-only fit b key ns (k .0) (l .0) (l .1)
+    let l = offered-all true 0 ns (loadAt fit (deskOf ds key) b key ns) (many .1) in
+    at-only fit ds b key ns (k .0) (l .0) (l .1)

@@ -21,8 +21,10 @@ use Rattle.scripthash_free.proofs.LawsGap.{each-map, gap-filled, adjoin-within}
 use Rattle.scripthash_free.proofs.LawsFreeList.{length-pushed}
 use Rattle.scripthash_cutting.specs.Cutting.{pageRoom, lastPageRoom, Fit}
 use Rattle.book_limits.specs.Limits.{pageAfter, gapEnd}
-use Rattle.book_space.specs.Space.{Space, space, listsOf, InShape, Taken, takeMark, rounded, takeRun, takeFresh, takePopped, takeBlock, runAtMark, takeSlab}
-use Rattle.book_space.specs.Space.{release}
+use Rattle.book_space.specs.Space.{Space, space, listsOf, InShape, Taken, takeMark, rounded, takeRun, takeFresh, takePopped, takeBlock}
+use Rattle.book_space.specs.Space.{runAtMark, takeSlab, release}
+use Rattle.book_space.specs.Desks.{TakenFor}
+use Rattle.book_space.proofs.LawsDesks.{taken}
 use Rattle.book_space.proofs.LawsTake.{take-took}
 use Rattle.book_blocks.specs.Blocks.{lastPageOf, pageTo, writeRun}
 use Rattle.book_blocks.proofs.LawsWrites.{length-lastPage, length-pageTo}
@@ -150,7 +152,8 @@ wrote-run pages s i e =
     let size = length (s .body) in
     let gap = adjoin-within (s .mark) (gapBlocks (s .mark) to) to (gap-filled (s .mark) to (ends .from) (ends .whole)) in
     let carved = wrote-pushed size (s .mark) (gapBlocks (s .mark) to) (listsOf s)
-    (each-map (Within (s .mark) to) (λ x. x .off + 8 ≤ size) (λ x h. omega (arith, bytes-from-16 (x .class), h .1, ends .within, i .within, i .paged))
+    (each-map (Within (s .mark) to) (λ x. x .off + 8 ≤ size)
+    (λ x h. omega (arith, bytes-from-16 (x .class), h .1, ends .within, i .within, i .paged))
     (gapBlocks (s .mark) to) gap) refl in
     let r = rounded s in
     subst (λ (t : Taken). Wrote (takingPages s) s (t .space)) (accepted-inj (passed _ _ _ e .1))
@@ -189,10 +192,11 @@ module _ (class : ℕ) (s : Space) (small : class ≤ pageClass) (i : InShape s)
   wrote-took e = took-wrote (eqb (getD (s .free) class 0) 0) refl e
 
   -- A block whose first bytes are then filled.
-  pub wrote-filled : (len : ℕ) (ys : List ℕ) {t : Taken} → length ys ≡ len → len ≤ slabBytes class → takeBlock class s ≡ accepted t
+  pub wrote-filled : (len : ℕ) (ys : List ℕ) (t : TakenFor) → length ys ≡ len → len ≤ slabBytes class
+      → takeBlock class s ≡ accepted (taken t)
       → Wrote (filling class len s) s (filled t ys)
   unfolding filling
-  wrote-filled len ys {t} long fits e =
+  wrote-filled len ys t long fits e =
       let took = take-took class s small i e in
       let ends = block-stands class (t .off) (t .space .mark) (took .stands) .ends in
       let within = took .kept .shape .within in

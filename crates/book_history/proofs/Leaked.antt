@@ -1,40 +1,41 @@
--- Nothing is leaked: after any list of calls on a fresh book every byte from 4,096 up to the mark belongs to a block that a key holds or
--- that a free list names. From any good start, calls change nothing in how many bytes belong to nobody. Assumes nothing.
+-- Nothing is leaked: after any list of calls on a book made fresh every byte from 4,096 up to the mark belongs to a block that a key holds
+-- or that a free list names. From any good start, calls change nothing in how many bytes belong to nobody. Assumes nothing.
 use Prim.Native.Nat.{ℕ, zero, suc, _+_, _-_, _*_, _≤_, _<_}
-use mathlib.Core.Bool.{Bool, true, false}
+use mathlib.Core.Bool.{false}
 use mathlib.Core.List.{List, [], _∷_, _++_}
 use mathlib.Core.Path.{_≡_, refl, sym, ap, _∙_}
 use native.Mathlib.Nat.{zero-add}
 use native.Mathlib.Omega.{arith}
-use lib.ListN.{length, getD, set, length-replicate}
+use lib.ListN.{length, getD, set}
 use mathlib.Core.Logic.{inl}
+use Rattle.error.specs.Refusal.{accepted}
 use Rattle.scripthash_layout.specs.Sizes.{pageSize}
 use Rattle.scripthash_free.specs.FreeList.{Block}
 use Rattle.book_statements.specs.Calls.{Call}
 use Rattle.book_limits.specs.Limits.{outOfShape}
+use Rattle.book_desks.specs.Desks.{Limits}
 use Rattle.plain_book.specs.Space.{stackOf}
 use Rattle.plain_book.specs.Key.{Key, emptyKey, Page, Place, empty, inline, slab, pages}
-use Rattle.plain_book.specs.Book.{Book as PlainBook, keyOf, after as plainAfter}
+use Rattle.plain_book.specs.Book.{Book as PlainBook, keyOf, fresh as plainFresh, makes, after as plainAfter}
 use Rattle.plain_book.specs.Good.{GoodPlain}
 use Rattle.plain_book.specs.Filled.{bytesIn, bytesHeld, bytesOnStack, bytesFreed, MarkWhole}
 use Rattle.plain_book.proofs.LawsFilled.{filled-from}
-use Rattle.plain_book.proofs.LawsGood.{calls-good, shapes-kept}
+use Rattle.plain_book.proofs.LawsGood.{calls-good}
 use Rattle.book_space.specs.Space.{Space}
+use Rattle.book_space.proofs.LawsShape.{shape-holds}
 use Rattle.book_keys.specs.Keys.{pageBlocks, content}
 use Rattle.book.specs.Book.{Book, fresh, seen}
 use Rattle.book_history.specs.Calls.{after}
-use Rattle.book_start.specs.Start.{blocksAt, bytesTaken, blocksIn, heldBy, freedBy, blocksOf as allBlocks, GoodStart, heldOf, listOf}
+use Rattle.book_start.specs.Start.{blocksAt, bytesTaken, blocksIn, heldBy, freedBy, blocksOf as allBlocks, heldOf, listOf}
+use Rattle.book_start.specs.Start.{GoodBlocks, GoodStart}
 use Rattle.book_start.specs.Covered.{lostIn, Covered, forgot}
 use Rattle.book_start.proofs.LawsPairs.{gather, gather-same, held-gathered}
 use Rattle.book_start.proofs.LawsCovered.{start-room, start-covered}
 use Rattle.book_history.specs.Agrees.{Agrees}
-use Rattle.book_history.specs.PlainOf.{plainOf}
+use Rattle.book_history.specs.PlainOf.{plainOf, Sixteen}
 use Rattle.book_history.proofs.LawsContent.{offsOf, blocksOf}
-use Rattle.book_history.proofs.LawsCalls.{books-agree}
-use Rattle.book_history.proofs.LawsEach.{each-alike}
-use Rattle.book_history.proofs.LawsShape.{bytes-still}
 use Rattle.book_history.proofs.LawsStart.{word-none, start-shape, start-good, start-agrees}
-use Rattle.book_history.proofs.LawsStartKept.{held-is, freed-is, freed-gather, start-kept}
+use Rattle.book_history.proofs.LawsStartKept.{held-is, freed-is, freed-gather, shape-after, after-agrees, start-kept}
 use Rattle.book_history.proofs.LawsStartFresh.{fresh-start, none-held, none-freed}
 
 -- ---- what blocks take
@@ -117,52 +118,46 @@ module _ (plain : PlainBook) (b : Book) (g : GoodPlain plain) (a : Agrees plain 
 -- ---- any list of calls
 
 -- The mark of a good start isn't before where lists may begin.
-pub from-4096 : (b : Book) → GoodStart b → 4096 ≤ b .space .mark
-unfolding plainOf
-from-4096 b g = start-good b g .space .from
+pub from-4096 : (b : Book) → GoodBlocks b → 4096 ≤ b .space .mark
+from-4096 b g = shape-holds (b .space) (length (b .heads)) (g .shape) .0 .begins
 
 -- Calls on a good start whose mark leaves none to be skipped change nothing in how many bytes belong to nobody.
-pub lost-kept : (b : Book) (cs : List Call) → GoodStart b → MarkWhole (b .space .mark) → lostIn (after b cs) ≡ lostIn b
+pub lost-kept : (ds : List ℕ) (b : Book) (cs : List Call) → GoodStart ds b → MarkWhole (b .space .mark)
+    → lostIn (after ds b cs) ≡ lostIn b
 unfolding lostIn plainOf
-lost-kept b cs g whole =
-    let plain = plainOf b in
-    let good = start-good b g in
-    let agrees = start-agrees b g in
-    let (size, keys) = shapes-kept (plainOf b) cs in
-    let then = books-agree each-alike (plainOf b) b cs (start-good b g) (start-agrees b g) in
-    let shape : outOfShape (plainAfter (plainOf b) cs .size) (length (plainAfter (plainOf b) cs .keys)) ≡ false = rw (size, keys) (start-shape b g) in
-    let now = agrees-bytes (plainOf b) b (start-good b g) (start-agrees b g) (start-shape b g) in
-    let later = agrees-bytes (plainAfter (plainOf b) cs) (after b cs) (calls-good cs (start-good b g)) then shape in
-    let room = start-room b g (from-4096 b g) in
-    let mark : b .space .mark ≡ plainOf b .space .mark = refl in
-    let mark' : after b cs .space .mark ≡ plainAfter (plainOf b) cs .space .mark = then .inside shape .space .mark in
-    let sum : 4096 + (bytesFreed 0 (plainAfter (plainOf b) cs .space .stacks)
-    + (bytesHeld (plainAfter (plainOf b) cs .keys) + (b .space .mark - (4096 + bytesTaken (allBlocks b)))))
-    ≡ plainAfter (plainOf b) cs .space .mark
-    = filled-from (b .space .mark - (4096 + bytesTaken (allBlocks b))) (plainOf b) cs (start-good b g) whole (omega arith) in
+lost-kept ds b cs g whole =
+    let then = after-agrees ds b cs g in
+    let shape = shape-after ds b cs (g .blocks) .0 in
+    let now = agrees-bytes (plainOf ds b) b (start-good ds b g) (start-agrees ds b g) (start-shape ds b (g .blocks)) in
+    let later = agrees-bytes (plainAfter (plainOf ds b) cs) (after ds b cs) (calls-good cs (start-good ds b g)) then shape in
+    let room = start-room b (g .blocks) (from-4096 b (g .blocks)) in
+    let mark : b .space .mark ≡ plainOf ds b .space .mark = refl in
+    let mark' : after ds b cs .space .mark ≡ plainAfter (plainOf ds b) cs .space .mark = then .inside shape .space .mark in
+    let sum : 4096 + (bytesFreed 0 (plainAfter (plainOf ds b) cs .space .stacks)
+    + (bytesHeld (plainAfter (plainOf ds b) cs .keys) + (b .space .mark - (4096 + bytesTaken (allBlocks b)))))
+    ≡ plainAfter (plainOf ds b) cs .space .mark
+    = filled-from (b .space .mark - (4096 + bytesTaken (allBlocks b))) (plainOf ds b) cs (start-good ds b g) whole
+    (omega arith) in
     omega arith
 
 -- A fresh book has no block, and its mark is where lists may begin.
-fresh-lost : (body : List ℕ) (heads : ℕ) → lostIn (fresh body heads) ≡ 0
+fresh-lost : (body : List ℕ) (heads : ℕ) (l : Limits) → lostIn (fresh body heads l) ≡ 0
 unfolding lostIn bytesTaken
-fresh-lost body heads = rw (none-held (fresh body heads .space) heads, none-freed (fresh body heads .space) 0 9) refl
+fresh-lost body heads l = rw (none-held (fresh body heads l .space) heads, none-freed (fresh body heads l .space) 0 9) refl
 
-module _ (body : List ℕ) (heads : ℕ) (cs : List Call) where
-  -- Nothing is leaked: after any list of calls on a fresh book no byte between 4,096 and the mark belongs to nobody,
-  pub nothing-lost : lostIn (after (fresh body heads) cs) ≡ 0
-  nothing-lost = go (outOfShape (length body) heads) refl
-    where
-      go : (out : Bool) → outOfShape (length body) heads ≡ out → lostIn (after (fresh body heads) cs) ≡ 0
-      go true e =
-          let out : outOfShape (length body) (length (fresh body heads .heads)) ≡ true = rw (length-replicate {A = ℕ} heads 0) e in
-          ap lostIn (bytes-still (fresh body heads) cs out) ∙ fresh-lost body heads
-      go false e = lost-kept (fresh body heads) cs (fresh-start body heads e) (inl (omega arith)) ∙ fresh-lost body heads
+module _ (ds body : List ℕ) (heads : ℕ) (l : Limits) (cs : List Call)
+    (made : makes ds (length body) heads l ≡ accepted (plainFresh ds (length body) heads l)) (sixteen : Sixteen l) where
+  -- Nothing is leaked: after any list of calls on a book made fresh no byte between 4,096 and the mark belongs to nobody,
+  pub nothing-lost : lostIn (after ds (fresh body heads l) cs) ≡ 0
+  nothing-lost =
+      lost-kept ds (fresh body heads l) cs (fresh-start ds body heads l made sixteen) (inl (omega arith))
+      ∙ fresh-lost body heads l
 
   -- and each is one of a block that a key holds or that a free list names.
-  pub nothing-leaked : outOfShape (length body) heads ≡ false → Covered (after (fresh body heads) cs)
-  nothing-leaked shape =
-      let start = start-kept (fresh body heads) cs (fresh-start body heads shape) in
-      start-covered (after (fresh body heads) cs) start (from-4096 (after (fresh body heads) cs) start) nothing-lost
+  pub nothing-leaked : Covered (after ds (fresh body heads l) cs)
+  nothing-leaked =
+      let start = start-kept ds (fresh body heads l) cs (fresh-start ds body heads l made sixteen) .blocks in
+      start-covered (after ds (fresh body heads l) cs) start (from-4096 (after ds (fresh body heads l) cs) start) nothing-lost
 
 -- ---- a head word that is lost
 
@@ -187,7 +182,8 @@ forgot-bytes s (w ∷ ws) (suc key) l =
     omega arith
 
 -- A lost head word shows: as many bytes more belong to nobody as the key's slab or pages take. One of a number in the head word doesn't.
-pub forgot-shows : (b : Book) (key : ℕ) → GoodStart b → key < length (b .heads) → lostIn (forgot key b) ≡ lostIn b + bytesTaken (heldOf b key)
+pub forgot-shows : (b : Book) (key : ℕ) → GoodBlocks b → key < length (b .heads)
+    → lostIn (forgot key b) ≡ lostIn b + bytesTaken (heldOf b key)
 unfolding lostIn
 forgot-shows b key g l =
     let room = start-room b g (from-4096 b g) in

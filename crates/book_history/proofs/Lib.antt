@@ -4,6 +4,7 @@ pub mod LawsFrame
 pub mod LawsStep
 pub mod LawsPush
 pub mod LawsTake
+pub mod LawsDesks
 pub mod LawsContent
 pub mod LawsHand
 pub mod LawsLoad
@@ -17,6 +18,7 @@ pub mod LawsEach
 pub mod LawsStartPages
 pub mod LawsStartApart
 pub mod LawsStartKeys
+pub mod LawsStartDesks
 pub mod LawsStart
 pub mod LawsStartFresh
 pub mod LawsStartKept
@@ -27,6 +29,7 @@ pub mod Padded
 pub mod Ceilings
 pub mod Totals
 pub mod LawsOnly
+pub mod LawsWritesDesks
 pub mod LawsWritesSpace
 pub mod LawsWritesLoad
 pub mod LawsWritesBlocks
@@ -42,3 +45,5 @@ pub mod Leaked
 pub mod LostTold
 pub mod Growing
 pub mod Refusals
+pub mod Core
+pub mod Reserve

@@ -1,74 +1,83 @@
--- What the check tells of units that belong to nobody: 0 after any list of calls on a fresh book, the same after any calls on a good start,
--- and more by the blocks of a head word or of a free head that was lost. Assumes nothing.
+-- What the check tells of units that belong to nobody: 0 after any list of calls on a book made fresh, the same after any calls on a good
+-- start, and more by the slab of a head word or by the slabs of a free head that was lost. Lost pages are missed by a count, which it tells.
+-- Assumes nothing.
 use Prim.Native.Nat.{ℕ, zero, suc, _+_, _/_, _≤_, _<_}
-use mathlib.Core.Bool.{Bool, true, false}
+use mathlib.Core.Bool.{Bool, true, false, cond}
 use mathlib.Core.List.{List, [], _++_}
 use mathlib.Core.Logic.{_≢_}
 use mathlib.Core.Path.{_≡_, refl, sym, ap, subst, _∙_}
 use native.Mathlib.Nat.{zero-add}
 use native.Mathlib.Omega.{arith}
-use borrow.Author.Tests.{eqb-true, eqb-false}
+use borrow.Author.Tests.{eqb-true, eqb-false, eq-eqb, ne-eqb}
 use lib.Dec.{eqb}
 use lib.ListN.{length, getD, set, length-set}
 use lib.Seq.{getD-set-same, getD-set-other}
 use Rattle.plain_book.specs.Filled.{MarkWhole}
-use Rattle.error.specs.Refusal.{accepted}
+use Rattle.error.specs.Refusal.{Answer, accepted, valueOr}
 use Rattle.scripthash_layout.specs.Sizes.{pageClass}
 use Rattle.scripthash_layout.specs.Head.{unpackHead}
 use Rattle.scripthash_layout.specs.declared.head.ShHeadValue.the-variants.{Inline}
 use Rattle.scripthash_free.specs.FreeList.{Block, Disjoint, Each, IsFreeList}
 use Rattle.scripthash_free.proofs.LawsGap.{each-map}
 use Rattle.book_statements.specs.Calls.{Call}
-use Rattle.book_limits.specs.Limits.{outOfShape}
+use Rattle.book_desks.specs.Desks.{Limits, deskOf, sumTo, listBad}
+use Rattle.book_desks.specs.Counts.{freedCount, heldCount}
+use Rattle.book_desks.proofs.LawsSums.{sum-set}
+use Rattle.book_desks.proofs.LawsDesks.{desk-in}
+use Rattle.plain_book.specs.Book.{fresh as plainFresh, makes}
 use Rattle.plain_book.proofs.LawsGood.{shapes-kept}
 use Rattle.book_space.specs.Space.{space, shapeBroken}
 use Rattle.book_keys.specs.Keys.{soundly, Content, content}
 use Rattle.book_keys.proofs.LawsContent.{content-at, content-inline}
 use Rattle.book.specs.Book.{Book, fresh, wordOf, seen}
 use Rattle.book_history.specs.Calls.{after}
-use Rattle.book_start.specs.Start.{AllApart, Stands, blocksAt, bytesTaken, blocksIn, heldBy, followed, followedFrom, freedOf, freedBy, GoodStart, heldOf, listOf}
-use Rattle.book_start.specs.Start.{good, judges}
+use Rattle.book_start.specs.Start.{AllApart, Stands, blocksAt, bytesTaken, blocksIn, heldBy, followed, followedFrom, freedOf, freedBy}
+use Rattle.book_start.specs.Start.{heldOf, listOf, GoodBlocks, GoodStart, pagesHeld, pagesFor, pagesOfDesk}
+use Rattle.book_start.specs.Start.{good, freedDiffers, heldDiffers, judges}
 use Rattle.book_start.specs.Covered.{lostIn, forgot, forgotList}
 use Rattle.book_start.proofs.LawsClaims.{Cross}
 use Rattle.book_start.proofs.LawsCovered.{start-room, whole-units}
 use Rattle.book_start.proofs.LawsFreed.{followed-end}
 use Rattle.book_start.proofs.LawsJudged.{start-judges}
+use Rattle.book_start.proofs.LawsFaults.{freed-told, held-told}
 use Rattle.book_start.proofs.LawsPairs.{gather, gather-same, each-left, each-right, apart-left, apart-right, apart-cross, held-gathered}
 use Rattle.book_start.proofs.LawsPairs.{freed-gathered}
-use Rattle.book_history.specs.PlainOf.{plainOf}
-use Rattle.book_history.proofs.LawsCalls.{books-agree}
-use Rattle.book_history.proofs.LawsEach.{each-alike}
-use Rattle.book_history.proofs.LawsStart.{word-none, start-good, start-agrees}
+use Rattle.book_history.specs.PlainOf.{plainOf, Sixteen}
+use Rattle.book_history.proofs.LawsStart.{word-none, start-agrees}
+use Rattle.book_history.proofs.LawsStartDesks.{none-for}
 use Rattle.book_history.proofs.LawsStartFresh.{fresh-start}
-use Rattle.book_history.proofs.LawsStartKept.{each-both, apart-both, start-kept}
+use Rattle.book_history.proofs.LawsStartKept.{each-both, apart-both, after-agrees, start-kept}
 use Rattle.book_history.proofs.Leaked.{both-bytes, from-4096, lost-kept, nothing-lost, forgot-shows}
 
 -- ---- any list of calls
 
 -- Calls on a good start keep the body's length.
-body-kept : (b : Book) (cs : List Call) → GoodStart b → length (after b cs .space .body) ≡ length (b .space .body)
-body-kept b cs g =
-    let (size, keys) = shapes-kept (plainOf b) cs in
-    books-agree each-alike (plainOf b) b cs (start-good b g) (start-agrees b g) .size ∙ size ∙ sym (start-agrees b g .size)
+body-kept : (ds : List ℕ) (b : Book) (cs : List Call) → GoodStart ds b
+    → length (after ds b cs .space .body) ≡ length (b .space .body)
+body-kept ds b cs g =
+    let (size, keys, same, limits) = shapes-kept (plainOf ds b) cs in
+    after-agrees ds b cs g .size ∙ size ∙ sym (start-agrees ds b g .size)
 
 -- After any calls on a good start the check tells what it told before them.
-pub check-kept : (b : Book) (cs : List Call) (room : ℕ) → GoodStart b → MarkWhole (b .space .mark) → length (b .space .body) / 128 ≤ room
-    → judges (after b cs) room ≡ judges b room
-check-kept b cs room g whole long =
-    let later = start-kept b cs g in
-    let enough : length (after b cs .space .body) / 128 ≤ room = rw (body-kept b cs g) long in
-    start-judges (after b cs) (later .nine) room enough later ∙ ap (λ (n : ℕ). accepted (good (n / 16))) (lost-kept b cs g whole)
-    ∙ sym (start-judges b (g .nine) room long g)
+pub check-kept : (ds : List ℕ) (b : Book) (cs : List Call) (room : ℕ) → GoodStart ds b → MarkWhole (b .space .mark)
+    → length (b .space .body) / 128 ≤ room → judges ds (after ds b cs) room ≡ judges ds b room
+check-kept ds b cs room g whole long =
+    let later = start-kept ds b cs g in
+    let enough : length (after ds b cs .space .body) / 128 ≤ room = rw (body-kept ds b cs g) long in
+    start-judges ds (after ds b cs) room enough later ∙ ap (λ (n : ℕ). accepted (good (n / 16))) (lost-kept ds b cs g whole)
+    ∙ sym (start-judges ds b room long g)
 
--- After any calls on a fresh book in shape it tells a good start, and that nothing belongs to nobody.
-pub check-fresh : (body : List ℕ) (heads : ℕ) (cs : List Call) (room : ℕ) → outOfShape (length body) heads ≡ false
-    → length body / 128 ≤ room → judges (after (fresh body heads) cs) room ≡ accepted (good 0)
-check-fresh body heads cs room shape long =
-    let first = fresh-start body heads shape in
-    let later = start-kept (fresh body heads) cs first in
-    let enough : length (after (fresh body heads) cs .space .body) / 128 ≤ room = rw (body-kept (fresh body heads) cs first) long in
-    start-judges (after (fresh body heads) cs) (later .nine) room enough later
-    ∙ ap (λ (n : ℕ). accepted (good (n / 16))) (nothing-lost body heads cs)
+-- After any calls on a book made fresh it tells a good start, and that nothing belongs to nobody.
+pub check-fresh : (ds body : List ℕ) (heads : ℕ) (l : Limits) (cs : List Call) (room : ℕ)
+    → makes ds (length body) heads l ≡ accepted (plainFresh ds (length body) heads l) → Sixteen l → length body / 128 ≤ room
+    → judges ds (after ds (fresh body heads l) cs) room ≡ accepted (good 0)
+check-fresh ds body heads l cs room made sixteen long =
+    let first = fresh-start ds body heads l made sixteen in
+    let later = start-kept ds (fresh body heads l) cs first in
+    let enough : length (after ds (fresh body heads l) cs .space .body) / 128 ≤ room
+    = rw (body-kept ds (fresh body heads l) cs first) long in
+    start-judges ds (after ds (fresh body heads l) cs) room enough later
+    ∙ ap (λ (n : ℕ). accepted (good (n / 16))) (nothing-lost ds body heads l cs made sixteen)
 
 -- ---- lists by a number, of which one is left out
 
@@ -120,7 +129,8 @@ out-apart (suc n) (suc k) f f' o l a =
     (out-cross (f 0) n k (λ i. f (suc i)) (λ i. f' (suc i)) next (omega arith) (apart-cross (f 0) (gather n (λ i. f (suc i))) a)))
 
 -- All blocks take what the others take and what those that are left out do.
-out-bytes : (n k : ℕ) (f f' : ℕ → List Block) → LeftOut k f f' → k < n → bytesTaken (gather n f') + bytesTaken (f k) ≡ bytesTaken (gather n f)
+out-bytes : (n k : ℕ) (f f' : ℕ → List Block) → LeftOut k f f' → k < n
+    → bytesTaken (gather n f') + bytesTaken (f k) ≡ bytesTaken (gather n f)
 unfolding gather
 out-bytes zero k f f' o l = absurd (omega arith)
 out-bytes (suc n) zero f f' o l =
@@ -136,7 +146,7 @@ out-bytes (suc n) (suc k) f f' o l =
 
 -- ---- a head word that is lost
 
-module _ (b : Book) (key : ℕ) (g : GoodStart b) (l : key < length (b .heads)) where
+module _ (b : Book) (key : ℕ) (g : GoodBlocks b) (l : key < length (b .heads)) where
   -- The words of the book that forgot it.
   word-gone : wordOf key (forgot key b) ≡ 0
   word-gone = getD-set-same (b .heads) key 0 0 l
@@ -172,9 +182,9 @@ module _ (b : Book) (key : ℕ) (g : GoodStart b) (l : key < length (b .heads)) 
   abbrev others : List Block
   others = gather (length (b .heads)) (heldOf (forgot key b))
 
-  -- A book that forgot a head word is a good start all the same,
-  pub forgot-start : GoodStart (forgot key b)
-  forgot-start =
+  -- The blocks of a book that forgot a head word are good all the same.
+  forgot-blocks : GoodBlocks (forgot key b)
+  forgot-blocks =
       let count : length (set (b .heads) key 0) ≡ length (b .heads) = length-set (b .heads) key 0 in
       let was : AllApart (held ++ freed)
       = subst (λ (xs : List Block). AllApart (xs ++ freed)) (held-gathered (b .space) (b .heads)) (g .apart) in
@@ -194,24 +204,106 @@ module _ (b : Book) (key : ℕ) (g : GoodStart b) (l : key < length (b .heads)) 
             (apart-cross held freed was)));
       }
 
-  -- and the check tells as many units more as its slab or pages take.
-  pub forgot-told : (room : ℕ) → length (b .space .body) / 128 ≤ room
-      → judges (forgot key b) room ≡ accepted (good (lostIn b / 16 + bytesTaken (heldOf b key) / 16))
-  forgot-told room long =
-      let shows = forgot-shows b key g l in
+  -- The key's pages are missing, and no others.
+  pages-gone : pagesHeld (forgot key b) key ≡ 0
+  pages-gone =
+      ap (λ (w : ℕ). valueOr (λ c. c .pages) (content (seen (b .space)) w) 0) word-gone
+      ∙ ap (λ (x : Answer Content). valueOr (λ c. c .pages) x 0) (word-none (b .space))
+
+  pages-other : (i : ℕ) → i ≢ key → pagesHeld (forgot key b) i ≡ pagesHeld b i
+  pages-other i d = ap (λ (w : ℕ). valueOr (λ c. c .pages) (content (seen (b .space)) w) 0) (word-other i d)
+
+module _ (ds : List ℕ) (b : Book) (key : ℕ) (g : GoodStart ds b) (l : key < length (b .heads)) where
+  -- The keys of a desk have less by the key's pages, where it is the key's desk.
+  desk-gone : (d : ℕ) → pagesOfDesk ds (forgot key b) d + pagesFor ds b d key ≡ pagesOfDesk ds b d
+  desk-gone d =
+      let count = ap (λ (n : ℕ). sumTo n (pagesFor ds (forgot key b) d)) (length-set (b .heads) key 0) in
+      let moved = sum-set (length (b .heads)) key (pagesFor ds (forgot key b) d) (pagesFor ds b d) l
+      (λ i h n. ap (λ (m : ℕ). cond (eqb (deskOf ds i) d) m 0) (pages-other b key (g .blocks) l i n)) in
+      let none' : pagesFor ds (forgot key b) d key ≡ 0 = none-for (eqb (deskOf ds key) d) _ (pages-gone b key (g .blocks) l) in
+      omega arith
+
+  -- Its desk has less, another desk has as many.
+  desk-own : pagesOfDesk ds (forgot key b) (deskOf ds key) + pagesHeld b key ≡ pagesOfDesk ds b (deskOf ds key)
+  desk-own =
+      let own : pagesFor ds b (deskOf ds key) key ≡ pagesHeld b key
+      = ap (λ (t : Bool). cond t (pagesHeld b key) 0) (eq-eqb (deskOf ds key) (deskOf ds key) refl) in
+      let e = desk-gone (deskOf ds key) in
+      omega arith
+
+  desk-other : (d : ℕ) → deskOf ds key ≢ d → pagesOfDesk ds (forgot key b) d ≡ pagesOfDesk ds b d
+  desk-other d n =
+      let none' : pagesFor ds b d key ≡ 0 = ap (λ (t : Bool). cond t (pagesHeld b key) 0) (ne-eqb (deskOf ds key) d n) in
+      let e = desk-gone d in
+      omega arith
+
+  still-named : listBad ds (length (set (b .heads) key 0)) ≡ false
+  still-named = ap (listBad ds) (length-set (b .heads) key 0) ∙ g .counts .named
+
+  -- A book that forgot the head word of a key without pages is a good start all the same,
+  pub forgot-start : pagesHeld b key ≡ 0 → GoodStart ds (forgot key b)
+  forgot-start none' =
+      record {
+        blocks = forgot-blocks b key (g .blocks) l;
+        counts = record {
+          words = g .counts .words;
+          low = g .counts .low;
+          named = still-named;
+          balanced = g .counts .balanced;
+          freed = g .counts .freed;
+          exact = λ d h.
+              let held : pagesFor ds b d key ≡ 0 = none-for (eqb (deskOf ds key) d) (pagesHeld b key) none' in
+              let gone = desk-gone d in
+              let was = g .counts .exact d h in
+              omega arith;
+          ceilings = g .counts .ceilings;
+          reserves = g .counts .reserves;
+          covered = g .counts .covered;
+        };
+      }
+
+  -- and the check tells as many units more as its slab takes.
+  pub forgot-told : pagesHeld b key ≡ 0 → (room : ℕ) → length (b .space .body) / 128 ≤ room
+      → judges ds (forgot key b) room ≡ accepted (good (lostIn b / 16 + bytesTaken (heldOf b key) / 16))
+  forgot-told none' room long =
+      let shows = forgot-shows b key (g .blocks) l in
       let whole = whole-units (heldOf b key) in
       let sum : lostIn (forgot key b) / 16 ≡ lostIn b / 16 + bytesTaken (heldOf b key) / 16 = omega arith in
-      start-judges (forgot key b) (g .nine) room long forgot-start ∙ ap (λ (n : ℕ). accepted (good n)) sum
+      start-judges ds (forgot key b) room long (forgot-start none') ∙ ap (λ (n : ℕ). accepted (good n)) sum
 
   -- The word of a key with one number takes no block: the check tells the same without it.
-  pub forgot-hidden : (room entry used : ℕ) → length (b .space .body) / 128 ≤ room → unpackHead (wordOf key b) ≡ accepted (Inline entry used)
-      → judges (forgot key b) room ≡ judges b room
+  pub forgot-hidden : (room entry used : ℕ) → length (b .space .body) / 128 ≤ room
+      → unpackHead (wordOf key b) ≡ accepted (Inline entry used) → judges ds (forgot key b) room ≡ judges ds b room
   unfolding blocksIn bytesTaken soundly
   forgot-hidden room entry used long e =
-      let none' : heldOf b key ≡ []
-      = ap blocksIn (content-at (seen (b .space)) (wordOf key b) (Inline entry used) e ∙ ap soundly (content-inline (seen (b .space)) entry used)) in
+      let is =
+      content-at (seen (b .space)) (wordOf key b) (Inline entry used) e ∙ ap soundly (content-inline (seen (b .space)) entry used) in
+      let none' : heldOf b key ≡ [] = ap blocksIn is in
       let same : lostIn b / 16 + bytesTaken (heldOf b key) / 16 ≡ lostIn b / 16 = let z = ap bytesTaken none' in omega arith in
-      forgot-told room long ∙ ap (λ (n : ℕ). accepted (good n)) same ∙ sym (start-judges b (g .nine) room long g)
+      forgot-told (ap (λ (x : Answer Content). valueOr (λ c. c .pages) x 0) is) room long ∙ ap (λ (n : ℕ). accepted (good n)) same
+      ∙ sym (start-judges ds b room long g)
+
+  -- A key with pages is missed by its desk: the check tells that its count differs.
+  pub forgot-desk : 0 < pagesHeld b key → (room : ℕ) → length (b .space .body) / 128 ≤ room
+      → judges ds (forgot key b) room ≡ accepted (heldDiffers (deskOf ds key))
+  forgot-desk some' room long =
+      let within = desk-in ds (length (b .heads)) key (g .counts .named) l in
+      held-told ds (forgot key b) room
+      (record {
+        long = long;
+        blocks = forgot-blocks b key (g .blocks) l;
+        low = g .counts .low;
+        named = still-named;
+        balanced = g .counts .balanced;
+      })
+      (deskOf ds key) within (g .counts .freed)
+      (λ i h. record {
+        exact = g .counts .exact i (omega arith) ∙ sym (desk-other i (λ (z : deskOf ds key ≡ i). omega arith));
+        ceiling = g .counts .ceilings i (omega arith);
+        reserve = g .counts .reserves i (omega arith);
+      })
+      (λ (z : heldCount (deskOf ds key) (b .counts) ≡ pagesOfDesk ds (forgot key b) (deskOf ds key)).
+      let own = desk-own in let was = g .counts .exact (deskOf ds key) within in omega arith)
 
 -- ---- the head of a free list that is lost
 
@@ -222,7 +314,7 @@ lists-gathered b =
     ∙ gather-same (length (b .space .free)) (λ i. blocksAt (0 + i) (followedFrom (b .space) (getD (b .space .free) i 0))) (listOf b)
     (λ i. rw (zero-add i))
 
-module _ (b : Book) (class : ℕ) (g : GoodStart b) (l : class ≤ pageClass) where
+module _ (b : Book) (class : ℕ) (g : GoodBlocks b) (l : class ≤ pageClass) where
   abbrev now : Book
   now = forgotList class b
 
@@ -296,10 +388,10 @@ module _ (b : Book) (class : ℕ) (g : GoodStart b) (l : class ≤ pageClass) wh
   abbrev listed : List Block
   listed = gather (length free) (listOf b)
 
-  -- A book that forgot a free list is a good start all the same,
-  pub list-start : GoodStart now
+  -- The blocks of a book that forgot a free list are good all the same,
+  list-blocks : GoodBlocks now
   unfolding shapeBroken
-  list-start =
+  list-blocks =
       let was : AllApart (kept ++ listed) = subst (λ (xs : List Block). AllApart (kept ++ xs)) (lists-gathered b) (g .apart) in
       let is : AllApart (kept ++ gather (length free) (listOf now))
       = apart-both kept (gather (length free) (listOf now)) (apart-left kept listed was)
@@ -315,7 +407,7 @@ module _ (b : Book) (class : ℕ) (g : GoodStart b) (l : class ≤ pageClass) wh
             (subst (λ (xs : List Block). AllApart (kept ++ xs)) (sym freed-now) is);
       }
 
-  -- in which as many bytes more belong to nobody as its blocks take,
+  -- and as many bytes more belong to nobody as its blocks take.
   pub list-shows : lostIn now ≡ lostIn b + bytesTaken (listOf b class)
   unfolding lostIn
   list-shows =
@@ -328,11 +420,46 @@ module _ (b : Book) (class : ℕ) (g : GoodStart b) (l : class ≤ pageClass) wh
       let old = both-bytes (heldBy (b .space) (b .heads)) (freedBy (b .space) 0 free) in
       omega arith
 
+module _ (ds : List ℕ) (b : Book) (g : GoodStart ds b) where
+  -- A book that forgot a free list of slabs is a good start all the same,
+  pub list-start : (class : ℕ) → class < pageClass → GoodStart ds (forgotList class b)
+  list-start class l =
+      record {
+        blocks = list-blocks b class (g .blocks) (omega arith);
+        counts = record {
+          words = g .counts .words;
+          low = g .counts .low;
+          named = g .counts .named;
+          balanced = g .counts .balanced;
+          freed = g .counts .freed
+              ∙ ap length (sym (list-other b class (g .blocks) (omega arith) pageClass (λ (z : pageClass ≡ class). omega arith)));
+          exact = g .counts .exact;
+          ceilings = g .counts .ceilings;
+          reserves = g .counts .reserves;
+          covered = g .counts .covered;
+        };
+      }
+
   -- and the check tells their units.
-  pub list-told : (room : ℕ) → length (b .space .body) / 128 ≤ room
-      → judges now room ≡ accepted (good (lostIn b / 16 + bytesTaken (listOf b class) / 16))
-  list-told room long =
-      let shows = list-shows in
+  pub list-told : (class : ℕ) → class < pageClass → (room : ℕ) → length (b .space .body) / 128 ≤ room
+      → judges ds (forgotList class b) room ≡ accepted (good (lostIn b / 16 + bytesTaken (listOf b class) / 16))
+  list-told class l room long =
+      let shows = list-shows b class (g .blocks) (omega arith) in
       let whole = whole-units (listOf b class) in
-      let sum : lostIn now / 16 ≡ lostIn b / 16 + bytesTaken (listOf b class) / 16 = omega arith in
-      start-judges now (list-start .nine) room long list-start ∙ ap (λ (n : ℕ). accepted (good n)) sum
+      let sum : lostIn (forgotList class b) / 16 ≡ lostIn b / 16 + bytesTaken (listOf b class) / 16 = omega arith in
+      start-judges ds (forgotList class b) room long (list-start class l) ∙ ap (λ (n : ℕ). accepted (good n)) sum
+
+  -- The free list of pages is missed by their count: the check tells that it differs.
+  pub pages-told : 0 < freedCount (b .counts) → (room : ℕ) → length (b .space .body) / 128 ≤ room
+      → judges ds (forgotList pageClass b) room ≡ accepted freedDiffers
+  pages-told some' room long =
+      freed-told ds (forgotList pageClass b) room
+      (record {
+        long = long;
+        blocks = list-blocks b pageClass (g .blocks) (omega arith);
+        low = g .counts .low;
+        named = g .counts .named;
+        balanced = g .counts .balanced;
+      })
+      (λ (z : freedCount (b .counts) ≡ length (freedOf (forgotList pageClass b .space) pageClass)).
+      let none' = ap length (list-gone b pageClass (g .blocks) (omega arith)) in omega arith)

@@ -1,18 +1,20 @@
 -- Two books with the same heads, body and state hold the same lists: whatever was called on them, the same is recorded for each key. The
 -- bytes of a key read in at most one way, and in each book as its list. Assumes nothing.
 use Prim.Native.Nat.{ℕ}
-use mathlib.Core.Bool.{Bool, true, false}
+use mathlib.Core.Bool.{Bool, false}
 use mathlib.Core.List.{List, []}
-use mathlib.Core.Path.{_≡_, refl, sym, ap, ap₂, subst, _∙_}
-use lib.ListN.{length}
+use mathlib.Core.Path.{_≡_, sym, ap, ap₂, subst, _∙_}
+use lib.ListN.{length, length-replicate}
+use Rattle.error.specs.Refusal.{accepted}
 use Rattle.error.proofs.LawsAnswer.{accepted-inj}
 use Rattle.book_statements.specs.Calls.{Call, Answers}
 use Rattle.book_limits.specs.Limits.{outOfShape}
 use Rattle.book_statements.specs.Recorded.{recorded}
-use Rattle.plain_book.specs.Key.{Key}
-use Rattle.plain_book.specs.Book.{Book as PlainBook, fresh as plainFresh, after as plainAfter, keyOf}
+use Rattle.book_desks.specs.Desks.{Limits}
+use Rattle.plain_book.specs.Key.{Key, emptyKey}
+use Rattle.plain_book.specs.Book.{Book as PlainBook, fresh as plainFresh, makes, after as plainAfter, keyOf}
 use Rattle.plain_book.specs.Good.{GoodPlain}
-use Rattle.plain_book.proofs.LawsGood.{fresh-good, calls-good, shapes-kept}
+use Rattle.plain_book.proofs.LawsGood.{is-made, fresh-good, calls-good, shapes-kept}
 use Rattle.plain_book.proofs.LawsHistory.{fresh-key}
 use Rattle.plain_book.proofs.LawsRecorded.{recorded-from}
 use Rattle.book_keys.specs.Keys.{Content}
@@ -20,11 +22,10 @@ use Rattle.book.specs.Book.{Book, fresh}
 use Rattle.book_history.specs.Calls.{after, answers}
 use Rattle.book_start.specs.Start.{GoodStart}
 use Rattle.book_history.specs.Agrees.{Agrees}
-use Rattle.book_history.specs.PlainOf.{plainOf, startList}
+use Rattle.book_history.specs.PlainOf.{plainOf, startList, Sixteen}
 use Rattle.book_history.proofs.LawsCalls.{answers-alike, books-agree}
-use Rattle.book_history.proofs.LawsContent.{content-agrees}
 use Rattle.book_history.proofs.LawsEach.{each-alike, each-same}
-use Rattle.book_history.proofs.LawsShape.{plain-still}
+use Rattle.book_history.proofs.LawsContent.{content-agrees}
 use Rattle.book_history.proofs.LawsStart.{start-list, start-shape, start-good, start-agrees}
 use Rattle.book_history.proofs.LawsStartFresh.{fresh-agrees}
 
@@ -49,85 +50,63 @@ lists-fixed p q b g h a d shape key =
 -- ---- after any calls
 
 -- Two books over bytes that stand for good plain books, and some calls on each, after which they are one.
-module _ (p q : PlainBook) (b d : Book) (g : GoodPlain p) (h : GoodPlain q) (agrees : Agrees p b) (other : Agrees q d) (cs ds : List Call)
-    (same : after b cs ≡ after d ds) where
+module _ (p q : PlainBook) (b d : Book) (g : GoodPlain p) (h : GoodPlain q) (agrees : Agrees p b) (other : Agrees q d)
+    (cs es : List Call) (same : after (p .desks) b cs ≡ after (q .desks) d es) where
   -- Both plain books stand for it then.
-  stands : Agrees (plainAfter p cs) (after b cs)
+  stands : Agrees (plainAfter p cs) (after (p .desks) b cs)
   stands = books-agree each-alike p b cs g agrees
 
-  other-stands : Agrees (plainAfter q ds) (after b cs)
-  other-stands = subst (Agrees (plainAfter q ds)) (sym same) (books-agree each-alike q d ds h other)
+  other-stands : Agrees (plainAfter q es) (after (p .desks) b cs)
+  other-stands = subst (Agrees (plainAfter q es)) (sym same) (books-agree each-alike q d es h other)
 
   -- A key's list is what was there at first and what was recorded.
-  told : (r : PlainBook) (c : Book) (es : List Call) (key : ℕ) → GoodPlain r → Agrees r c
-      → recorded key (answers c es) (keyOf key r .list) ≡ keyOf key (plainAfter r es) .list
-  told r c es key good a =
-      ap (λ (told : Answers es). recorded key told (keyOf key r .list)) (answers-alike each-alike each-same r c es good a)
-      ∙ sym (recorded-from r key es (good .keys key))
+  told : (r : PlainBook) (c : Book) (fs : List Call) (key : ℕ) → GoodPlain r → Agrees r c
+      → recorded key (answers (r .desks) c fs) (keyOf key r .list) ≡ keyOf key (plainAfter r fs) .list
+  told r c fs key good a =
+      ap (λ (told : Answers fs). recorded key told (keyOf key r .list)) (answers-alike each-alike each-same r c fs good a)
+      ∙ sym (recorded-from r key fs (good .keys key))
 
   -- In shape, the same is recorded for each key, with what was there at first.
   pub records-good : outOfShape (p .size) (length (p .keys)) ≡ false → (key : ℕ)
-      → recorded key (answers b cs) (keyOf key p .list) ≡ recorded key (answers d ds) (keyOf key q .list)
+      → recorded key (answers (p .desks) b cs) (keyOf key p .list) ≡ recorded key (answers (q .desks) d es) (keyOf key q .list)
   records-good shape key =
-      let (size, keys) = shapes-kept p cs in
+      let (size, keys, list, limits) = shapes-kept p cs in
       told p b cs key g agrees
-      ∙ lists-fixed (plainAfter p cs) (plainAfter q ds) (after b cs) (calls-good cs g) (calls-good ds h) stands other-stands
-      (rw (size, keys) shape) key
-      ∙ sym (told q d ds key h other)
-
-  -- Out of shape, calls are turned back on both, so that each key has what it had.
-  pub records-still : outOfShape (p .size) (length (p .keys)) ≡ true → (key : ℕ)
-      → (recorded key (answers b cs) (keyOf key p .list) ≡ keyOf key p .list)
-      × (recorded key (answers d ds) (keyOf key q .list) ≡ keyOf key q .list)
-  records-still shape key =
-      let (size, keys) = shapes-kept p cs in
-      let (size', keys') = shapes-kept q ds in
-      let out-then = shape-fixed (plainAfter p cs) (plainAfter q ds) (after b cs) stands other-stands in
-      let out-q : out q ≡ true = ap₂ outOfShape (sym size') (sym keys') ∙ out-then ∙ ap₂ outOfShape size keys ∙ shape in (
-        told p b cs key g agrees ∙ ap (λ (x : PlainBook). keyOf key x .list) (plain-still p cs shape),
-        told q d ds key h other ∙ ap (λ (x : PlainBook). keyOf key x .list) (plain-still q ds out-q),
-      )
+      ∙ lists-fixed (plainAfter p cs) (plainAfter q es) (after (p .desks) b cs) (calls-good cs g)
+      (calls-good es h) stands other-stands (rw (size, keys) shape) key
+      ∙ sym (told q d es key h other)
 
 -- ---- after any calls on good starts
 
--- Histories from good starts that end alike have the same recorded for each key, with what it was read as at the start.
-pub records-fixed-from : (b d : Book) (cs ds : List Call) → GoodStart b → GoodStart d → after b cs ≡ after d ds → (key : ℕ)
-    → recorded key (answers b cs) (startList b key) ≡ recorded key (answers d ds) (startList d key)
-records-fixed-from b d cs ds g h same key =
-    ap (recorded key (answers b cs)) (sym (start-list b key))
-    ∙ records-good (plainOf b) (plainOf d) b d (start-good b g) (start-good d h) (start-agrees b g) (start-agrees d h) cs ds same
-    (start-shape b g) key
-    ∙ ap (recorded key (answers d ds)) (start-list d key)
+-- Histories from good starts that end alike have the same recorded for each key, with what it was read as at the start, whatever the lists
+-- of desks.
+pub records-fixed-from : (ds list : List ℕ) (b d : Book) (cs es : List Call) → GoodStart ds b → GoodStart list d
+    → after ds b cs ≡ after list d es → (key : ℕ)
+    → recorded key (answers ds b cs) (startList b key) ≡ recorded key (answers list d es) (startList d key)
+unfolding plainOf
+records-fixed-from ds list b d cs es g h same key =
+    ap (recorded key (answers ds b cs)) (sym (start-list ds b key))
+    ∙ records-good (plainOf ds b) (plainOf list d) b d (start-good ds b g) (start-good list d h) (start-agrees ds b g)
+    (start-agrees list d h) cs es same (start-shape ds b (g .blocks)) key
+    ∙ ap (recorded key (answers list d es)) (start-list list d key)
 
 -- ---- after any calls on fresh books
 
-module _ (body other : List ℕ) (heads count : ℕ) (cs ds : List Call)
-    (same : after (fresh body heads) cs ≡ after (fresh other count) ds) where
-  abbrev p : PlainBook
-  p = plainFresh (length body) heads
+-- Nothing is there at first.
+nothing : (ds : List ℕ) (size keys : ℕ) (l : Limits) (key : ℕ) → keyOf key (plainFresh ds size keys l) .list ≡ []
+nothing ds size keys l key = ap (λ (k : Key). k .list) (fresh-key ds size keys l key)
 
-  abbrev q : PlainBook
-  q = plainFresh (length other) count
-
-  -- Nothing is there at first.
-  nothing : (size keys key : ℕ) → keyOf key (plainFresh size keys) .list ≡ []
-  nothing size keys key = ap (λ (k : Key). k .list) (fresh-key size keys key)
-
-  by-shape : (shape : Bool) → out p ≡ shape → (key : ℕ)
-      → recorded key (answers (fresh body heads) cs) (keyOf key p .list)
-      ≡ recorded key (answers (fresh other count) ds) (keyOf key q .list)
-  by-shape true e key =
-      let (left, right) =
-      records-still p q (fresh body heads) (fresh other count) (fresh-good (length body) heads) (fresh-good (length other) count)
-      (fresh-agrees body heads) (fresh-agrees other count) cs ds same e key in
-      left ∙ nothing (length body) heads key ∙ sym (nothing (length other) count key) ∙ sym right
-  by-shape false e key =
-      records-good p q (fresh body heads) (fresh other count) (fresh-good (length body) heads) (fresh-good (length other) count)
-      (fresh-agrees body heads) (fresh-agrees other count) cs ds same e key
-
-  -- The same is recorded for each key, by the calls and answers that led there.
-  pub records-fixed : (key : ℕ) → recorded key (answers (fresh body heads) cs) [] ≡ recorded key (answers (fresh other count) ds) []
-  records-fixed key =
-      ap (recorded key (answers (fresh body heads) cs)) (sym (nothing (length body) heads key))
-      ∙ by-shape (out p) refl key
-      ∙ ap (recorded key (answers (fresh other count) ds)) (nothing (length other) count key)
+-- The same is recorded for each key of books made fresh, by the calls and answers that led to one book.
+pub records-fixed : (ds list body other : List ℕ) (heads count : ℕ) (l m : Limits) (cs es : List Call)
+    → makes ds (length body) heads l ≡ accepted (plainFresh ds (length body) heads l) → Sixteen l
+    → makes list (length other) count m ≡ accepted (plainFresh list (length other) count m) → Sixteen m
+    → after ds (fresh body heads l) cs ≡ after list (fresh other count m) es → (key : ℕ)
+    → recorded key (answers ds (fresh body heads l) cs) [] ≡ recorded key (answers list (fresh other count m) es) []
+records-fixed ds list body other heads count l m cs es made sixteen made' sixteen' same key =
+    let shape : outOfShape (length body) (length (plainFresh ds (length body) heads l .keys)) ≡ false
+    = rw (length-replicate heads emptyKey) (is-made ds (length body) heads l made .shape) in
+    ap (recorded key (answers ds (fresh body heads l) cs)) (sym (nothing ds (length body) heads l key))
+    ∙ records-good (plainFresh ds (length body) heads l) (plainFresh list (length other) count m) (fresh body heads l)
+    (fresh other count m) (fresh-good ds (length body) heads l made) (fresh-good list (length other) count m made')
+    (fresh-agrees ds body heads l made sixteen) (fresh-agrees list other count m made' sixteen') cs es same shape key
+    ∙ ap (recorded key (answers list (fresh other count m) es)) (nothing list (length other) count m key)

@@ -18,9 +18,10 @@ use Rattle.scripthash_fields.specs.Page.{linkOf, createsFieldOf, namesExtent, s
 use Rattle.scripthash_pages.specs.Entries.{pageScan, pagePadded}
 use Rattle.scripthash_free.specs.FreeList.{Block}
 use Rattle.book_limits.specs.Limits.{outOfShape, mostBody}
+use Rattle.book_desks.specs.Counts.{countWords, freedCount, heldIn, limitsIn}
 use Rattle.plain_book.specs.Space.{Space as PlainSpace, stackOf}
 use Rattle.plain_book.specs.Key.{Kept, Page, Place, empty, inline, slab, pages, totalOf, headOf}
-use Rattle.plain_book.specs.Book.{Book as PlainBook, keyOf}
+use Rattle.plain_book.specs.Book.{Book as PlainBook, keyOf, freedIn}
 use Rattle.plain_book.specs.Owners.{Owner, hand, stack, slabOf, pageOf, has, places}
 use Rattle.book_space.specs.Space.{Space}
 use Rattle.book_keys.specs.Keys.{goodExtent}
@@ -136,12 +137,24 @@ contentsOf b =
       pages = λ key i block. PageIn (totalOf (keyOf key b)) i (places b key) block;
     }
 
+-- Counts in words tell what a plain book's desks hold and may hold.
+pub record AgreesCounts (plain : PlainBook) (counts : List ℕ) : Type 0 where
+  -- There are as many as there should be.
+  pub words : length counts ≡ countWords
+  -- The first is how many pages are freed.
+  pub freed : freedCount counts ≡ freedIn (plain .space)
+  -- Then come the pages held, and what may be held.
+  pub held : heldIn counts ≡ plain .held
+  pub limits : limitsIn counts ≡ plain .limits
+
 -- A book over bytes, in shape, stands for a plain book.
 pub record AgreesInside (plain : PlainBook) (b : Book) : Type 0 where
   -- Each head word tells its key's place, as the word that stores the place does.
   pub heads : (key : ℕ) → unpackHead (wordOf key b) ≡ unpackHead (headWord (headOf (keyOf key plain .list) (keyOf key plain .place)))
   -- The space stands for the plain one.
   pub space : AgreesSpace (plain .space) (b .space) (places plain) none (contentsOf plain)
+  -- The counts are the plain book's.
+  pub counts : AgreesCounts plain (b .counts)
 
 -- A book over bytes stands for a plain book; where both are out of shape, only their lengths matter.
 pub record Agrees (plain : PlainBook) (b : Book) : Type 0 where

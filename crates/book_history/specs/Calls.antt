@@ -1,31 +1,32 @@
--- What the book over bytes answers to each enquiry and what each change does to it, and lists of calls.
+-- What the book over bytes answers to each enquiry and what each change does to it, and lists of calls, all lent one list of desks.
+use Prim.Native.Nat.{ℕ}
 use mathlib.Core.List.{List}
 use Rattle.error.specs.Refusal.{Answer}
 use Rattle.book_statements.specs.Calls.{Enquiry, read, Change, load, append, drop, Call, Said, Made, Serves, Answers, afterCalls, answersTo}
 use Rattle.book.specs.Book.{Book, Outcome}
-use Rattle.book_append.specs.Appends.{appends}
-use Rattle.book_load.specs.Loads.{loads}
-use Rattle.book_read.specs.Reads.{reads}
-use Rattle.book_drop.specs.Drops.{drops}
+use Rattle.book_append.specs.Appends.{appendsWith}
+use Rattle.book_load.specs.Loads.{loadsWith}
+use Rattle.book_read.specs.Reads.{readsWith}
+use Rattle.book_drop.specs.Drops.{dropsWith}
 
 -- What an enquiry answers.
-unfoldable pub asks : Book → (q : Enquiry) → Answer (Said q)
-asks b (read key room) = reads b key room
+unfoldable pub asks : List ℕ → Book → (q : Enquiry) → Answer (Said q)
+asks ds b (read key room) = readsWith ds b key room
 
 -- What a change does.
-unfoldable pub does : Book → (c : Change) → Answer (Outcome (Made c))
-does b (load fit key ns) = loads fit b key ns
-does b (append key n) = appends b key n
-does b (drop key) = drops b key
+unfoldable pub does : List ℕ → Book → (c : Change) → Answer (Outcome (Made c))
+does ds b (load fit key ns) = loadsWith fit ds b key ns
+does ds b (append key n) = appendsWith ds b key n
+does ds b (drop key) = dropsWith ds b key
 
--- The book over bytes as calls see it.
-abbrev pub serves : Serves Book
-serves = record { asks = asks; does = does }
+-- The book over bytes as calls see it that are lent a list of desks.
+abbrev pub serves : List ℕ → Serves Book
+serves ds = record { asks = asks ds; does = does ds }
 
 -- The book after a list of calls.
-abbrev pub after : Book → List Call → Book
-after b cs = afterCalls serves b cs
+abbrev pub after : List ℕ → Book → List Call → Book
+after ds b cs = afterCalls (serves ds) b cs
 
 -- The answers to a list of calls, each on the book that those before it left.
-abbrev pub answers : Book → (cs : List Call) → Answers cs
-answers b cs = answersTo serves b cs
+abbrev pub answers : List ℕ → Book → (cs : List Call) → Answers cs
+answers ds b cs = answersTo (serves ds) b cs

@@ -6,3 +6,5 @@ pub mod PlainOf
 pub mod Counts
 pub mod Grown
 pub mod Hollow
+pub mod Core
+pub mod Reserve

@@ -3,6 +3,7 @@
 use Prim.Native.Nat.{ℕ}
 use mathlib.Core.Bool.{Bool, true, not}
 use mathlib.Core.List.{List, [], _∷_}
+use mathlib.Core.Path.{_≡_}
 use lib.Dec.{eqb}
 use lib.ListN.{length}
 use Rattle.error.specs.Refusal.{Answer, accepted, refused, valueOr}
@@ -13,6 +14,8 @@ use Rattle.scripthash_stream.specs.Stream.{Scan}
 use Rattle.scripthash_slabs.specs.Slab.{slabPadded}
 use Rattle.scripthash_fields.specs.Page.{createsFieldOf, streamCap}
 use Rattle.scripthash_pages.specs.Entries.{pageScan, pagePadded}
+use Rattle.book_desks.specs.Desks.{desks, Limits}
+use Rattle.book_desks.specs.Counts.{heldIn, limitsIn}
 use Rattle.plain_book.specs.Key.{Kept, written, Page, Place, empty, inline, slab, pages, Key, keptAs}
 use Rattle.plain_book.specs.Book.{Book as PlainBook}
 use Rattle.book_space.specs.Space.{Space}
@@ -82,15 +85,23 @@ stacksFrom s (h ∷ hs) = followedFrom s h ∷ stacksFrom s hs
 
 -- ---- the book
 
--- The plain book of a book over bytes.
-unfoldable pub plainOf : Book → PlainBook
-plainOf b =
+-- The plain book of a book over bytes that is lent a list of desks.
+unfoldable pub plainOf : List ℕ → Book → PlainBook
+plainOf ds b =
     record {
       size = length (b .space .body);
       keys = keysFrom (b .space) (b .heads);
       space = record { mark = b .space .mark; stacks = stacksFrom (b .space) (b .space .free) };
+      desks = ds;
+      held = heldIn (b .counts);
+      limits = limitsIn (b .counts);
     }
 
 -- What is recorded for a key at the start: the numbers that it is read as.
 abbrev pub startList : Book → ℕ → List ℕ
 startList b key = listFrom (b .space) (wordOf key b)
+
+-- Limits with a reserve and a ceiling for each of the desks and no more, as words hold them.
+pub record Sixteen (l : Limits) : Type 0 where
+  pub reserve : length (l .reserve) ≡ desks
+  pub ceiling : length (l .ceiling) ≡ desks

@@ -1,5 +1,5 @@
--- What each call may write, which FORMAT (The calls) names: the bytes of the body, the head words and the free heads that
--- may differ after it, and whether the mark may. This is said of any book, a damaged one too.
+-- What each call may write, which FORMAT (The calls) names: the bytes of the body, the head words, the free heads and the
+-- counts that may differ after it, and whether the mark may. This is said of any book, a damaged one too.
 use Prim.Native.Nat.{ℕ, _+_, _-_, _*_, _≤_, _<_}
 use mathlib.Core.Bool.{Bool, true, false, cond, _||_}
 use mathlib.Core.List.{List, [], _∷_, _++_}
@@ -21,6 +21,8 @@ use Rattle.scripthash_free.specs.FreeList.{Block, gapBlocks}
 use Rattle.book_statements.specs.Calls.{Change, load, append, drop}
 use Rattle.book_rules.specs.Places.{payloadLen, stays, movesTo, loadsTo}
 use Rattle.book_limits.specs.Limits.{pageAfter, gapEnd}
+use Rattle.book_desks.specs.Desks.{deskOf}
+use Rattle.book_desks.specs.Counts.{heldAt}
 use Rattle.book_space.specs.Space.{Space, takeBlock}
 use Rattle.book_keys.specs.Keys.{pageAt, slabScan, tailAt, content}
 use Rattle.book.specs.Book.{Book, wordOf, seen}
@@ -124,7 +126,8 @@ unfoldable pub appendWrites : ℕ → Space → ShHeadValue → SpaceWrites
 appendWrites n s Empty = nothing
 appendWrites n s (Inline entry used) = moving (entry ∷ n ∷ []) [] s
 appendWrites n s (Slab class used off) = valueOr (λ c. growingSlab n class off c s) (slabScan (seen s) class used off) nothing
-appendWrites n s (Extent last) = valueOr (λ t. growingPage last (spotBehind (pageAt (seen s) last) n (t .scan)) s) (tailAt (seen s) last) nothing
+appendWrites n s (Extent last) =
+    valueOr (λ t. growingPage last (spotBehind (pageAt (seen s) last) n (t .scan)) s) (tailAt (seen s) last) nothing
 
 -- ---- a load
 
@@ -133,25 +136,81 @@ unfoldable pub loadWrites : List ℕ → Option ℕ → Space → SpaceWrites
 loadWrites list (some class) s = filling class (payloadLen (streamLen list)) s
 loadWrites list none s = both (takingPages s) (bytesAt (pageAfter (s .mark)) (length (cutting list) * pageSize))
 
+-- ---- counts
+
+-- The count of a desk's pages.
+abbrev pub deskWord : ℕ → List Region
+deskWord desk = region (heldAt desk) 1 ∷ []
+
+-- The count of freed pages, and that of a desk's pages.
+abbrev pub pageWords : ℕ → List Region
+pageWords desk = region 0 1 ∷ deskWord desk
+
+-- A page that an append takes: the desk's count, and where a freed page is popped the count of freed pages.
+unfoldable pub pageCounts : ℕ → Space → List Region
+pageCounts desk s = cond (eqb (getD (s .free) pageClass 0) 0) (deskWord desk) (pageWords desk)
+
+-- A list that moves to a slab changes no count, and one that moves to a page those of a page.
+unfoldable pub movingCounts : ℕ → Option ℕ → Space → List Region
+movingCounts desk (some class) s = []
+movingCounts desk none s = pageCounts desk s
+
+-- A number behind the stream of a slab: where it stays, no count changes.
+unfoldable pub slabCounts : ℕ → ℕ → ℕ → Scan → Space → List Region
+slabCounts desk n class c s =
+    let list = c .numbers ++ (n ∷ []) in
+    cond (stays class (length (c .numbers) + 1) (c .taken + ulebLen (n - lastOf c))) []
+    (movingCounts desk (movesTo (length list) (streamLen list)) s)
+
+-- A number behind the stream of a last page: where it has a spot, no count changes.
+unfoldable pub chainCounts : ℕ → Option Spot → Space → List Region
+chainCounts desk (some w) s = []
+chainCounts desk none s = pageCounts desk s
+
+-- The counts that an append by a desk may write.
+unfoldable pub appendCounts : ℕ → ℕ → Space → ShHeadValue → List Region
+appendCounts desk n s Empty = []
+appendCounts desk n s (Inline entry used) =
+    let list = entry ∷ n ∷ [] in movingCounts desk (movesTo (length list) (streamLen list)) s
+appendCounts desk n s (Slab class used off) = valueOr (λ c. slabCounts desk n class c s) (slabScan (seen s) class used off) []
+appendCounts desk n s (Extent last) =
+    valueOr (λ t. chainCounts desk (spotBehind (pageAt (seen s) last) n (t .scan)) s) (tailAt (seen s) last) []
+
+-- The counts that a load of two numbers or more by a desk may write: the desk's, where the list goes into pages.
+unfoldable pub loadCounts : ℕ → Option ℕ → List Region
+loadCounts desk (some class) = []
+loadCounts desk none = deskWord desk
+
+-- The counts that a drop by a desk may write: those of pages, where the key holds some.
+unfoldable pub dropCounts : ℕ → ℕ → List Region
+dropCounts desk pages = cond (eqb pages 0) [] (pageWords desk)
+
 -- ---- calls
 
--- What a call may write: head words by their keys, and what of the space.
+-- What a call may write: head words by their keys, what of the space, and counts by where they stand.
 pub record CallWrites : Type 0 where
   pub heads : List Region
   pub space : SpaceWrites
+  pub counts : List Region
 
--- The head word of a key, and something of the space.
-abbrev pub wordAnd : ℕ → SpaceWrites → CallWrites
-wordAnd key n = record { heads = region key 1 ∷ []; space = n }
+-- The head word of a key, something of the space, and some counts.
+abbrev pub wordAnd : ℕ → SpaceWrites → List Region → CallWrites
+wordAnd key n counts = record { heads = region key 1 ∷ []; space = n; counts = counts }
 
--- What a change of a book may write.
-unfoldable pub writes : Book → Change → CallWrites
-writes b (load fit key []) = record { heads = []; space = nothing }
-writes b (load fit key (n ∷ [])) = wordAnd key nothing
-writes b (load fit key (n ∷ m ∷ ns)) =
-    let list = n ∷ m ∷ ns in wordAnd key (loadWrites list (loadsTo fit (length list) (streamLen list)) (b .space))
-writes b (append key n) = wordAnd key (valueOr (appendWrites n (b .space)) (unpackHead (wordOf key b)) nothing)
-writes b (drop key) = wordAnd key (valueOr (λ c. freeingAll (c .blocks)) (content (seen (b .space)) (wordOf key b)) nothing)
+-- What a change of a book that is lent a list of desks may write.
+unfoldable pub writes : List ℕ → Book → Change → CallWrites
+writes ds b (load fit key []) = record { heads = []; space = nothing; counts = [] }
+writes ds b (load fit key (n ∷ [])) = wordAnd key nothing []
+writes ds b (load fit key (n ∷ m ∷ ns)) =
+    let list = n ∷ m ∷ ns in
+    let to = loadsTo fit (length list) (streamLen list) in
+    wordAnd key (loadWrites list to (b .space)) (loadCounts (deskOf ds key) to)
+writes ds b (append key n) =
+    wordAnd key (valueOr (appendWrites n (b .space)) (unpackHead (wordOf key b)) nothing)
+    (valueOr (appendCounts (deskOf ds key) n (b .space)) (unpackHead (wordOf key b)) [])
+writes ds b (drop key) =
+    wordAnd key (valueOr (λ c. freeingAll (c .blocks)) (content (seen (b .space)) (wordOf key b)) nothing)
+    (valueOr (λ c. dropCounts (deskOf ds key) (c .pages)) (content (seen (b .space)) (wordOf key b)) [])
 
 -- The space after differs from the one before only in what may be written; the mark doesn't fall.
 pub record Wrote (n : SpaceWrites) (before after : Space) : Type 0 where
@@ -164,7 +223,8 @@ pub record Wrote (n : SpaceWrites) (before after : Space) : Type 0 where
 pub record Differs (n : CallWrites) (before after : Book) : Type 0 where
   pub heads : Only (n .heads) (before .heads) (after .heads)
   pub space : Wrote (n .space) (before .space) (after .space)
+  pub counts : Only (n .counts) (before .counts) (after .counts)
 
--- The book after a change differs from the one before only in what the change may write.
-abbrev pub Changes : Book → Book → Change → Type 0
-Changes before after c = Differs (writes before c) before after
+-- The book after a change that is lent a list of desks differs from the one before only in what the change may write.
+abbrev pub Changes : List ℕ → Book → Book → Change → Type 0
+Changes ds before after c = Differs (writes ds before c) before after
