@@ -55,10 +55,11 @@ def format_with(rows):
 
 
 def named_only(exported, turned_back):
-    """Fails where the table of refusals leaves a number out, where it has other names than crate error, or where an export says that it refuses a
+    """Fails where the table of refusals has a number twice, where it has other names than crate error, or where an export says that it refuses a
     number that has no name."""
-    if [r.number for r in turned_back] != [*range(1, len(turned_back) + 1)]:
-        fail("host/boundary/refusals.py doesn't list each number once")
+    numbers = [r.number for r in turned_back]
+    if numbers != sorted(set(numbers)):
+        fail("host/boundary/refusals.py doesn't list each number once, rising")
     if {r.number: r.name for r in turned_back if r.name} != refusal_names():
         fail("host/boundary/refusals.py and crate error have other names or numbers of refusals")
     retired = {r.number for r in turned_back if not r.name}

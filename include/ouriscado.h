@@ -8,7 +8,7 @@
    OURISCADO_MOST_NUMBER that names a record which you keep elsewhere; 0 stands for no record. A list rises
    strictly: no number stands in it twice.
 
-   A book is three things, which you hold, and lend to each call:
+   A book is three things, which you hold, and lend to each call; one with desks has a fourth:
 
        body     bytes, in which the lists stand: a multiple of OURISCADO_PAGE_BYTES, at least
                 OURISCADO_LEAST_BODY_BYTES and at most OURISCADO_MOST_BODY_BYTES
@@ -16,9 +16,12 @@
                 An account is named by its key, which is the index of its word, from 0
        state    OURISCADO_STATE_WORDS words of 64 bits, struct ouriscado_state: first the mark, which is the
                 offset up to which the body was ever used, then the free heads: for each of nine sizes of
-                block the offset of the block that was freed last, or 0
+                block the offset of the block that was freed last, or 0; then OURISCADO_COUNT_WORDS counts:
+                how many pages are freed, and of each desk the pages that it holds, its reserve and its
+                ceiling
+       desks    one byte for each account, the number of its desk, below OURISCADO_DESKS
 
-   The three belong together. Keep, copy, store and restore them together, as of one moment: a body with the
+   They belong together. Keep, copy, store and restore them together, as of one moment: a body with the
    heads of another day is a damaged book. They hold no pointers, so a copy elsewhere, or a file, is the same
    book. A call that is interrupted for good, because its process ends, may have written some of them and not
    others: go on from a copy of an earlier moment then. A head word that was lost, so that it became 0, reads
@@ -26,10 +29,23 @@
 
    A book can grow: one that began fresh, or that ouriscado_book_check found good, is a good book with the same
    lists when it is lent a longer body, with whole pages behind it that may hold anything, or more heads, with
-   words of 0 behind them, within the limits (this is proved). So a call that was refused for lack of room
+   words of 0 behind them and as many bytes of desks, within the limits (this is proved). So a call that was refused for lack of room
    (OURISCADO_NO_ROOM) is made again with the longer body and the same state. That helps up to 2^40 bytes for
    every list, and past them for lists in pages alone: a slab's word has 40 bits for its offset, so a slab taken
    at the mark ends at or below OURISCADO_SLABS_END, also where the body goes on behind it.
+
+   DESKS
+
+   Several users of one book, as branches or products, each with accounts of their own, are its desks. When a
+   book is made, each desk is given a reserve, the pages that are kept for it, and a ceiling, the most that it
+   gets. A list in pages takes them from its account's desk; slabs are no pages, but take none that desks lack
+   of their reserves. A desk below its reserve that needs a page by an append gets it, whatever the other desks
+   did (this is proved). Nothing of a desk is found out by trying: a call past the ceiling is refused with
+   OURISCADO_PAST_CEILING, one that would eat into what others lack with OURISCADO_INTO_RESERVES.
+
+   A BOOK WITHOUT DESKS needs none of this: its accounts are all desk 0's, reserves are 0, and ceilings are
+   OURISCADO_NO_CEILING. It is made, called and checked with the short inline functions below, and is refused
+   with neither of the two.
 
    There are seven calls:
 
@@ -43,9 +59,19 @@
        ouriscado_book_check         tells whether a body, heads and state from elsewhere are a good book to go
                                     on with
 
-   They take the state as a pointer to its mark and one to its free heads; a read takes the mark alone. Beside
-   each stands an inline function that takes one pointer to a struct ouriscado_state, and hands its parts on:
-   ouriscado_append for ouriscado_book_append, and so for all seven. A program in C calls these.
+   They are lent the list of desks, and judge all of it and all counts each time, which takes a time that grows
+   with the accounts: a read of one number took 13 ns with 1 account, 23 with 1,000 and 455 with 50,000 (AMD
+   EPYC, x86-64). Beside five of them stands a core, which is told one desk, and judges counts where it uses
+   them: ouriscado_core_load, ouriscado_core_load_tight, ouriscado_core_append, ouriscado_core_read and
+   ouriscado_core_drop; that read took 10 ns there. Where list and counts are good both do the same. Take the
+   core where you keep the list of desks yourself, and nobody else writes it: hand on desks[key].
+
+   All take the state as pointers to its mark, its free heads and its counts; a read of the core takes the mark
+   alone. Inline functions take one pointer to a struct ouriscado_state instead, and a program in C calls these:
+
+       ouriscado_append          and so for all seven: for a book without desks, by the core with desk 0
+       ouriscado_desk_append     by the core with a desk; for loads, append and drop. A read is ouriscado_read
+       ouriscado_desks_append    lent the list of desks; for all seven
 
    A whole program is in examples/c/shop.c of the repository, and installed beside NOTICE.
 
@@ -53,9 +79,9 @@
 
    Take a book that ouriscado_book_fresh made and any loads, tight or not, appends, reads and drops on it after
    that, with any arguments, refused ones included, where each call gets body, heads and state as the one
-   before it left them, and nobody else writes them; checks may stand between, since they write nothing of a
+   before it left them, and the same list of desks, or the key's desk of it, and nobody else writes them; checks may stand between, since they write nothing of a
    book. Then each read gives exactly the numbers that were recorded for its key since that key was last
-   dropped, or is refused with 1, 2 or 34; so a read that is accepted with length 0 says that nothing is
+   dropped, or is refused with 1, 2, 34 or 39; so a read that is accepted with length 0 says that nothing is
    recorded. Each call ends on every input, reads and writes only what it is lent, and checks for itself that
    the book is sound as far as it looks at it. Not proved: the toolchain, with its checker and the compiler's
    back end, and the linker; and your side of the boundary, that pointers and lengths are what you say, and
@@ -97,7 +123,7 @@
    THREADS
 
    There are no global variables. One book is for one call at a time: while a call runs, no other thread may
-   write its body, heads or state, nor use a list that was lent. Reads write only their list and the
+   write its body, heads, state or desks, nor use a list that was lent. Reads write only their list and the
    numbers that they hand out, so several may run at once on a book that nobody writes. Different books are
    independent.
 
@@ -132,8 +158,15 @@ static inline const char *ouriscado_version(void)
 }
 
 /* Sizes and limits. */
-#define OURISCADO_STATE_WORDS                  10 /* words of a state: the mark, then nine free heads */
+#define OURISCADO_STATE_WORDS                  59 /* words of a state: the mark, nine free heads, then 49
+                                                     counts */
 #define OURISCADO_FREE_HEADS                    9 /* free heads of a state, one for each class from 0 to 8 */
+#define OURISCADO_COUNT_WORDS                  49 /* counts of a state: freed pages, and of each desk the
+                                                     pages that it holds, then all reserves, then all
+                                                     ceilings */
+#define OURISCADO_DESKS                        16 /* desks, of the numbers 0 to 15 */
+#define OURISCADO_NO_CEILING        UINT64_C(18446744073709551615) /* the ceiling of a desk that may take
+                                                                      every page */
 #define OURISCADO_PAGE_BYTES                 4096 /* bytes of a page, and the unit of a body's length */
 #define OURISCADO_LEAST_BODY_BYTES           8192 /* the least bytes of a body */
 #define OURISCADO_MOST_BODY_BYTES   2199023255552 /* the most bytes of a body */
@@ -149,10 +182,12 @@ static inline const char *ouriscado_version(void)
 #define OURISCADO_WORK_UNIT                   128 /* bytes of a body for each byte of the work list that a
                                                      check is lent */
 
-/* A book's state: the mark, and the free heads. Its bytes are those of OURISCADO_STATE_WORDS words. */
+/* A book's state: the mark, the free heads, and the counts: freed pages, then of each desk the pages that it holds,
+   then the reserves, then the ceilings. Its bytes are those of OURISCADO_STATE_WORDS words. */
 struct ouriscado_state {
     uint64_t mark;
     uint64_t free[OURISCADO_FREE_HEADS];
+    uint64_t counts[OURISCADO_COUNT_WORDS];
 };
 
 /* Where a list stands: the kinds of place that an append tells. A list is inline with one number, then in a
@@ -176,6 +211,15 @@ struct ouriscado_state {
 #define OURISCADO_START_FREE_SHARES             4 /* a block of the free list shares bytes with one in use, or
                                                      with one that this list or one of a smaller class named
                                                      before; a list that doesn't end comes to such a block */
+#define OURISCADO_START_COUNTS_EXCEED             5 /* freed and held pages are counted, with the first and
+                                                       those past the mark, as more than the body has */
+#define OURISCADO_START_FREED_UNTRUE             6 /* freed pages are counted as other than their list has */
+#define OURISCADO_START_HELD_UNTRUE             7 /* the desk's pages are counted as other than its keys
+                                                     have */
+#define OURISCADO_START_PAST_CEILING             8 /* the desk holds more pages than its ceiling */
+#define OURISCADO_START_RESERVE_HIGH             9 /* the desk's reserve is above its ceiling */
+#define OURISCADO_START_RESERVES_LACK            10 /* desks lack more pages of their reserves than are to be
+                                                       had, freed or past the mark */
 
 /* The bytes of stack that a call needs. */
 #define OURISCADO_STACK_BOOK                 4096 /* bytes of stack of any call of the book */
@@ -193,7 +237,7 @@ enum ouriscado_refusal {
     /* No refusal: the call was accepted. */
     OURISCADO_ACCEPTED = 0,
     /* The book's shape breaks its limits: the body's length, the count of head words or the mark is outside
-       of them.
+       of them; or a count of pages, or a reserve, is above the body's pages.
        Operator: checks that body, head words and state belong together and are whole; restores all three. */
     OURISCADO_SHAPE_BAD = 1,
     /* The key is beyond the heads: it isn't below the count of head words.
@@ -214,7 +258,8 @@ enum ouriscado_refusal {
     /* A book is offered 2^62 or more, and below 2^63.
        Operator: has the caller corrected; a book can't hold it. */
     OURISCADO_OFFERED_TOO_LARGE = 14,
-    /* The key isn't sound: it is unknown, never taken for empty.
+    /* The key isn't sound: it is unknown, never taken for empty; or a drop has more pages than the key's desk
+       holds.
        Operator: restores body, head words and state of one moment; finds out who else wrote them, which call
        was interrupted, or what was put together from two moments. */
     OURISCADO_KEY_UNSOUND = 31,
@@ -226,7 +271,8 @@ enum ouriscado_refusal {
        Operator: asks again with a longer list. */
     OURISCADO_LIST_TOO_SHORT = 34,
     /* A free head isn't a block of its class before the mark: it is unaligned, or lies outside of 4,096 up to
-       the mark, or is a slab's in a book and ends past 2^40; or such a block is pushed, or such a gap carved.
+       the mark, or is a slab's in a book and ends past 2^40; or an append wants a page where just one of the
+       free head of pages and their count is 0; or such a block is pushed, or such a gap carved.
        Operator: the state or a freed block is damaged: restores as for 31; reads go on meanwhile. A slab past
        2^40 is no damage: loads all lists into a fresh book. */
     OURISCADO_FREE_HEAD_BAD = 35,
@@ -236,6 +282,19 @@ enum ouriscado_refusal {
        where the body can't grow, or a slab would pass 2^40, drops keys that are no longer needed, which frees
        blocks of their classes. */
     OURISCADO_NO_ROOM = 36,
+    /* The desks can't be served: their list is of another length than the head words, or names a desk above
+       15; or a making's reserves are, summed, more than the pages to be had, or one is above its ceiling.
+       Operator: checks the list of desks, which belongs to the head words as their keys do; of a making, its
+       reserves and ceilings. */
+    OURISCADO_DESKS_BAD = 39,
+    /* A take of pages would pass its desk's ceiling.
+       Operator: drops keys of that desk, or has the book made anew with another ceiling; other desks go
+       on. */
+    OURISCADO_PAST_CEILING = 40,
+    /* A take would leave fewer pages than desks lack of their reserves, as they would be after it.
+       Operator: lends the same book a longer body, or drops keys with pages; a desk below its reserve still
+       gets its pages one by one. */
+    OURISCADO_INTO_RESERVES = 41,
 };
 
 /* What a refusal says, as a text that lasts as long as the program; also of the refusals of ouriscado_codec.h.
@@ -279,34 +338,74 @@ static inline const char *ouriscado_refusal_text(uint32_t refusal)
     case 34: return "the lent list is too short";
     case 35: return "a free head isn't a block of its class before the mark";
     case 36: return "no room: the block or run would pass the body's end";
+    case 39: return "the desks can't be served";
+    case 40: return "a take of pages would pass its desk's ceiling";
+    case 41: return "a take would leave fewer pages than desks lack of their reserves";
     default: return "a refusal that this version doesn't know";
     }
 }
 
-/* Makes a fresh book, in which every key is empty: all heads become 0, and mark and free those of a book from
-   which nothing was taken; the body isn't written. A book is these: a body, whose length is a multiple of
-   4,096 bytes from 8,192 to 2^41; heads, a word for each key, 1 to 65,536 of them; and its state, the mark up
-   to which the body was ever used and free, the first freed block of each of nine sizes. What they held
-   before doesn't matter. Refuses 1.
+/* Makes a fresh book, in which every key is empty: all heads become 0, and mark, free and counts those of a
+   book from which nothing was taken; the body isn't written. A book is these: a body, whose length is a
+   multiple of 4,096 bytes from 8,192 to 2^41; heads, a word for each key, 1 to 65,536 of them; its state,
+   which is the mark up to which the body was ever used, free, the first freed block of each of nine sizes,
+   and counts; and desks, a byte for each key, the number of its desk, 0 to 15. counts are 49 words: how many
+   pages of 4,096 bytes are freed, and then of each of the 16 desks the pages that it holds, its reserve and
+   its ceiling. Of each desk reserve has the pages that are kept for it, and ceiling the most that it gets. A
+   book without desks has bytes and reserves of 0, and ceilings of 2^64 - 1. What heads, mark, free and counts
+   held before doesn't matter. Refuses 1, also where a reserve is above the body's pages, and 39, also where
+   the reserves are, summed, more than the pages to be had, which are all but the first, or singly more than
+   their own ceilings.
 
    The body may hold anything, since nothing is read of it before it is written: there is no need to clear it.
    Making a book fresh in place of one that is in use forgets all its records.
 
-   Refusals: OURISCADO_SHAPE_BAD (1). */
+   Refusals: . */
 uint32_t ouriscado_book_fresh(
     const uint8_t *body, size_t body_len, uint64_t *heads, size_t heads_len, uint64_t *mark,
-    uint64_t free[OURISCADO_FREE_HEADS]);
+    uint64_t free[OURISCADO_FREE_HEADS], uint64_t counts[OURISCADO_COUNT_WORDS], const uint8_t *desks,
+    size_t desks_len, const uint64_t reserve[OURISCADO_DESKS], const uint64_t ceiling[OURISCADO_DESKS]);
+static inline uint32_t ouriscado_desks_fresh(
+    const uint8_t *body, size_t body_len, uint64_t *heads, size_t heads_len, struct ouriscado_state *state,
+    const uint8_t *desks, size_t desks_len, const uint64_t reserve[OURISCADO_DESKS],
+    const uint64_t ceiling[OURISCADO_DESKS])
+{
+    return ouriscado_book_fresh(
+        body, body_len, heads, heads_len, &state->mark, state->free, state->counts, desks, desks_len,
+        reserve, ceiling);
+}
+
+/* The list of desks of a book without desks: bytes of 0, as many as a book has head words at most. */
+static inline const uint8_t *ouriscado_no_desks(void)
+{
+    static uint8_t none[OURISCADO_MOST_HEADS];
+    return none;
+}
+
+/* How many of these bytes a book takes: one for each head word. More head words are refused with 1. */
+static inline size_t ouriscado_no_desks_len(size_t heads_len)
+{
+    return heads_len < OURISCADO_MOST_HEADS ? heads_len : OURISCADO_MOST_HEADS;
+}
+
+/* Makes a fresh book without desks: reserves of 0, and no ceilings. */
 static inline uint32_t ouriscado_fresh(
     const uint8_t *body, size_t body_len, uint64_t *heads, size_t heads_len, struct ouriscado_state *state)
 {
-    return ouriscado_book_fresh(body, body_len, heads, heads_len, &state->mark, state->free);
+    uint64_t reserve[OURISCADO_DESKS], ceiling[OURISCADO_DESKS];
+    for (size_t desk = 0; desk < OURISCADO_DESKS; desk++) {
+        reserve[desk] = 0;
+        ceiling[desk] = OURISCADO_NO_CEILING;
+    }
+    return ouriscado_desks_fresh(body, body_len, heads, heads_len, state, ouriscado_no_desks(),
+                                 ouriscado_no_desks_len(heads_len), reserve, ceiling);
 }
 
 /* Loads a list of record numbers onto an empty key; keys count from 0. The numbers rise strictly, from 1 to
    2^62 - 1, and there are 65,535 at most; with none, nothing changes. A list of 2 to 255 that goes to a slab
    has a slot for one number more there, so that the next append moves it only where its bytes don't fit.
    Hands out pages: how many pages of 4,096 bytes hold the list, 0 where it needs none. Refuses 1 to 3, 10, 12
-   to 14, 32, 35, 36.
+   to 14, 32, 35, 36, 39 to 41.
 
    This is how to fill a book from another one or from an archive: a loaded list stands in the fewest pages
    that can hold it. A load of a longer list is a load of its first OURISCADO_MOST_LOADED numbers, and appends
@@ -315,21 +414,55 @@ static inline uint32_t ouriscado_fresh(
    Refusals: OURISCADO_SHAPE_BAD (1), OURISCADO_KEY_BEYOND (2), OURISCADO_KEY_IN_USE (3),
    OURISCADO_TOO_MANY_OFFERED (10), OURISCADO_OFFERED_FIRST_ZERO (12), OURISCADO_OFFERED_BIT_63 (13),
    OURISCADO_OFFERED_TOO_LARGE (14), OURISCADO_OFFERED_NOT_RISING (32), OURISCADO_FREE_HEAD_BAD (35),
-   OURISCADO_NO_ROOM (36). */
+   OURISCADO_NO_ROOM (36), OURISCADO_DESKS_BAD (39), OURISCADO_PAST_CEILING (40), OURISCADO_INTO_RESERVES
+   (41). */
 uint32_t ouriscado_book_load(
     uint8_t *body, size_t body_len, uint64_t *heads, size_t heads_len, uint64_t *mark,
-    uint64_t free[OURISCADO_FREE_HEADS], uint64_t key, const uint64_t *fks, size_t fks_len, uint64_t *pages);
+    uint64_t free[OURISCADO_FREE_HEADS], uint64_t counts[OURISCADO_COUNT_WORDS], const uint8_t *desks,
+    size_t desks_len, uint64_t key, const uint64_t *fks, size_t fks_len, uint64_t *pages);
+static inline uint32_t ouriscado_desks_load(
+    uint8_t *body, size_t body_len, uint64_t *heads, size_t heads_len, struct ouriscado_state *state,
+    const uint8_t *desks, size_t desks_len, uint64_t key, const uint64_t *fks, size_t fks_len,
+    uint64_t *pages)
+{
+    return ouriscado_book_load(
+        body, body_len, heads, heads_len, &state->mark, state->free, state->counts, desks, desks_len, key,
+        fks, fks_len, pages);
+}
+
+/* Loads a list of record numbers onto an empty key as ouriscado_book_load does, for the desk of a number: 39
+   above 15. The counts are judged where blocks are taken, behind 36. Refuses 1 to 3, 10, 12 to 14, 32, 35,
+   36, 39 to 41.
+
+   Refusals: OURISCADO_SHAPE_BAD (1), OURISCADO_KEY_BEYOND (2), OURISCADO_KEY_IN_USE (3),
+   OURISCADO_TOO_MANY_OFFERED (10), OURISCADO_OFFERED_FIRST_ZERO (12), OURISCADO_OFFERED_BIT_63 (13),
+   OURISCADO_OFFERED_TOO_LARGE (14), OURISCADO_OFFERED_NOT_RISING (32), OURISCADO_FREE_HEAD_BAD (35),
+   OURISCADO_NO_ROOM (36), OURISCADO_DESKS_BAD (39), OURISCADO_PAST_CEILING (40), OURISCADO_INTO_RESERVES
+   (41). */
+uint32_t ouriscado_core_load(
+    uint8_t *body, size_t body_len, uint64_t *heads, size_t heads_len, uint64_t *mark,
+    uint64_t free[OURISCADO_FREE_HEADS], uint64_t counts[OURISCADO_COUNT_WORDS], uint64_t desk, uint64_t key,
+    const uint64_t *fks, size_t fks_len, uint64_t *pages);
+static inline uint32_t ouriscado_desk_load(
+    uint8_t *body, size_t body_len, uint64_t *heads, size_t heads_len, struct ouriscado_state *state,
+    uint64_t desk, uint64_t key, const uint64_t *fks, size_t fks_len, uint64_t *pages)
+{
+    return ouriscado_core_load(
+        body, body_len, heads, heads_len, &state->mark, state->free, state->counts, desk, key, fks, fks_len,
+        pages);
+}
 static inline uint32_t ouriscado_load(
     uint8_t *body, size_t body_len, uint64_t *heads, size_t heads_len, struct ouriscado_state *state,
     uint64_t key, const uint64_t *fks, size_t fks_len, uint64_t *pages)
 {
-    return ouriscado_book_load(
-        body, body_len, heads, heads_len, &state->mark, state->free, key, fks, fks_len, pages);
+    return ouriscado_core_load(
+        body, body_len, heads, heads_len, &state->mark, state->free, state->counts, 0, key, fks, fks_len,
+        pages);
 }
 
 /* Loads a list of record numbers onto an empty key as ouriscado_book_load does, but tight: into the smallest
    slab that holds its bytes, for lists that nothing is appended to. Hands out pages as that does. Refuses 1
-   to 3, 10, 12 to 14, 32, 35, 36.
+   to 3, 10, 12 to 14, 32, 35, 36, 39 to 41.
 
    Lists of one number and those that go to pages stand as after the other load. The two may be mixed in one
    book; a list that was loaded tight may be appended to as any other, and moves where its slab has no slot
@@ -338,16 +471,50 @@ static inline uint32_t ouriscado_load(
    Refusals: OURISCADO_SHAPE_BAD (1), OURISCADO_KEY_BEYOND (2), OURISCADO_KEY_IN_USE (3),
    OURISCADO_TOO_MANY_OFFERED (10), OURISCADO_OFFERED_FIRST_ZERO (12), OURISCADO_OFFERED_BIT_63 (13),
    OURISCADO_OFFERED_TOO_LARGE (14), OURISCADO_OFFERED_NOT_RISING (32), OURISCADO_FREE_HEAD_BAD (35),
-   OURISCADO_NO_ROOM (36). */
+   OURISCADO_NO_ROOM (36), OURISCADO_DESKS_BAD (39), OURISCADO_PAST_CEILING (40), OURISCADO_INTO_RESERVES
+   (41). */
 uint32_t ouriscado_book_load_tight(
     uint8_t *body, size_t body_len, uint64_t *heads, size_t heads_len, uint64_t *mark,
-    uint64_t free[OURISCADO_FREE_HEADS], uint64_t key, const uint64_t *fks, size_t fks_len, uint64_t *pages);
+    uint64_t free[OURISCADO_FREE_HEADS], uint64_t counts[OURISCADO_COUNT_WORDS], const uint8_t *desks,
+    size_t desks_len, uint64_t key, const uint64_t *fks, size_t fks_len, uint64_t *pages);
+static inline uint32_t ouriscado_desks_load_tight(
+    uint8_t *body, size_t body_len, uint64_t *heads, size_t heads_len, struct ouriscado_state *state,
+    const uint8_t *desks, size_t desks_len, uint64_t key, const uint64_t *fks, size_t fks_len,
+    uint64_t *pages)
+{
+    return ouriscado_book_load_tight(
+        body, body_len, heads, heads_len, &state->mark, state->free, state->counts, desks, desks_len, key,
+        fks, fks_len, pages);
+}
+
+/* Loads a list of record numbers onto an empty key as ouriscado_book_load_tight does, for the desk of a
+   number: 39 above 15. The counts are judged where blocks are taken, behind 36. Refuses 1 to 3, 10, 12 to 14,
+   32, 35, 36, 39 to 41.
+
+   Refusals: OURISCADO_SHAPE_BAD (1), OURISCADO_KEY_BEYOND (2), OURISCADO_KEY_IN_USE (3),
+   OURISCADO_TOO_MANY_OFFERED (10), OURISCADO_OFFERED_FIRST_ZERO (12), OURISCADO_OFFERED_BIT_63 (13),
+   OURISCADO_OFFERED_TOO_LARGE (14), OURISCADO_OFFERED_NOT_RISING (32), OURISCADO_FREE_HEAD_BAD (35),
+   OURISCADO_NO_ROOM (36), OURISCADO_DESKS_BAD (39), OURISCADO_PAST_CEILING (40), OURISCADO_INTO_RESERVES
+   (41). */
+uint32_t ouriscado_core_load_tight(
+    uint8_t *body, size_t body_len, uint64_t *heads, size_t heads_len, uint64_t *mark,
+    uint64_t free[OURISCADO_FREE_HEADS], uint64_t counts[OURISCADO_COUNT_WORDS], uint64_t desk, uint64_t key,
+    const uint64_t *fks, size_t fks_len, uint64_t *pages);
+static inline uint32_t ouriscado_desk_load_tight(
+    uint8_t *body, size_t body_len, uint64_t *heads, size_t heads_len, struct ouriscado_state *state,
+    uint64_t desk, uint64_t key, const uint64_t *fks, size_t fks_len, uint64_t *pages)
+{
+    return ouriscado_core_load_tight(
+        body, body_len, heads, heads_len, &state->mark, state->free, state->counts, desk, key, fks, fks_len,
+        pages);
+}
 static inline uint32_t ouriscado_load_tight(
     uint8_t *body, size_t body_len, uint64_t *heads, size_t heads_len, struct ouriscado_state *state,
     uint64_t key, const uint64_t *fks, size_t fks_len, uint64_t *pages)
 {
-    return ouriscado_book_load_tight(
-        body, body_len, heads, heads_len, &state->mark, state->free, key, fks, fks_len, pages);
+    return ouriscado_core_load_tight(
+        body, body_len, heads, heads_len, &state->mark, state->free, state->counts, 0, key, fks, fks_len,
+        pages);
 }
 
 /* Appends a record number to the list of a key: a number from 1 to 2^62 - 1, above the last of the list.
@@ -355,7 +522,7 @@ static inline uint32_t ouriscado_load_tight(
    3 for pages; class is the slab's, else 0; used is how many numbers head word or slab hold, 0 for pages;
    place is the number itself, or the offset in the body, in bytes, of the slab or of the last page. Hands out
    rewritten: how many numbers a move of the list wrote anew, 0 where it stayed. Refuses 1, 2, 12 to 14, 31,
-   32, 35, 36.
+   32, 35, 36, 39 to 41.
 
    WARNING: key and fk are two numbers of one type side by side, and no compiler tells where they were
    exchanged: the call then records the key as a record of another account, and is accepted where both are
@@ -380,26 +547,59 @@ static inline uint32_t ouriscado_load_tight(
 
    Refusals: OURISCADO_SHAPE_BAD (1), OURISCADO_KEY_BEYOND (2), OURISCADO_OFFERED_FIRST_ZERO (12),
    OURISCADO_OFFERED_BIT_63 (13), OURISCADO_OFFERED_TOO_LARGE (14), OURISCADO_KEY_UNSOUND (31),
-   OURISCADO_OFFERED_NOT_RISING (32), OURISCADO_FREE_HEAD_BAD (35), OURISCADO_NO_ROOM (36). */
+   OURISCADO_OFFERED_NOT_RISING (32), OURISCADO_FREE_HEAD_BAD (35), OURISCADO_NO_ROOM (36),
+   OURISCADO_DESKS_BAD (39), OURISCADO_PAST_CEILING (40), OURISCADO_INTO_RESERVES (41). */
 uint32_t ouriscado_book_append(
     uint8_t *body, size_t body_len, uint64_t *heads, size_t heads_len, uint64_t *mark,
-    uint64_t free[OURISCADO_FREE_HEADS], uint64_t key, uint64_t fk, uint8_t *kind, uint8_t *class_,
-    uint16_t *used, uint64_t *place, uint64_t *rewritten);
+    uint64_t free[OURISCADO_FREE_HEADS], uint64_t counts[OURISCADO_COUNT_WORDS], const uint8_t *desks,
+    size_t desks_len, uint64_t key, uint64_t fk, uint8_t *kind, uint8_t *class_, uint16_t *used,
+    uint64_t *place, uint64_t *rewritten);
+static inline uint32_t ouriscado_desks_append(
+    uint8_t *body, size_t body_len, uint64_t *heads, size_t heads_len, struct ouriscado_state *state,
+    const uint8_t *desks, size_t desks_len, uint64_t key, uint64_t fk, uint8_t *kind, uint8_t *class_,
+    uint16_t *used, uint64_t *place, uint64_t *rewritten)
+{
+    return ouriscado_book_append(
+        body, body_len, heads, heads_len, &state->mark, state->free, state->counts, desks, desks_len, key,
+        fk, kind, class_, used, place, rewritten);
+}
+
+/* Appends a record number to the list of a key as ouriscado_book_append does, for the desk of a number: 39
+   above 15. The counts are judged where blocks are taken, behind 36. Refuses 1, 2, 12 to 14, 31, 32, 35, 36,
+   39 to 41.
+
+   Refusals: OURISCADO_SHAPE_BAD (1), OURISCADO_KEY_BEYOND (2), OURISCADO_OFFERED_FIRST_ZERO (12),
+   OURISCADO_OFFERED_BIT_63 (13), OURISCADO_OFFERED_TOO_LARGE (14), OURISCADO_KEY_UNSOUND (31),
+   OURISCADO_OFFERED_NOT_RISING (32), OURISCADO_FREE_HEAD_BAD (35), OURISCADO_NO_ROOM (36),
+   OURISCADO_DESKS_BAD (39), OURISCADO_PAST_CEILING (40), OURISCADO_INTO_RESERVES (41). */
+uint32_t ouriscado_core_append(
+    uint8_t *body, size_t body_len, uint64_t *heads, size_t heads_len, uint64_t *mark,
+    uint64_t free[OURISCADO_FREE_HEADS], uint64_t counts[OURISCADO_COUNT_WORDS], uint64_t desk, uint64_t key,
+    uint64_t fk, uint8_t *kind, uint8_t *class_, uint16_t *used, uint64_t *place, uint64_t *rewritten);
+static inline uint32_t ouriscado_desk_append(
+    uint8_t *body, size_t body_len, uint64_t *heads, size_t heads_len, struct ouriscado_state *state,
+    uint64_t desk, uint64_t key, uint64_t fk, uint8_t *kind, uint8_t *class_, uint16_t *used, uint64_t *place,
+    uint64_t *rewritten)
+{
+    return ouriscado_core_append(
+        body, body_len, heads, heads_len, &state->mark, state->free, state->counts, desk, key, fk, kind,
+        class_, used, place, rewritten);
+}
 static inline uint32_t ouriscado_append(
     uint8_t *body, size_t body_len, uint64_t *heads, size_t heads_len, struct ouriscado_state *state,
     uint64_t key, uint64_t fk, uint8_t *kind, uint8_t *class_, uint16_t *used, uint64_t *place,
     uint64_t *rewritten)
 {
-    return ouriscado_book_append(
-        body, body_len, heads, heads_len, &state->mark, state->free, key, fk, kind, class_, used, place,
-        rewritten);
+    return ouriscado_core_append(
+        body, body_len, heads, heads_len, &state->mark, state->free, state->counts, 0, key, fk, kind, class_,
+        used, place, rewritten);
 }
 
 /* Reads the list of a key into the start of out; what stands behind it there stays. Hands out length, how
    many record numbers the list has, pages, how many pages of 4,096 bytes were walked, and padded, how many of
    the numbers are stored in a longer form than the shortest: 0 of a key that this book's own calls filled. A
    read that is accepted with length 0 means that nothing is recorded for the key; of one that is refused
-   length is 0 too, and says nothing of the key. Refuses 1, 2, 31, 34.
+   length is 0 too, and says nothing of the key. Refuses 1, 2, 31, 34, 39.
 
    How long the list must be that you lend: an inline number needs 1; a slab needs the number that an append
    told as used, at most OURISCADO_MOST_IN_SLAB; a list in pages has at most OURISCADO_MOST_IN_PAGE numbers
@@ -412,8 +612,27 @@ static inline uint32_t ouriscado_append(
    and load it anew; keep the list until that load is accepted, since it may lack room.
 
    Refusals: OURISCADO_SHAPE_BAD (1), OURISCADO_KEY_BEYOND (2), OURISCADO_KEY_UNSOUND (31),
-   OURISCADO_LIST_TOO_SHORT (34). */
+   OURISCADO_LIST_TOO_SHORT (34), OURISCADO_DESKS_BAD (39). */
 uint32_t ouriscado_book_read(
+    const uint8_t *body, size_t body_len, const uint64_t *heads, size_t heads_len, uint64_t mark,
+    const uint64_t counts[OURISCADO_COUNT_WORDS], const uint8_t *desks, size_t desks_len, uint64_t key,
+    uint64_t *out, size_t out_len, uint64_t *length, uint64_t *pages, uint64_t *padded);
+static inline uint32_t ouriscado_desks_read(
+    const uint8_t *body, size_t body_len, const uint64_t *heads, size_t heads_len,
+    const struct ouriscado_state *state, const uint8_t *desks, size_t desks_len, uint64_t key, uint64_t *out,
+    size_t out_len, uint64_t *length, uint64_t *pages, uint64_t *padded)
+{
+    return ouriscado_book_read(
+        body, body_len, heads, heads_len, state->mark, state->counts, desks, desks_len, key, out, out_len,
+        length, pages, padded);
+}
+
+/* Reads the list of a key into the start of out as ouriscado_book_read does; it is lent neither counts nor
+   desks. Refuses 1, 2, 31, 34.
+
+   Refusals: OURISCADO_SHAPE_BAD (1), OURISCADO_KEY_BEYOND (2), OURISCADO_KEY_UNSOUND (31),
+   OURISCADO_LIST_TOO_SHORT (34). */
+uint32_t ouriscado_core_read(
     const uint8_t *body, size_t body_len, const uint64_t *heads, size_t heads_len, uint64_t mark,
     uint64_t key, uint64_t *out, size_t out_len, uint64_t *length, uint64_t *pages, uint64_t *padded);
 static inline uint32_t ouriscado_read(
@@ -421,42 +640,73 @@ static inline uint32_t ouriscado_read(
     const struct ouriscado_state *state, uint64_t key, uint64_t *out, size_t out_len, uint64_t *length,
     uint64_t *pages, uint64_t *padded)
 {
-    return ouriscado_book_read(
+    return ouriscado_core_read(
         body, body_len, heads, heads_len, state->mark, key, out, out_len, length, pages, padded);
 }
 
 /* Drops the list of a key: the key is empty then, and the book can use the list's slab or pages again. Hands
-   out length, how many record numbers the list had. Refuses 1, 2, 31.
+   out length, how many record numbers the list had. Refuses 1, 2, 31, also where the list has more pages than
+   its desk holds, and 39.
 
    Afterwards the key reads as empty, and other keys may be given its blocks. Dropping a key that is empty is
    accepted and tells 0.
 
-   Refusals: OURISCADO_SHAPE_BAD (1), OURISCADO_KEY_BEYOND (2), OURISCADO_KEY_UNSOUND (31). */
+   Refusals: OURISCADO_DESKS_BAD (39). */
 uint32_t ouriscado_book_drop(
     uint8_t *body, size_t body_len, uint64_t *heads, size_t heads_len, uint64_t *mark,
-    uint64_t free[OURISCADO_FREE_HEADS], uint64_t key, uint64_t *length);
+    uint64_t free[OURISCADO_FREE_HEADS], uint64_t counts[OURISCADO_COUNT_WORDS], const uint8_t *desks,
+    size_t desks_len, uint64_t key, uint64_t *length);
+static inline uint32_t ouriscado_desks_drop(
+    uint8_t *body, size_t body_len, uint64_t *heads, size_t heads_len, struct ouriscado_state *state,
+    const uint8_t *desks, size_t desks_len, uint64_t key, uint64_t *length)
+{
+    return ouriscado_book_drop(
+        body, body_len, heads, heads_len, &state->mark, state->free, state->counts, desks, desks_len, key,
+        length);
+}
+
+/* Drops the list of a key as ouriscado_book_drop does, for the desk of a number: 39 above 15. The counts are
+   judged where the list has pages. Refuses 1, 2, 31, 39.
+
+   Refusals: OURISCADO_SHAPE_BAD (1), OURISCADO_KEY_BEYOND (2), OURISCADO_KEY_UNSOUND (31),
+   OURISCADO_DESKS_BAD (39). */
+uint32_t ouriscado_core_drop(
+    uint8_t *body, size_t body_len, uint64_t *heads, size_t heads_len, uint64_t *mark,
+    uint64_t free[OURISCADO_FREE_HEADS], uint64_t counts[OURISCADO_COUNT_WORDS], uint64_t desk, uint64_t key,
+    uint64_t *length);
+static inline uint32_t ouriscado_desk_drop(
+    uint8_t *body, size_t body_len, uint64_t *heads, size_t heads_len, struct ouriscado_state *state,
+    uint64_t desk, uint64_t key, uint64_t *length)
+{
+    return ouriscado_core_drop(
+        body, body_len, heads, heads_len, &state->mark, state->free, state->counts, desk, key, length);
+}
 static inline uint32_t ouriscado_drop(
     uint8_t *body, size_t body_len, uint64_t *heads, size_t heads_len, struct ouriscado_state *state,
     uint64_t key, uint64_t *length)
 {
-    return ouriscado_book_drop(body, body_len, heads, heads_len, &state->mark, state->free, key, length);
+    return ouriscado_core_drop(
+        body, body_len, heads, heads_len, &state->mark, state->free, state->counts, 0, key, length);
 }
 
 /* Tells whether a body, heads and state that come from elsewhere, as from a file, are a good start, with
    which the other calls may go on as with a book that began fresh: every key is sound; for each of the nine
-   sizes of block the list of freed ones ends, and names only offsets where such a block can stand; and no two
-   blocks, in use or freed, share a byte. work is for the call's own use: a byte for each 128 bytes of the
-   body, which may hold anything, and are 0 afterwards; what stands behind them stays. Nothing else is
-   written. Hands out ground: 0 for a good start, else why it isn't one; and which: the key where the first
-   fault was met, or the class of the free list, since keys are judged first, from 0 on, and then free lists,
-   from class 0 on; 0 for a good start. Hands out lost beside a good start: how many units of 16 bytes, from
+   sizes of block the list of freed ones ends, and names only offsets where such a block can stand; no two
+   blocks, in use or freed, share a byte; and the counts are true, no desk holds more than its ceiling and no
+   reserve is above it, and the pages to be had cover what desks lack of their reserves. work is for the
+   call's own use: a byte for each 128 bytes of the body, which may hold anything, and are 0 afterwards; what
+   stands behind them stays. Nothing else is written. Hands out ground: 0 for a good start, else why it isn't
+   one; and which: the key where the first fault was met, the class of the free list, or the desk, since keys
+   are judged first, from 0 on, then free lists, from class 0 on, and then counts; 0 for a good start, and
+   where the fault has none of these. Hands out lost beside a good start: how many units of 16 bytes, from
    byte 4,096 up to the mark, belong to no key and to no list of freed blocks; 0 where it isn't a good start.
    It is 0 in a book that began with ouriscado_book_fresh, and no call changes it, save that a start whose
    mark lies past 2^40 within a page loses the rest of that page with the next one that is taken. A head word
-   that was lost, so that its key reads as empty, shows by the units of its slab or pages, and the head of a
-   list of freed blocks by theirs. The head word of a key with one record number takes no block, and its loss
-   can't show: 0 doesn't say that no word was lost. The files of other software may have such units: lost is a
-   figure, no fault. Refuses 1, 34.
+   that was lost, so that its key reads as empty, shows by the units of its slab, and that of a key with pages
+   by its desk's count; the head of a list of freed slabs shows by their units, and that of freed pages by
+   their count. The head word of a key with one record number takes no block, and its loss can't show: 0
+   doesn't say that no word was lost. The files of other software may have such units: lost is a figure, no
+   fault. Refuses 1, 34, 39.
 
    Call it once, before the first other call, on a book that you didn't make with ouriscado_book_fresh in this
    process. A result of 0 says that the book was judged: it is good only where ground is OURISCADO_START_GOOD
@@ -475,8 +725,10 @@ static inline uint32_t ouriscado_drop(
    one by one, can be loaded into a fresh book, and has to be compared with what is known from elsewhere. With
    OURISCADO_START_KEY_SHARES two accounts, or two parts of one, claim the same bytes, so that one of the two
    lists at least is wrong: which of them is told by no call, and accounts behind were not judged either. With
-   the other two grounds every list reads and no two share bytes, and only freed blocks are at fault: load all
-   lists into a fresh book, and go on with that.
+   the other grounds every list reads and no two share bytes, and only freed blocks or counts are at fault:
+   load all lists into a fresh book, and go on with that. With OURISCADO_START_HELD_UNTRUE the list of desks
+   may be that of another book or moment, or the head word of an account with pages may be lost: look for that
+   first.
 
    Where lost isn't 0 in a book that began with ouriscado_book_fresh, something other than these calls has
    changed it, or body, heads and state aren't of one moment: an account that reads as empty may have had a
@@ -484,18 +736,30 @@ static inline uint32_t ouriscado_drop(
    where its mark stands past OURISCADO_SLABS_END and within a page, the next page that is taken at the mark
    leaves the bytes up to it to nobody.
 
-   Refusals: OURISCADO_SHAPE_BAD (1), OURISCADO_LIST_TOO_SHORT (34). */
+   Refusals: OURISCADO_SHAPE_BAD (1), OURISCADO_LIST_TOO_SHORT (34), OURISCADO_DESKS_BAD (39). */
 uint32_t ouriscado_book_check(
     const uint8_t *body, size_t body_len, const uint64_t *heads, size_t heads_len, uint64_t mark,
-    const uint64_t free[OURISCADO_FREE_HEADS], uint8_t *work, size_t work_len, uint32_t *ground,
+    const uint64_t free[OURISCADO_FREE_HEADS], const uint64_t counts[OURISCADO_COUNT_WORDS],
+    const uint8_t *desks, size_t desks_len, uint8_t *work, size_t work_len, uint32_t *ground,
     uint64_t *which, uint64_t *lost);
+static inline uint32_t ouriscado_desks_check(
+    const uint8_t *body, size_t body_len, const uint64_t *heads, size_t heads_len,
+    const struct ouriscado_state *state, const uint8_t *desks, size_t desks_len, uint8_t *work,
+    size_t work_len, uint32_t *ground, uint64_t *which, uint64_t *lost)
+{
+    return ouriscado_book_check(
+        body, body_len, heads, heads_len, state->mark, state->free, state->counts, desks, desks_len, work,
+        work_len, ground, which, lost);
+}
+
+/* Tells whether body, heads and state are a good start of a book without desks. */
 static inline uint32_t ouriscado_check(
     const uint8_t *body, size_t body_len, const uint64_t *heads, size_t heads_len,
     const struct ouriscado_state *state, uint8_t *work, size_t work_len, uint32_t *ground, uint64_t *which,
     uint64_t *lost)
 {
-    return ouriscado_book_check(
-        body, body_len, heads, heads_len, state->mark, state->free, work, work_len, ground, which, lost);
+    return ouriscado_desks_check(body, body_len, heads, heads_len, state, ouriscado_no_desks(),
+                                 ouriscado_no_desks_len(heads_len), work, work_len, ground, which, lost);
 }
 
 #ifdef __cplusplus

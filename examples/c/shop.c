@@ -150,7 +150,8 @@ static void read_book(struct book *b, const char *path)
         stop("the file can't be read");
 }
 
-/* Says why a book isn't opened: the ground, and which account or class of blocks it is about. */
+/* Says why a book isn't opened: the ground, and which account or class of blocks it is about. This book has no desks, so that counts are named
+   by their ground alone. */
 static void say_why(uint32_t ground, uint64_t which)
 {
     printf("the book isn't opened: ");
@@ -160,8 +161,10 @@ static void say_why(uint32_t ground, uint64_t which)
         printf("a block of account %" PRIu64 " shares bytes with another in use\n", which);
     else if (ground == OURISCADO_START_FREE_STRAYS)
         printf("the freed blocks of class %" PRIu64 " name an offset where none can stand\n", which);
-    else
+    else if (ground == OURISCADO_START_FREE_SHARES)
         printf("a freed block of class %" PRIu64 " shares bytes with another, in use or freed\n", which);
+    else
+        printf("its counts of pages aren't true: ground %" PRIu32 "\n", ground);
 }
 
 /* Goes on with a book from elsewhere, and tells whether it did: it is enquired only where it is a good start. */

@@ -1,7 +1,7 @@
 """The C headers: their text stands in the templates *.h.in beside this file. A template's line that begins with @ asks for something made:
 
 @call NAME            a function's comment and declaration; indented lines after it join the comment, those of eight spaces or more as they stand.
-                      Behind one of the book's stands the inline function that takes the state as one struct
+                      Behind one of the book's stand the inline functions that take the state as one struct
 @refusals book        an enum's refusals, those that the book's calls name; @refusals others, the rest
 @constants GROUP      constants
 @version              the version's macros
@@ -11,10 +11,11 @@ import re
 import textwrap
 from pathlib import Path
 
-from boundary.exports import BOOK, CONSTANTS, fail, version
+from boundary.exports import BOOK, CONSTANTS, CORE, fail, version
 
 TYPES = {"u8": "uint8_t", "u16": "uint16_t", "u32": "uint32_t", "u64": "uint64_t", "usize": "size_t", "bool": "bool"}
 WIDTH = 110
+LENGTHS = {"free": "OURISCADO_FREE_HEADS", "counts": "OURISCADO_COUNT_WORDS", "reserve": "OURISCADO_DESKS", "ceiling": "OURISCADO_DESKS"}
 
 
 def filled(first, text):
@@ -32,7 +33,7 @@ def parameter(p):
         pointer = f"(*{name})[{p.each[0]}]" if p.each else f"*{name}"
         return [f"{const}{TYPES[p.number]} {pointer}", f"size_t {name}_len"]
     if p.len:
-        return [f"{const}{TYPES[p.number]} {name}[{'OURISCADO_FREE_HEADS' if name == 'free' else p.len}]"]
+        return [f"{const}{TYPES[p.number]} {name}[{LENGTHS.get(name, p.len)}]"]
     return [f"{const}{TYPES[p.number]} {'*' if p.ref else ''}{name}"]
 
 
@@ -57,8 +58,18 @@ def declaration(function):
 
 
 def of_state(function):
-    """The inline function over one of the book's that takes mark and free heads as one struct."""
-    parts = [p for p in function.parameters if p.name in ("mark", "free")]
+    """The inline functions over one of the book's that take its state as one struct: of those that are lent a list of desks ouriscado_desks_NAME; of
+    the core's ouriscado_desk_NAME, where they are told a desk, and for a book without desks ouriscado_NAME."""
+    if function.name.startswith(BOOK):
+        return over_struct(function, function.name.replace(BOOK, "ouriscado_desks_"), {})
+    told = any(p.name == "desk" for p in function.parameters)
+    of_desk = over_struct(function, function.name.replace(CORE, "ouriscado_desk_"), {}) if told else []
+    return of_desk + over_struct(function, function.name.replace(CORE, "ouriscado_"), {"desk": "0"})
+
+
+def over_struct(function, name, fixed):
+    """An inline function of a name over one of the book's, with its state as one struct, and some parameters fixed."""
+    parts = [p for p in function.parameters if p.name in ("mark", "free", "counts")]
     state = f"{'' if any(p.mut for p in parts) else 'const '}struct ouriscado_state *state"
     given, handed = [], []
     for p in function.parameters:
@@ -66,10 +77,11 @@ def of_state(function):
         if p in parts:
             given += [state] if p is parts[0] else []
             handed.append(f"{'&' if p.ref and not p.len else ''}state->{p.name}")
+        elif p.name in fixed:
+            handed.append(fixed[p.name])
         else:
             given += declared
-            handed += [re.search(r"\w+$", d)[0] for d in declared]
-    name = function.name.replace(BOOK, "ouriscado_")
+            handed += [re.search(r"(\w+)(?:\[\w+\])?$", d)[1] for d in declared]
     return listed("", f"static inline {TYPES[function.result]} {name}", given, "") + ["{"] + listed("    ", f"return {function.name}", handed, ";") + ["}"]
 
 

@@ -9,7 +9,7 @@ FUNCTION = re.compile(r'((?://[^\n]*\n)+)#\[no_mangle\]\npub extern "C" fn (\w+)
 REFUSAL = re.compile(r"^pub const (\w+): Refusal = (\d+);", re.M)
 SHELL_WORDS = re.compile(r'^ *(\d+) => text::words\(b"([^"]+)"\)', re.M)
 LISTED = re.compile(r"\d+(?:(?:, | and | to )\d+)*(?=, where|\.?$)")
-BOOK = "ouriscado_book_"
+BOOK, CORE = "ouriscado_book_", "ouriscado_core_"
 
 # The constants of the boundary: name, value, Rust type, text. A test of the Rust crate tries each limit on the library.
 CONSTANTS = {
@@ -20,8 +20,11 @@ CONSTANTS = {
         ("KIND_PAGES", 3, "u8", "in a chain of pages of the body"),
     ],
     "sizes": [
-        ("STATE_WORDS", 10, "usize", "words of a state: the mark, then nine free heads"),
+        ("STATE_WORDS", 59, "usize", "words of a state: the mark, nine free heads, then 49 counts"),
         ("FREE_HEADS", 9, "usize", "free heads of a state, one for each class from 0 to 8"),
+        ("COUNT_WORDS", 49, "usize", "counts of a state: freed pages, and of each desk the pages that it holds, then all reserves, then all ceilings"),
+        ("DESKS", 16, "usize", "desks, of the numbers 0 to 15"),
+        ("NO_CEILING", (1 << 64) - 1, "u64", "the ceiling of a desk that may take every page"),
         ("PAGE_BYTES", 4096, "usize", "bytes of a page, and the unit of a body's length"),
         ("LEAST_BODY_BYTES", 8192, "usize", "the least bytes of a body"),
         ("MOST_BODY_BYTES", 1 << 41, "usize", "the most bytes of a body"),
@@ -40,6 +43,12 @@ CONSTANTS = {
         ("START_KEY_SHARES", 2, "u32", "a block of the key shares bytes with another of its own, or with one of a key before it"),
         ("START_FREE_STRAYS", 3, "u32", "the free list names an offset where no such block can stand: taking it is refused with 35"),
         ("START_FREE_SHARES", 4, "u32", "a block of the free list shares bytes with one in use, or with one that this list or one of a smaller class named before; a list that doesn't end comes to such a block"),
+        ("START_COUNTS_EXCEED", 5, "u32", "freed and held pages are counted, with the first and those past the mark, as more than the body has"),
+        ("START_FREED_UNTRUE", 6, "u32", "freed pages are counted as other than their list has"),
+        ("START_HELD_UNTRUE", 7, "u32", "the desk's pages are counted as other than its keys have"),
+        ("START_PAST_CEILING", 8, "u32", "the desk holds more pages than its ceiling"),
+        ("START_RESERVE_HIGH", 9, "u32", "the desk's reserve is above its ceiling"),
+        ("START_RESERVES_LACK", 10, "u32", "desks lack more pages of their reserves than are to be had, freed or past the mark"),
     ],
     "stacks": [
         ("STACK_BOOK", 4096, "usize", "bytes of stack of any call of the book"),
@@ -78,7 +87,7 @@ class Function:
     def __init__(self, m):
         self.text, self.name, self.result = comment(m[1]), m[2], m[4]
         self.parameters = [Parameter(p) for p in re.split(r",\s*(?![^\[]*\])", m[3].strip().rstrip(",")) if p.strip()]
-        self.of_book = self.name.startswith(BOOK)
+        self.of_book = self.name.startswith((BOOK, CORE))
         self.refuses = sorted(refused_in(self.text))
 
 

@@ -18,8 +18,8 @@ UNPACKING = "`unpack8`, `unpack8_bytes`"
 OFFERING = "load, append; writers, `sh_page_try_append`"
 
 REFUSALS = [
-    (1, "SHAPE_BAD", "the book's shape breaks its limits", ": the body's length, the count of head words or the mark is outside of them",
-     "every call of the book; making it fresh looks at the lengths only",
+    (1, "SHAPE_BAD", "the book's shape breaks its limits", ": the body's length, the count of head words or the mark is outside of them; or a count of pages, or a reserve, is above the body's pages",
+     "every call of the book; making it fresh looks at the lengths and the reserves only",
      "checks that body, head words and state belong together and are whole; restores all three"),
     (2, "KEY_BEYOND", "the key is beyond the heads", ": it isn't below the count of head words",
      "load, append, read, drop", "checks the account's index; if that is right, the head words that were lent are not all"),
@@ -54,7 +54,7 @@ REFUSALS = [
     (28, "SLAB_USED_TOO_SMALL", "a stored slab head has used 0 or 1", "", UNPACKING, DAMAGED_WORD),
     (29, "MODE_TWO", "a head word has mode 2", "", UNPACKING, DAMAGED_WORD),
     (30, "EXTENT_PAYLOAD_ZERO", "a head word of mode 3 has offset 0", "", UNPACKING, DAMAGED_WORD),
-    (31, "KEY_UNSOUND", "the key isn't sound: it is unknown, never taken for empty", "", "append, read, drop",
+    (31, "KEY_UNSOUND", "the key isn't sound: it is unknown, never taken for empty", "; or a drop has more pages than the key's desk holds", "append, read, drop",
      "restores body, head words and state of one moment; finds out who else wrote them, which call was interrupted, or what was put together from two "
      "moments"),
     (32, "OFFERED_NOT_RISING", "a number offered isn't above the one before", ", in the list, the key or the page", OFFERING,
@@ -65,13 +65,22 @@ REFUSALS = [
      ": the numbers or ranges to be answered are more than it has room for, or the work list of a check has fewer bytes than one for each 128 of the body's",
      "read, check; readers into a lent list, `sh_page_chunk_ranges`, `split_last_chunk_for_extent`", "asks again with a longer list"),
     (35, "FREE_HEAD_BAD", "a free head isn't a block of its class before the mark",
-     ": it is unaligned, or lies outside of 4,096 up to the mark, or is a slab's in a book and ends past 2^40; or such a block is pushed, or such a gap carved",
+     ": it is unaligned, or lies outside of 4,096 up to the mark, or is a slab's in a book and ends past 2^40; or an append wants a page where just one of the free head of pages and their count is 0; or such a block is "
+     "pushed, or such a gap carved",
      "load, append; `push_free_head`, `pop_free_head`, `carve_gap_into_freelist`",
      "the state or a freed block is damaged: restores as for 31; reads go on meanwhile. A slab past 2^40 is no damage: loads all lists into a fresh book"),
     (36, "NO_ROOM", "no room: the block or run would pass the body's end", ", or a slab 2^40; a block goes there only where none of its class is freed",
      "load, append",
      "lends the same book a longer body, with whole pages behind it, and makes the call again; where the body can't grow, or a slab would pass 2^40, drops "
      "keys that are no longer needed, which frees blocks of their classes"),
+    (39, "DESKS_BAD", "the desks can't be served",
+     ": their list is of another length than the head words, or names a desk above 15; or a making's reserves are, summed, more than the pages to be had, or "
+     "one is above its ceiling",
+     "every call of the book", "checks the list of desks, which belongs to the head words as their keys do; of a making, its reserves and ceilings"),
+    (40, "PAST_CEILING", "a take of pages would pass its desk's ceiling", "", "load, append",
+     "drops keys of that desk, or has the book made anew with another ceiling; other desks go on"),
+    (41, "INTO_RESERVES", "a take would leave fewer pages than desks lack of their reserves", ", as they would be after it", "load, append",
+     "lends the same book a longer body, or drops keys with pages; a desk below its reserve still gets its pages one by one"),
 ]
 
 

@@ -7,8 +7,10 @@ WIDTH = 140  # of rustfmt.toml
 
 
 def documented(indent, text):
-    """A documentation comment."""
-    return textwrap.wrap(text, WIDTH, initial_indent=f"{indent}/// ", subsequent_indent=f"{indent}/// ", break_on_hyphens=False)
+    """A documentation comment. No line of it begins with a minus, which would begin a list."""
+    joined = text.replace(" - ", "\u00a0-\u00a0")
+    lines = textwrap.wrap(joined, WIDTH, initial_indent=f"{indent}/// ", subsequent_indent=f"{indent}/// ", break_on_hyphens=False)
+    return [l.replace("\u00a0", " ") for l in lines]
 
 
 def type_of(p):

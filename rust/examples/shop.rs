@@ -104,7 +104,7 @@ fn read_back(path: &str) -> Result<Parts, Box<dyn Error>> {
     }
     let (state, rest) = whole.split_at(8 * STATE_WORDS);
     let (heads, body) = rest.split_at(8 * NAMES.len());
-    let state = State(words(state).try_into().expect("ten words"));
+    let state = State(words(state).try_into().expect("as many words"));
     Ok((body.to_vec(), words(heads), state))
 }
 

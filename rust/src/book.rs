@@ -1,41 +1,16 @@
 //! The account book.
-use crate::limits::{
-    FREE_HEADS, PAGE_BYTES, START_FREE_SHARES, START_FREE_STRAYS, START_GOOD, START_KEY_SHARES, START_KEY_UNSOUND, STATE_WORDS, WORK_UNIT,
-};
+use crate::desks::Desks;
+use crate::limits::{PAGE_BYTES, WORK_UNIT};
+use crate::state::State;
 use crate::walk::{Lists, Places};
-use crate::{answer, codec, sys, OpenError, Place, Refusal, StartError};
+use crate::{answer, codec, start, sys, OpenError, Place, Refusal, StartError};
+use alloc::borrow::Cow;
 use alloc::vec;
 use alloc::vec::Vec;
 use core::fmt;
 
 /// For how many numbers a read takes room by fields that nothing has judged: half a MiB.
 const MOST_GUESSED: usize = 65_536;
-
-/// A book's state: the mark, up to which the body was ever used, and for each of the classes 0 to 8 the offset of its first freed block.
-///
-/// It belongs to the body and the head words of the same moment: keep, store and restore the three together.
-#[derive(Clone, Copy, Debug, Default, PartialEq, Eq, Hash)]
-pub struct State(pub [u64; STATE_WORDS]);
-
-impl State {
-    /// The offset up to which the body was ever used.
-    #[must_use]
-    pub fn mark(&self) -> u64 {
-        self.0[0]
-    }
-
-    /// The offset of each class's first freed block, 0 where there is none.
-    #[must_use]
-    pub fn free_heads(&self) -> &[u64] {
-        &self.0[1..]
-    }
-
-    /// The mark and the free heads, as they are lent.
-    fn lent(&mut self) -> (&mut u64, &mut [u64; FREE_HEADS]) {
-        let [mark, free @ ..] = &mut self.0;
-        (mark, free)
-    }
-}
 
 /// What an accepted append tells.
 #[derive(Clone, Copy, Debug, PartialEq, Eq)]
@@ -81,6 +56,7 @@ pub struct Book<B, H> {
     pub(crate) body: B,
     pub(crate) heads: H,
     state: State,
+    pub(crate) desks: Vec<u8>,
 }
 
 /// The lengths and the state: a body may be large.
@@ -95,15 +71,34 @@ impl<B, H> Book<B, H> {
     /// A book of a body, head words and a state that belong together: those that [`Book::into_parts`] gave, or copies of them.
     ///
     /// Nothing is checked here. Each call checks the book's shape, and of its account all that it reads. [`Book::open`] checks all of it
-    /// once.
+    /// once. The book has no desks: every account is desk 0's.
     pub fn from_parts(body: B, heads: H, state: State) -> Self {
-        Book { body, heads, state }
+        Book { body, heads, state, desks: Vec::new() }
     }
 
-    /// The body, the head words and the state. Without the state, body and head words are no book.
+    /// A book as [`Book::from_parts`] gives it, with the list of its desks, which belongs to the head words: a byte for each. An empty list is
+    /// that of a book without desks.
+    pub fn from_parts_with(body: B, heads: H, state: State, desks: Vec<u8>) -> Self {
+        Book { body, heads, state, desks }
+    }
+
+    /// The body, the head words and the state. Without the state, body and head words are no book. That of a book with desks needs their list
+    /// too: see [`Book::into_parts_with`].
     #[must_use = "without its state a body is no book"]
     pub fn into_parts(self) -> (B, H, State) {
         (self.body, self.heads, self.state)
+    }
+
+    /// The body, the head words, the state and the list of desks, which is empty of a book without desks.
+    #[must_use = "without its state and desks a body is no book"]
+    pub fn into_parts_with(self) -> (B, H, State, Vec<u8>) {
+        (self.body, self.heads, self.state, self.desks)
+    }
+
+    /// The list of desks: a byte for each account; it is empty of a book without desks, whose accounts are all desk 0's.
+    #[must_use]
+    pub fn desks(&self) -> &[u8] {
+        &self.desks
     }
 
     /// The state.
@@ -114,19 +109,53 @@ impl<B, H> Book<B, H> {
 }
 
 impl<B: AsRef<[u8]>, H: AsRef<[u64]>> Book<B, H> {
-    /// Makes a book in which nothing is recorded: every head word becomes 0. The body stays as it is, and may hold anything.
+    /// Makes a book in which nothing is recorded: every head word becomes 0. The body stays as it is, and may hold anything. The book has no
+    /// desks: [`Book::fresh_with`] makes one that has.
     ///
     /// # Errors
     ///
     /// [`Refusal::ShapeBad`] where the body's length or the count of head words is outside the [limits](crate::limits).
-    pub fn fresh(body: B, mut heads: H) -> Result<Self, Refusal>
+    pub fn fresh(body: B, heads: H) -> Result<Self, Refusal>
+    where
+        H: AsMut<[u64]>,
+    {
+        Self::fresh_with(body, heads, Desks::default())
+    }
+
+    /// Makes a book as [`Book::fresh`] does, whose accounts are those of desks: each has a reserve, the pages that are kept for it, and a
+    /// ceiling, the most that it gets.
+    ///
+    /// ```
+    /// use ouriscado::{Book, Desks, Refusal};
+    ///
+    /// // Two accounts of desk 0, and one of desk 1, for which a page is kept.
+    /// let desks = Desks::new(vec![0, 0, 1]).ceiling(0, 2).reserve(1, 1);
+    /// let mut book = Book::fresh_with(vec![0; 4 * 4096], vec![0; 3], desks)?; // three pages for lists
+    /// let month: Vec<u64> = (1..=300).collect();
+    /// book.load(0, &month)?;
+    /// book.load(1, &month)?;
+    /// assert_eq!(book.load(0, &[1]), Err(Refusal::KeyInUse));
+    /// assert_eq!((book.state().held_pages(0), book.state().held_pages(1)), (2, 0));
+    /// book.load(2, &month)?; // the page that was kept
+    /// # Ok::<(), Refusal>(())
+    /// ```
+    ///
+    /// # Errors
+    ///
+    /// [`Refusal::ShapeBad`] as of [`Book::fresh`], and where a reserve is above the body's pages; [`Refusal::DesksBad`] where the list is of
+    /// another length than the head words, or names a desk above 15, the reserves are more than the pages to be had, which are all but the
+    /// first, or one is above its ceiling.
+    pub fn fresh_with(body: B, mut heads: H, desks: Desks) -> Result<Self, Refusal>
     where
         H: AsMut<[u64]>,
     {
         let mut state = State::default();
-        let (mark, free) = state.lent();
-        let number = sys::book_fresh(body.as_ref(), heads.as_mut(), mark, free);
-        answer(number, ()).map(|()| Book { body, heads, state })
+        let (mark, free, counts) = state.lent();
+        let Desks { list, reserve, ceiling } = desks;
+        let whole = whole_list(&list, heads.as_ref().len());
+        let number = sys::book_fresh(body.as_ref(), heads.as_mut(), mark, free, counts, &whole, &reserve, &ceiling);
+        drop(whole);
+        answer(number, ()).map(|()| Book { body, heads, state, desks: list })
     }
 
     /// A book of a body, head words and a state from elsewhere, as from a file: it is judged as [`Book::check`] does, and opened only where
@@ -155,16 +184,28 @@ impl<B: AsRef<[u8]>, H: AsRef<[u64]>> Book<B, H> {
     /// # Errors
     ///
     /// [`OpenError`], with the reason, a [`StartError`], and with body, head words and state as they were handed over.
+    #[allow(clippy::result_large_err)] // what was handed over comes back
     pub fn open(body: B, heads: H, state: State) -> Result<Self, OpenError<B, H>> {
-        let book = Book { body, heads, state };
+        Self::open_with(body, heads, state, Vec::new())
+    }
+
+    /// A book from elsewhere as [`Book::open`] judges and opens it, with the list of its desks.
+    ///
+    /// # Errors
+    ///
+    /// [`OpenError`], with the reason, a [`StartError`], and with what was handed over.
+    #[allow(clippy::result_large_err)] // what was handed over comes back
+    pub fn open_with(body: B, heads: H, state: State, desks: Vec<u8>) -> Result<Self, OpenError<B, H>> {
+        let book = Book { body, heads, state, desks };
         match book.check() {
             Ok(_) => Ok(book),
-            Err(why) => Err(OpenError { why, body: book.body, heads: book.heads, state: book.state }),
+            Err(why) => Err(OpenError { why, body: book.body, heads: book.heads, state: book.state, desks: book.desks }),
         }
     }
 
     /// Judges whether the book is a good start: every account is sound, every list of freed blocks ends and names only offsets where its
-    /// blocks can stand, and no two blocks, in use or freed, share a byte. Nothing is changed; a 128th of the body's length is allocated
+    /// blocks can stand, no two blocks, in use or freed, share a byte, and the counts of pages are true and within the desks' limits. Nothing
+    /// is changed; a 128th of the body's length is allocated
     /// for the time of the call, which is 8 MiB for a body of 2^30 bytes, 8 GiB for one of 2^40 and 16 GiB for the largest.
     ///
     /// Of a good start it tells how many units of 16 bytes belong to nobody. They are 0 in a book that began with [`Book::fresh`], and no call
@@ -194,17 +235,11 @@ impl<B: AsRef<[u8]>, H: AsRef<[u64]>> Book<B, H> {
     pub fn check(&self) -> Result<u64, StartError> {
         let mut work = vec![0; self.body().len() / WORK_UNIT];
         let (mut ground, mut which, mut lost) = (0, 0, 0);
-        let State([mark, free @ ..]) = &self.state;
-        let number = sys::book_check(self.body(), self.heads(), *mark, free, &mut work, &mut ground, &mut which, &mut lost);
+        let (mark, free, counts) = self.state.parts();
+        let desks = whole_list(&self.desks, self.heads().len());
+        let number = sys::book_check(self.body(), self.heads(), mark, free, counts, &desks, &mut work, &mut ground, &mut which, &mut lost);
         answer(number, ()).map_err(StartError::Refused)?;
-        match ground {
-            START_GOOD => Ok(lost),
-            START_KEY_UNSOUND => Err(StartError::KeyUnsound { key: which }),
-            START_KEY_SHARES => Err(StartError::KeyShares { key: which }),
-            START_FREE_STRAYS => Err(StartError::FreeStrays { class: which as u8 }),
-            START_FREE_SHARES => Err(StartError::FreeShares { class: which as u8 }),
-            _ => unreachable!("the library tells no other ground"),
-        }
+        start::judged(ground, which).map(|()| lost)
     }
 
     /// The body.
@@ -323,7 +358,7 @@ impl<B: AsRef<[u8]>, H: AsRef<[u64]>> Book<B, H> {
     /// whole list: the account isn't empty then, and `out` is as it was.
     pub fn read_into(&self, key: u64, out: &mut [u64]) -> Result<Listed, Refusal> {
         let (mut length, mut pages, mut padded) = (0, 0, 0);
-        let number = sys::book_read(self.body(), self.heads(), self.state.mark(), key, out, &mut length, &mut pages, &mut padded);
+        let number = sys::core_read(self.body(), self.heads(), self.state.mark(), key, out, &mut length, &mut pages, &mut padded);
         answer(number, Listed { length: length as usize, pages, padded })
     }
 
@@ -381,6 +416,17 @@ impl<B: AsRef<[u8]>, H: AsRef<[u64]>> Book<B, H> {
 }
 
 impl<B: AsRef<[u8]> + AsMut<[u8]>, H: AsRef<[u64]> + AsMut<[u64]>> Book<B, H> {
+    /// The desk of a key: 0 of one that is beyond the head words, which a call refuses for that; and none's where a list lacks it, which a call
+    /// refuses too.
+    #[inline]
+    fn desk(&self, key: u64) -> u64 {
+        match usize::try_from(key).ok().and_then(|key| self.desks.get(key)) {
+            Some(&desk) => u64::from(desk),
+            None if self.desks.is_empty() || self.heads().len() as u64 <= key => 0,
+            None => u64::MAX,
+        }
+    }
+
     /// Records a whole list for an account that has none, and tells how many pages it takes, 0 where it needs none. A list without numbers
     /// changes nothing.
     ///
@@ -394,11 +440,15 @@ impl<B: AsRef<[u8]> + AsMut<[u8]>, H: AsRef<[u64]> + AsMut<[u64]>> Book<B, H> {
     /// [`Refusal::OfferedTooLarge`] and [`Refusal::OfferedNotRising`] where the numbers are no rising list from 1 to
     /// [`MOST_NUMBER`](crate::limits::MOST_NUMBER); [`Refusal::FreeHeadBad`] where a free head or freed
     /// block is damaged, or is a slab that ends past [`SLABS_END`](crate::limits::SLABS_END); [`Refusal::NoRoom`], until the book
-    /// [grows](Book::grow), or of a slab past `SLABS_END` until one of its class is freed.
+    /// [grows](Book::grow), or of a slab past `SLABS_END` until one of its class is freed. Of a book with desks also
+    /// [`Refusal::PastCeiling`], where the account's desk would hold more pages than its ceiling, and [`Refusal::IntoReserves`], where fewer
+    /// pages would be left than desks lack of their reserves; [`Refusal::DesksBad`] where the list that [`Book::from_parts_with`] was given
+    /// has no desk for the account.
     pub fn load(&mut self, key: u64, numbers: &[u64]) -> Result<u64, Refusal> {
         let mut pages = 0;
-        let (mark, free) = self.state.lent();
-        let number = sys::book_load(self.body.as_mut(), self.heads.as_mut(), mark, free, key, numbers, &mut pages);
+        let desk = self.desk(key);
+        let (mark, free, counts) = self.state.lent();
+        let number = sys::core_load(self.body.as_mut(), self.heads.as_mut(), mark, free, counts, desk, key, numbers, &mut pages);
         answer(number, pages)
     }
 
@@ -423,8 +473,9 @@ impl<B: AsRef<[u8]> + AsMut<[u8]>, H: AsRef<[u64]> + AsMut<[u64]>> Book<B, H> {
     /// Those of [`Book::load`]; [`Refusal::FreeHeadBad`] and [`Refusal::NoRoom`] are of the class that the tight slab has.
     pub fn load_tight(&mut self, key: u64, numbers: &[u64]) -> Result<u64, Refusal> {
         let mut pages = 0;
-        let (mark, free) = self.state.lent();
-        let number = sys::book_load_tight(self.body.as_mut(), self.heads.as_mut(), mark, free, key, numbers, &mut pages);
+        let desk = self.desk(key);
+        let (mark, free, counts) = self.state.lent();
+        let number = sys::core_load_tight(self.body.as_mut(), self.heads.as_mut(), mark, free, counts, desk, key, numbers, &mut pages);
         answer(number, pages)
     }
 
@@ -445,12 +496,14 @@ impl<B: AsRef<[u8]> + AsMut<[u8]>, H: AsRef<[u64]> + AsMut<[u64]>> Book<B, H> {
     ///
     /// [`Refusal::ShapeBad`]; [`Refusal::KeyBeyond`]; [`Refusal::OfferedFirstZero`], [`Refusal::OfferedBit63`] and
     /// [`Refusal::OfferedTooLarge`] where the number is none from 1 to [`MOST_NUMBER`](crate::limits::MOST_NUMBER);
-    /// [`Refusal::KeyUnsound`]; [`Refusal::OfferedNotRising`] where it isn't above the account's last; [`Refusal::FreeHeadBad`] and
-    /// [`Refusal::NoRoom`] as of [`Book::load`].
+    /// [`Refusal::KeyUnsound`]; [`Refusal::OfferedNotRising`] where it isn't above the account's last; [`Refusal::FreeHeadBad`],
+    /// [`Refusal::NoRoom`], [`Refusal::DesksBad`], [`Refusal::PastCeiling`] and [`Refusal::IntoReserves`] as of [`Book::load`].
     pub fn append(&mut self, key: u64, number: u64) -> Result<Appended, Refusal> {
         let (mut kind, mut class, mut used, mut place, mut rewritten) = (0, 0, 0, 0, 0);
-        let (body, heads, (mark, free)) = (self.body.as_mut(), self.heads.as_mut(), self.state.lent());
-        let refusal = sys::book_append(body, heads, mark, free, key, number, &mut kind, &mut class, &mut used, &mut place, &mut rewritten);
+        let desk = self.desk(key);
+        let (body, heads, (mark, free, counts)) = (self.body.as_mut(), self.heads.as_mut(), self.state.lent());
+        let out = (&mut kind, &mut class, &mut used, &mut place, &mut rewritten);
+        let refusal = sys::core_append(body, heads, mark, free, counts, desk, key, number, out.0, out.1, out.2, out.3, out.4);
         answer(refusal, Appended { place: codec::Head::of_numbers(kind, class, used, place).into(), rewritten })
     }
 
@@ -458,12 +511,22 @@ impl<B: AsRef<[u8]> + AsMut<[u8]>, H: AsRef<[u64]> + AsMut<[u64]>> Book<B, H> {
     ///
     /// # Errors
     ///
-    /// [`Refusal::ShapeBad`], [`Refusal::KeyBeyond`] and [`Refusal::KeyUnsound`].
+    /// [`Refusal::ShapeBad`], [`Refusal::KeyBeyond`], [`Refusal::KeyUnsound`] and [`Refusal::DesksBad`].
     pub fn drop_key(&mut self, key: u64) -> Result<usize, Refusal> {
         let mut length = 0;
-        let (mark, free) = self.state.lent();
-        let number = sys::book_drop(self.body.as_mut(), self.heads.as_mut(), mark, free, key, &mut length);
+        let desk = self.desk(key);
+        let (mark, free, counts) = self.state.lent();
+        let number = sys::core_drop(self.body.as_mut(), self.heads.as_mut(), mark, free, counts, desk, key, &mut length);
         answer(number, length as usize)
+    }
+}
+
+/// The list of desks for so many head words: zeros of a book without desks.
+fn whole_list(list: &[u8], heads: usize) -> Cow<'_, [u8]> {
+    if list.is_empty() {
+        Cow::Owned(vec![0; heads])
+    } else {
+        Cow::Borrowed(list)
     }
 }
 

@@ -19,6 +19,8 @@
 //! # Ok::<(), Refusal>(())
 //! ```
 //!
+//! Several users may share a book as its desks, each with pages that are kept for it and a most that it gets: see [`Desks`].
+//!
 //! A refused call has changed nothing, and its [`Refusal`] says why. The library allocates nothing; [`Book::read`] allocates its list, and
 //! [`Book::open`] and [`Book::check`] a work list while they judge. The proof is of the library's functions; this crate, which lends them
 //! its slices, is tested.
@@ -38,19 +40,23 @@ mod book;
 pub mod codec;
 #[doc = include_str!("../COOKBOOK.md")]
 pub mod cookbook {}
+mod desks;
 mod growing;
 pub mod limits;
 mod place;
 mod refusal;
 mod start;
+mod state;
 #[rustfmt::skip] // made
 pub mod sys;
 mod walk;
 
-pub use book::{Appended, Book, Listed, State};
+pub use book::{Appended, Book, Listed};
+pub use desks::Desks;
 pub use place::Place;
 pub use refusal::Refusal;
 pub use start::{OpenError, StartError};
+pub use state::State;
 pub use walk::{Lists, Places};
 
 impl Refusal {

@@ -13,11 +13,20 @@ pub const KIND_SLAB: u8 = 2;
 /// In a chain of pages of the body.
 pub const KIND_PAGES: u8 = 3;
 
-/// Words of a state: the mark, then nine free heads.
-pub const STATE_WORDS: usize = 10;
+/// Words of a state: the mark, nine free heads, then 49 counts.
+pub const STATE_WORDS: usize = 59;
 
 /// Free heads of a state, one for each class from 0 to 8.
 pub const FREE_HEADS: usize = 9;
+
+/// Counts of a state: freed pages, and of each desk the pages that it holds, then all reserves, then all ceilings.
+pub const COUNT_WORDS: usize = 49;
+
+/// Desks, of the numbers 0 to 15.
+pub const DESKS: usize = 16;
+
+/// The ceiling of a desk that may take every page.
+pub const NO_CEILING: u64 = 18_446_744_073_709_551_615;
 
 /// Bytes of a page, and the unit of a body's length.
 pub const PAGE_BYTES: usize = 4096;
@@ -66,6 +75,24 @@ pub const START_FREE_STRAYS: u32 = 3;
 
 /// A block of the free list shares bytes with one in use, or with one that this list or one of a smaller class named before; a list that doesn't end comes to such a block.
 pub const START_FREE_SHARES: u32 = 4;
+
+/// Freed and held pages are counted, with the first and those past the mark, as more than the body has.
+pub const START_COUNTS_EXCEED: u32 = 5;
+
+/// Freed pages are counted as other than their list has.
+pub const START_FREED_UNTRUE: u32 = 6;
+
+/// The desk's pages are counted as other than its keys have.
+pub const START_HELD_UNTRUE: u32 = 7;
+
+/// The desk holds more pages than its ceiling.
+pub const START_PAST_CEILING: u32 = 8;
+
+/// The desk's reserve is above its ceiling.
+pub const START_RESERVE_HIGH: u32 = 9;
+
+/// Desks lack more pages of their reserves than are to be had, freed or past the mark.
+pub const START_RESERVES_LACK: u32 = 10;
 
 /// Bytes of stack of any call of the book.
 pub const STACK_BOOK: usize = 4096;

@@ -4,7 +4,8 @@
 #[derive(Clone, Copy, Debug, PartialEq, Eq, Hash)]
 #[non_exhaustive]
 pub enum Refusal {
-    /// 1: the book's shape breaks its limits: the body's length, the count of head words or the mark is outside of them.
+    /// 1: the book's shape breaks its limits: the body's length, the count of head words or the mark is outside of them; or a count of
+    /// pages, or a reserve, is above the body's pages.
     ///
     /// Operator: checks that body, head words and state belong together and are whole; restores all three.
     ShapeBad,
@@ -121,7 +122,7 @@ pub enum Refusal {
     ///
     /// Operator: the word is damaged.
     ExtentPayloadZero,
-    /// 31: the key isn't sound: it is unknown, never taken for empty.
+    /// 31: the key isn't sound: it is unknown, never taken for empty; or a drop has more pages than the key's desk holds.
     ///
     /// Operator: restores body, head words and state of one moment; finds out who else wrote them, which call was interrupted, or what was
     /// put together from two moments.
@@ -140,7 +141,8 @@ pub enum Refusal {
     /// Operator: asks again with a longer list.
     ListTooShort,
     /// 35: a free head isn't a block of its class before the mark: it is unaligned, or lies outside of 4,096 up to the mark, or is a slab's
-    /// in a book and ends past 2^40; or such a block is pushed, or such a gap carved.
+    /// in a book and ends past 2^40; or an append wants a page where just one of the free head of pages and their count is 0; or such a
+    /// block is pushed, or such a gap carved.
     ///
     /// Operator: the state or a freed block is damaged: restores as for 31; reads go on meanwhile. A slab past 2^40 is no damage: loads all
     /// lists into a fresh book.
@@ -150,6 +152,19 @@ pub enum Refusal {
     /// Operator: lends the same book a longer body, with whole pages behind it, and makes the call again; where the body can't grow, or a
     /// slab would pass 2^40, drops keys that are no longer needed, which frees blocks of their classes.
     NoRoom,
+    /// 39: the desks can't be served: their list is of another length than the head words, or names a desk above 15; or a making's reserves
+    /// are, summed, more than the pages to be had, or one is above its ceiling.
+    ///
+    /// Operator: checks the list of desks, which belongs to the head words as their keys do; of a making, its reserves and ceilings.
+    DesksBad,
+    /// 40: a take of pages would pass its desk's ceiling.
+    ///
+    /// Operator: drops keys of that desk, or has the book made anew with another ceiling; other desks go on.
+    PastCeiling,
+    /// 41: a take would leave fewer pages than desks lack of their reserves, as they would be after it.
+    ///
+    /// Operator: lends the same book a longer body, or drops keys with pages; a desk below its reserve still gets its pages one by one.
+    IntoReserves,
     /// A number that this crate doesn't know: the library is of another version.
     Unknown(u32),
 }
@@ -192,6 +207,9 @@ impl Refusal {
         Refusal::ListTooShort,
         Refusal::FreeHeadBad,
         Refusal::NoRoom,
+        Refusal::DesksBad,
+        Refusal::PastCeiling,
+        Refusal::IntoReserves,
     ];
 
     /// The number that the library answers.
@@ -233,6 +251,9 @@ impl Refusal {
             Refusal::ListTooShort => 34,
             Refusal::FreeHeadBad => 35,
             Refusal::NoRoom => 36,
+            Refusal::DesksBad => 39,
+            Refusal::PastCeiling => 40,
+            Refusal::IntoReserves => 41,
             Refusal::Unknown(number) => number,
         }
     }
@@ -276,6 +297,9 @@ impl Refusal {
             Refusal::ListTooShort => "the lent list is too short",
             Refusal::FreeHeadBad => "a free head isn't a block of its class before the mark",
             Refusal::NoRoom => "no room: the block or run would pass the body's end",
+            Refusal::DesksBad => "the desks can't be served",
+            Refusal::PastCeiling => "a take of pages would pass its desk's ceiling",
+            Refusal::IntoReserves => "a take would leave fewer pages than desks lack of their reserves",
             Refusal::Unknown(_) => "a refusal that this version doesn't know",
         }
     }

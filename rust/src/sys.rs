@@ -7,10 +7,15 @@
 /// The functions as the library defines them.
 pub mod raw {
     extern "C" {
-        /// Makes a fresh book, in which every key is empty: all heads become 0, and mark and free those of a book from which nothing was
-        /// taken; the body isn't written. A book is these: a body, whose length is a multiple of 4,096 bytes from 8,192 to 2^41; heads, a
-        /// word for each key, 1 to 65,536 of them; and its state, the mark up to which the body was ever used and free, the first freed
-        /// block of each of nine sizes. What they held before doesn't matter. Refuses 1.
+        /// Makes a fresh book, in which every key is empty: all heads become 0, and mark, free and counts those of a book from which
+        /// nothing was taken; the body isn't written. A book is these: a body, whose length is a multiple of 4,096 bytes from 8,192 to
+        /// 2^41; heads, a word for each key, 1 to 65,536 of them; its state, which is the mark up to which the body was ever used, free,
+        /// the first freed block of each of nine sizes, and counts; and desks, a byte for each key, the number of its desk, 0 to 15. counts
+        /// are 49 words: how many pages of 4,096 bytes are freed, and then of each of the 16 desks the pages that it holds, its reserve and
+        /// its ceiling. Of each desk reserve has the pages that are kept for it, and ceiling the most that it gets. A book without desks
+        /// has bytes and reserves of 0, and ceilings of 2^64 - 1. What heads, mark, free and counts held before doesn't matter. Refuses 1,
+        /// also where a reserve is above the body's pages, and 39, also where the reserves are, summed, more than the pages to be had,
+        /// which are all but the first, or singly more than their own ceilings.
         pub fn ouriscado_book_fresh(
             body: *const u8,
             body_len: usize,
@@ -18,11 +23,16 @@ pub mod raw {
             heads_len: usize,
             mark: &mut u64,
             free: &mut [u64; 9],
+            counts: &mut [u64; 49],
+            desks: *const u8,
+            desks_len: usize,
+            reserve: &[u64; 16],
+            ceiling: &[u64; 16],
         ) -> u32;
         /// Loads a list of record numbers onto an empty key; keys count from 0. The numbers rise strictly, from 1 to 2^62 - 1, and there
         /// are 65,535 at most; with none, nothing changes. A list of 2 to 255 that goes to a slab has a slot for one number more there, so
         /// that the next append moves it only where its bytes don't fit. Hands out pages: how many pages of 4,096 bytes hold the list, 0
-        /// where it needs none. Refuses 1 to 3, 10, 12 to 14, 32, 35, 36.
+        /// where it needs none. Refuses 1 to 3, 10, 12 to 14, 32, 35, 36, 39 to 41.
         pub fn ouriscado_book_load(
             body: *mut u8,
             body_len: usize,
@@ -30,13 +40,16 @@ pub mod raw {
             heads_len: usize,
             mark: &mut u64,
             free: &mut [u64; 9],
+            counts: &mut [u64; 49],
+            desks: *const u8,
+            desks_len: usize,
             key: u64,
             fks: *const u64,
             fks_len: usize,
             pages: &mut u64,
         ) -> u32;
         /// Loads a list of record numbers onto an empty key as ouriscado_book_load does, but tight: into the smallest slab that holds its
-        /// bytes, for lists that nothing is appended to. Hands out pages as that does. Refuses 1 to 3, 10, 12 to 14, 32, 35, 36.
+        /// bytes, for lists that nothing is appended to. Hands out pages as that does. Refuses 1 to 3, 10, 12 to 14, 32, 35, 36, 39 to 41.
         pub fn ouriscado_book_load_tight(
             body: *mut u8,
             body_len: usize,
@@ -44,6 +57,9 @@ pub mod raw {
             heads_len: usize,
             mark: &mut u64,
             free: &mut [u64; 9],
+            counts: &mut [u64; 49],
+            desks: *const u8,
+            desks_len: usize,
             key: u64,
             fks: *const u64,
             fks_len: usize,
@@ -53,7 +69,7 @@ pub mod raw {
         /// now stands: kind is 1 where its only number stands in the head word, 2 for a slab, 3 for pages; class is the slab's, else 0;
         /// used is how many numbers head word or slab hold, 0 for pages; place is the number itself, or the offset in the body, in bytes,
         /// of the slab or of the last page. Hands out rewritten: how many numbers a move of the list wrote anew, 0 where it stayed. Refuses
-        /// 1, 2, 12 to 14, 31, 32, 35, 36.
+        /// 1, 2, 12 to 14, 31, 32, 35, 36, 39 to 41.
         pub fn ouriscado_book_append(
             body: *mut u8,
             body_len: usize,
@@ -61,6 +77,9 @@ pub mod raw {
             heads_len: usize,
             mark: &mut u64,
             free: &mut [u64; 9],
+            counts: &mut [u64; 49],
+            desks: *const u8,
+            desks_len: usize,
             key: u64,
             fk: u64,
             kind: &mut u8,
@@ -72,8 +91,123 @@ pub mod raw {
         /// Reads the list of a key into the start of out; what stands behind it there stays. Hands out length, how many record numbers the
         /// list has, pages, how many pages of 4,096 bytes were walked, and padded, how many of the numbers are stored in a longer form than
         /// the shortest: 0 of a key that this book's own calls filled. A read that is accepted with length 0 means that nothing is recorded
-        /// for the key; of one that is refused length is 0 too, and says nothing of the key. Refuses 1, 2, 31, 34.
+        /// for the key; of one that is refused length is 0 too, and says nothing of the key. Refuses 1, 2, 31, 34, 39.
         pub fn ouriscado_book_read(
+            body: *const u8,
+            body_len: usize,
+            heads: *const u64,
+            heads_len: usize,
+            mark: u64,
+            counts: &[u64; 49],
+            desks: *const u8,
+            desks_len: usize,
+            key: u64,
+            out: *mut u64,
+            out_len: usize,
+            length: &mut u64,
+            pages: &mut u64,
+            padded: &mut u64,
+        ) -> u32;
+        /// Drops the list of a key: the key is empty then, and the book can use the list's slab or pages again. Hands out length, how many
+        /// record numbers the list had. Refuses 1, 2, 31, also where the list has more pages than its desk holds, and 39.
+        pub fn ouriscado_book_drop(
+            body: *mut u8,
+            body_len: usize,
+            heads: *mut u64,
+            heads_len: usize,
+            mark: &mut u64,
+            free: &mut [u64; 9],
+            counts: &mut [u64; 49],
+            desks: *const u8,
+            desks_len: usize,
+            key: u64,
+            length: &mut u64,
+        ) -> u32;
+        /// Tells whether a body, heads and state that come from elsewhere, as from a file, are a good start, with which the other calls may
+        /// go on as with a book that began fresh: every key is sound; for each of the nine sizes of block the list of freed ones ends, and
+        /// names only offsets where such a block can stand; no two blocks, in use or freed, share a byte; and the counts are true, no desk
+        /// holds more than its ceiling and no reserve is above it, and the pages to be had cover what desks lack of their reserves. work is
+        /// for the call's own use: a byte for each 128 bytes of the body, which may hold anything, and are 0 afterwards; what stands behind
+        /// them stays. Nothing else is written. Hands out ground: 0 for a good start, else why it isn't one; and which: the key where the
+        /// first fault was met, the class of the free list, or the desk, since keys are judged first, from 0 on, then free lists, from
+        /// class 0 on, and then counts; 0 for a good start, and where the fault has none of these. Hands out lost beside a good start: how
+        /// many units of 16 bytes, from byte 4,096 up to the mark, belong to no key and to no list of freed blocks; 0 where it isn't a good
+        /// start. It is 0 in a book that began with ouriscado_book_fresh, and no call changes it, save that a start whose mark lies past
+        /// 2^40 within a page loses the rest of that page with the next one that is taken. A head word that was lost, so that its key reads
+        /// as empty, shows by the units of its slab, and that of a key with pages by its desk's count; the head of a list of freed slabs
+        /// shows by their units, and that of freed pages by their count. The head word of a key with one record number takes no block, and
+        /// its loss can't show: 0 doesn't say that no word was lost. The files of other software may have such units: lost is a figure, no
+        /// fault. Refuses 1, 34, 39.
+        pub fn ouriscado_book_check(
+            body: *const u8,
+            body_len: usize,
+            heads: *const u64,
+            heads_len: usize,
+            mark: u64,
+            free: &[u64; 9],
+            counts: &[u64; 49],
+            desks: *const u8,
+            desks_len: usize,
+            work: *mut u8,
+            work_len: usize,
+            ground: &mut u32,
+            which: &mut u64,
+            lost: &mut u64,
+        ) -> u32;
+        /// Loads a list of record numbers onto an empty key as ouriscado_book_load does, for the desk of a number: 39 above 15. The counts
+        /// are judged where blocks are taken, behind 36. Refuses 1 to 3, 10, 12 to 14, 32, 35, 36, 39 to 41.
+        pub fn ouriscado_core_load(
+            body: *mut u8,
+            body_len: usize,
+            heads: *mut u64,
+            heads_len: usize,
+            mark: &mut u64,
+            free: &mut [u64; 9],
+            counts: &mut [u64; 49],
+            desk: u64,
+            key: u64,
+            fks: *const u64,
+            fks_len: usize,
+            pages: &mut u64,
+        ) -> u32;
+        /// Loads a list of record numbers onto an empty key as ouriscado_book_load_tight does, for the desk of a number: 39 above 15. The
+        /// counts are judged where blocks are taken, behind 36. Refuses 1 to 3, 10, 12 to 14, 32, 35, 36, 39 to 41.
+        pub fn ouriscado_core_load_tight(
+            body: *mut u8,
+            body_len: usize,
+            heads: *mut u64,
+            heads_len: usize,
+            mark: &mut u64,
+            free: &mut [u64; 9],
+            counts: &mut [u64; 49],
+            desk: u64,
+            key: u64,
+            fks: *const u64,
+            fks_len: usize,
+            pages: &mut u64,
+        ) -> u32;
+        /// Appends a record number to the list of a key as ouriscado_book_append does, for the desk of a number: 39 above 15. The counts
+        /// are judged where blocks are taken, behind 36. Refuses 1, 2, 12 to 14, 31, 32, 35, 36, 39 to 41.
+        pub fn ouriscado_core_append(
+            body: *mut u8,
+            body_len: usize,
+            heads: *mut u64,
+            heads_len: usize,
+            mark: &mut u64,
+            free: &mut [u64; 9],
+            counts: &mut [u64; 49],
+            desk: u64,
+            key: u64,
+            fk: u64,
+            kind: &mut u8,
+            class: &mut u8,
+            used: &mut u16,
+            place: &mut u64,
+            rewritten: &mut u64,
+        ) -> u32;
+        /// Reads the list of a key into the start of out as ouriscado_book_read does; it is lent neither counts nor desks. Refuses 1, 2,
+        /// 31, 34.
+        pub fn ouriscado_core_read(
             body: *const u8,
             body_len: usize,
             heads: *const u64,
@@ -86,42 +220,19 @@ pub mod raw {
             pages: &mut u64,
             padded: &mut u64,
         ) -> u32;
-        /// Drops the list of a key: the key is empty then, and the book can use the list's slab or pages again. Hands out length, how many
-        /// record numbers the list had. Refuses 1, 2, 31.
-        pub fn ouriscado_book_drop(
+        /// Drops the list of a key as ouriscado_book_drop does, for the desk of a number: 39 above 15. The counts are judged where the list
+        /// has pages. Refuses 1, 2, 31, 39.
+        pub fn ouriscado_core_drop(
             body: *mut u8,
             body_len: usize,
             heads: *mut u64,
             heads_len: usize,
             mark: &mut u64,
             free: &mut [u64; 9],
+            counts: &mut [u64; 49],
+            desk: u64,
             key: u64,
             length: &mut u64,
-        ) -> u32;
-        /// Tells whether a body, heads and state that come from elsewhere, as from a file, are a good start, with which the other calls may
-        /// go on as with a book that began fresh: every key is sound; for each of the nine sizes of block the list of freed ones ends, and
-        /// names only offsets where such a block can stand; and no two blocks, in use or freed, share a byte. work is for the call's own
-        /// use: a byte for each 128 bytes of the body, which may hold anything, and are 0 afterwards; what stands behind them stays.
-        /// Nothing else is written. Hands out ground: 0 for a good start, else why it isn't one; and which: the key where the first fault
-        /// was met, or the class of the free list, since keys are judged first, from 0 on, and then free lists, from class 0 on; 0 for a
-        /// good start. Hands out lost beside a good start: how many units of 16 bytes, from byte 4,096 up to the mark, belong to no key and
-        /// to no list of freed blocks; 0 where it isn't a good start. It is 0 in a book that began with ouriscado_book_fresh, and no call
-        /// changes it, save that a start whose mark lies past 2^40 within a page loses the rest of that page with the next one that is
-        /// taken. A head word that was lost, so that its key reads as empty, shows by the units of its slab or pages, and the head of a
-        /// list of freed blocks by theirs. The head word of a key with one record number takes no block, and its loss can't show: 0 doesn't
-        /// say that no word was lost. The files of other software may have such units: lost is a figure, no fault. Refuses 1, 34.
-        pub fn ouriscado_book_check(
-            body: *const u8,
-            body_len: usize,
-            heads: *const u64,
-            heads_len: usize,
-            mark: u64,
-            free: &[u64; 9],
-            work: *mut u8,
-            work_len: usize,
-            ground: &mut u32,
-            which: &mut u64,
-            lost: &mut u64,
         ) -> u32;
         /// The smallest class whose bytes hold len bytes: none for 0 or above 2,048.
         pub fn ouriscado_slab_class_for_packed_len(len: usize, class: &mut u8) -> bool;
@@ -296,23 +407,61 @@ pub mod raw {
     }
 }
 
-/// Makes a fresh book, in which every key is empty: all heads become 0, and mark and free those of a book from which nothing was taken; the
-/// body isn't written. A book is these: a body, whose length is a multiple of 4,096 bytes from 8,192 to 2^41; heads, a word for each key, 1
-/// to 65,536 of them; and its state, the mark up to which the body was ever used and free, the first freed block of each of nine sizes.
-/// What they held before doesn't matter. Refuses 1.
+/// Makes a fresh book, in which every key is empty: all heads become 0, and mark, free and counts those of a book from which nothing was
+/// taken; the body isn't written. A book is these: a body, whose length is a multiple of 4,096 bytes from 8,192 to 2^41; heads, a word for
+/// each key, 1 to 65,536 of them; its state, which is the mark up to which the body was ever used, free, the first freed block of each of
+/// nine sizes, and counts; and desks, a byte for each key, the number of its desk, 0 to 15. counts are 49 words: how many pages of 4,096
+/// bytes are freed, and then of each of the 16 desks the pages that it holds, its reserve and its ceiling. Of each desk reserve has the
+/// pages that are kept for it, and ceiling the most that it gets. A book without desks has bytes and reserves of 0, and ceilings of
+/// 2^64 - 1. What heads, mark, free and counts held before doesn't matter. Refuses 1, also where a reserve is above the body's pages, and
+/// 39, also where the reserves are, summed, more than the pages to be had, which are all but the first, or singly more than their own
+/// ceilings.
 #[inline]
 #[must_use]
-pub fn book_fresh(body: &[u8], heads: &mut [u64], mark: &mut u64, free: &mut [u64; 9]) -> u32 {
-    unsafe { raw::ouriscado_book_fresh(body.as_ptr(), body.len(), heads.as_mut_ptr(), heads.len(), mark, free) }
+pub fn book_fresh(
+    body: &[u8],
+    heads: &mut [u64],
+    mark: &mut u64,
+    free: &mut [u64; 9],
+    counts: &mut [u64; 49],
+    desks: &[u8],
+    reserve: &[u64; 16],
+    ceiling: &[u64; 16],
+) -> u32 {
+    unsafe {
+        raw::ouriscado_book_fresh(
+            body.as_ptr(),
+            body.len(),
+            heads.as_mut_ptr(),
+            heads.len(),
+            mark,
+            free,
+            counts,
+            desks.as_ptr(),
+            desks.len(),
+            reserve,
+            ceiling,
+        )
+    }
 }
 
 /// Loads a list of record numbers onto an empty key; keys count from 0. The numbers rise strictly, from 1 to 2^62 - 1, and there are 65,535
 /// at most; with none, nothing changes. A list of 2 to 255 that goes to a slab has a slot for one number more there, so that the next
 /// append moves it only where its bytes don't fit. Hands out pages: how many pages of 4,096 bytes hold the list, 0 where it needs none.
-/// Refuses 1 to 3, 10, 12 to 14, 32, 35, 36.
+/// Refuses 1 to 3, 10, 12 to 14, 32, 35, 36, 39 to 41.
 #[inline]
 #[must_use]
-pub fn book_load(body: &mut [u8], heads: &mut [u64], mark: &mut u64, free: &mut [u64; 9], key: u64, fks: &[u64], pages: &mut u64) -> u32 {
+pub fn book_load(
+    body: &mut [u8],
+    heads: &mut [u64],
+    mark: &mut u64,
+    free: &mut [u64; 9],
+    counts: &mut [u64; 49],
+    desks: &[u8],
+    key: u64,
+    fks: &[u64],
+    pages: &mut u64,
+) -> u32 {
     unsafe {
         raw::ouriscado_book_load(
             body.as_mut_ptr(),
@@ -321,6 +470,9 @@ pub fn book_load(body: &mut [u8], heads: &mut [u64], mark: &mut u64, free: &mut 
             heads.len(),
             mark,
             free,
+            counts,
+            desks.as_ptr(),
+            desks.len(),
             key,
             fks.as_ptr(),
             fks.len(),
@@ -330,7 +482,7 @@ pub fn book_load(body: &mut [u8], heads: &mut [u64], mark: &mut u64, free: &mut 
 }
 
 /// Loads a list of record numbers onto an empty key as ouriscado_book_load does, but tight: into the smallest slab that holds its bytes,
-/// for lists that nothing is appended to. Hands out pages as that does. Refuses 1 to 3, 10, 12 to 14, 32, 35, 36.
+/// for lists that nothing is appended to. Hands out pages as that does. Refuses 1 to 3, 10, 12 to 14, 32, 35, 36, 39 to 41.
 #[inline]
 #[must_use]
 pub fn book_load_tight(
@@ -338,6 +490,8 @@ pub fn book_load_tight(
     heads: &mut [u64],
     mark: &mut u64,
     free: &mut [u64; 9],
+    counts: &mut [u64; 49],
+    desks: &[u8],
     key: u64,
     fks: &[u64],
     pages: &mut u64,
@@ -350,6 +504,9 @@ pub fn book_load_tight(
             heads.len(),
             mark,
             free,
+            counts,
+            desks.as_ptr(),
+            desks.len(),
             key,
             fks.as_ptr(),
             fks.len(),
@@ -362,7 +519,7 @@ pub fn book_load_tight(
 /// stands: kind is 1 where its only number stands in the head word, 2 for a slab, 3 for pages; class is the slab's, else 0; used is how
 /// many numbers head word or slab hold, 0 for pages; place is the number itself, or the offset in the body, in bytes, of the slab or of the
 /// last page. Hands out rewritten: how many numbers a move of the list wrote anew, 0 where it stayed. Refuses 1, 2, 12 to 14, 31, 32, 35,
-/// 36.
+/// 36, 39 to 41.
 #[inline]
 #[must_use]
 pub fn book_append(
@@ -370,6 +527,8 @@ pub fn book_append(
     heads: &mut [u64],
     mark: &mut u64,
     free: &mut [u64; 9],
+    counts: &mut [u64; 49],
+    desks: &[u8],
     key: u64,
     fk: u64,
     kind: &mut u8,
@@ -386,6 +545,9 @@ pub fn book_append(
             heads.len(),
             mark,
             free,
+            counts,
+            desks.as_ptr(),
+            desks.len(),
             key,
             fk,
             kind,
@@ -400,10 +562,230 @@ pub fn book_append(
 /// Reads the list of a key into the start of out; what stands behind it there stays. Hands out length, how many record numbers the list
 /// has, pages, how many pages of 4,096 bytes were walked, and padded, how many of the numbers are stored in a longer form than the
 /// shortest: 0 of a key that this book's own calls filled. A read that is accepted with length 0 means that nothing is recorded for the
-/// key; of one that is refused length is 0 too, and says nothing of the key. Refuses 1, 2, 31, 34.
+/// key; of one that is refused length is 0 too, and says nothing of the key. Refuses 1, 2, 31, 34, 39.
 #[inline]
 #[must_use]
 pub fn book_read(
+    body: &[u8],
+    heads: &[u64],
+    mark: u64,
+    counts: &[u64; 49],
+    desks: &[u8],
+    key: u64,
+    out: &mut [u64],
+    length: &mut u64,
+    pages: &mut u64,
+    padded: &mut u64,
+) -> u32 {
+    unsafe {
+        raw::ouriscado_book_read(
+            body.as_ptr(),
+            body.len(),
+            heads.as_ptr(),
+            heads.len(),
+            mark,
+            counts,
+            desks.as_ptr(),
+            desks.len(),
+            key,
+            out.as_mut_ptr(),
+            out.len(),
+            length,
+            pages,
+            padded,
+        )
+    }
+}
+
+/// Drops the list of a key: the key is empty then, and the book can use the list's slab or pages again. Hands out length, how many record
+/// numbers the list had. Refuses 1, 2, 31, also where the list has more pages than its desk holds, and 39.
+#[inline]
+#[must_use]
+pub fn book_drop(
+    body: &mut [u8],
+    heads: &mut [u64],
+    mark: &mut u64,
+    free: &mut [u64; 9],
+    counts: &mut [u64; 49],
+    desks: &[u8],
+    key: u64,
+    length: &mut u64,
+) -> u32 {
+    unsafe {
+        raw::ouriscado_book_drop(
+            body.as_mut_ptr(),
+            body.len(),
+            heads.as_mut_ptr(),
+            heads.len(),
+            mark,
+            free,
+            counts,
+            desks.as_ptr(),
+            desks.len(),
+            key,
+            length,
+        )
+    }
+}
+
+/// Tells whether a body, heads and state that come from elsewhere, as from a file, are a good start, with which the other calls may go on
+/// as with a book that began fresh: every key is sound; for each of the nine sizes of block the list of freed ones ends, and names only
+/// offsets where such a block can stand; no two blocks, in use or freed, share a byte; and the counts are true, no desk holds more than its
+/// ceiling and no reserve is above it, and the pages to be had cover what desks lack of their reserves. work is for the call's own use: a
+/// byte for each 128 bytes of the body, which may hold anything, and are 0 afterwards; what stands behind them stays. Nothing else is
+/// written. Hands out ground: 0 for a good start, else why it isn't one; and which: the key where the first fault was met, the class of the
+/// free list, or the desk, since keys are judged first, from 0 on, then free lists, from class 0 on, and then counts; 0 for a good start,
+/// and where the fault has none of these. Hands out lost beside a good start: how many units of 16 bytes, from byte 4,096 up to the mark,
+/// belong to no key and to no list of freed blocks; 0 where it isn't a good start. It is 0 in a book that began with ouriscado_book_fresh,
+/// and no call changes it, save that a start whose mark lies past 2^40 within a page loses the rest of that page with the next one that is
+/// taken. A head word that was lost, so that its key reads as empty, shows by the units of its slab, and that of a key with pages by its
+/// desk's count; the head of a list of freed slabs shows by their units, and that of freed pages by their count. The head word of a key
+/// with one record number takes no block, and its loss can't show: 0 doesn't say that no word was lost. The files of other software may
+/// have such units: lost is a figure, no fault. Refuses 1, 34, 39.
+#[inline]
+#[must_use]
+pub fn book_check(
+    body: &[u8],
+    heads: &[u64],
+    mark: u64,
+    free: &[u64; 9],
+    counts: &[u64; 49],
+    desks: &[u8],
+    work: &mut [u8],
+    ground: &mut u32,
+    which: &mut u64,
+    lost: &mut u64,
+) -> u32 {
+    unsafe {
+        raw::ouriscado_book_check(
+            body.as_ptr(),
+            body.len(),
+            heads.as_ptr(),
+            heads.len(),
+            mark,
+            free,
+            counts,
+            desks.as_ptr(),
+            desks.len(),
+            work.as_mut_ptr(),
+            work.len(),
+            ground,
+            which,
+            lost,
+        )
+    }
+}
+
+/// Loads a list of record numbers onto an empty key as ouriscado_book_load does, for the desk of a number: 39 above 15. The counts are
+/// judged where blocks are taken, behind 36. Refuses 1 to 3, 10, 12 to 14, 32, 35, 36, 39 to 41.
+#[inline]
+#[must_use]
+pub fn core_load(
+    body: &mut [u8],
+    heads: &mut [u64],
+    mark: &mut u64,
+    free: &mut [u64; 9],
+    counts: &mut [u64; 49],
+    desk: u64,
+    key: u64,
+    fks: &[u64],
+    pages: &mut u64,
+) -> u32 {
+    unsafe {
+        raw::ouriscado_core_load(
+            body.as_mut_ptr(),
+            body.len(),
+            heads.as_mut_ptr(),
+            heads.len(),
+            mark,
+            free,
+            counts,
+            desk,
+            key,
+            fks.as_ptr(),
+            fks.len(),
+            pages,
+        )
+    }
+}
+
+/// Loads a list of record numbers onto an empty key as ouriscado_book_load_tight does, for the desk of a number: 39 above 15. The counts
+/// are judged where blocks are taken, behind 36. Refuses 1 to 3, 10, 12 to 14, 32, 35, 36, 39 to 41.
+#[inline]
+#[must_use]
+pub fn core_load_tight(
+    body: &mut [u8],
+    heads: &mut [u64],
+    mark: &mut u64,
+    free: &mut [u64; 9],
+    counts: &mut [u64; 49],
+    desk: u64,
+    key: u64,
+    fks: &[u64],
+    pages: &mut u64,
+) -> u32 {
+    unsafe {
+        raw::ouriscado_core_load_tight(
+            body.as_mut_ptr(),
+            body.len(),
+            heads.as_mut_ptr(),
+            heads.len(),
+            mark,
+            free,
+            counts,
+            desk,
+            key,
+            fks.as_ptr(),
+            fks.len(),
+            pages,
+        )
+    }
+}
+
+/// Appends a record number to the list of a key as ouriscado_book_append does, for the desk of a number: 39 above 15. The counts are judged
+/// where blocks are taken, behind 36. Refuses 1, 2, 12 to 14, 31, 32, 35, 36, 39 to 41.
+#[inline]
+#[must_use]
+pub fn core_append(
+    body: &mut [u8],
+    heads: &mut [u64],
+    mark: &mut u64,
+    free: &mut [u64; 9],
+    counts: &mut [u64; 49],
+    desk: u64,
+    key: u64,
+    fk: u64,
+    kind: &mut u8,
+    class: &mut u8,
+    used: &mut u16,
+    place: &mut u64,
+    rewritten: &mut u64,
+) -> u32 {
+    unsafe {
+        raw::ouriscado_core_append(
+            body.as_mut_ptr(),
+            body.len(),
+            heads.as_mut_ptr(),
+            heads.len(),
+            mark,
+            free,
+            counts,
+            desk,
+            key,
+            fk,
+            kind,
+            class,
+            used,
+            place,
+            rewritten,
+        )
+    }
+}
+
+/// Reads the list of a key into the start of out as ouriscado_book_read does; it is lent neither counts nor desks. Refuses 1, 2, 31, 34.
+#[inline]
+#[must_use]
+pub fn core_read(
     body: &[u8],
     heads: &[u64],
     mark: u64,
@@ -414,7 +796,7 @@ pub fn book_read(
     padded: &mut u64,
 ) -> u32 {
     unsafe {
-        raw::ouriscado_book_read(
+        raw::ouriscado_core_read(
             body.as_ptr(),
             body.len(),
             heads.as_ptr(),
@@ -430,52 +812,22 @@ pub fn book_read(
     }
 }
 
-/// Drops the list of a key: the key is empty then, and the book can use the list's slab or pages again. Hands out length, how many record
-/// numbers the list had. Refuses 1, 2, 31.
+/// Drops the list of a key as ouriscado_book_drop does, for the desk of a number: 39 above 15. The counts are judged where the list has
+/// pages. Refuses 1, 2, 31, 39.
 #[inline]
 #[must_use]
-pub fn book_drop(body: &mut [u8], heads: &mut [u64], mark: &mut u64, free: &mut [u64; 9], key: u64, length: &mut u64) -> u32 {
-    unsafe { raw::ouriscado_book_drop(body.as_mut_ptr(), body.len(), heads.as_mut_ptr(), heads.len(), mark, free, key, length) }
-}
-
-/// Tells whether a body, heads and state that come from elsewhere, as from a file, are a good start, with which the other calls may go on
-/// as with a book that began fresh: every key is sound; for each of the nine sizes of block the list of freed ones ends, and names only
-/// offsets where such a block can stand; and no two blocks, in use or freed, share a byte. work is for the call's own use: a byte for each
-/// 128 bytes of the body, which may hold anything, and are 0 afterwards; what stands behind them stays. Nothing else is written. Hands out
-/// ground: 0 for a good start, else why it isn't one; and which: the key where the first fault was met, or the class of the free list,
-/// since keys are judged first, from 0 on, and then free lists, from class 0 on; 0 for a good start. Hands out lost beside a good start:
-/// how many units of 16 bytes, from byte 4,096 up to the mark, belong to no key and to no list of freed blocks; 0 where it isn't a good
-/// start. It is 0 in a book that began with ouriscado_book_fresh, and no call changes it, save that a start whose mark lies past 2^40
-/// within a page loses the rest of that page with the next one that is taken. A head word that was lost, so that its key reads as empty,
-/// shows by the units of its slab or pages, and the head of a list of freed blocks by theirs. The head word of a key with one record number
-/// takes no block, and its loss can't show: 0 doesn't say that no word was lost. The files of other software may have such units: lost is a
-/// figure, no fault. Refuses 1, 34.
-#[inline]
-#[must_use]
-pub fn book_check(
-    body: &[u8],
-    heads: &[u64],
-    mark: u64,
-    free: &[u64; 9],
-    work: &mut [u8],
-    ground: &mut u32,
-    which: &mut u64,
-    lost: &mut u64,
+pub fn core_drop(
+    body: &mut [u8],
+    heads: &mut [u64],
+    mark: &mut u64,
+    free: &mut [u64; 9],
+    counts: &mut [u64; 49],
+    desk: u64,
+    key: u64,
+    length: &mut u64,
 ) -> u32 {
     unsafe {
-        raw::ouriscado_book_check(
-            body.as_ptr(),
-            body.len(),
-            heads.as_ptr(),
-            heads.len(),
-            mark,
-            free,
-            work.as_mut_ptr(),
-            work.len(),
-            ground,
-            which,
-            lost,
-        )
+        raw::ouriscado_core_drop(body.as_mut_ptr(), body.len(), heads.as_mut_ptr(), heads.len(), mark, free, counts, desk, key, length)
     }
 }
 

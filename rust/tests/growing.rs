@@ -112,7 +112,7 @@ fn up_to_the_limits() {
 #[test]
 fn a_book_out_of_shape() {
     let (body, heads, state) = full().into_parts();
-    let mark = State([4_100, 0, 0, 0, 0, 0, 0, 0, 0, 0]);
+    let mark = State::without_desks(4_100, [0; 9], 0, 0);
     let short = body[..5_000].to_vec();
     for mut book in [Book::from_parts(body, heads.clone(), mark), Book::from_parts(short, heads, state)] {
         assert_eq!(book.grow(8 * PAGE_BYTES, 5), Err(Refusal::ShapeBad));

@@ -50,7 +50,7 @@ impl AsMut<[u8]> for Sparse {
 
 /// The largest book with a mark and nothing freed.
 fn largest(mark: u64) -> Option<Book<Sparse, Vec<u64>>> {
-    let state = State([mark, 0, 0, 0, 0, 0, 0, 0, 0, 0]);
+    let state = State::without_desks(mark, [0; 9], 0, 0);
     Sparse::new(MOST_BODY_BYTES).map(|body| Book::from_parts(body, vec![0; 8], state))
 }
 
@@ -122,7 +122,7 @@ fn a_slab_across_the_end() {
     };
     body.as_mut()[SLABS_END as usize - 16..][..5].copy_from_slice(&[3, 0, 1, 1, 1]);
     heads[0] = 1 << 62 | 1 << 56 | 3 << 40 | (SLABS_END - 16);
-    let mut book = Book::from_parts(body, heads, State([SLABS_END + 16, 0, 0, 0, 0, 0, 0, 0, 0, 0]));
+    let mut book = Book::from_parts(body, heads, State::without_desks(SLABS_END + 16, [0; 9], 0, 0));
     assert_eq!((book.read(0), book.append(0, 4).map(|a| a.rewritten)), (Ok(numbers(3)), Ok(0)));
     assert_eq!((book.drop_key(0), book.load(1, &numbers(4))), (Ok(4), Err(Refusal::FreeHeadBad)));
     assert_eq!(book.load(1, &numbers(300)), Ok(1));

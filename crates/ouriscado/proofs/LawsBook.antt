@@ -2,10 +2,13 @@
 use Prim.Native.Nat.{ℕ}
 use mathlib.Core.List.{List}
 use mathlib.Core.Logic.{_≢_}
-use mathlib.Core.Path.{_≡_}
+use mathlib.Core.Path.{_≡_, sym, ap, _∙_}
 use Rattle.error.specs.Refusal.{Answer, accepted, refused, refusalOf}
 use Rattle.book_rules.specs.Outcomes.{Listed, bookAfter}
-use Rattle.book.specs.Book.{Book, Outcome}
+use Rattle.book_desks.specs.Desks.{deskOf}
+use Rattle.book.specs.Book.{Book, Outcome, withDesks}
+use Rattle.book.specs.Steps.{callNumber}
+use Rattle.book.proofs.LawsKey.{call-on, call-off}
 use Rattle.book_start.specs.Making.{madeAfter}
 use Rattle.book_read.specs.Reads.{listAfter}
 use Rattle.book_start.specs.Start.{Verdict}
@@ -38,3 +41,13 @@ pub kept-work : (units : ℕ) (work : List ℕ) {after : List ℕ} (a : Answer V
 unfolding workAfter
 kept-work units work (accepted v) number left some' = absurd (some' number)
 kept-work units work (refused n) number left some' = left
+
+-- A call with a list of desks that is turned back before anything else: its answer is that number.
+pub turned-back : {A : Type 0} (ds : List ℕ) (b : Book) (key : ℕ) (call : ℕ → Answer A) {number : ℕ} → number ≡ callNumber ds b → number ≢ 0
+    → withDesks ds b key call ≡ refused number
+turned-back ds b key call told some' = call-off ds b key call (λ z. some' (told ∙ z)) ∙ ap refused (sym told)
+
+-- One that isn't is made for the key's desk.
+pub made-for : {A : Type 0} (ds : List ℕ) (b : Book) (key : ℕ) (call : ℕ → Answer A) {number desk : ℕ} → number ≡ callNumber ds b → number ≡ 0
+    → desk ≡ deskOf ds key → withDesks ds b key call ≡ call desk
+made-for ds b key call told none' is = call-on ds b key call (sym told ∙ none') ∙ ap call (sym is)

@@ -2,9 +2,11 @@
 // result of type u32 is a number of FORMAT, Refusals, or 0. On a refusal every number that goes out is 0, and every buffer and list
 // holds what it held.
 mod account_book;
+mod account_core;
 mod class;
 mod cut;
 mod free;
+mod handed;
 mod head;
 mod page_entries;
 mod page_fields;
@@ -21,6 +23,11 @@ pub use account_book::ouriscado_book_fresh;
 pub use account_book::ouriscado_book_load;
 pub use account_book::ouriscado_book_load_tight;
 pub use account_book::ouriscado_book_read;
+pub use account_core::ouriscado_core_append;
+pub use account_core::ouriscado_core_drop;
+pub use account_core::ouriscado_core_load;
+pub use account_core::ouriscado_core_load_tight;
+pub use account_core::ouriscado_core_read;
 pub use class::ouriscado_slab_class_for_n_fks;
 pub use class::ouriscado_slab_class_for_n_fks_with_slack;
 pub use class::ouriscado_slab_class_for_packed_len;

@@ -35,7 +35,7 @@ fn stored(path: &str, accounts: usize) -> Result<Owned, String> {
     let Some(heads_end) = heads_end.filter(|&end| end <= whole.len()) else {
         return Err(format!("{path} has {} bytes, too few for a state and {accounts} head words", whole.len()));
     };
-    let state = State(words(&whole[..8 * STATE_WORDS]).try_into().expect("ten words"));
+    let state = State(words(&whole[..8 * STATE_WORDS]).try_into().expect("as many words"));
     Ok(Book::from_parts(whole[heads_end..].to_vec(), words(&whole[8 * STATE_WORDS..heads_end]), state))
 }
 

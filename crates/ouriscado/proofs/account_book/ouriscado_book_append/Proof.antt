@@ -1,18 +1,33 @@
--- `ouriscado_book_append` hands out what `append` answers. Assumes nothing.
-use mathlib.Core.Path.{_∙_, ap}
-use Rattle.error.specs.Refusal.{refusalOf}
-use Rattle.error.proofs.LawsOut.{number-answered, value-same}
-use Rattle.book_rules.specs.Outcomes.{Appended}
-use Rattle.book.specs.Book.{Outcome}
-use Rattle.ouriscado.specs.OutHead.{kindOut, classOut, usedOut, placeOut}
-use Rattle.ouriscado.specs.OutBook.{newPlace, recordsRewritten}
-use Rattle.ouriscado.proofs.LawsBook.{kept-book}
+-- `ouriscado_book_append` judges the call, and hands out what the core's append does for the key's desk. Assumes nothing.
+use Prim.Native.Nat.{ℕ}
+use mathlib.Core.List.{List}
+use mathlib.Core.Path.{_≡_, refl}
+use Rattle.error.specs.Refusal.{Answer, refused, answered}
+use Rattle.book_rules.specs.Outcomes.{Appended, bookAfter}
+use Rattle.book.specs.Book.{Book, Outcome}
+use Rattle.book.specs.Answers.{bookOf}
+use Rattle.book_append.specs.Appends.{appends}
+use Rattle.ouriscado.proofs.LawsBook.{turned-back, made-for}
 use borrow.Author.Needs.{needs}
 use Rattle.ouriscado.proofs.account_book.ouriscado_book_append.Statement.{statement}
 use Rattle.ouriscado.proofs.account_book.ouriscado_book_append.Tie as tie
 
-append-requires : tie.Need-append-requires
-append-requires c κs = search needs
+-- the book, and its append by a desk
+module _ (j : tie.After-judge-call) where
+  abbrev start : tie.Start
+  start = j .before .before .before .before .before .before .before
+
+  abbrev lent : List ℕ
+  lent = start .args .desks .now
+
+  abbrev b : Book
+  b = bookOf (start .args .body .now) (start .args .heads .now) (start .args .mark .now) (start .args .free .now) (start .args .counts .now)
+
+  abbrev call : ℕ → Answer (Outcome Appended)
+  call desk = appends desk b (start .args .key) (start .args .fk)
+
+judge-call-requires : tie.Need-judge-call-requires
+judge-call-requires c κs = search needs
 
 put-appended-requires : tie.Need-put-appended-requires
 put-appended-requires c κs = search needs
@@ -20,39 +35,46 @@ put-appended-requires c κs = search needs
 same-length : tie.Need-same-length
 same-length c = search needs
 
+returns : tie.Need-returns
+unfolding bookAfter answered
+returns c =
+    let j = c .before .before .before .before .before .before .before in
+    let told = j .judge-call .ensures (start j .args .heads .now) (start j .args .free .now) refl in
+    let e = turned-back (lent j) (b j) (start j .args .key) (call j) told (c .before .before .before .before .before .before .if1 .taken) in
+    let h = c .put-appended .ensures in
+    rw e (h .0, (refl, (h .1 .0, (h .1 .1 .0, (h .1 .1 .1 .0, (h .1 .1 .1 .1 .0, (h .1 .1 .1 .1 .1, λ z. refl)))))))
+
+desk-of-requires : tie.Need-desk-of-requires
+desk-of-requires c κs = search needs
+
+ouriscado-core-append-requires : tie.Need-ouriscado-core-append-requires
+ouriscado-core-append-requires c κs = search needs
+
 same-length-2 : tie.Need-same-length-2
 same-length-2 c = search needs
 
-returns : tie.Need-returns
-returns c =
-    let e = c .before .before .before .before .before .before .before .before .before .before .append .ensures in
-    let h = c .put-appended .ensures in
-    let number = h .0 ∙ ap refusalOf (e .0) ∙ number-answered (λ (o : Outcome Appended). o .told) _ in (
-      number,
-      (
-        e .1,
-        (
-          h .1 .0 ∙ value-same (λ (t : Appended). kindOut (newPlace t)) _ (e .0),
-          (
-            h .1 .1 .0 ∙ value-same (λ (t : Appended). classOut (newPlace t)) _ (e .0),
-            (
-              h .1 .1 .1 .0 ∙ value-same (λ (t : Appended). usedOut (newPlace t)) _ (e .0),
-              (
-                h .1 .1 .1 .1 .0 ∙ value-same (λ (t : Appended). placeOut (newPlace t)) _ (e .0),
-                (h .1 .1 .1 .1 .1 ∙ value-same recordsRewritten _ (e .0), kept-book _ number (e .1)),
-              ),
-            ),
-          ),
-        ),
-      ),
-    )
+same-length-3 : tie.Need-same-length-3
+same-length-3 c = search needs
+
+returns-2 : tie.Need-returns-2
+returns-2 c =
+    let done = c .before .before .before .before in
+    let desk = done .before .before .before .before .before .before .before .before .before .before .before in
+    let j = desk .before .before in
+    let told = j .judge-call .ensures (start j .args .heads .now) (start j .args .free .now) refl in
+    let e = made-for (lent j) (b j) (start j .args .key) (call j) told (desk .before .if1 .left) (desk .desk-of .ensures) in
+    rw e (done .ouriscado-core-append .ensures)
 
 pub ouriscado-book-append-spec : {M : Type 1} → statement M
 ouriscado-book-append-spec =
     tie.close
     (tie.spec
-    append-requires
+    judge-call-requires
     put-appended-requires
     same-length
+    returns
+    desk-of-requires
+    ouriscado-core-append-requires
     same-length-2
-    returns)
+    same-length-3
+    returns-2)

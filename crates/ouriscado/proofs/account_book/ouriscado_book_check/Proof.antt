@@ -31,7 +31,7 @@ same-length c = search needs
 returns : tie.Need-returns
 returns c =
     let j = c .before .before .before .before .before .before in
-    let a = j .before .before .before .before .before .before .args in
+    let a = j .before .before .before .before .before .before .before .args in
     let e = j .judge-start .ensures in
     let number = c .refusal .ensures ∙ ap refusalOf (e .0) in (
       number,

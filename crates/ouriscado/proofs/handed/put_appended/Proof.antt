@@ -6,8 +6,8 @@ use Rattle.book_append.specs.Answers.{appendAnswer}
 use Rattle.ouriscado.specs.OutHead.{kindOut, classOut, usedOut, placeOut}
 use Rattle.ouriscado.specs.OutBook.{newPlace, recordsRewritten}
 use borrow.Author.Needs.{needs}
-use Rattle.ouriscado.proofs.account_book.put_appended.Statement.{statement}
-use Rattle.ouriscado.proofs.account_book.put_appended.Tie as tie
+use Rattle.ouriscado.proofs.handed.put_appended.Statement.{statement}
+use Rattle.ouriscado.proofs.handed.put_appended.Tie as tie
 
 enum-known-answer : tie.Need-enum-known-answer
 enum-known-answer c = search needs

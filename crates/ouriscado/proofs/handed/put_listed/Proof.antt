@@ -3,8 +3,8 @@ use mathlib.Core.Path.{ap}
 use Rattle.error.proofs.LawsOut.{number-accepted, number-refused, value-accepted, value-refused}
 use Rattle.book_read.specs.Answers.{Counted, readAnswer}
 use borrow.Author.Needs.{needs}
-use Rattle.ouriscado.proofs.account_book.put_listed.Statement.{statement}
-use Rattle.ouriscado.proofs.account_book.put_listed.Tie as tie
+use Rattle.ouriscado.proofs.handed.put_listed.Statement.{statement}
+use Rattle.ouriscado.proofs.handed.put_listed.Tie as tie
 
 enum-known-answer : tie.Need-enum-known-answer
 enum-known-answer c = search needs
