@@ -4,7 +4,7 @@
     python3 tools/book_run.py < crates/book_run/stdin > crates/book_run/stdout
 """
 import sys
-from plain_book import Book, Refused
+from plain_book import DESKS, MOST_WORD, Refused, made
 
 
 LOAD, APPEND, READ, DROP, LOAD_TIGHT = range(5)
@@ -66,7 +66,10 @@ def run(size, heads, most, *words):
         return "these words spell no calls"
     if sum(map(room, calls)) > most:
         return "nothing was run: refused 34"
-    book = Book(size, heads)
+    try:
+        book = made(size, heads, [0] * heads, [0] * DESKS, [MOST_WORD] * DESKS)
+    except Refused as number:
+        return f"nothing was run: refused {number.args[0]}"
     return "".join(["ran:"] + [f" {word}" for call in calls for word in answer(book, *call)])
 
 

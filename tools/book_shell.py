@@ -10,12 +10,15 @@ from pathlib import Path
 sys.dont_write_bytecode = True
 sys.path.insert(0, str(Path(__file__).resolve().parent.parent / "host"))
 from boundary.refusals import TEXTS
-from plain_book import Book, Refused
+from plain_book import Book, DESKS, MOST_WORD, Refused, lacks, made
 
 LINE_BYTES, NUMBERS, KEYS, BODY_BYTES = 16384, 262144, 65536, 262144
 FORMS = {
     "body": "body BYTES",
     "keys": "keys COUNT",
+    "desk": "desk KEY DESK",
+    "reserve": "reserve DESK PAGES",
+    "ceiling": "ceiling DESK PAGES",
     "load": "load KEY NUMBER ...",
     "load-tight": "load-tight KEY NUMBER ...",
     "append": "append KEY NUMBER",
@@ -29,6 +32,9 @@ FORMS = {
 HELP = [
     f"body BYTES: the size of a book, in whole pages of 4096 bytes, from 8192 to {BODY_BYTES}",
     f"keys COUNT: makes a fresh book of so many accounts, which are the keys 0, 1, ...; from 1 to {KEYS}",
+    "desk KEY DESK: between body and keys, gives an account to a desk, from 0 to 15; to desk 0 where no line does",
+    "reserve DESK PAGES: between body and keys, keeps pages for a desk; none where no line does",
+    "ceiling DESK PAGES: between body and keys, the most pages that a desk gets; all where no line does",
     "append KEY NUMBER: records a number, from 1 to 2^62 - 1, above the last that is recorded",
     "load KEY NUMBER ...: records rising numbers in an empty account, with a spare slot for the next",
     "load-tight KEY NUMBER ...: the same in the smallest slab that holds them, for lists that are complete",
@@ -89,21 +95,57 @@ def limited(n, most, what):
     return n
 
 
+def desk_limited(desk):
+    return limited(desk, DESKS - 1, "too high a number for a desk")
+
+
+class Unmade(Book):
+    """What a making that was refused leaves: heads over a body, and a state of zeros."""
+
+    def out_of_shape(self):
+        return True
+
+
 class Shell:
     def __init__(self):
         self.book = Book(0, 0)
 
     def body(self, size):
         self.book = Book(limited(size, BODY_BYTES, "too many bytes for a body"), 0)
+        self.desks, self.reserves, self.ceilings = {}, [0] * DESKS, [MOST_WORD] * DESKS
         return f"body of {size} bytes"
+
+    def before_keys(self):
+        if self.book.size == 0:
+            raise Unread("no body yet: type body BYTES first")
+        if self.book.lists:
+            raise Unread("the book is made: desks are told between body BYTES and keys COUNT")
+
+    def desk(self, key, desk):
+        limited(key, KEYS - 1, "too high a number for a key")
+        desk_limited(desk)
+        self.before_keys()
+        self.desks[key] = desk
+        return f"key {key} is of desk {desk}"
+
+    def reserve(self, desk, pages):
+        desk_limited(desk)
+        self.before_keys()
+        self.reserves[desk] = pages
+        return f"desk {desk} has a reserve of {counted(pages, 'page')}"
+
+    def ceiling(self, desk, pages):
+        desk_limited(desk)
+        self.before_keys()
+        self.ceilings[desk] = pages
+        return f"desk {desk} has a ceiling of {counted(pages, 'page')}"
 
     def keys(self, count):
         limited(count, KEYS, "too many keys")
         if self.book.size == 0:
             raise Unread("no body yet: type body BYTES first")
-        self.book = Book(self.book.size, count)
-        if self.book.out_of_shape():
-            raise Refused(1)
+        self.book = Unmade(self.book.size, count)
+        self.book = made(self.book.size, count, [self.desks.get(key, 0) for key in range(count)], self.reserves, self.ceilings)
         return f"{counted(count, 'key')} over {counted(self.book.size, 'byte')}: a fresh book"
 
     def load(self, key, *ns, tight=False):
@@ -145,6 +187,8 @@ class Shell:
             if claimed & units:
                 return f"not a good start: {what} has a block that shares bytes with another"
             claimed |= units
+        if self.book.to_be_had(len(self.book.stacks[8]), self.book.mark) < lacks(self.book.reserve, self.book.held):
+            return "not a good start: fewer pages are to be had than desks lack of their reserves"
         return "a good start"
 
     def help(self):
@@ -155,14 +199,14 @@ def answer(shell, words):
     """The lines of the answer to a line."""
     ns = numbers(words[1:])
     if words[0] not in FORMS:
-        raise Unread("expected body, keys, load, load-tight, append, read, drop, places, space, check or help")
+        raise Unread("expected body, desk, reserve, ceiling, keys, load, load-tight, append, read, drop, places, space, check or help")
     alone = dict.fromkeys(("places", "space", "check", "help"), (0, 0))
-    least, most = {"load": (1, NUMBERS), "load-tight": (1, NUMBERS), "append": (2, 2), "read": (1, 2), **alone}.get(words[0], (1, 1))
+    least, most = {"load": (1, NUMBERS), "load-tight": (1, NUMBERS), "append": (2, 2), "desk": (2, 2), "reserve": (2, 2), "ceiling": (2, 2), "read": (1, 2), **alone}.get(words[0], (1, 1))
     if not least <= len(ns) <= most:
         raise Unread(f"expected {FORMS[words[0]]}")
     if words[0] == "read" and len(ns) == 2:
         limited(ns[1], NUMBERS, "too much room")
-    if words[0] not in ("body", "keys", "help") and not shell.book.lists:
+    if words[0] not in ("body", "desk", "reserve", "ceiling", "keys", "help") and not shell.book.lists:
         raise Unread("no book yet: type body BYTES, then keys COUNT")
     told = getattr(shell, words[0].replace("-", "_"))(*ns)
     return told if isinstance(told, list) else [told]

@@ -2,6 +2,7 @@
 from sizes import LAST_ROOM, PAGE, PAGE_ROOM, Refused, by_bytes, form_len, gap_blocks, page_ranges, slab_bytes, slab_slots, with_slack
 
 START = 4096
+DESKS, MOST_WORD = 16, 2**64 - 1
 SLABS_END, MOST_BODY, MOST_COUNTED = 2**40, 2**41, 2**32 - 1
 
 
@@ -42,41 +43,88 @@ def total_told(length):
     return length if length <= MOST_COUNTED else 0
 
 
+def pages_of(place):
+    return len(place[1]) if place[0] == "pages" else 0
+
+
 def past_slabs(c, off):
     """Whether a block is a slab that ends past the end of slabs."""
     return c < 8 and off + slab_bytes(c) > SLABS_END
 
 
-class Book:
-    """The plain book: lists, places, padded numbers, a mark and nine stacks."""
+def lengths_bad(size, heads):
+    return size % PAGE != 0 or not 2 * PAGE <= size <= MOST_BODY or not 1 <= heads <= 65536
 
-    def __init__(self, size, heads):
+
+def list_bad(desks, heads):
+    """Whether a list isn't that of a desk, 0 to 15, for each key."""
+    return len(desks) != heads or any(desk >= DESKS for desk in desks)
+
+
+def lacks(reserve, held):
+    """What desks still lack of their reserves."""
+    return sum(max(0, wanted - has) for wanted, has in zip(reserve, held))
+
+
+def made(size, heads, desks, reserve, ceiling):
+    """A book that is made fresh for desks with reserves and ceilings."""
+    if lengths_bad(size, heads) or max(reserve) > size // PAGE:
+        raise Refused(1)
+    if list_bad(desks, heads) or sum(reserve) > size // PAGE - 1 or any(r > c for r, c in zip(reserve, ceiling)):
+        raise Refused(39)
+    return Book(size, heads, desks, reserve, ceiling)
+
+
+class Book:
+    """The plain book: lists, places, padded numbers, a mark and nine stacks; the desk of each key, and of each desk the pages that it holds, a
+    reserve and a ceiling. Nothing said of desks, all keys are desk 0's, and there are no limits."""
+
+    def __init__(self, size, heads, desks=None, reserve=None, ceiling=None):
         self.size, self.mark, self.stacks = size, START, [[] for _ in range(9)]
         self.lists, self.places, self.padded = [[] for _ in range(heads)], [("empty",)] * heads, [{} for _ in range(heads)]
+        self.desks, self.held = [0] * heads if desks is None else list(desks), [0] * DESKS
+        self.reserve, self.ceiling = list(reserve or [0] * DESKS), list(ceiling or [MOST_WORD] * DESKS)
 
     def rounded(self):
         """Where a page begins at the mark, and the blocks of the gap before it: none past the end of slabs."""
         end = -(-self.mark // PAGE) * PAGE
         return end, gap_blocks(self.mark, end) if end <= SLABS_END else []
 
-    def run(self, pages):
+    def to_be_had(self, freed, mark):
+        """The pages to be had where so many are freed and the mark is so: these, and the whole ones past the rounded mark."""
+        return freed + self.size // PAGE - -(-mark // PAGE)
+
+    def leave(self, desk, pages, freed, mark):
+        """Whether a desk may take so many pages, by the freed pages and the mark that this leaves."""
+        held = [has + pages * (d == desk) for d, has in enumerate(self.held)]
+        if pages > 0 and held[desk] > self.ceiling[desk]:
+            raise Refused(40)
+        if self.to_be_had(freed, mark) < lacks(self.reserve, held):
+            raise Refused(41)
+
+    def run(self, desk, pages):
         off, gap = self.rounded()
         if off + pages * PAGE > self.size:
             raise Refused(36)
+        self.leave(desk, pages, len(self.stacks[8]), off + pages * PAGE)
         for c, o in gap:
             self.stacks[c].append(o)
         self.mark = off + pages * PAGE
         return off
 
-    def take(self, c):
+    def take(self, desk, c):
+        """Takes a slab of a class, or a page for an append."""
+        pages, freed = int(c == 8), len(self.stacks[8])
         if self.stacks[c]:
             if past_slabs(c, self.stacks[c][-1]):
                 raise Refused(35)
+            self.leave(desk, pages, freed - pages, self.mark)
             return self.stacks[c].pop()
         if c == 8:
-            return self.run(1)
+            return self.run(desk, 1)
         if past_slabs(c, self.mark) or self.mark + slab_bytes(c) > self.size:
             raise Refused(36)
+        self.leave(desk, 0, freed, self.mark + slab_bytes(c))
         self.mark += slab_bytes(c)
         return self.mark - slab_bytes(c)
 
@@ -88,13 +136,22 @@ class Book:
             prev = n
 
     def on(self, key):
+        """Whether there is a key; its desk."""
         if self.out_of_shape():
             raise Refused(1)
+        if list_bad(self.desks, len(self.lists)):
+            raise Refused(39)
         if key >= len(self.lists):
             raise Refused(2)
+        return self.desks[key]
 
     def out_of_shape(self):
-        return self.size % PAGE != 0 or not 2 * PAGE <= self.size <= MOST_BODY or not 1 <= len(self.lists) <= 65536
+        return lengths_bad(self.size, len(self.lists))
+
+    def put(self, key, ns, place):
+        """A key's new list and place; its desk holds the pages of the one no more and those of the other."""
+        self.held[self.desks[key]] += pages_of(place) - pages_of(self.places[key])
+        self.lists[key], self.places[key] = ns, place
 
     def total(self, key):
         """The total in a key's last page, none of a key that isn't in pages."""
@@ -105,7 +162,7 @@ class Book:
         return stream_len(ns) + sum(self.padded[key].get(n, 0) for n in ns)
 
     def append(self, key, n):
-        self.on(key)
+        desk = self.on(key)
         old, place = self.lists[key], self.places[key]
         self.judge([n], old[-1] if old else 0)
         new, rewritten = old + [n], 0
@@ -116,21 +173,21 @@ class Book:
             if self.stored_len(key, pages[-1][2] + [n]) <= pages[-1][1]:
                 pages[-1][2] = pages[-1][2] + [n]
             else:
-                pages.append([self.take(8), LAST_ROOM, [n]])
+                pages.append([self.take(desk, 8), LAST_ROOM, [n]])
             place = ("pages", pages)
         elif place[0] == "inline" or not (len(new) <= min(256, slab_slots(place[1])) and 2 + self.stored_len(key, new) <= slab_bytes(place[1])):
             to, rewritten = moves_to(new), len(old)
             if to is None:
-                moved = ("pages", [[self.take(8), LAST_ROOM, new]])
+                moved = ("pages", [[self.take(desk, 8), LAST_ROOM, new]])
             else:
-                moved = ("slab", to, self.take(to))
+                moved = ("slab", to, self.take(desk, to))
             self.free(place)
             place, self.padded[key] = moved, {}
-        self.lists[key], self.places[key] = new, place
+        self.put(key, new, place)
         return rewritten
 
     def load(self, key, ns, tight=False):
-        self.on(key)
+        desk = self.on(key)
         if self.places[key][0] != "empty":
             raise Refused(3)
         if len(ns) > 65535:
@@ -140,12 +197,12 @@ class Book:
         if len(ns) > 1:
             to = loads_to(ns, tight)
             if to is not None:
-                place = ("slab", to, self.take(to))
+                place = ("slab", to, self.take(desk, to))
             else:
                 parts = cutting(ns)
-                pages, off = len(parts), self.run(len(parts))
+                pages, off = len(parts), self.run(desk, len(parts))
                 place = ("pages", [[off + i * PAGE, LAST_ROOM if i == pages - 1 else PAGE_ROOM, p] for i, p in enumerate(parts)])
-        self.lists[key], self.places[key] = list(ns), place
+        self.put(key, list(ns), place)
         return pages
 
     def load_tight(self, key, ns):
@@ -156,13 +213,14 @@ class Book:
         ns, place = self.lists[key], self.places[key]
         if room < len(ns):
             raise Refused(34)
-        return ns, len(place[1]) if place[0] == "pages" else 0, len(self.padded[key])
+        return ns, pages_of(place), len(self.padded[key])
 
     def drop(self, key):
         self.on(key)
         self.free(self.places[key])
         length = len(self.lists[key])
-        self.lists[key], self.places[key], self.padded[key] = [], ("empty",), {}
+        self.put(key, [], ("empty",))
+        self.padded[key] = {}
         return length
 
     def free(self, place):

@@ -120,9 +120,9 @@ def run_of_keys(frame, survey, run, labels):
         told = f"{len(run):,} slabs of {plural(len(keys), 'key')}, {min(keys):,} to {max(keys):,}"
         return frame.filled(first.off, last.off + last.length - first.off, "url(#many)", told, edge)
     what = "page" if first.length == PAGE_BYTES else f"slab of class {first.class_}"
-    told = f"key {first.key}: {what} at {first.off:,}, {plural(first.count, 'number')}"
+    told = f"{survey.named(first.key)}: {what} at {first.off:,}, {plural(first.count, 'number')}"
     parts = frame.filled(first.off, first.length, colour(first.key), told, edge_of(survey, first))
-    return parts + (frame.label(first.off, first.length, f"key {first.key}", ink(colour(first.key))) if labels else [])
+    return parts + (frame.label(first.off, first.length, survey.named(first.key), ink(colour(first.key))) if labels else [])
 
 
 def run_freed(frame, survey, run, labels):
@@ -167,6 +167,8 @@ def legend(survey, x, y):
         line(swatch, row.text, "bad" if row.bad else "")
     if len(survey.keys) > MOST_KEY_ROWS:
         line("url(#many)", "slabs of several keys, too narrow to be told apart")
+    for desk in survey.desks:
+        line("", desk.text())
     y += 8
     line("url(#freed)", "freed, or carved from a gap before a page:")
     listed = freed_by_class(survey)

@@ -9,6 +9,10 @@ PAGE_CLASS = 8
 WORK_UNIT = 128
 KINDS = ["empty", "inline", "slab", "pages"]
 LIST_TOO_SHORT = 34
+FREE_HEADS, DESKS = 9, 16
+COUNT_WORDS = 1 + 3 * DESKS
+STATE_WORDS = 1 + FREE_HEADS + COUNT_WORDS
+NO_CEILING = 2 ** 64 - 1
 
 
 class Wrong(Exception):
@@ -31,16 +35,35 @@ class Place:
 
 
 class Fault:
-    """The first fault that a check met: a key's or a class's, which of them, and what is wrong in words."""
+    """The first fault that a check met: a key's, a class's or a desk's, which of them, and what is wrong in words."""
 
     OF_KEYS = {1: "key {} isn't sound", 2: "a block of key {} shares bytes with another in use"}
     OF_CLASSES = {3: "the free list of class {} names an offset where no such block can stand",
                   4: "a freed block of class {} shares bytes with another, in use or freed, or its list doesn't end"}
+    OF_COUNTS = {5: "more pages are counted than the body has", 6: "freed pages are counted as other than their list has",
+                 7: "the pages of desk {} are counted as other than its keys have", 8: "desk {} holds more pages than its ceiling",
+                 9: "the reserve of desk {} is above its ceiling", 10: "desks lack more pages of their reserves than are to be had"}
 
     def __init__(self, ground, which):
         self.key = which if ground in self.OF_KEYS else None
         self.class_ = which if ground in self.OF_CLASSES else None
-        self.text = (self.OF_KEYS | self.OF_CLASSES)[ground].format(which)
+        self.text = (self.OF_KEYS | self.OF_CLASSES | self.OF_COUNTS)[ground].format(which)
+
+
+class Desk:
+    """A desk: its number, the pages that it holds, its reserve and its ceiling."""
+
+    def __init__(self, number, held, reserve, ceiling):
+        self.number, self.held, self.reserve, self.ceiling = number, held, reserve, ceiling
+        self.letter = "ABCDEFGHIJKLMNOP"[number]
+
+    def limited(self):
+        return self.reserve != 0 or self.ceiling != NO_CEILING
+
+    def text(self):
+        """The desk in words."""
+        most = "no ceiling" if self.ceiling == NO_CEILING else f"ceiling {self.ceiling:,}"
+        return f"{self.letter}: desk {self.number}, pages {self.held:,}, reserve {self.reserve:,}, {most}"
 
 
 class Library:
@@ -78,19 +101,26 @@ def lent(kind, values):
     return (kind * len(values))(*values)
 
 
-class Book:
-    """A book: a body, its head words, and its state of ten words."""
+def without_desks(mark, free, freed=0, held=0):
+    """The words of the state of a book without desks, which has so many freed pages, and so many that hold lists."""
+    return [mark, *free, freed, held] + [0] * (2 * DESKS - 1) + [NO_CEILING] * DESKS
 
-    def __init__(self, library, body, heads, state):
+
+class Book:
+    """A book: a body, its head words, its state of 59 words, and the desk of each key, 0 where none are told."""
+
+    def __init__(self, library, body, heads, state, desks=None):
         self.library = library
         self.body = (c_uint8 * len(body)).from_buffer_copy(body) if body else (c_uint8 * 0)()
         self.heads, self.state = lent(c_uint64, heads), lent(c_uint64, state)
+        self.desks = lent(c_uint8, [0] * len(heads) if desks is None else desks)
 
     @classmethod
-    def fresh(cls, library, size, keys):
-        """A fresh book over a body of so many bytes."""
-        book = cls(library, bytes(size), [0] * keys, [0] * 10)
-        library.call("book_fresh", *book.lent_body(), *book.lent_heads(), *book.lent_state())
+    def fresh(cls, library, size, keys, desks=None, reserve=(), ceiling=()):
+        """A fresh book over a body of so many bytes. The limits are those of the first desks; other desks have no reserve and no ceiling."""
+        book = cls(library, bytes(size), [0] * keys, [0] * STATE_WORDS, desks)
+        limits = [[*given] + [no] * (DESKS - len(given)) for given, no in ((reserve, 0), (ceiling, NO_CEILING))]
+        library.call("book_fresh", *book.lent_book(), *(lent(c_uint64, limit) for limit in limits))
         return book
 
     def lent_body(self):
@@ -99,39 +129,59 @@ class Book:
     def lent_heads(self):
         return self.heads, c_size_t(len(self.heads))
 
+    def lent_desks(self):
+        return self.desks, c_size_t(len(self.desks))
+
     def lent_state(self):
-        return self.state, self.free_heads()
+        return self.state, self.free_heads(), self.counts()
+
+    def lent_book(self):
+        return *self.lent_body(), *self.lent_heads(), *self.lent_state(), *self.lent_desks()
 
     def free_heads(self):
         """The state's words behind the mark, as they are lent."""
         return byref(self.state, sizeof(c_uint64))
+
+    def counts(self):
+        """The state's words behind the free heads, as they are lent."""
+        return byref(self.state, (1 + FREE_HEADS) * sizeof(c_uint64))
+
+    def desk(self, number):
+        """A desk, by the counts."""
+        at = 2 + FREE_HEADS + number
+        return Desk(number, *(self.state[at + part * DESKS] for part in range(3)))
+
+    def has_desks(self):
+        """Whether the book is one with desks: a key of another desk than 0, or a limit."""
+        return any(self.desks) or any(self.desk(number).limited() for number in range(DESKS))
 
     def mark(self):
         return self.state[0]
 
     def load(self, key, numbers, tight=False):
         pages = c_uint64()
-        self.library.call("book_load_tight" if tight else "book_load", *self.lent_body(), *self.lent_heads(), *self.lent_state(), c_uint64(key), lent(c_uint64, numbers), c_size_t(len(numbers)), byref(pages))
+        self.library.call("book_load_tight" if tight else "book_load", *self.lent_book(), c_uint64(key), lent(c_uint64, numbers), c_size_t(len(numbers)), byref(pages))
         return pages.value
 
     def append(self, key, number):
         kind, class_, used, place, rewritten = c_uint8(), c_uint8(), c_uint16(), c_uint64(), c_uint64()
-        self.library.call("book_append", *self.lent_body(), *self.lent_heads(), *self.lent_state(), c_uint64(key), c_uint64(number),
+        self.library.call("book_append", *self.lent_book(), c_uint64(key), c_uint64(number),
                           byref(kind), byref(class_), byref(used), byref(place), byref(rewritten))
         return Place(kind.value, class_.value, used.value, place.value), rewritten.value
 
     def drop(self, key):
         length = c_uint64()
-        self.library.call("book_drop", *self.lent_body(), *self.lent_heads(), *self.lent_state(), c_uint64(key), byref(length))
+        self.library.call("book_drop", *self.lent_book(), c_uint64(key), byref(length))
         return length.value
 
     def read(self, key):
-        """The key's list, read into a lent list that is long enough, and how many of its numbers are padded."""
+        """The key's list, read into a lent list that is long enough, and how many of its numbers are padded. It is read by the core: counts and desks
+        don't concern a list."""
         room = 1024
         while True:
             out, length, pages, padded = (c_uint64 * room)(), c_uint64(), c_uint64(), c_uint64()
             try:
-                self.library.call("book_read", *self.lent_body(), *self.lent_heads(), c_uint64(self.mark()), c_uint64(key), out, c_size_t(room),
+                self.library.call("core_read", *self.lent_body(), *self.lent_heads(), c_uint64(self.mark()), c_uint64(key), out, c_size_t(room),
                                   byref(length), byref(pages), byref(padded))
                 return list(out[:length.value]), padded.value
             except Refused as refused:
@@ -167,14 +217,14 @@ class Book:
     def check(self):
         """The first fault that a check meets, or none of a good start, and how many units of 16 bytes belong to nobody. A book out of shape is refused."""
         work, ground, which, lost = (c_uint8 * (len(self.body) // WORK_UNIT))(), c_uint32(), c_uint64(), c_uint64()
-        self.library.call("book_check", *self.lent_body(), *self.lent_heads(), c_uint64(self.mark()), self.free_heads(), work, c_size_t(len(work)),
+        self.library.call("book_check", *self.lent_body(), *self.lent_heads(), c_uint64(self.mark()), self.free_heads(), self.counts(), *self.lent_desks(), work, c_size_t(len(work)),
                           byref(ground), byref(which), byref(lost))
         return (Fault(ground.value, which.value) if ground.value else None), lost.value
 
     def freed(self, class_):
         """The offsets of a class's freed blocks, the first first, and in words why the list doesn't end as it should, or nothing. Blocks are popped
         from a copy of the heads."""
-        heads = lent(c_uint64, self.state[1:])
+        heads = lent(c_uint64, self.state[1:1 + FREE_HEADS])
         offsets, off = {}, c_uint64()
         while True:
             try:

@@ -15,12 +15,12 @@ class Row:
         self.text, self.key, self.bad = text, key, bad
 
 
-def key_row(key, marked):
+def key_row(survey, key, marked):
     """The rows of one key; one that the check names says so."""
     named = ", the first fault" if marked else ""
     if key.refusal:
-        return [Row(f"key {key.index}: a read is refused with {key.refusal}{named}", bad=True), Row(f"its head word: {key.text}")]
-    return [Row(f"key {key.index}: {key.text}{named}", key.index if key.blocks else None, marked)]
+        return [Row(f"{survey.named(key.index)}: a read is refused with {key.refusal}{named}", bad=True), Row(f"its head word: {key.text}")]
+    return [Row(f"{survey.named(key.index)}: {key.text}{named}", key.index if key.blocks else None, marked)]
 
 
 def numbers_of(keys):
@@ -40,15 +40,15 @@ def key_rows(survey):
     each kind; a key with a fault has its own."""
     named = survey.fault.key if survey.fault else None
     if len(survey.keys) <= MOST_ROWS:
-        return [row for key in survey.keys for row in key_row(key, key.index == named)]
+        return [row for key in survey.keys for row in key_row(survey, key, key.index == named)]
     apart = [key for key in survey.keys if key.refusal or key.index == named]
     others = [key for key in survey.keys if not key.refusal and key.index != named]
     runs = [[*run] for _, run in groupby(others, lambda key: key.kind)]
-    rows = [row for key in apart[:MOST_ROWS] for row in key_row(key, key.index == named)]
+    rows = [row for key in apart[:MOST_ROWS] for row in key_row(survey, key, key.index == named)]
     if len(apart) > MOST_ROWS:
         rows.append(Row(f"and {len(apart) - MOST_ROWS:,} more keys whose reads are refused", bad=True))
     if len(runs) <= MOST_ROWS:
-        return rows + [row for run in runs for row in ([folded(run)] if len(run) > 1 else key_row(run[0], False))]
+        return rows + [row for run in runs for row in ([folded(run)] if len(run) > 1 else key_row(survey, run[0], False))]
     return rows + [Row(line) for line in by_kind(others)]
 
 
@@ -84,5 +84,6 @@ def summary(survey):
     yield from (f"  {line}" for line in by_kind(survey.keys))
     yield f"in use: {plural(pages, 'page')} and {plural(len(used) - pages, 'slab')}, {sum(block.length for block in used):,} bytes"
     yield f"freed: {', '.join(freed_by_class(survey))}; {sum(block.length for block in survey.freed):,} bytes"
+    yield from (desk.text() for desk in survey.desks)
     yield f"below the mark and nobody's: {nobody:,} bytes; past the mark: {survey.size - survey.mark:,} bytes"
     yield from faults(survey) or [survey.verdict()]

@@ -1,5 +1,5 @@
 """What a book has in its body: each block with its owner, as the library reads it."""
-from library import PAGE_BYTES, PAGE_CLASS, Refused
+from library import DESKS, PAGE_BYTES, PAGE_CLASS, Refused
 
 
 class Block:
@@ -21,11 +21,17 @@ class Key:
 class Survey:
     """A book as it is drawn."""
 
-    def __init__(self, size, mark, keys, freed, broken, fault, lost):
+    def __init__(self, size, mark, keys, freed, broken, fault, lost, desks, letters):
         self.size, self.mark, self.keys, self.freed = size, mark, keys, freed
         self.broken = broken  # classes whose free list doesn't end as it should, with why
         self.fault = fault  # the first that a check meets, or none
         self.lost = lost  # of a good start, how many units of 16 bytes belong to nobody, as the check tells
+        self.desks = desks  # of a book with desks, those that have keys, pages or limits
+        self.letters = letters  # of such a book, the letter of each key's desk
+
+    def named(self, key):
+        """A key's name, with its desk's letter where the book has desks."""
+        return f"key {key} {self.letters[key]}" if self.letters else f"key {key}"
 
     def verdict(self):
         """What the check says, in words."""
@@ -109,4 +115,7 @@ def survey(book):
         if why:
             broken[class_] = why
     keys = [key_of(book, index) for index in range(len(book.heads))]
-    return Survey(len(book.body), book.mark(), keys, freed, broken, fault, lost)
+    desks = [book.desk(number) for number in range(DESKS)] if book.has_desks() else []
+    letters = [desks[number].letter for number in book.desks] if desks else []
+    shown = [desk for desk in desks if desk.held or desk.limited() or desk.number in book.desks]
+    return Survey(len(book.body), book.mark(), keys, freed, broken, fault, lost, shown, letters)

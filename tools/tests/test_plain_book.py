@@ -7,8 +7,8 @@ from copy import deepcopy
 from paths import ROOT
 import book_run
 import book_shell
-from plain_book import MOST_BODY, SLABS_END, Book, cutting, loads_to, padding, stream_len, total_told
-from sizes import Refused, by_bytes, form_len, with_slack
+from plain_book import DESKS, MOST_BODY, MOST_WORD, SLABS_END, Book, cutting, loads_to, made, padding, pages_of, stream_len, total_told
+from sizes import PAGE, Refused, by_bytes, form_len, with_slack
 
 
 def ones(count, first=1):
@@ -16,7 +16,9 @@ def ones(count, first=1):
     return list(range(first, first + count))
 
 
-class TestPlainBook(unittest.TestCase):
+class Refusing(unittest.TestCase):
+    """Tests of a book, which may refuse."""
+
     def refused(self, number, call, *words):
         """A call is refused with a number, and changes nothing."""
         before = deepcopy(vars(self.book))
@@ -25,6 +27,8 @@ class TestPlainBook(unittest.TestCase):
         self.assertEqual(caught.exception.args, (number,))
         self.assertEqual(before, vars(self.book))
 
+
+class TestPlainBook(Refusing):
     def setUp(self):
         self.book = Book(65536, 4)
 
@@ -166,11 +170,12 @@ class TestPlainBook(unittest.TestCase):
         self.book.stacks[8].append(SLABS_END)
         self.book.load_tight(2, [5])
         self.refused(36, self.book.append, 2, 6)
-        self.assertEqual(self.book.take(8), SLABS_END)
+        self.assertEqual(self.book.take(0, 8), SLABS_END)
 
     def hold(self, place, ns, stored):
         """Key 0 as another program left it: so many bytes in each form."""
         self.book.lists[0], self.book.places[0], self.book.padded[0] = ns, place, padding(ns, stored)
+        self.book.held[0] = pages_of(place)
 
     def test_padded_forms(self):
         self.assertEqual(padding([1, 3], [2, 1]), {1: 1})
@@ -226,6 +231,163 @@ class TestPlainBook(unittest.TestCase):
         self.assertEqual(stream_len([5, 300, 301]), 4)
         self.assertEqual([by_bytes(n) for n in (0, 1, 16, 17, 2048, 2049)], [None, 0, 0, 1, 7, None])
         self.assertEqual([with_slack(n) for n in (1, 3, 4, 255, 256, 257)], [0, 0, 1, 6, 6, None])
+
+
+def of_desks(others, **some):
+    """A value for each desk: those of some, named d0 to d15, and one for the others."""
+    return [some.get(f"d{desk}", others) for desk in range(DESKS)]
+
+
+def reserves(**some):
+    return of_desks(0, **some)
+
+
+def ceilings(**some):
+    return of_desks(MOST_WORD, **some)
+
+
+class TestDesks(Refusing):
+    """Desks, for each point that the requests leave open by its smallest input; offsets in pages."""
+
+    def begin(self, pages, mark=1, reserve=None, ceiling=None, desks=(0, 0)):
+        """A book of two keys without limits but those given."""
+        self.book = Book(pages * PAGE, len(desks), desks, reserve, ceiling)
+        self.book.mark = int(mark * PAGE)
+
+    def full(self, pages, mark, **limits):
+        """One whose key 0 has 4,072 numbers on page 1."""
+        self.begin(pages, mark, **limits)
+        self.book.put(0, ones(4072), ("pages", [[PAGE, 4072, ones(4072)]]))
+
+    def inline(self, pages, mark=1, **limits):
+        """One whose key 0 holds 1."""
+        self.begin(pages, mark, **limits)
+        self.book.put(0, [1], ("inline",))
+
+    def making(self, number, pages, desks=(0,), reserve=None, ceiling=None):
+        """What a making in so many pages with one head is refused with, 0 for accepted."""
+        try:
+            book = made(pages * PAGE, 1, desks, reserve or reserves(), ceiling or ceilings())
+            self.assertEqual((book.held, book.mark, book.desks), (reserves(), PAGE, list(desks)))
+            got = 0
+        except Refused as refused:
+            got = refused.args[0]
+        self.assertEqual(got, number)
+
+    def test_every_call_is_lent_the_list(self):
+        for desks in ([], [0], [0, 0, 0], [16, 0], [0, 16], [255, 255]):
+            self.begin(2)
+            self.book.desks = desks
+            calls = ((self.book.read, 0, 9), (self.book.append, 0, 5), (self.book.load, 0, [5]), (self.book.load_tight, 0, [5]), (self.book.drop, 0))
+            for call, *words in calls:
+                self.refused(39, call, *words)
+            self.refused(39, self.book.read, 2, 9)
+        self.begin(2, desks=(15, 15))
+        self.refused(2, self.book.read, 2, 9)
+        self.assertEqual(self.book.append(0, 5), 0)
+
+    def test_makings(self):
+        self.making(0, 2)
+        self.making(1, 2, reserve=reserves(d0=3), ceiling=ceilings(d0=3))
+        self.making(39, 2, reserve=reserves(d0=2))
+        self.making(0, 2, reserve=reserves(d0=1), ceiling=ceilings(d0=1))
+        self.making(39, 2, reserve=reserves(d0=1), ceiling=ceilings(d0=0))
+        self.making(39, 2, reserve=reserves(d3=1, d4=1))
+        self.making(1, 2, reserve=reserves(d0=2**63, d1=2**63))
+        self.making(0, 9, reserve=reserves(d0=4, d9=4))
+        self.making(39, 9, reserve=reserves(d0=4, d9=5))
+        self.making(1, 1)
+
+    def test_lists_of_makings(self):
+        for desks in ((), (0, 0), (16,)):
+            self.making(39, 2, desks)
+            self.making(1, 2, desks, reserve=reserves(d0=3))
+        self.making(1, 1, ())
+
+    def test_stored_limits_are_no_ground(self):
+        self.begin(2, reserve=reserves(d0=1), ceiling=ceilings(d0=0))
+        self.assertEqual(self.book.append(0, 5), 0)
+
+    def test_a_slab_of_those_freed(self):
+        self.inline(2, 2, reserve=reserves(d1=1))
+        self.book.stacks[0] = [PAGE]
+        self.refused(41, self.book.append, 0, 2)
+        self.refused(41, self.book.load, 1, [1, 2])
+        self.book.reserve = reserves()
+        self.assertEqual(self.book.append(0, 2), 1)
+
+    def test_what_takes_nothing(self):
+        self.begin(2, 2, reserve=reserves(d1=1))
+        self.assertEqual((self.book.append(0, 1), self.book.load(1, []), self.book.load(1, [7]), self.book.drop(1)), (0, 0, 0, 1))
+        self.assertEqual(self.book.read(0, 1), ([1], 0, 0))
+        self.full(2, 2, reserve=reserves(d1=1), ceiling=ceilings(d0=0))
+        self.book.places[0][1][0][1] += 1
+        self.assertEqual((self.book.append(0, 4073), self.book.drop(0)), (0, 4073))
+
+    def test_slabs_at_the_mark(self):
+        for mark, number in ((1 + 1 / 256, 0), (2 - 1 / 256, 0), (2, 41)):
+            self.inline(3, mark, reserve=reserves(d1=1))
+            if number:
+                self.refused(number, self.book.append, 0, 2)
+            else:
+                self.assertEqual(self.book.append(0, 2), 1)
+
+    def test_slabs_are_no_pages(self):
+        self.inline(2, ceiling=ceilings(d0=0))
+        self.assertEqual((self.book.append(0, 2), self.book.held[0]), (1, 0))
+
+    def test_a_desk_above_its_reserve_lends_nothing(self):
+        self.full(3, 2, reserve=reserves(d1=1, d2=1))
+        self.book.held[1] = 2
+        self.refused(41, self.book.append, 0, 4073)
+        self.book.reserve = reserves(d1=1)
+        self.assertEqual((self.book.append(0, 4073), self.book.held[0]), (0, 2))
+
+    def test_the_takers_lack_falls(self):
+        self.full(3, 2, reserve=reserves(d0=2))
+        self.assertEqual((self.book.append(0, 4073), self.book.held[0], self.book.mark), (0, 2, 3 * PAGE))
+        self.full(3, 2, reserve=reserves(d0=2, d1=1))
+        self.refused(41, self.book.append, 0, 4073)
+
+    def test_pages_of_a_drop(self):
+        self.full(4, 2, desks=(5, 0))
+        self.book.append(0, 4073)
+        self.assertEqual((self.book.held[5], self.book.drop(0), self.book.held, self.book.stacks[8]), (2, 4073, reserves(), [PAGE, 2 * PAGE]))
+
+    def test_runs(self):
+        for reserve, number in ((reserves(), 0), (reserves(d1=1), 0), (reserves(d1=2), 41), (reserves(d0=2, d1=1), 0)):
+            self.begin(5, 1 + 1 / 256, reserve=reserve, ceiling=ceilings(d0=2))
+            self.refused(40, self.book.load, 0, ones(9000))
+            if number:
+                self.refused(number, self.book.load, 0, ones(8000))
+            else:
+                self.assertEqual((self.book.load(0, ones(8000)), self.book.held[0], self.book.mark), (2, 2, 4 * PAGE))
+
+    def test_spare_and_tight_loads(self):
+        self.begin(3, 2 - 1 / 256, reserve=reserves(d1=1))
+        self.refused(41, self.book.load, 0, ones(4))
+        self.assertEqual(self.book.load_tight(0, ones(4)), 0)
+
+    def test_order(self):
+        limits = {"ceiling": ceilings(d0=1), "reserve": reserves(d1=1)}
+        self.full(3, 3, **limits)
+        self.refused(36, self.book.append, 0, 4073)
+        self.book.stacks[8] = [2 * PAGE]
+        self.refused(40, self.book.append, 0, 4073)
+        self.book.ceiling = ceilings(d0=2)
+        self.refused(41, self.book.append, 0, 4073)
+        self.book.reserve = reserves()
+        self.assertEqual(self.book.append(0, 4073), 0)
+        self.begin(3, **limits)
+        self.refused(36, self.book.load, 0, ones(9000))
+        self.refused(40, self.book.load, 0, ones(8000))
+
+    def test_a_reserve_is_kept(self):
+        self.book = made(5 * PAGE, 2, [0, 1], reserves(d1=2), ceilings(d1=2))
+        self.book.load_tight(1, ones(256))
+        self.refused(41, self.book.load, 0, ones(4073))
+        self.assertEqual((self.book.load(0, ones(4072)), self.book.append(1, 257)), (1, 256))
+        self.assertEqual((self.book.held[:3], self.book.places[1][1][0][0]), ([1, 1, 0], 3 * PAGE))
 
 
 class TestPrograms(unittest.TestCase):

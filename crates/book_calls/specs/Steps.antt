@@ -59,10 +59,10 @@ readLen (Listed count pages padded) = 5 + count
 readLen (NotRead number) = 1
 
 -- A call was done on a book: it is the book after it, and the answer's words were written.
-pub record Done (b : Book) (c : SpelledCall) (out : List ℕ) (after : Book) (written : List ℕ) (len : ℕ) : Type 0 where
-  pub left : after ≡ bookAfter b (doesSpelled b c)
-  pub said : Answered (answerOf (doesSpelled b c)) out written len
-  pub short : length (spellAnswer (answerOf (doesSpelled b c))) ≤ answerRoom c
+pub record Done (ds : List ℕ) (b : Book) (c : SpelledCall) (out : List ℕ) (after : Book) (written : List ℕ) (len : ℕ) : Type 0 where
+  pub left : after ≡ bookAfter b (doesSpelled ds b c)
+  pub said : Answered (answerOf (doesSpelled ds b c)) out written len
+  pub short : length (spellAnswer (answerOf (doesSpelled ds b c))) ≤ answerRoom c
 
 -- A call begins at an index of some words, and its answer has room.
 pub record CallHere (calls : List ℕ) (at room : ℕ) : Type 0 where
@@ -78,7 +78,7 @@ pub record Spelled (calls : List ℕ) (room : ℕ) : Type 0 where
   pub fits : answersRoom list ≤ room
 
 -- A list of calls was done on a book, and the words of the answers were written.
-pub record AllDone (b : Book) (cs : List SpelledCall) (out : List ℕ) (left : Book) (written : List ℕ) (len : ℕ) : Type 0 where
-  pub left-is : left ≡ afterSpelled b cs
-  pub words : written ≡ overwrite out 0 (spellAnswers (answersSpelled b cs))
-  pub count : len ≡ length (spellAnswers (answersSpelled b cs))
+pub record AllDone (ds : List ℕ) (b : Book) (cs : List SpelledCall) (out : List ℕ) (left : Book) (written : List ℕ) (len : ℕ) : Type 0 where
+  pub left-is : left ≡ afterSpelled ds b cs
+  pub words : written ≡ overwrite out 0 (spellAnswers (answersSpelled ds b cs))
+  pub count : len ≡ length (spellAnswers (answersSpelled ds b cs))

@@ -5,6 +5,7 @@ ghost use Prim.Native.Nat.{ℕ, _+_, _≤_};
 ghost use mathlib.Core.Option.{some};
 ghost use lib.ListN.{length, drop};
 ghost use Rattle.error.specs.Refusal.{answered};
+ghost use Rattle.book_desks.specs.Desks.{deskOf};
 ghost use Rattle.book_words.specs.Spelled as Calls;
 ghost use Rattle.book_words.specs.Spelled.{SpelledCall, listed};
 ghost use Rattle.book_read.specs.Reads.{reads};
@@ -24,68 +25,87 @@ use crate::words::is_load;
 use crate::words::next_call;
 use book_rules::SlabFit;
 
-// Loads a list onto a key.
+// The desk that a list names for a key; 0 past its end.
+fn desk_of(desks: &[u8], key: u64) -> u64
+    ensures { λ r. ⌜ r ≡ deskOf (now (desks .entry)) key ⌝ }
+{
+    if desks.len() as u64 <= key {
+        return 0;
+    }
+    desks[key as usize] as u64
+}
+
+// Loads a list onto a key, for its desk.
 fn run_load(
     body: &mut [u8],
     heads: &mut [u64],
     mark: &mut u64,
     free: &mut [u64; 9],
+    counts: &mut [u64; 49],
+    desks: &[u8],
     fit: SlabFit,
     key: u64,
     numbers: &[u64],
     out: &mut [u64],
 ) -> usize
     requires { ⌜ 3 ≤ length (now out) ⌝ }
-    ensures { λ r. ⌜ Done (bookOf (now (body .entry)) (now (heads .entry)) (now (mark .entry)) (now (free .entry)))
+    ensures { λ r. ⌜ Done (now (desks .entry)) (bookOf (now (body .entry)) (now (heads .entry)) (now (mark .entry)) (now (free .entry)) (now (counts .entry)))
         (Calls.load fit key (now (numbers .entry))) (now (out .entry))
-        (bookOf (now (body .exit)) (now (heads .exit)) (now (mark .exit)) (now (free .exit))) (now (out .exit)) r ⌝ }
+        (bookOf (now (body .exit)) (now (heads .exit)) (now (mark .exit)) (now (free .exit)) (now (counts .exit))) (now (out .exit)) r ⌝ }
 {
-    let answer = book_load::load(body, heads, mark, free, fit, key, numbers);
+    let desk = desk_of(desks, key);
+    let answer = book_load::load(body, heads, mark, free, counts, desk, fit, key, numbers);
     put_load(out, answer)
 }
 
-// Appends a number to a key.
+// Appends a number to a key, for its desk.
 fn run_append(
     body: &mut [u8],
     heads: &mut [u64],
     mark: &mut u64,
     free: &mut [u64; 9],
+    counts: &mut [u64; 49],
+    desks: &[u8],
     key: u64,
     n: u64,
     out: &mut [u64],
 ) -> usize
     requires { ⌜ 7 ≤ length (now out) ⌝ }
-    ensures { λ r. ⌜ Done (bookOf (now (body .entry)) (now (heads .entry)) (now (mark .entry)) (now (free .entry)))
+    ensures { λ r. ⌜ Done (now (desks .entry)) (bookOf (now (body .entry)) (now (heads .entry)) (now (mark .entry)) (now (free .entry)) (now (counts .entry)))
         (Calls.append key n) (now (out .entry))
-        (bookOf (now (body .exit)) (now (heads .exit)) (now (mark .exit)) (now (free .exit))) (now (out .exit)) r ⌝ }
+        (bookOf (now (body .exit)) (now (heads .exit)) (now (mark .exit)) (now (free .exit)) (now (counts .exit))) (now (out .exit)) r ⌝ }
 {
-    let answer = book_append::append(body, heads, mark, free, key, n);
+    let desk = desk_of(desks, key);
+    let answer = book_append::append(body, heads, mark, free, counts, desk, key, n);
     put_append(out, answer)
 }
 
-// Drops a key.
+// Drops a key, for its desk.
 fn run_drop(
     body: &mut [u8],
     heads: &mut [u64],
     mark: &mut u64,
     free: &mut [u64; 9],
+    counts: &mut [u64; 49],
+    desks: &[u8],
     key: u64,
     out: &mut [u64],
 ) -> usize
     requires { ⌜ 3 ≤ length (now out) ⌝ }
-    ensures { λ r. ⌜ Done (bookOf (now (body .entry)) (now (heads .entry)) (now (mark .entry)) (now (free .entry)))
+    ensures { λ r. ⌜ Done (now (desks .entry)) (bookOf (now (body .entry)) (now (heads .entry)) (now (mark .entry)) (now (free .entry)) (now (counts .entry)))
         (Calls.drop key) (now (out .entry))
-        (bookOf (now (body .exit)) (now (heads .exit)) (now (mark .exit)) (now (free .exit))) (now (out .exit)) r ⌝ }
+        (bookOf (now (body .exit)) (now (heads .exit)) (now (mark .exit)) (now (free .exit)) (now (counts .exit))) (now (out .exit)) r ⌝ }
 {
-    let answer = book_drop::drop(body, heads, mark, free, key);
+    let desk = desk_of(desks, key);
+    let answer = book_drop::drop(body, heads, mark, free, counts, desk, key);
     put_drop(out, answer)
 }
 
 // Reads a key: its list goes behind the four words of the answer, with the room that was asked for.
 fn run_read(body: &[u8], heads: &[u64], mark: u64, key: u64, room: usize, out: &mut [u64]) -> usize
     requires { ⌜ 5 + room ≤ length (now out) ⌝ }
-    ensures { λ r. ⌜ ((free : List ℕ)
-        → Answered (answered listed (reads (bookOf (now (body .entry)) (now (heads .entry)) mark free) key room)) (now (out .entry))
+    ensures { λ r. ⌜ ((free counts : List ℕ)
+        → Answered (answered listed (reads (bookOf (now (body .entry)) (now (heads .entry)) mark free counts) key room)) (now (out .entry))
         (now (out .exit)) r) ⌝ }
 {
     let end = 5 + room;
@@ -99,14 +119,16 @@ fn run_call(
     heads: &mut [u64],
     mark: &mut u64,
     free: &mut [u64; 9],
+    counts: &mut [u64; 49],
+    desks: &[u8],
     calls: &[u64],
     at: usize,
     out: &mut [u64],
 ) -> usize
     requires { ⌜ CallHere (now calls) at (length (now out)) ⌝ }
     ensures { λ r. ⌜ ((b : Begins SpelledCall) → callAt (drop at (now (calls .entry))) ≡ some b
-        → Done (bookOf (now (body .entry)) (now (heads .entry)) (now (mark .entry)) (now (free .entry))) (b .first) (now (out .entry))
-        (bookOf (now (body .exit)) (now (heads .exit)) (now (mark .exit)) (now (free .exit))) (now (out .exit)) r) ⌝ }
+        → Done (now (desks .entry)) (bookOf (now (body .entry)) (now (heads .entry)) (now (mark .entry)) (now (free .entry)) (now (counts .entry))) (b .first) (now (out .entry))
+        (bookOf (now (body .exit)) (now (heads .exit)) (now (mark .exit)) (now (free .exit)) (now (counts .exit))) (now (out .exit)) r) ⌝ }
 {
     let kind = calls[at];
     let key = calls[at + 1];
@@ -115,15 +137,26 @@ fn run_call(
         let fit = fit_of(kind);
         let from = at + 3;
         let end = from + third as usize;
-        return run_load(body, heads, mark, free, fit, key, &calls[from..end], out);
+        return run_load(
+            body,
+            heads,
+            mark,
+            free,
+            counts,
+            desks,
+            fit,
+            key,
+            &calls[from..end],
+            out,
+        );
     }
     if kind == APPEND {
-        return run_append(body, heads, mark, free, key, third, out);
+        return run_append(body, heads, mark, free, counts, desks, key, third, out);
     }
     if kind == READ {
         return run_read(body, heads, *mark, key, third as usize, out);
     }
-    run_drop(body, heads, mark, free, key, out)
+    run_drop(body, heads, mark, free, counts, desks, key, out)
 }
 
 // Runs all calls that some words spell, whose answers have room, and tells how many words these have.
@@ -132,13 +165,15 @@ pub fn run_spelled(
     heads: &mut [u64],
     mark: &mut u64,
     free: &mut [u64; 9],
+    counts: &mut [u64; 49],
+    desks: &[u8],
     calls: &[u64],
     out: &mut [u64],
 ) -> usize
     requires { ⌜ Spelled (now calls) (length (now out)) ⌝ }
     ensures { λ r. ⌜ ((cs : List SpelledCall) → callsOf (now (calls .entry)) ≡ some cs
-        → AllDone (bookOf (now (body .entry)) (now (heads .entry)) (now (mark .entry)) (now (free .entry))) cs (now (out .entry))
-        (bookOf (now (body .exit)) (now (heads .exit)) (now (mark .exit)) (now (free .exit))) (now (out .exit)) r) ⌝ }
+        → AllDone (now (desks .entry)) (bookOf (now (body .entry)) (now (heads .entry)) (now (mark .entry)) (now (free .entry)) (now (counts .entry))) cs (now (out .entry))
+        (bookOf (now (body .exit)) (now (heads .exit)) (now (mark .exit)) (now (free .exit)) (now (counts .exit))) (now (out .exit)) r) ⌝ }
 {
     let mut at: usize = 0;
     let mut to: usize = 0;
@@ -147,7 +182,17 @@ pub fn run_spelled(
         let NextCall::At(behind) = next else {
             return to;
         };
-        to += run_call(body, heads, mark, free, calls, at, &mut out[to..]);
+        to += run_call(
+            body,
+            heads,
+            mark,
+            free,
+            counts,
+            desks,
+            calls,
+            at,
+            &mut out[to..],
+        );
         at = behind;
     }
     to

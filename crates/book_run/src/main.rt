@@ -1,6 +1,6 @@
 // Runs whole lists of calls by `run_calls`, whose answers are proved to be the plain book's. Each line of standard input is a list: the
 // bytes of the body, the heads, the room for answers, and the words of the calls (`book_words` spells them). Writes the words of the
-// answers; a line that isn't numbers is a title, and is written.
+// answers; a line that isn't numbers is a title, and is written. All keys are desk 0's.
 ghost use mathlib.Core.Path.{_≡_};
 ghost use lib.ListN.{length};
 use book_calls::RunCalls;
@@ -50,15 +50,25 @@ fn show(answer: RunCalls, answers: &[u64]) {
 }
 
 // Runs the calls of some words.
-fn run(body: &mut [u8], heads: &mut [u64], calls: &[u64], answers: &mut [u64]) {
+fn run(body: &mut [u8], heads: &mut [u64], desks: &[u8], calls: &[u64], answers: &mut [u64]) {
     let mut mark: u64 = 0;
     let mut free = [0u64; 9];
-    let answer = book_calls::run_calls(body, heads, &mut mark, &mut free, calls, answers);
+    let mut counts = [0u64; 49];
+    let answer = book_calls::run_calls(
+        body,
+        heads,
+        &mut mark,
+        &mut free,
+        &mut counts,
+        desks,
+        calls,
+        answers,
+    );
     show(answer, answers);
 }
 
 // Runs a list within lent memory, as far as it reaches.
-fn run_in(list: &[u64], body: &mut [u8], heads: &mut [u64], answers: &mut [u64]) {
+fn run_in(list: &[u64], body: &mut [u8], heads: &mut [u64], desks: &[u8], answers: &mut [u64]) {
     if list.len() < 3 {
         return;
     }
@@ -71,12 +81,16 @@ fn run_in(list: &[u64], body: &mut [u8], heads: &mut [u64], answers: &mut [u64])
     if heads.len() < keys {
         return;
     }
+    if desks.len() < keys {
+        return;
+    }
     if answers.len() < room {
         return;
     }
     run(
         &mut body[0..size],
         &mut heads[0..keys],
+        &desks[0..keys],
         &list[3..],
         &mut answers[0..room],
     );
@@ -86,8 +100,9 @@ fn run_in(list: &[u64], body: &mut [u8], heads: &mut [u64], answers: &mut [u64])
 fn run_list(list: &[u64]) {
     let mut body = body_bytes();
     let mut heads = [7u64; HEADS];
+    let desks = [0u8; HEADS];
     let mut answers = words();
-    run_in(list, &mut body, &mut heads, &mut answers);
+    run_in(list, &mut body, &mut heads, &desks, &mut answers);
 }
 
 // Runs the list of a line, whose words are read into lent room.

@@ -8,6 +8,9 @@ use decimal::Numbers;
 pub enum Command {
     Body,
     Keys,
+    Desk,
+    Reserve,
+    Ceiling,
     Load,
     LoadTight,
     Append,
@@ -55,6 +58,26 @@ fn unread() -> Asked {
     }
 }
 
+// What a word asks for that makes a book.
+fn making(word: &[u8]) -> Command {
+    if check::same(word, b"body") {
+        return Command::Body;
+    }
+    if check::same(word, b"keys") {
+        return Command::Keys;
+    }
+    if check::same(word, b"desk") {
+        return Command::Desk;
+    }
+    if check::same(word, b"reserve") {
+        return Command::Reserve;
+    }
+    if check::same(word, b"ceiling") {
+        return Command::Ceiling;
+    }
+    Command::Nothing
+}
+
 // What a word asks for that isn't a call.
 fn question(word: &[u8]) -> Command {
     if check::same(word, b"places") {
@@ -69,13 +92,7 @@ fn question(word: &[u8]) -> Command {
     if check::same(word, b"help") {
         return Command::Help;
     }
-    if check::same(word, b"body") {
-        return Command::Body;
-    }
-    if check::same(word, b"keys") {
-        return Command::Keys;
-    }
-    Command::Nothing
+    making(word)
 }
 
 // What a word asks for.
@@ -102,7 +119,7 @@ fn command_of(word: &[u8]) -> Command {
 fn fewest(command: Command) -> usize {
     match command {
         Command::Places | Command::Space | Command::Check | Command::Help => 0,
-        Command::Append => 2,
+        Command::Append | Command::Desk | Command::Reserve | Command::Ceiling => 2,
         Command::Nothing => usize::MAX,
         _ => 1,
     }
@@ -113,8 +130,21 @@ fn most(command: Command) -> usize {
     match command {
         Command::Places | Command::Space | Command::Check | Command::Help => 0,
         Command::Append | Command::Read => 2,
+        Command::Desk | Command::Reserve | Command::Ceiling => 2,
         Command::Load | Command::LoadTight => usize::MAX,
         _ => 1,
+    }
+}
+
+// The form of a line that tells of desks, or all words that there are.
+fn form_of_desks(command: Command) {
+    match command {
+        Command::Desk => text::words(b"desk KEY DESK"),
+        Command::Reserve => text::words(b"reserve DESK PAGES"),
+        Command::Ceiling => text::words(b"ceiling DESK PAGES"),
+        _ => text::words(
+            b"body, desk, reserve, ceiling, keys, load, load-tight, append, read, drop, places, space, check or help",
+        ),
     }
 }
 
@@ -127,9 +157,7 @@ fn form_of_book(command: Command) {
         Command::Space => text::words(b"space alone"),
         Command::Check => text::words(b"check alone"),
         Command::Help => text::words(b"help alone"),
-        _ => text::words(
-            b"body, keys, load, load-tight, append, read, drop, places, space, check or help",
-        ),
+        _ => form_of_desks(command),
     }
 }
 
@@ -161,6 +189,29 @@ fn within(number: u64, n: u64, limit: usize, what: &[u8]) -> bool {
     true
 }
 
+// The number of a desk is within the limit.
+fn desk_within(number: u64, desk: u64) -> bool {
+    within(
+        number,
+        desk,
+        reports::DESKS - 1,
+        b"too high a number for a desk",
+    )
+}
+
+// A key and its desk are within the limits.
+fn desk_allowed(number: u64, key: u64, desk: u64) -> bool {
+    if within(
+        number,
+        key,
+        reports::KEYS - 1,
+        b"too high a number for a key",
+    ) {
+        return desk_within(number, desk);
+    }
+    false
+}
+
 // What is asked for is within the limits.
 fn allowed(asked: Asked, room: usize) -> bool {
     let number = asked.number;
@@ -173,6 +224,8 @@ fn allowed(asked: Asked, room: usize) -> bool {
             b"too many bytes for a body",
         ),
         Command::Keys => within(number, asked.first, reports::KEYS, b"too many keys"),
+        Command::Desk => desk_allowed(number, asked.first, asked.second),
+        Command::Reserve | Command::Ceiling => desk_within(number, asked.first),
         Command::Read => within(number, asked.second, room, b"too much room"),
         _ => true,
     }

@@ -19,6 +19,19 @@ fn of_book() {
     );
 }
 
+// Writes the lines that tell of desks.
+fn of_desks() {
+    text::words(
+        b"desk KEY DESK: between body and keys, gives an account to a desk, from 0 to 15; to desk 0 where no line does\n",
+    );
+    text::words(
+        b"reserve DESK PAGES: between body and keys, keeps pages for a desk; none where no line does\n",
+    );
+    text::words(
+        b"ceiling DESK PAGES: between body and keys, the most pages that a desk gets; all where no line does\n",
+    );
+}
+
 // Writes the lines that change an account.
 fn of_changes() {
     text::words(
@@ -46,6 +59,7 @@ fn of_looks() {
 // Writes the lines that there are, and the limits.
 pub fn help() {
     of_book();
+    of_desks();
     of_changes();
     of_looks();
     text::words(b"help: shows these lines\n");

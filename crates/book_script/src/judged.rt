@@ -43,3 +43,43 @@ pub fn free_shares(class: u64) {
         b" has a block that shares bytes with another\n",
     );
 }
+
+// Writes that a book isn't a good start, for a fault of the counts.
+fn counts_fault(words: &[u8]) {
+    text::words(b"not a good start: ");
+    text::words(words);
+}
+
+// The counts tell more pages than there are.
+pub fn counts_exceed() {
+    counts_fault(b"the counts tell of more pages than the body has behind its first\n");
+}
+
+// The count of freed pages isn't true.
+pub fn freed_differs() {
+    counts_fault(b"the count of freed pages isn't the length of their free list\n");
+}
+
+// The pages that a desk is told to hold aren't those of its keys.
+pub fn held_differs(desk: u64) {
+    fault(
+        b"desk ",
+        desk,
+        b" has a count that isn't the pages of its keys\n",
+    );
+}
+
+// A desk holds more pages than its ceiling.
+pub fn held_high(desk: u64) {
+    fault(b"desk ", desk, b" holds more pages than its ceiling\n");
+}
+
+// A desk's reserve is above its ceiling.
+pub fn reserve_high(desk: u64) {
+    fault(b"desk ", desk, b" has a reserve above its ceiling\n");
+}
+
+// The pages to be had don't cover what the desks lack.
+pub fn lacks_open() {
+    counts_fault(b"fewer pages are to be had than desks lack of their reserves\n");
+}

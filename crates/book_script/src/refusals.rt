@@ -11,13 +11,23 @@ fn of_book(number: error::Refusal) {
     }
 }
 
+// Writes what a refusal for the desks means.
+fn of_desks(number: error::Refusal) {
+    match number {
+        39 => text::words(b"the desks can't be served"),
+        40 => text::words(b"a take of pages would pass its desk's ceiling"),
+        41 => text::words(b"a take would leave fewer pages than desks lack of their reserves"),
+        _ => of_book(number),
+    }
+}
+
 // Writes what a refusal for lack of room means.
 fn of_room(number: error::Refusal) {
     match number {
         34 => text::words(b"the lent list is too short"),
         35 => text::words(b"a free head isn't a block of its class before the mark"),
         36 => text::words(b"no room: the block or run would pass the body's end"),
-        _ => of_book(number),
+        _ => of_desks(number),
     }
 }
 

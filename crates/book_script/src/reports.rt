@@ -6,6 +6,8 @@ pub const LINE_BYTES: usize = 16384;
 pub const NUMBERS: usize = 262144;
 // The keys of a book.
 pub const KEYS: usize = 65536;
+// The desks of a book.
+pub const DESKS: usize = 16;
 // The bytes of a body.
 pub const BODY_BYTES: usize = 262144;
 // The work list of a check: a byte for each 128 bytes of the largest body.
@@ -41,6 +43,12 @@ pub fn no_book(number: u64) {
 pub fn no_body(number: u64) {
     report(number);
     text::words(b"no body yet: type body BYTES first\n");
+}
+
+// Reports a line that tells of desks when the book is made.
+pub fn made_already(number: u64) {
+    report(number);
+    text::words(b"the book is made: desks are told between body BYTES and keys COUNT\n");
 }
 
 // Reports a word that isn't what was expected.

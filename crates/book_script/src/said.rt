@@ -39,6 +39,27 @@ pub fn body_made(size: u64) {
     text::words(b" bytes\n");
 }
 
+// The desk of a key was told.
+pub fn desk_told(key: u64, desk: u64) {
+    text::named(b"key ", key);
+    text::named(b" is of desk ", desk);
+    text::end();
+}
+
+// The reserve of a desk was told.
+pub fn reserve_told(desk: u64, pages: u64) {
+    text::named(b"desk ", desk);
+    text::words(b" has a reserve of ");
+    counted(pages, b" page\n", b" pages\n");
+}
+
+// The ceiling of a desk was told.
+pub fn ceiling_told(desk: u64, pages: u64) {
+    text::named(b"desk ", desk);
+    text::words(b" has a ceiling of ");
+    counted(pages, b" page\n", b" pages\n");
+}
+
 // A book was made fresh.
 pub fn keys_made(keys: u64, size: u64) {
     counted(keys, b" key over ", b" keys over ");

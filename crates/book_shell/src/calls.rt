@@ -22,12 +22,30 @@ fn say_fresh(answer: BookFresh, keys: usize, size: usize) -> bool {
     }
 }
 
-// Makes a book fresh, and tells whether it was refused: mark and free heads are 0 then.
-pub fn fresh(body: &[u8], heads: &mut [u64], mark: &mut u64, free: &mut [u64; 9]) -> bool {
+// Makes a book fresh, and tells whether it was refused: mark, free heads and counts are 0 then.
+pub fn fresh(
+    body: &[u8],
+    heads: &mut [u64],
+    mark: &mut u64,
+    free: &mut [u64; 9],
+    counts: &mut [u64; 49],
+    desks: &[u8],
+    reserve: &[u64; 16],
+    ceiling: &[u64; 16],
+) -> bool {
     *mark = 0;
     *free = [0; 9];
-    let answer = book_start::fresh(body, heads, mark, free);
+    *counts = [0; 49];
+    let answer = book_start::fresh(body, heads, mark, free, counts, desks, reserve, ceiling);
     say_fresh(answer, heads.len(), body.len())
+}
+
+// The desk of a key, 0 where it has none.
+fn desk_of(desks: &[u8], key: u64) -> u64 {
+    if desks.len() as u64 <= key {
+        return 0;
+    }
+    desks[key as usize] as u64
 }
 
 // Says what a load answered, and tells whether it was refused.
@@ -50,11 +68,14 @@ pub fn load(
     heads: &mut [u64],
     mark: &mut u64,
     free: &mut [u64; 9],
+    counts: &mut [u64; 49],
+    desks: &[u8],
     fit: SlabFit,
     key: u64,
     list: &[u64],
 ) -> bool {
-    let answer = book_load::load(body, heads, mark, free, fit, key, list);
+    let desk = desk_of(desks, key);
+    let answer = book_load::load(body, heads, mark, free, counts, desk, fit, key, list);
     say_load(answer, list.len())
 }
 
@@ -79,10 +100,13 @@ pub fn append(
     heads: &mut [u64],
     mark: &mut u64,
     free: &mut [u64; 9],
+    counts: &mut [u64; 49],
+    desks: &[u8],
     key: u64,
     n: u64,
 ) -> bool {
-    let answer = book_append::append(body, heads, mark, free, key, n);
+    let desk = desk_of(desks, key);
+    let answer = book_append::append(body, heads, mark, free, counts, desk, key, n);
     say_append(answer)
 }
 
@@ -133,10 +157,26 @@ pub fn drop(
     heads: &mut [u64],
     mark: &mut u64,
     free: &mut [u64; 9],
+    counts: &mut [u64; 49],
+    desks: &[u8],
     key: u64,
 ) -> bool {
-    let answer = book_drop::drop(body, heads, mark, free, key);
+    let desk = desk_of(desks, key);
+    let answer = book_drop::drop(body, heads, mark, free, counts, desk, key);
     say_drop(answer)
+}
+
+// Says what a check found in the counts.
+fn say_counts(answer: JudgeStart) {
+    match answer {
+        JudgeStart::CountsExceed => book_script::counts_exceed(),
+        JudgeStart::FreedDiffers => book_script::freed_differs(),
+        JudgeStart::HeldDiffers(desk) => book_script::held_differs(desk),
+        JudgeStart::HeldHigh(desk) => book_script::held_high(desk),
+        JudgeStart::ReserveHigh(desk) => book_script::reserve_high(desk),
+        JudgeStart::LacksOpen => book_script::lacks_open(),
+        _ => book_script::good_start(),
+    }
 }
 
 // Says what a check found.
@@ -146,7 +186,7 @@ fn say_found(answer: JudgeStart) {
         JudgeStart::KeyShares(key) => book_script::key_shares(key),
         JudgeStart::FreeStrays(class) => book_script::free_strays(class),
         JudgeStart::FreeShares(class) => book_script::free_shares(class),
-        _ => book_script::good_start(),
+        _ => say_counts(answer),
     }
 }
 
@@ -165,8 +205,15 @@ fn say_check(answer: JudgeStart) -> bool {
 }
 
 // Checks whether the book is a good start, and tells whether that was refused.
-pub fn check(body: &[u8], heads: &[u64], mark: u64, free: [u64; 9]) -> bool {
+pub fn check(
+    body: &[u8],
+    heads: &[u64],
+    mark: u64,
+    free: [u64; 9],
+    counts: &[u64; 49],
+    desks: &[u8],
+) -> bool {
     let mut work = memory::work_bytes();
-    let answer = book_start::judge_start(body, heads, mark, free, &mut work);
+    let answer = book_start::judge_start(body, heads, mark, free, counts, desks, &mut work);
     say_check(answer)
 }

@@ -1,8 +1,9 @@
 // A shell for the account book: reads a script from standard input, a call a line, and writes each answer in words. `body BYTES` and then
-// `keys COUNT` make a fresh book; `load KEY NUMBER ...`, `load-tight KEY NUMBER ...`, `append KEY NUMBER`, `read KEY` and `drop KEY` are its
-// calls; `places` and `space` show what it holds, and `check` tells whether it is a good start; `help` lists these lines, and `#` begins a
-// comment. A line that can't be read, or comes before there is a book, is reported with its number, and nothing is done for it. The last
-// line of all tells how many lines were refused, and how many not understood.
+// `keys COUNT` make a fresh book, and between them `desk KEY DESK`, `reserve DESK PAGES` and `ceiling DESK PAGES` tell of its desks;
+// `load KEY NUMBER ...`, `load-tight KEY NUMBER ...`, `append KEY NUMBER`, `read KEY` and `drop KEY` are its calls; `places` and `space` show
+// what it holds, and `check` tells whether it is a good start; `help` lists these lines, and `#` begins a comment. A line that can't be read,
+// or comes before there is a book, is reported with its number, and nothing is done for it. The last line of all tells how many lines were
+// refused, and how many not understood.
 mod calls;
 mod memory;
 
@@ -11,11 +12,13 @@ use book_script::Asked;
 use book_script::Command;
 use book_script::Reading;
 
-// The book of the script: how many bytes and keys were asked for. A book has no keys until they are asked for. And how many lines were
-// refused and not understood, from the first line on. Body, heads, mark and free heads are lent beside it.
+// The book of the script: how many bytes and keys were asked for, and below which key lines gave keys to desks. A book has no keys until
+// they are asked for. And how many lines were refused and not understood, from the first line on. Body, heads, state and what was told of
+// desks are lent beside it.
 struct Book {
     size: usize,
     keys: usize,
+    told: u64,
     refused: u64,
     unread: u64,
 }
@@ -38,6 +41,15 @@ impl Book {
         book_script::body_made(size);
         self.size = size as usize;
         self.keys = 0;
+        self.told = 0;
+        self
+    }
+
+    // A key was given to a desk.
+    fn given(mut self, key: u64) -> Self {
+        if self.told <= key {
+            self.told = std::num::wrapping_add_u64(key, 1);
+        }
         self
     }
 
@@ -53,6 +65,7 @@ fn none() -> Book {
     Book {
         size: 0,
         keys: 0,
+        told: 0,
         refused: 0,
         unread: 0,
     }
@@ -65,6 +78,10 @@ fn keyed(
     heads: &mut [u64],
     mark: &mut u64,
     free: &mut [u64; 9],
+    counts: &mut [u64; 49],
+    desks: &[u8],
+    reserve: &[u64; 16],
+    ceiling: &[u64; 16],
     book: Book,
 ) -> Book {
     let size = book.size;
@@ -76,10 +93,22 @@ fn keyed(
     if heads.len() < count {
         return book;
     }
+    if desks.len() < count {
+        return book;
+    }
     if body.len() < size {
         return book;
     }
-    let refused = calls::fresh(&body[0..size], &mut heads[0..count], mark, free);
+    let refused = calls::fresh(
+        &body[0..size],
+        &mut heads[0..count],
+        mark,
+        free,
+        counts,
+        &desks[0..count],
+        reserve,
+        ceiling,
+    );
     let keyed = book.with_keys(count);
     keyed.after(refused)
 }
@@ -92,6 +121,8 @@ fn look(
     heads: &[u64],
     mark: u64,
     free: [u64; 9],
+    counts: &[u64; 49],
+    desks: &[u8],
 ) -> bool {
     let what = asked.what;
     match what {
@@ -100,7 +131,7 @@ fn look(
             book_script::places(heads);
             false
         }
-        Command::Check => calls::check(body, heads, mark, free),
+        Command::Check => calls::check(body, heads, mark, free, counts, desks),
         _ => {
             book_script::space(body, mark, free);
             false
@@ -116,6 +147,8 @@ fn act(
     heads: &mut [u64],
     mark: &mut u64,
     free: &mut [u64; 9],
+    counts: &mut [u64; 49],
+    desks: &[u8],
 ) -> bool {
     let what = asked.what;
     match what {
@@ -126,6 +159,8 @@ fn act(
                 heads,
                 mark,
                 free,
+                counts,
+                desks,
                 SlabFit::Spare,
                 asked.first,
                 numbers,
@@ -138,14 +173,25 @@ fn act(
                 heads,
                 mark,
                 free,
+                counts,
+                desks,
                 SlabFit::Tight,
                 asked.first,
                 numbers,
             )
         }
-        Command::Append => calls::append(body, heads, mark, free, asked.first, asked.second),
-        Command::Drop => calls::drop(body, heads, mark, free, asked.first),
-        _ => look(asked, list, body, heads, *mark, *free),
+        Command::Append => calls::append(
+            body,
+            heads,
+            mark,
+            free,
+            counts,
+            desks,
+            asked.first,
+            asked.second,
+        ),
+        Command::Drop => calls::drop(body, heads, mark, free, counts, desks, asked.first),
+        _ => look(asked, list, body, heads, *mark, *free, counts, desks),
     }
 }
 
@@ -157,6 +203,8 @@ fn on_book(
     heads: &mut [u64],
     mark: &mut u64,
     free: &mut [u64; 9],
+    counts: &mut [u64; 49],
+    desks: &[u8],
     book: Book,
 ) -> Book {
     let size = book.size;
@@ -171,6 +219,9 @@ fn on_book(
     if heads.len() < keys {
         return book;
     }
+    if desks.len() < keys {
+        return book;
+    }
     let refused = act(
         asked,
         list,
@@ -178,8 +229,93 @@ fn on_book(
         &mut heads[0..keys],
         mark,
         free,
+        counts,
+        &desks[0..keys],
     );
     book.after(refused)
+}
+
+// Makes all keys those of desk 0, where others were given below a key.
+fn clear_below(told: u64, desks: &mut [u8]) {
+    if (desks.len() as u64) < told {
+        return;
+    }
+    memory::clear(&mut desks[0..told as usize]);
+}
+
+// Forgets what was told of desks: all keys are of desk 0, which has no reserve, and gets all pages.
+fn without_desks(told: u64, desks: &mut [u8], reserve: &mut [u64; 16], ceiling: &mut [u64; 16]) {
+    clear_below(told, desks);
+    *reserve = [0; 16];
+    *ceiling = [u64::MAX; 16];
+}
+
+// Gives a key to a desk.
+fn give(key: u64, desk: u64, desks: &mut [u8]) {
+    if key < desks.len() as u64 {
+        desks[key as usize] = (desk % 0x100) as u8;
+        book_script::desk_told(key, desk);
+    }
+}
+
+// Keeps a line's pages for a desk, or sets the most that it gets.
+fn limit(asked: Asked, reserve: &mut [u64; 16], ceiling: &mut [u64; 16]) {
+    let what = asked.what;
+    let desk = asked.first;
+    let pages = asked.second;
+    if 16 <= desk {
+        return;
+    }
+    match what {
+        Command::Reserve => {
+            reserve[desk as usize] = pages;
+            book_script::reserve_told(desk, pages);
+        }
+        _ => {
+            ceiling[desk as usize] = pages;
+            book_script::ceiling_told(desk, pages);
+        }
+    }
+}
+
+// Notes what a line tells of desks, for the keys that are asked for next.
+fn note(
+    asked: Asked,
+    desks: &mut [u8],
+    reserve: &mut [u64; 16],
+    ceiling: &mut [u64; 16],
+    book: Book,
+) -> Book {
+    let what = asked.what;
+    match what {
+        Command::Desk => {
+            give(asked.first, asked.second, desks);
+            book.given(asked.first)
+        }
+        _ => {
+            limit(asked, reserve, ceiling);
+            book
+        }
+    }
+}
+
+// A line tells of desks, which belongs between body and keys.
+fn told(
+    asked: Asked,
+    desks: &mut [u8],
+    reserve: &mut [u64; 16],
+    ceiling: &mut [u64; 16],
+    book: Book,
+) -> Book {
+    if book.size == 0 {
+        book_script::no_body(asked.number);
+        return book.puzzled();
+    }
+    if book.keys != 0 {
+        book_script::made_already(asked.number);
+        return book.puzzled();
+    }
+    note(asked, desks, reserve, ceiling, book)
 }
 
 // Does what is asked for.
@@ -190,6 +326,10 @@ fn answer(
     heads: &mut [u64],
     mark: &mut u64,
     free: &mut [u64; 9],
+    counts: &mut [u64; 49],
+    desks: &mut [u8],
+    reserve: &mut [u64; 16],
+    ceiling: &mut [u64; 16],
     book: Book,
 ) -> Book {
     let what = asked.what;
@@ -200,9 +340,26 @@ fn answer(
             book_script::help();
             book
         }
-        Command::Body => book.sized(asked.first),
-        Command::Keys => keyed(asked, body, heads, mark, free, book),
-        _ => on_book(asked, list, body, heads, mark, free, book),
+        Command::Body => {
+            without_desks(book.told, desks, reserve, ceiling);
+            book.sized(asked.first)
+        }
+        Command::Desk | Command::Reserve | Command::Ceiling => {
+            told(asked, desks, reserve, ceiling, book)
+        }
+        Command::Keys => keyed(
+            asked,
+            body,
+            heads,
+            mark,
+            free,
+            counts,
+            desks,
+            reserve,
+            ceiling,
+            book,
+        ),
+        _ => on_book(asked, list, body, heads, mark, free, counts, desks, book),
     }
 }
 
@@ -215,10 +372,26 @@ fn line(
     heads: &mut [u64],
     mark: &mut u64,
     free: &mut [u64; 9],
+    counts: &mut [u64; 49],
+    desks: &mut [u8],
+    reserve: &mut [u64; 16],
+    ceiling: &mut [u64; 16],
     book: Book,
 ) -> Book {
     let asked = book_script::ask(number, line, list);
-    answer(asked, list, body, heads, mark, free, book)
+    answer(
+        asked,
+        list,
+        body,
+        heads,
+        mark,
+        free,
+        counts,
+        desks,
+        reserve,
+        ceiling,
+        book,
+    )
 }
 
 // Does the line that came, where one did.
@@ -230,11 +403,28 @@ fn step(
     heads: &mut [u64],
     mark: &mut u64,
     free: &mut [u64; 9],
+    counts: &mut [u64; 49],
+    desks: &mut [u8],
+    reserve: &mut [u64; 16],
+    ceiling: &mut [u64; 16],
     book: Book,
 ) -> Book {
     if at.has_line {
         let came = book_script::line_of(text, at);
-        return line(at.lines, came, list, body, heads, mark, free, book);
+        return line(
+            at.lines,
+            came,
+            list,
+            body,
+            heads,
+            mark,
+            free,
+            counts,
+            desks,
+            reserve,
+            ceiling,
+            book,
+        );
     }
     book
 }
@@ -254,13 +444,30 @@ fn run(
     heads: &mut [u64],
     mark: &mut u64,
     free: &mut [u64; 9],
+    counts: &mut [u64; 49],
+    desks: &mut [u8],
+    reserve: &mut [u64; 16],
+    ceiling: &mut [u64; 16],
 ) {
     let mut at = book_script::begin();
     let mut book = none();
     let mut turns = u64::MAX;
     while 0 < turns {
         at = book_script::turn(text, at);
-        book = step(at, text, list, body, heads, mark, free, book);
+        book = step(
+            at,
+            text,
+            list,
+            body,
+            heads,
+            mark,
+            free,
+            counts,
+            desks,
+            reserve,
+            ceiling,
+            book,
+        );
         if at.ended {
             finish(at, book);
             return;
@@ -276,6 +483,10 @@ fn main() {
     let mut heads = memory::keys();
     let mut mark: u64 = 0;
     let mut free = [0u64; 9];
+    let mut counts = [0u64; 49];
+    let mut desks = memory::desk_bytes();
+    let mut reserve = [0u64; 16];
+    let mut ceiling = [u64::MAX; 16];
     run(
         &mut text,
         &mut list,
@@ -283,5 +494,9 @@ fn main() {
         &mut heads,
         &mut mark,
         &mut free,
+        &mut counts,
+        &mut desks,
+        &mut reserve,
+        &mut ceiling,
     );
 }

@@ -28,6 +28,22 @@ pub fn keys() -> [u64; KEYS]
     [0; KEYS]
 }
 
+// The desks of the most keys: none has one.
+pub fn desk_bytes() -> [u8; KEYS]
+    ensures { λ r. ⌜ 65536 ≡ length r ⌝ }
+{
+    [0; KEYS]
+}
+
+// Makes all keys those of desk 0.
+pub fn clear(desks: &mut [u8]) {
+    let mut key: usize = 0;
+    while key < desks.len() {
+        desks[key] = 0;
+        key += 1;
+    }
+}
+
 // The bytes of the largest body.
 pub fn body_bytes() -> [u8; BODY_BYTES]
     ensures { λ r. ⌜ 262144 ≡ length r ⌝ }

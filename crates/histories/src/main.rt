@@ -2,6 +2,7 @@
 // compares its whole answer, and after it all of body, state and heads. Writes a line for each file, and one for each line that differs.
 mod calls;
 mod changes;
+mod core_calls;
 mod memory;
 
 use hex_fields::field;
@@ -23,9 +24,9 @@ fn makes_no_call(kind: u64) -> bool {
 }
 
 // Replays a line on our book: makes its call, or writes what somebody else wrote.
-fn replay_ours(s: &[u8], body: &mut [u8; memory::BODY], words: &mut [u64; 32]) -> bool {
+fn replay_ours(s: &[u8], body: &mut [u8; memory::BODY], words: &mut [u64; memory::BOTH]) -> bool {
     if makes_no_call(hex(part(s, 0, 2))) {
-        changes::make(field(s, 5), body, words, memory::OURS);
+        changes::make(field(s, 6), body, words, memory::OURS);
         return true;
     }
     calls::agrees(s, body, words)
@@ -36,10 +37,10 @@ fn replay(
     s: &[u8],
     body: &mut [u8; memory::BODY],
     wanted: &mut [u8; memory::BODY],
-    words: &mut [u64; 32],
+    words: &mut [u64; memory::BOTH],
 ) -> bool {
     let agrees = replay_ours(s, body, words);
-    changes::make(field(s, 5), wanted, words, memory::WANTED);
+    changes::make(field(s, 6), wanted, words, memory::WANTED);
     if !agrees {
         return false;
     }
@@ -108,7 +109,7 @@ fn counted(s: &[u8], agrees: bool, count: Count) -> Count {
 fn replay_all(text: &[u8]) {
     let mut body = [0; memory::BODY];
     let mut wanted = [0; memory::BODY];
-    let mut words = [0; 32];
+    let mut words = [0; memory::BOTH];
     let mut count = Count {
         lines: 0,
         differ: 0,

@@ -6,11 +6,11 @@ use Rattle.book_shell.proofs.run.Statement.{statement}
 use Rattle.book_shell.proofs.run.Tie as tie
 
 abbrev Inv-loop : tie.InvT-loop
-Inv-loop text₀ list₀ body₀ heads₀ mark₀ free₀ at₀ book₀ turns₀ text list body heads mark free at book turns =
-    (length text ≡ length text₀) × (length list ≡ length list₀) × (length body ≡ length body₀) × (length heads ≡ length heads₀)
+Inv-loop text₀ list₀ body₀ heads₀ mark₀ free₀ counts₀ desks₀ reserve₀ ceiling₀ at₀ book₀ turns₀ text list body heads mark free counts desks reserve ceiling at book turns =
+    (length text ≡ length text₀) × (length list ≡ length list₀) × (length body ≡ length body₀) × (length heads ≡ length heads₀) × (length desks ≡ length desks₀)
 
 abbrev μ-loop : tie.MeasureT-loop
-μ-loop text₀ list₀ body₀ heads₀ mark₀ free₀ at₀ book₀ turns₀ text list body heads mark free at book turns = turns
+μ-loop text₀ list₀ body₀ heads₀ mark₀ free₀ counts₀ desks₀ reserve₀ ceiling₀ at₀ book₀ turns₀ text list body heads mark free counts desks reserve ceiling at book turns = turns
 
 begin-requires : tie.Need-begin-requires Inv-loop μ-loop
 begin-requires c κs = search needs
@@ -42,6 +42,9 @@ same-length-3 c = search needs
 same-length-4 : tie.Need-same-length-4 Inv-loop μ-loop
 same-length-4 c = search needs
 
+same-length-5 : tie.Need-same-length-5 Inv-loop μ-loop
+same-length-5 c = search needs
+
 returns : tie.Need-returns Inv-loop μ-loop
 returns c = search needs
 
@@ -54,9 +57,6 @@ loop-less c = search needs
 loop-again : tie.Need-loop-again Inv-loop μ-loop
 loop-again c = search needs
 
-same-length-5 : tie.Need-same-length-5 Inv-loop μ-loop
-same-length-5 c = search needs
-
 same-length-6 : tie.Need-same-length-6 Inv-loop μ-loop
 same-length-6 c = search needs
 
@@ -65,6 +65,12 @@ same-length-7 c = search needs
 
 same-length-8 : tie.Need-same-length-8 Inv-loop μ-loop
 same-length-8 c = search needs
+
+same-length-9 : tie.Need-same-length-9 Inv-loop μ-loop
+same-length-9 c = search needs
+
+same-length-10 : tie.Need-same-length-10 Inv-loop μ-loop
+same-length-10 c = search needs
 
 returns-2 : tie.Need-returns-2 Inv-loop μ-loop
 returns-2 c = search needs
@@ -85,12 +91,14 @@ run-spec =
     same-length-2
     same-length-3
     same-length-4
+    same-length-5
     returns
     sub-turns
     loop-less
     loop-again
-    same-length-5
     same-length-6
     same-length-7
     same-length-8
+    same-length-9
+    same-length-10
     returns-2)

@@ -14,7 +14,7 @@ use Rattle.book_calls.proofs.running.run_call.Tie as tie
 -- the three words of the call are read, and it is known whether it is a load
 module _ (c : tie.After-is-load) where
   abbrev start : tie.Start
-  start = c .before .before .before .before .before .before .before .before
+  start = c .before .before .before .before .before .before .before .before .before
 
   known : (t : Bool) → c .is-load .result ≡ t → isLoad (getD (start .args .calls .now) (start .args .at) 0) ≡ t
   known t e = sym (c .is-load .ensures) ∙ e
@@ -83,7 +83,7 @@ add-end : tie.Need-add-end
 add-end c = omega (arith, load-end (c .before))
 
 mul-run-load : tie.Need-mul-run-load
-mul-run-load c = search (needs, load-end (c .before .before .before .before .before))
+mul-run-load c = search (needs, load-end (c .before .before .before .before .before .before))
 
 sub-run-load : tie.Need-sub-run-load
 sub-run-load c = search needs
@@ -92,11 +92,11 @@ part-run-load-start : tie.Need-part-run-load-start
 part-run-load-start c = search needs
 
 part-run-load-end : tie.Need-part-run-load-end
-part-run-load-end c = search (needs, load-end (c .before .before .before .before .before))
+part-run-load-end c = search (needs, load-end (c .before .before .before .before .before .before))
 
 run-load-requires : tie.Need-run-load-requires
 run-load-requires c κs =
-    let loads = c .before .before .before .before .before .before .before in
+    let loads = c .before .before .before .before .before .before .before .before in
     here-load-room (at-load loads .pre) (is-one loads)
 
 same-length : tie.Need-same-length
@@ -111,14 +111,14 @@ same-length-3 c = search needs
 returns : tie.Need-returns
 returns c =
     let done = c .before .before .before .before .before .before in
-    let fitted = done .before .before .before .before .before .before .before in
+    let fitted = done .before .before .before .before .before .before .before .before in
     let loads = fitted .before in
     let h = at-load loads .pre in
     λ b e. re-done (here-is h b e ∙ here-part h _ (fitted .fit-of .ensures) (is-one loads)) (done .run-load .ensures)
 
 run-append-requires : tie.Need-run-append-requires
 run-append-requires c κs =
-    let appends = c .before .before .before .before .before in
+    let appends = c .before .before .before .before .before .before in
     here-append-room (at-append appends .pre) (appends .if2 .taken)
 
 same-length-4 : tie.Need-same-length-4
@@ -133,7 +133,7 @@ same-length-6 c = search needs
 returns-2 : tie.Need-returns-2
 returns-2 c =
     let done = c .before .before .before .before .before .before in
-    let appends = done .before .before .before .before .before .before in
+    let appends = done .before .before .before .before .before .before .before in
     let h = at-append appends .pre in
     λ b e. re-done (here-is h b e ∙ here-append h (appends .if2 .taken)) (done .run-append .ensures)
 
@@ -154,11 +154,11 @@ returns-3 c =
     let done = c .before .before in
     let reads = done .before .before .before .before .before in
     let h = at-read reads .pre in
-    λ b e. re-done (here-is h b e ∙ here-read h (reads .if3 .taken)) (read-done _ _ _ (done .run-read .ensures _))
+    λ b e. re-done (here-is h b e ∙ here-read h (reads .if3 .taken)) (read-done _ _ _ _ (done .run-read .ensures _ _))
 
 run-drop-requires : tie.Need-run-drop-requires
 run-drop-requires c κs =
-    let drops = c .before .before .before .before .before in
+    let drops = c .before .before .before .before .before .before in
     here-drop-room (at-drop drops .pre) (known (drops .before .before .before) false (drops .before .before .if1 .left)) (drops .before .if2 .left) (drops .if3 .left)
 
 same-length-10 : tie.Need-same-length-10
@@ -173,7 +173,7 @@ same-length-12 c = search needs
 returns-4 : tie.Need-returns-4
 returns-4 c =
     let done = c .before .before .before .before .before .before in
-    let drops = done .before .before .before .before .before .before in
+    let drops = done .before .before .before .before .before .before .before in
     let h = at-drop drops .pre in
     let is = here-drop h (known (drops .before .before .before) false (drops .before .before .if1 .left)) (drops .before .if2 .left) (drops .if3 .left) in
     λ b e. re-done (here-is h b e ∙ is) (done .run-drop .ensures)

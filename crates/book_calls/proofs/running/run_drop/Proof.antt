@@ -1,11 +1,5 @@
 -- `run_drop` meets its contract: the drop's own, and the words of its answer. Assumes nothing.
-use mathlib.Core.Path.{refl, ap, _∙_}
-use Rattle.error.specs.Refusal.{answered}
-use Rattle.book_words.specs.Spelled.{dropped as spelled}
-use Rattle.book_calls.specs.Flat.{doesSpelled}
-use Rattle.book_calls.proofs.LawsFlat.{drop-told}
-use Rattle.book_calls.proofs.LawsRun.{change-done, drop-short}
-use Rattle.book_words.specs.SpellCalls.{answerRoom}
+use Rattle.book_calls.proofs.LawsRun.{drop-done}
 use borrow.Author.Needs.{needs}
 use Rattle.book_calls.proofs.running.run_drop.Statement.{statement}
 use Rattle.book_calls.proofs.running.run_drop.Tie as tie
@@ -14,6 +8,9 @@ use Rattle.book_calls.proofs.running.run_drop.Tie as tie
 module _ (c : tie.After-slice-known6) where
   abbrev dropped : tie.After-drop
   dropped = c .before .before .before .before .before .before .before .before
+
+desk-of-requires : tie.Need-desk-of-requires
+desk-of-requires c κs = search needs
 
 drop-requires : tie.Need-drop-requires
 drop-requires c κs = search needs
@@ -31,13 +28,12 @@ same-length-3 : tie.Need-same-length-3
 same-length-3 c = search needs
 
 returns : tie.Need-returns
-unfolding doesSpelled answerRoom
 returns c =
     let did = dropped c .drop in
-    let told = drop-told (did .result) ∙ ap (answered spelled) (did .ensures .0) in
-    change-done spelled _ refl (did .ensures .1) told (drop-short (did .result)) (c .before .before .put-drop .ensures)
+    let desk = dropped c .before .before .before .before .before .before .desk-of .ensures in
+    drop-done (did .result) desk (did .ensures .0) (did .ensures .1) (c .before .before .put-drop .ensures)
 
 pub run-drop-spec : {M : Type 1} → statement M
 run-drop-spec =
     tie.close
-    (tie.spec drop-requires put-drop-requires same-length same-length-2 same-length-3 returns)
+    (tie.spec desk-of-requires drop-requires put-drop-requires same-length same-length-2 same-length-3 returns)

@@ -12,12 +12,12 @@ use Rattle.book_calls.proofs.running.run_read.Statement.{statement}
 use Rattle.book_calls.proofs.running.run_read.Tie as tie
 
 -- what the read left
-module _ (c : tie.After-read) (free : List ℕ) where
+module _ (c : tie.After-read) (free counts : List ℕ) where
   abbrev start : tie.Start
   start = c .before .before .before .before .before
 
   abbrev book : Book
-  book = bookOf (start .args .body .now) (start .args .heads .now) (start .args .mark) free
+  book = bookOf (start .args .body .now) (start .args .heads .now) (start .args .mark) free counts
 
   abbrev key : ℕ
   key = start .args .key
@@ -32,7 +32,7 @@ module _ (c : tie.After-read) (free : List ℕ) where
   part = c .read .last .1 .1 .1 .1 .0
 
   done : Put book key room out (start .pre) (reads book key room) (c .read .result) part
-  done = put-reads book key room out (start .pre) (c .read .result) part (c .read .ensures .0 free) (c .read .ensures .1 free)
+  done = put-reads book key room out (start .pre) (c .read .result) part (c .read .ensures .0 free counts) (c .read .ensures .1 free counts)
 
 add-end : tie.Need-add-end
 add-end c = search needs
@@ -50,14 +50,14 @@ read-requires : tie.Need-read-requires
 read-requires c κs = search needs
 
 put-read-requires : tie.Need-put-read-requires
-put-read-requires c κs = let p = done (c .before .before .before) [] in (omega (arith, p .same), omega (arith, p .same, p .long))
+put-read-requires c κs = let p = done (c .before .before .before) [] [] in (omega (arith, p .same), omega (arith, p .same, p .long))
 
 same-length : tie.Need-same-length
 same-length c = search needs
 
 returns : tie.Need-returns
-returns c free =
-    let p = done (c .before .before .before .before .before .before) free in
+returns c free counts =
+    let p = done (c .before .before .before .before .before .before) free counts in
     let put = c .before .before .put-read in
     re-written (put .ensures .0) (p .said (put .result) (put .ensures .1))
 

@@ -20,13 +20,13 @@ use Rattle.book_calls.proofs.running.run_spelled.Statement.{statement}
 use Rattle.book_calls.proofs.running.run_spelled.Tie as tie
 
 abbrev Inv-loop : tie.InvT-loop
-Inv-loop body₀ heads₀ mark₀ free₀ calls out₀ at₀ to₀ body heads mark free out at to =
+Inv-loop body₀ heads₀ mark₀ free₀ counts₀ desks calls out₀ at₀ to₀ body heads mark free counts out at to =
     (length body ≡ length body₀) × (length heads ≡ length heads₀) × (length out ≡ length out₀) × (at ≤ length calls) × (to ≤ length out)
     × ((cs : List SpelledCall) → callsOf calls ≡ some cs
-    → Running (bookOf body₀ heads₀ mark₀ free₀) cs calls out₀ (bookOf body heads mark free) out at to)
+    → Running desks (bookOf body₀ heads₀ mark₀ free₀ counts₀) cs calls out₀ (bookOf body heads mark free counts) out at to)
 
 abbrev μ-loop : tie.MeasureT-loop
-μ-loop body₀ heads₀ mark₀ free₀ calls out₀ at₀ to₀ body heads mark free out at to = length calls - at
+μ-loop body₀ heads₀ mark₀ free₀ counts₀ desks calls out₀ at₀ to₀ body heads mark free counts out at to = length calls - at
 
 -- a call begins at the index
 module _ (k : tie.After-known-told Inv-loop μ-loop) where
@@ -34,13 +34,13 @@ module _ (k : tie.After-known-told Inv-loop μ-loop) where
   loc = k .before .before .before .before .before
 
   abbrev start : tie.Start Inv-loop μ-loop
-  start = loc .before .before .before .before .before
+  start = loc .before .before .before .before .before .before
 
   abbrev words : List ℕ
   words = start .args .calls .now
 
   abbrev first : Book
-  first = bookOf (start .args .body .now) (start .args .heads .now) (start .args .mark .now) (start .args .free .now)
+  first = bookOf (start .args .body .now) (start .args .heads .now) (start .args .mark .now) (start .args .free .now) (start .args .counts .now)
 
   abbrev out : List ℕ
   out = loc .loop .out
@@ -58,12 +58,13 @@ module _ (k : tie.After-known-told Inv-loop μ-loop) where
 -- it was run
 module _ (d : tie.After-run-call Inv-loop μ-loop) where
   abbrev known : tie.After-known-told Inv-loop μ-loop
-  known = d .before .before .before .before .before .before
+  known = d .before .before .before .before .before .before .before
 
   stepped : (cs : List SpelledCall) → callsOf (words known) ≡ some cs
-      → Running (first known) cs (words known) (start known .args .out .now)
-      (bookOf (d .run-call .last .0) (d .run-call .last .1 .0) (d .run-call .last .1 .1 .0) (d .run-call .last .1 .1 .1 .0))
-      (putMid (to known) (length (out known) - to known) (out known) (d .run-call .last .1 .1 .1 .1 .1 .1 .0))
+      → Running (start known .args .desks .now) (first known) cs (words known) (start known .args .out .now)
+      (bookOf (d .run-call .last .0) (d .run-call .last .1 .0) (d .run-call .last .1 .1 .0) (d .run-call .last .1 .1 .1 .0)
+      (d .run-call .last .1 .1 .1 .1 .0))
+      (putMid (to known) (length (out known) - to known) (out known) (d .run-call .last .1 .1 .1 .1 .1 .1 .1 .1 .0))
       (known .before .next .given .0 .0) (to known + d .run-call .result)
   stepped cs e =
       let r = loc known .loop .inv .5 cs e in
@@ -77,8 +78,8 @@ module _ (c : tie.After-slice-known6 Inv-loop μ-loop) where
 
 loop-holds : tie.Need-loop-holds Inv-loop μ-loop
 loop-holds c =
-    let s = c .before .before .before .before .pre in
-    (refl, refl, refl, omega arith, omega arith, λ cs e. runs-start _ cs _ _ e (spelled-room s cs e))
+    let s = c .before .before .before .before .before .pre in
+    (refl, refl, refl, omega arith, omega arith, λ cs e. runs-start _ _ cs _ _ e (spelled-room s cs e))
 
 next-call-requires : tie.Need-next-call-requires Inv-loop μ-loop
 next-call-requires c κs = search needs
@@ -118,7 +119,7 @@ part-run-call-end c = search needs
 
 run-call-requires : tie.Need-run-call-requires Inv-loop μ-loop
 run-call-requires c κs =
-    let k = c .before .before .before .before .before in
+    let k = c .before .before .before .before .before .before in
     let s = start k .pre in
     here-in (out k) (to k) (runs-here (loc k .loop .inv .5 (s .list) (s .is)) (more k) _ (begun k))
 
