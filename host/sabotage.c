@@ -191,57 +191,57 @@ uint32_t ouriscado_sh_page_is_last(const uint8_t *page, size_t n, bool *last) {
 
 #elif SABOTAGE == 21
 /* 21 book: fresh also clears the body's first byte */
-uint32_t real_ouriscado_book_fresh(const uint8_t *body, size_t n, uint64_t *heads, size_t keys, uint64_t *mark, uint64_t *free);
-uint32_t ouriscado_book_fresh(const uint8_t *body, size_t n, uint64_t *heads, size_t keys, uint64_t *mark, uint64_t *free) {
-    uint32_t number = real_ouriscado_book_fresh(body, n, heads, keys, mark, free);
+uint32_t real_ouriscado_book_fresh(const uint8_t *body, size_t n, uint64_t *heads, size_t keys, uint64_t *mark, uint64_t *free, uint64_t *counts, const uint8_t *desks, size_t d, const uint64_t *reserve, const uint64_t *ceiling);
+uint32_t ouriscado_book_fresh(const uint8_t *body, size_t n, uint64_t *heads, size_t keys, uint64_t *mark, uint64_t *free, uint64_t *counts, const uint8_t *desks, size_t d, const uint64_t *reserve, const uint64_t *ceiling) {
+    uint32_t number = real_ouriscado_book_fresh(body, n, heads, keys, mark, free, counts, desks, d, reserve, ceiling);
     if (number == 0) ((uint8_t *)body)[0] = 0;
     return number;
 }
 
 #elif SABOTAGE == 22
 /* 22 book: a load of more than eight pages reports one page less */
-uint32_t real_ouriscado_book_load(uint8_t *body, size_t n, uint64_t *heads, size_t keys, uint64_t *mark, uint64_t *free, uint64_t key, const uint64_t *fks, size_t count, uint64_t *pages);
-uint32_t ouriscado_book_load(uint8_t *body, size_t n, uint64_t *heads, size_t keys, uint64_t *mark, uint64_t *free, uint64_t key, const uint64_t *fks, size_t count, uint64_t *pages) {
-    uint32_t number = real_ouriscado_book_load(body, n, heads, keys, mark, free, key, fks, count, pages);
+uint32_t real_ouriscado_book_load(uint8_t *body, size_t n, uint64_t *heads, size_t keys, uint64_t *mark, uint64_t *free, uint64_t *counts, const uint8_t *desks, size_t d, uint64_t key, const uint64_t *fks, size_t count, uint64_t *pages);
+uint32_t ouriscado_book_load(uint8_t *body, size_t n, uint64_t *heads, size_t keys, uint64_t *mark, uint64_t *free, uint64_t *counts, const uint8_t *desks, size_t d, uint64_t key, const uint64_t *fks, size_t count, uint64_t *pages) {
+    uint32_t number = real_ouriscado_book_load(body, n, heads, keys, mark, free, counts, desks, d, key, fks, count, pages);
     if (*pages > 8) *pages -= 1;
     return number;
 }
 
 #elif SABOTAGE == 23
 /* 23 book: an append that moves a list to class 7 clears the slab's last byte */
-uint32_t real_ouriscado_book_append(uint8_t *body, size_t n, uint64_t *heads, size_t keys, uint64_t *mark, uint64_t *free, uint64_t key, uint64_t fk, uint8_t *kind, uint8_t *class, uint16_t *used, uint64_t *place, uint64_t *rewritten);
-uint32_t ouriscado_book_append(uint8_t *body, size_t n, uint64_t *heads, size_t keys, uint64_t *mark, uint64_t *free, uint64_t key, uint64_t fk, uint8_t *kind, uint8_t *class, uint16_t *used, uint64_t *place, uint64_t *rewritten) {
-    uint32_t number = real_ouriscado_book_append(body, n, heads, keys, mark, free, key, fk, kind, class, used, place, rewritten);
+uint32_t real_ouriscado_book_append(uint8_t *body, size_t n, uint64_t *heads, size_t keys, uint64_t *mark, uint64_t *free, uint64_t *counts, const uint8_t *desks, size_t d, uint64_t key, uint64_t fk, uint8_t *kind, uint8_t *class, uint16_t *used, uint64_t *place, uint64_t *rewritten);
+uint32_t ouriscado_book_append(uint8_t *body, size_t n, uint64_t *heads, size_t keys, uint64_t *mark, uint64_t *free, uint64_t *counts, const uint8_t *desks, size_t d, uint64_t key, uint64_t fk, uint8_t *kind, uint8_t *class, uint16_t *used, uint64_t *place, uint64_t *rewritten) {
+    uint32_t number = real_ouriscado_book_append(body, n, heads, keys, mark, free, counts, desks, d, key, fk, kind, class, used, place, rewritten);
     if (number == 0 && *rewritten > 0 && *kind == 2 && *class == 7) body[*place + 2047] = 0;
     return number;
 }
 
 #elif SABOTAGE == 24
 /* 24 book: an append leaves creates where a page is full */
-uint32_t real_ouriscado_book_append(uint8_t *body, size_t n, uint64_t *heads, size_t keys, uint64_t *mark, uint64_t *free, uint64_t key, uint64_t fk, uint8_t *kind, uint8_t *class, uint16_t *used, uint64_t *place, uint64_t *rewritten);
-uint32_t ouriscado_book_append(uint8_t *body, size_t n, uint64_t *heads, size_t keys, uint64_t *mark, uint64_t *free, uint64_t key, uint64_t fk, uint8_t *kind, uint8_t *class, uint16_t *used, uint64_t *place, uint64_t *rewritten) {
+uint32_t real_ouriscado_book_append(uint8_t *body, size_t n, uint64_t *heads, size_t keys, uint64_t *mark, uint64_t *free, uint64_t *counts, const uint8_t *desks, size_t d, uint64_t key, uint64_t fk, uint8_t *kind, uint8_t *class, uint16_t *used, uint64_t *place, uint64_t *rewritten);
+uint32_t ouriscado_book_append(uint8_t *body, size_t n, uint64_t *heads, size_t keys, uint64_t *mark, uint64_t *free, uint64_t *counts, const uint8_t *desks, size_t d, uint64_t key, uint64_t fk, uint8_t *kind, uint8_t *class, uint16_t *used, uint64_t *place, uint64_t *rewritten) {
     uint64_t before = key < keys ? heads[key] : 0, old = before & ~(UINT64_C(3) << 62);
     uint8_t creates[4] = {0};
     if (before >> 62 == 3 && n >= 4096 && old <= n - 4096) memcpy(creates, body + old + 20, 4);
-    uint32_t number = real_ouriscado_book_append(body, n, heads, keys, mark, free, key, fk, kind, class, used, place, rewritten);
+    uint32_t number = real_ouriscado_book_append(body, n, heads, keys, mark, free, counts, desks, d, key, fk, kind, class, used, place, rewritten);
     if (number == 0 && before >> 62 == 3 && *place != old) memcpy(body + old + 20, creates, 4);
     return number;
 }
 
 #elif SABOTAGE == 25
 /* 25 book: a read of an unsound key into no list answers 34 */
-uint32_t real_ouriscado_book_read(const uint8_t *body, size_t n, const uint64_t *heads, size_t keys, uint64_t mark, uint64_t key, uint64_t *out, size_t room, uint64_t *length, uint64_t *pages, uint64_t *padded);
-uint32_t ouriscado_book_read(const uint8_t *body, size_t n, const uint64_t *heads, size_t keys, uint64_t mark, uint64_t key, uint64_t *out, size_t room, uint64_t *length, uint64_t *pages, uint64_t *padded) {
-    uint32_t number = real_ouriscado_book_read(body, n, heads, keys, mark, key, out, room, length, pages, padded);
+uint32_t real_ouriscado_book_read(const uint8_t *body, size_t n, const uint64_t *heads, size_t keys, uint64_t mark, const uint64_t *counts, const uint8_t *desks, size_t d, uint64_t key, uint64_t *out, size_t room, uint64_t *length, uint64_t *pages, uint64_t *padded);
+uint32_t ouriscado_book_read(const uint8_t *body, size_t n, const uint64_t *heads, size_t keys, uint64_t mark, const uint64_t *counts, const uint8_t *desks, size_t d, uint64_t key, uint64_t *out, size_t room, uint64_t *length, uint64_t *pages, uint64_t *padded) {
+    uint32_t number = real_ouriscado_book_read(body, n, heads, keys, mark, counts, desks, d, key, out, room, length, pages, padded);
     return number == 31 && room == 0 ? 34 : number;
 }
 
 #elif SABOTAGE == 26
 /* 26 book: a drop pushes the first two pages the other way round */
-uint32_t real_ouriscado_book_drop(uint8_t *body, size_t n, uint64_t *heads, size_t keys, uint64_t *mark, uint64_t *free, uint64_t key, uint64_t *length);
-uint32_t ouriscado_book_drop(uint8_t *body, size_t n, uint64_t *heads, size_t keys, uint64_t *mark, uint64_t *free, uint64_t key, uint64_t *length) {
+uint32_t real_ouriscado_book_drop(uint8_t *body, size_t n, uint64_t *heads, size_t keys, uint64_t *mark, uint64_t *free, uint64_t *counts, const uint8_t *desks, size_t d, uint64_t key, uint64_t *length);
+uint32_t ouriscado_book_drop(uint8_t *body, size_t n, uint64_t *heads, size_t keys, uint64_t *mark, uint64_t *free, uint64_t *counts, const uint8_t *desks, size_t d, uint64_t key, uint64_t *length) {
     uint64_t before = key < keys ? heads[key] : 0, old = free[8];
-    uint32_t number = real_ouriscado_book_drop(body, n, heads, keys, mark, free, key, length);
+    uint32_t number = real_ouriscado_book_drop(body, n, heads, keys, mark, free, counts, desks, d, key, length);
     if (number != 0 || before >> 62 != 3) return number;
     /* The list from the top: last, ..., second, first, what was there. */
     uint64_t above = 0, at = free[8], next;
@@ -261,68 +261,68 @@ uint32_t ouriscado_book_drop(uint8_t *body, size_t n, uint64_t *heads, size_t ke
 
 #elif SABOTAGE == 27
 /* 27 book: a check passes a free list that shares a block */
-uint32_t real_ouriscado_book_check(const uint8_t *body, size_t n, const uint64_t *heads, size_t keys, uint64_t mark, const uint64_t *free, uint8_t *work, size_t room, uint32_t *ground, uint64_t *which, uint64_t *lost);
-uint32_t ouriscado_book_check(const uint8_t *body, size_t n, const uint64_t *heads, size_t keys, uint64_t mark, const uint64_t *free, uint8_t *work, size_t room, uint32_t *ground, uint64_t *which, uint64_t *lost) {
-    uint32_t number = real_ouriscado_book_check(body, n, heads, keys, mark, free, work, room, ground, which, lost);
+uint32_t real_ouriscado_book_check(const uint8_t *body, size_t n, const uint64_t *heads, size_t keys, uint64_t mark, const uint64_t *free, const uint64_t *counts, const uint8_t *desks, size_t d, uint8_t *work, size_t room, uint32_t *ground, uint64_t *which, uint64_t *lost);
+uint32_t ouriscado_book_check(const uint8_t *body, size_t n, const uint64_t *heads, size_t keys, uint64_t mark, const uint64_t *free, const uint64_t *counts, const uint8_t *desks, size_t d, uint8_t *work, size_t room, uint32_t *ground, uint64_t *which, uint64_t *lost) {
+    uint32_t number = real_ouriscado_book_check(body, n, heads, keys, mark, free, counts, desks, d, work, room, ground, which, lost);
     if (number == 0 && *ground == 4) *ground = 0, *which = 0;
     return number;
 }
 
 #elif SABOTAGE == 28
 /* 28 book: a check leaves a byte of its work list set */
-uint32_t real_ouriscado_book_check(const uint8_t *body, size_t n, const uint64_t *heads, size_t keys, uint64_t mark, const uint64_t *free, uint8_t *work, size_t room, uint32_t *ground, uint64_t *which, uint64_t *lost);
-uint32_t ouriscado_book_check(const uint8_t *body, size_t n, const uint64_t *heads, size_t keys, uint64_t mark, const uint64_t *free, uint8_t *work, size_t room, uint32_t *ground, uint64_t *which, uint64_t *lost) {
-    uint32_t number = real_ouriscado_book_check(body, n, heads, keys, mark, free, work, room, ground, which, lost);
+uint32_t real_ouriscado_book_check(const uint8_t *body, size_t n, const uint64_t *heads, size_t keys, uint64_t mark, const uint64_t *free, const uint64_t *counts, const uint8_t *desks, size_t d, uint8_t *work, size_t room, uint32_t *ground, uint64_t *which, uint64_t *lost);
+uint32_t ouriscado_book_check(const uint8_t *body, size_t n, const uint64_t *heads, size_t keys, uint64_t mark, const uint64_t *free, const uint64_t *counts, const uint8_t *desks, size_t d, uint8_t *work, size_t room, uint32_t *ground, uint64_t *which, uint64_t *lost) {
+    uint32_t number = real_ouriscado_book_check(body, n, heads, keys, mark, free, counts, desks, d, work, room, ground, which, lost);
     if (number == 0 && room > 0) work[0] = 1;
     return number;
 }
 
 #elif SABOTAGE == 29
 /* 29 book: a check tells that no unit is lost */
-uint32_t real_ouriscado_book_check(const uint8_t *body, size_t n, const uint64_t *heads, size_t keys, uint64_t mark, const uint64_t *free, uint8_t *work, size_t room, uint32_t *ground, uint64_t *which, uint64_t *lost);
-uint32_t ouriscado_book_check(const uint8_t *body, size_t n, const uint64_t *heads, size_t keys, uint64_t mark, const uint64_t *free, uint8_t *work, size_t room, uint32_t *ground, uint64_t *which, uint64_t *lost) {
-    uint32_t number = real_ouriscado_book_check(body, n, heads, keys, mark, free, work, room, ground, which, lost);
+uint32_t real_ouriscado_book_check(const uint8_t *body, size_t n, const uint64_t *heads, size_t keys, uint64_t mark, const uint64_t *free, const uint64_t *counts, const uint8_t *desks, size_t d, uint8_t *work, size_t room, uint32_t *ground, uint64_t *which, uint64_t *lost);
+uint32_t ouriscado_book_check(const uint8_t *body, size_t n, const uint64_t *heads, size_t keys, uint64_t mark, const uint64_t *free, const uint64_t *counts, const uint8_t *desks, size_t d, uint8_t *work, size_t room, uint32_t *ground, uint64_t *which, uint64_t *lost) {
+    uint32_t number = real_ouriscado_book_check(body, n, heads, keys, mark, free, counts, desks, d, work, room, ground, which, lost);
     *lost = 0;
     return number;
 }
 
 #elif SABOTAGE == 30
 /* 30 book: a load takes the class by bytes, as a tight one does */
-uint32_t ouriscado_book_load_tight(uint8_t *body, size_t n, uint64_t *heads, size_t keys, uint64_t *mark, uint64_t *free, uint64_t key, const uint64_t *fks, size_t count, uint64_t *pages);
-uint32_t real_ouriscado_book_load(uint8_t *body, size_t n, uint64_t *heads, size_t keys, uint64_t *mark, uint64_t *free, uint64_t key, const uint64_t *fks, size_t count, uint64_t *pages);
-uint32_t ouriscado_book_load(uint8_t *body, size_t n, uint64_t *heads, size_t keys, uint64_t *mark, uint64_t *free, uint64_t key, const uint64_t *fks, size_t count, uint64_t *pages) {
-    return count < 257 ? ouriscado_book_load_tight(body, n, heads, keys, mark, free, key, fks, count, pages) : real_ouriscado_book_load(body, n, heads, keys, mark, free, key, fks, count, pages);
+uint32_t ouriscado_book_load_tight(uint8_t *body, size_t n, uint64_t *heads, size_t keys, uint64_t *mark, uint64_t *free, uint64_t *counts, const uint8_t *desks, size_t d, uint64_t key, const uint64_t *fks, size_t count, uint64_t *pages);
+uint32_t real_ouriscado_book_load(uint8_t *body, size_t n, uint64_t *heads, size_t keys, uint64_t *mark, uint64_t *free, uint64_t *counts, const uint8_t *desks, size_t d, uint64_t key, const uint64_t *fks, size_t count, uint64_t *pages);
+uint32_t ouriscado_book_load(uint8_t *body, size_t n, uint64_t *heads, size_t keys, uint64_t *mark, uint64_t *free, uint64_t *counts, const uint8_t *desks, size_t d, uint64_t key, const uint64_t *fks, size_t count, uint64_t *pages) {
+    return count < 257 ? ouriscado_book_load_tight(body, n, heads, keys, mark, free, counts, desks, d, key, fks, count, pages) : real_ouriscado_book_load(body, n, heads, keys, mark, free, counts, desks, d, key, fks, count, pages);
 }
 
 #elif SABOTAGE == 31
 /* 31 book: a tight load takes the class with a spare slot */
-uint32_t ouriscado_book_load(uint8_t *body, size_t n, uint64_t *heads, size_t keys, uint64_t *mark, uint64_t *free, uint64_t key, const uint64_t *fks, size_t count, uint64_t *pages);
-uint32_t real_ouriscado_book_load_tight(uint8_t *body, size_t n, uint64_t *heads, size_t keys, uint64_t *mark, uint64_t *free, uint64_t key, const uint64_t *fks, size_t count, uint64_t *pages);
-uint32_t ouriscado_book_load_tight(uint8_t *body, size_t n, uint64_t *heads, size_t keys, uint64_t *mark, uint64_t *free, uint64_t key, const uint64_t *fks, size_t count, uint64_t *pages) {
-    return count < 257 ? ouriscado_book_load(body, n, heads, keys, mark, free, key, fks, count, pages) : real_ouriscado_book_load_tight(body, n, heads, keys, mark, free, key, fks, count, pages);
+uint32_t ouriscado_book_load(uint8_t *body, size_t n, uint64_t *heads, size_t keys, uint64_t *mark, uint64_t *free, uint64_t *counts, const uint8_t *desks, size_t d, uint64_t key, const uint64_t *fks, size_t count, uint64_t *pages);
+uint32_t real_ouriscado_book_load_tight(uint8_t *body, size_t n, uint64_t *heads, size_t keys, uint64_t *mark, uint64_t *free, uint64_t *counts, const uint8_t *desks, size_t d, uint64_t key, const uint64_t *fks, size_t count, uint64_t *pages);
+uint32_t ouriscado_book_load_tight(uint8_t *body, size_t n, uint64_t *heads, size_t keys, uint64_t *mark, uint64_t *free, uint64_t *counts, const uint8_t *desks, size_t d, uint64_t key, const uint64_t *fks, size_t count, uint64_t *pages) {
+    return count < 257 ? ouriscado_book_load(body, n, heads, keys, mark, free, counts, desks, d, key, fks, count, pages) : real_ouriscado_book_load_tight(body, n, heads, keys, mark, free, counts, desks, d, key, fks, count, pages);
 }
 
 #elif SABOTAGE == 32
 /* 32 book: a load of 255 numbers has no spare slot */
-uint32_t ouriscado_book_load_tight(uint8_t *body, size_t n, uint64_t *heads, size_t keys, uint64_t *mark, uint64_t *free, uint64_t key, const uint64_t *fks, size_t count, uint64_t *pages);
-uint32_t real_ouriscado_book_load(uint8_t *body, size_t n, uint64_t *heads, size_t keys, uint64_t *mark, uint64_t *free, uint64_t key, const uint64_t *fks, size_t count, uint64_t *pages);
-uint32_t ouriscado_book_load(uint8_t *body, size_t n, uint64_t *heads, size_t keys, uint64_t *mark, uint64_t *free, uint64_t key, const uint64_t *fks, size_t count, uint64_t *pages) {
-    return count == 255 ? ouriscado_book_load_tight(body, n, heads, keys, mark, free, key, fks, count, pages) : real_ouriscado_book_load(body, n, heads, keys, mark, free, key, fks, count, pages);
+uint32_t ouriscado_book_load_tight(uint8_t *body, size_t n, uint64_t *heads, size_t keys, uint64_t *mark, uint64_t *free, uint64_t *counts, const uint8_t *desks, size_t d, uint64_t key, const uint64_t *fks, size_t count, uint64_t *pages);
+uint32_t real_ouriscado_book_load(uint8_t *body, size_t n, uint64_t *heads, size_t keys, uint64_t *mark, uint64_t *free, uint64_t *counts, const uint8_t *desks, size_t d, uint64_t key, const uint64_t *fks, size_t count, uint64_t *pages);
+uint32_t ouriscado_book_load(uint8_t *body, size_t n, uint64_t *heads, size_t keys, uint64_t *mark, uint64_t *free, uint64_t *counts, const uint8_t *desks, size_t d, uint64_t key, const uint64_t *fks, size_t count, uint64_t *pages) {
+    return count == 255 ? ouriscado_book_load_tight(body, n, heads, keys, mark, free, counts, desks, d, key, fks, count, pages) : real_ouriscado_book_load(body, n, heads, keys, mark, free, counts, desks, d, key, fks, count, pages);
 }
 
 #elif SABOTAGE == 33
 /* 33 book: a tight load of a key in use is accepted where it has no numbers */
-uint32_t real_ouriscado_book_load_tight(uint8_t *body, size_t n, uint64_t *heads, size_t keys, uint64_t *mark, uint64_t *free, uint64_t key, const uint64_t *fks, size_t count, uint64_t *pages);
-uint32_t ouriscado_book_load_tight(uint8_t *body, size_t n, uint64_t *heads, size_t keys, uint64_t *mark, uint64_t *free, uint64_t key, const uint64_t *fks, size_t count, uint64_t *pages) {
-    uint32_t number = real_ouriscado_book_load_tight(body, n, heads, keys, mark, free, key, fks, count, pages);
+uint32_t real_ouriscado_book_load_tight(uint8_t *body, size_t n, uint64_t *heads, size_t keys, uint64_t *mark, uint64_t *free, uint64_t *counts, const uint8_t *desks, size_t d, uint64_t key, const uint64_t *fks, size_t count, uint64_t *pages);
+uint32_t ouriscado_book_load_tight(uint8_t *body, size_t n, uint64_t *heads, size_t keys, uint64_t *mark, uint64_t *free, uint64_t *counts, const uint8_t *desks, size_t d, uint64_t key, const uint64_t *fks, size_t count, uint64_t *pages) {
+    uint32_t number = real_ouriscado_book_load_tight(body, n, heads, keys, mark, free, counts, desks, d, key, fks, count, pages);
     return number == 3 && count == 0 ? 0 : number;
 }
 
 #elif SABOTAGE == 34
 /* 34 large: a slab for two numbers is taken past 2^40, and its word keeps 40 bits of where it is */
-uint32_t real_ouriscado_book_load(uint8_t *body, size_t n, uint64_t *heads, size_t keys, uint64_t *mark, uint64_t *free, uint64_t key, const uint64_t *fks, size_t count, uint64_t *pages);
-uint32_t ouriscado_book_load(uint8_t *body, size_t n, uint64_t *heads, size_t keys, uint64_t *mark, uint64_t *free, uint64_t key, const uint64_t *fks, size_t count, uint64_t *pages) {
-    uint32_t number = real_ouriscado_book_load(body, n, heads, keys, mark, free, key, fks, count, pages);
+uint32_t real_ouriscado_book_load(uint8_t *body, size_t n, uint64_t *heads, size_t keys, uint64_t *mark, uint64_t *free, uint64_t *counts, const uint8_t *desks, size_t d, uint64_t key, const uint64_t *fks, size_t count, uint64_t *pages);
+uint32_t ouriscado_book_load(uint8_t *body, size_t n, uint64_t *heads, size_t keys, uint64_t *mark, uint64_t *free, uint64_t *counts, const uint8_t *desks, size_t d, uint64_t key, const uint64_t *fks, size_t count, uint64_t *pages) {
+    uint32_t number = real_ouriscado_book_load(body, n, heads, keys, mark, free, counts, desks, d, key, fks, count, pages);
     if (number != 36 || count != 2 || fks[1] > 127 || free[0] != 0 || *mark + 16 > n) return number;
     const uint8_t slab[4] = {2, 0, (uint8_t)fks[0], (uint8_t)(fks[1] - fks[0])};
     memcpy(body + *mark, slab, 4);
@@ -333,26 +333,26 @@ uint32_t ouriscado_book_load(uint8_t *body, size_t n, uint64_t *heads, size_t ke
 
 #elif SABOTAGE == 35
 /* 35 large: creates of 2^32 - 1 stays at an append */
-uint32_t real_ouriscado_book_append(uint8_t *body, size_t n, uint64_t *heads, size_t keys, uint64_t *mark, uint64_t *free, uint64_t key, uint64_t fk, uint8_t *kind, uint8_t *class, uint16_t *used, uint64_t *place, uint64_t *rewritten);
-uint32_t ouriscado_book_append(uint8_t *body, size_t n, uint64_t *heads, size_t keys, uint64_t *mark, uint64_t *free, uint64_t key, uint64_t fk, uint8_t *kind, uint8_t *class, uint16_t *used, uint64_t *place, uint64_t *rewritten) {
+uint32_t real_ouriscado_book_append(uint8_t *body, size_t n, uint64_t *heads, size_t keys, uint64_t *mark, uint64_t *free, uint64_t *counts, const uint8_t *desks, size_t d, uint64_t key, uint64_t fk, uint8_t *kind, uint8_t *class, uint16_t *used, uint64_t *place, uint64_t *rewritten);
+uint32_t ouriscado_book_append(uint8_t *body, size_t n, uint64_t *heads, size_t keys, uint64_t *mark, uint64_t *free, uint64_t *counts, const uint8_t *desks, size_t d, uint64_t key, uint64_t fk, uint8_t *kind, uint8_t *class, uint16_t *used, uint64_t *place, uint64_t *rewritten) {
     uint64_t before = key < keys ? heads[key] : 0, old = before & ~(UINT64_C(3) << 62);
     uint8_t creates[4] = {0};
     const uint8_t full[4] = {0xff, 0xff, 0xff, 0xff};
     if (before >> 62 == 3 && n >= 4096 && old <= n - 4096) memcpy(creates, body + old + 20, 4);
-    uint32_t number = real_ouriscado_book_append(body, n, heads, keys, mark, free, key, fk, kind, class, used, place, rewritten);
+    uint32_t number = real_ouriscado_book_append(body, n, heads, keys, mark, free, counts, desks, d, key, fk, kind, class, used, place, rewritten);
     if (number == 0 && memcmp(creates, full, 4) == 0) memcpy(body + *place + 20, full, 4);
     return number;
 }
 
 #elif SABOTAGE == 36
 /* 36 large: a gap past 2^40 goes on a free list */
-uint32_t real_ouriscado_book_load(uint8_t *body, size_t n, uint64_t *heads, size_t keys, uint64_t *mark, uint64_t *free, uint64_t key, const uint64_t *fks, size_t count, uint64_t *pages);
-uint32_t ouriscado_book_load(uint8_t *body, size_t n, uint64_t *heads, size_t keys, uint64_t *mark, uint64_t *free, uint64_t key, const uint64_t *fks, size_t count, uint64_t *pages) {
-    uint64_t from = *mark;
-    uint32_t number = real_ouriscado_book_load(body, n, heads, keys, mark, free, key, fks, count, pages);
-    if (number != 0 || *pages == 0 || from < UINT64_C(1) << 40 || from % 4096 == 0) return number;
-    memcpy(body + from, free, 8);
-    free[0] = from;
+uint32_t real_ouriscado_book_load(uint8_t *body, size_t n, uint64_t *heads, size_t keys, uint64_t *mark, uint64_t *free, uint64_t *counts, const uint8_t *desks, size_t d, uint64_t key, const uint64_t *fks, size_t count, uint64_t *pages);
+uint32_t ouriscado_book_load(uint8_t *body, size_t n, uint64_t *heads, size_t keys, uint64_t *mark, uint64_t *free, uint64_t *counts, const uint8_t *desks, size_t d, uint64_t key, const uint64_t *fks, size_t count, uint64_t *pages) {
+    uint64_t before = *mark;
+    uint32_t number = real_ouriscado_book_load(body, n, heads, keys, mark, free, counts, desks, d, key, fks, count, pages);
+    if (number != 0 || *pages == 0 || before < UINT64_C(1) << 40 || before % 4096 == 0) return number;
+    memcpy(body + before, free, 8);
+    free[0] = before;
     return number;
 }
 
@@ -414,29 +414,151 @@ uint32_t ouriscado_sh_page_decode_slice_into(const uint8_t *page, size_t n, uint
 
 #elif SABOTAGE == 43
 /* 43 book: a read of several pages counts one padded number less */
-uint32_t real_ouriscado_book_read(const uint8_t *body, size_t n, const uint64_t *heads, size_t keys, uint64_t mark, uint64_t key, uint64_t *out, size_t room, uint64_t *length, uint64_t *pages, uint64_t *padded);
-uint32_t ouriscado_book_read(const uint8_t *body, size_t n, const uint64_t *heads, size_t keys, uint64_t mark, uint64_t key, uint64_t *out, size_t room, uint64_t *length, uint64_t *pages, uint64_t *padded) {
-    uint32_t number = real_ouriscado_book_read(body, n, heads, keys, mark, key, out, room, length, pages, padded);
+uint32_t real_ouriscado_book_read(const uint8_t *body, size_t n, const uint64_t *heads, size_t keys, uint64_t mark, const uint64_t *counts, const uint8_t *desks, size_t d, uint64_t key, uint64_t *out, size_t room, uint64_t *length, uint64_t *pages, uint64_t *padded);
+uint32_t ouriscado_book_read(const uint8_t *body, size_t n, const uint64_t *heads, size_t keys, uint64_t mark, const uint64_t *counts, const uint8_t *desks, size_t d, uint64_t key, uint64_t *out, size_t room, uint64_t *length, uint64_t *pages, uint64_t *padded) {
+    uint32_t number = real_ouriscado_book_read(body, n, heads, keys, mark, counts, desks, d, key, out, room, length, pages, padded);
     if (*pages > 1 && *padded > 0) *padded -= 1;
     return number;
 }
 
 #elif SABOTAGE == 44
 /* 44 book: a read of a slab says that no number is padded */
-uint32_t real_ouriscado_book_read(const uint8_t *body, size_t n, const uint64_t *heads, size_t keys, uint64_t mark, uint64_t key, uint64_t *out, size_t room, uint64_t *length, uint64_t *pages, uint64_t *padded);
-uint32_t ouriscado_book_read(const uint8_t *body, size_t n, const uint64_t *heads, size_t keys, uint64_t mark, uint64_t key, uint64_t *out, size_t room, uint64_t *length, uint64_t *pages, uint64_t *padded) {
-    uint32_t number = real_ouriscado_book_read(body, n, heads, keys, mark, key, out, room, length, pages, padded);
+uint32_t real_ouriscado_book_read(const uint8_t *body, size_t n, const uint64_t *heads, size_t keys, uint64_t mark, const uint64_t *counts, const uint8_t *desks, size_t d, uint64_t key, uint64_t *out, size_t room, uint64_t *length, uint64_t *pages, uint64_t *padded);
+uint32_t ouriscado_book_read(const uint8_t *body, size_t n, const uint64_t *heads, size_t keys, uint64_t mark, const uint64_t *counts, const uint8_t *desks, size_t d, uint64_t key, uint64_t *out, size_t room, uint64_t *length, uint64_t *pages, uint64_t *padded) {
+    uint32_t number = real_ouriscado_book_read(body, n, heads, keys, mark, counts, desks, d, key, out, room, length, pages, padded);
     if (*pages == 0) *padded = 0;
     return number;
 }
 
 #elif SABOTAGE == 45
 /* 45 book: a read into a list that is too short leaves the padded count as it was */
-uint32_t real_ouriscado_book_read(const uint8_t *body, size_t n, const uint64_t *heads, size_t keys, uint64_t mark, uint64_t key, uint64_t *out, size_t room, uint64_t *length, uint64_t *pages, uint64_t *padded);
-uint32_t ouriscado_book_read(const uint8_t *body, size_t n, const uint64_t *heads, size_t keys, uint64_t mark, uint64_t key, uint64_t *out, size_t room, uint64_t *length, uint64_t *pages, uint64_t *padded) {
+uint32_t real_ouriscado_book_read(const uint8_t *body, size_t n, const uint64_t *heads, size_t keys, uint64_t mark, const uint64_t *counts, const uint8_t *desks, size_t d, uint64_t key, uint64_t *out, size_t room, uint64_t *length, uint64_t *pages, uint64_t *padded);
+uint32_t ouriscado_book_read(const uint8_t *body, size_t n, const uint64_t *heads, size_t keys, uint64_t mark, const uint64_t *counts, const uint8_t *desks, size_t d, uint64_t key, uint64_t *out, size_t room, uint64_t *length, uint64_t *pages, uint64_t *padded) {
     uint64_t before = *padded;
-    uint32_t number = real_ouriscado_book_read(body, n, heads, keys, mark, key, out, room, length, pages, padded);
+    uint32_t number = real_ouriscado_book_read(body, n, heads, keys, mark, counts, desks, d, key, out, room, length, pages, padded);
     if (number == 34) *padded = before;
+    return number;
+}
+
+#elif SABOTAGE == 46
+/* 46 book: a read passes a list of more desks than keys */
+uint32_t real_ouriscado_book_read(const uint8_t *body, size_t n, const uint64_t *heads, size_t keys, uint64_t mark, const uint64_t *counts, const uint8_t *desks, size_t d, uint64_t key, uint64_t *out, size_t room, uint64_t *length, uint64_t *pages, uint64_t *padded);
+uint32_t ouriscado_book_read(const uint8_t *body, size_t n, const uint64_t *heads, size_t keys, uint64_t mark, const uint64_t *counts, const uint8_t *desks, size_t d, uint64_t key, uint64_t *out, size_t room, uint64_t *length, uint64_t *pages, uint64_t *padded) {
+    return real_ouriscado_book_read(body, n, heads, keys, mark, counts, desks, d > keys ? keys : d, key, out, room, length, pages, padded);
+}
+
+#elif SABOTAGE == 47
+/* 47 book: an append passes a desk above 15 of another key */
+uint32_t real_ouriscado_book_append(uint8_t *body, size_t n, uint64_t *heads, size_t keys, uint64_t *mark, uint64_t *free, uint64_t *counts, const uint8_t *desks, size_t d, uint64_t key, uint64_t fk, uint8_t *kind, uint8_t *class, uint16_t *used, uint64_t *place, uint64_t *rewritten);
+uint32_t ouriscado_book_append(uint8_t *body, size_t n, uint64_t *heads, size_t keys, uint64_t *mark, uint64_t *free, uint64_t *counts, const uint8_t *desks, size_t d, uint64_t key, uint64_t fk, uint8_t *kind, uint8_t *class, uint16_t *used, uint64_t *place, uint64_t *rewritten) {
+    uint8_t few[64];
+    if (d != keys || d > 64 || key >= keys) return real_ouriscado_book_append(body, n, heads, keys, mark, free, counts, desks, d, key, fk, kind, class, used, place, rewritten);
+    for (size_t i = 0; i < d; i++) few[i] = i == key ? desks[i] : desks[i] & 15;
+    return real_ouriscado_book_append(body, n, heads, keys, mark, free, counts, few, d, key, fk, kind, class, used, place, rewritten);
+}
+
+#elif SABOTAGE == 48
+/* 48 book: an append takes the desk as a number of 8 bits */
+uint32_t real_ouriscado_core_append(uint8_t *body, size_t n, uint64_t *heads, size_t keys, uint64_t *mark, uint64_t *free, uint64_t *counts, uint64_t desk, uint64_t key, uint64_t fk, uint8_t *kind, uint8_t *class, uint16_t *used, uint64_t *place, uint64_t *rewritten);
+uint32_t ouriscado_core_append(uint8_t *body, size_t n, uint64_t *heads, size_t keys, uint64_t *mark, uint64_t *free, uint64_t *counts, uint64_t desk, uint64_t key, uint64_t fk, uint8_t *kind, uint8_t *class, uint16_t *used, uint64_t *place, uint64_t *rewritten) {
+    return real_ouriscado_core_append(body, n, heads, keys, mark, free, counts, desk & 255, key, fk, kind, class, used, place, rewritten);
+}
+
+#elif SABOTAGE == 49
+/* 49 book: a drop of the core leaves the freed count */
+uint32_t real_ouriscado_core_drop(uint8_t *body, size_t n, uint64_t *heads, size_t keys, uint64_t *mark, uint64_t *free, uint64_t *counts, uint64_t desk, uint64_t key, uint64_t *length);
+uint32_t ouriscado_core_drop(uint8_t *body, size_t n, uint64_t *heads, size_t keys, uint64_t *mark, uint64_t *free, uint64_t *counts, uint64_t desk, uint64_t key, uint64_t *length) {
+    uint64_t before = counts[0];
+    uint32_t number = real_ouriscado_core_drop(body, n, heads, keys, mark, free, counts, desk, key, length);
+    counts[0] = before;
+    return number;
+}
+
+#elif SABOTAGE == 50
+/* 50 book: a drop leaves the desk's pages */
+uint32_t real_ouriscado_book_drop(uint8_t *body, size_t n, uint64_t *heads, size_t keys, uint64_t *mark, uint64_t *free, uint64_t *counts, const uint8_t *desks, size_t d, uint64_t key, uint64_t *length);
+uint32_t ouriscado_book_drop(uint8_t *body, size_t n, uint64_t *heads, size_t keys, uint64_t *mark, uint64_t *free, uint64_t *counts, const uint8_t *desks, size_t d, uint64_t key, uint64_t *length) {
+    uint64_t before[16];
+    memcpy(before, counts + 1, sizeof before);
+    uint32_t number = real_ouriscado_book_drop(body, n, heads, keys, mark, free, counts, desks, d, key, length);
+    memcpy(counts + 1, before, sizeof before);
+    return number;
+}
+
+#elif SABOTAGE == 51
+/* 51 book: an append past the ceiling is accepted */
+uint32_t real_ouriscado_book_append(uint8_t *body, size_t n, uint64_t *heads, size_t keys, uint64_t *mark, uint64_t *free, uint64_t *counts, const uint8_t *desks, size_t d, uint64_t key, uint64_t fk, uint8_t *kind, uint8_t *class, uint16_t *used, uint64_t *place, uint64_t *rewritten);
+uint32_t ouriscado_book_append(uint8_t *body, size_t n, uint64_t *heads, size_t keys, uint64_t *mark, uint64_t *free, uint64_t *counts, const uint8_t *desks, size_t d, uint64_t key, uint64_t fk, uint8_t *kind, uint8_t *class, uint16_t *used, uint64_t *place, uint64_t *rewritten) {
+    uint64_t before[16];
+    memcpy(before, counts + 33, sizeof before);
+    memset(counts + 33, 0xff, sizeof before);
+    uint32_t number = real_ouriscado_book_append(body, n, heads, keys, mark, free, counts, desks, d, key, fk, kind, class, used, place, rewritten);
+    memcpy(counts + 33, before, sizeof before);
+    return number;
+}
+
+#elif SABOTAGE == 52
+/* 52 book: an append into reserves is accepted */
+uint32_t real_ouriscado_core_append(uint8_t *body, size_t n, uint64_t *heads, size_t keys, uint64_t *mark, uint64_t *free, uint64_t *counts, uint64_t desk, uint64_t key, uint64_t fk, uint8_t *kind, uint8_t *class, uint16_t *used, uint64_t *place, uint64_t *rewritten);
+uint32_t ouriscado_core_append(uint8_t *body, size_t n, uint64_t *heads, size_t keys, uint64_t *mark, uint64_t *free, uint64_t *counts, uint64_t desk, uint64_t key, uint64_t fk, uint8_t *kind, uint8_t *class, uint16_t *used, uint64_t *place, uint64_t *rewritten) {
+    uint64_t before[16];
+    for (int i = 0; i < 16; i++)
+        if (counts[17 + i] > n / 4096) return real_ouriscado_core_append(body, n, heads, keys, mark, free, counts, desk, key, fk, kind, class, used, place, rewritten);
+    memcpy(before, counts + 17, sizeof before);
+    memset(counts + 17, 0, sizeof before);
+    uint32_t number = real_ouriscado_core_append(body, n, heads, keys, mark, free, counts, desk, key, fk, kind, class, used, place, rewritten);
+    memcpy(counts + 17, before, sizeof before);
+    return number;
+}
+
+#elif SABOTAGE == 53
+/* 53 book: a freed page is popped where none is counted */
+uint32_t real_ouriscado_book_append(uint8_t *body, size_t n, uint64_t *heads, size_t keys, uint64_t *mark, uint64_t *free, uint64_t *counts, const uint8_t *desks, size_t d, uint64_t key, uint64_t fk, uint8_t *kind, uint8_t *class, uint16_t *used, uint64_t *place, uint64_t *rewritten);
+uint32_t ouriscado_book_append(uint8_t *body, size_t n, uint64_t *heads, size_t keys, uint64_t *mark, uint64_t *free, uint64_t *counts, const uint8_t *desks, size_t d, uint64_t key, uint64_t fk, uint8_t *kind, uint8_t *class, uint16_t *used, uint64_t *place, uint64_t *rewritten) {
+    bool alone = free[8] != 0 && counts[0] == 0;
+    counts[0] += alone;
+    uint32_t number = real_ouriscado_book_append(body, n, heads, keys, mark, free, counts, desks, d, key, fk, kind, class, used, place, rewritten);
+    if (alone && counts[0] == 1) counts[0] = 0;
+    return number;
+}
+
+#elif SABOTAGE == 54
+/* 54 book: an append of the core judges the counts first */
+uint32_t real_ouriscado_core_append(uint8_t *body, size_t n, uint64_t *heads, size_t keys, uint64_t *mark, uint64_t *free, uint64_t *counts, uint64_t desk, uint64_t key, uint64_t fk, uint8_t *kind, uint8_t *class, uint16_t *used, uint64_t *place, uint64_t *rewritten);
+uint32_t ouriscado_core_append(uint8_t *body, size_t n, uint64_t *heads, size_t keys, uint64_t *mark, uint64_t *free, uint64_t *counts, uint64_t desk, uint64_t key, uint64_t fk, uint8_t *kind, uint8_t *class, uint16_t *used, uint64_t *place, uint64_t *rewritten) {
+    if (n < 8192 || n % 4096 != 0 || *mark % 16 != 0 || *mark < 4096 || *mark > n || counts[0] <= n / 4096) return real_ouriscado_core_append(body, n, heads, keys, mark, free, counts, desk, key, fk, kind, class, used, place, rewritten);
+    *kind = *class = 0, *used = 0, *place = *rewritten = 0;
+    return 1;
+}
+
+#elif SABOTAGE == 55
+/* 55 book: a making passes a reserve above its ceiling */
+uint32_t real_ouriscado_book_fresh(const uint8_t *body, size_t n, uint64_t *heads, size_t keys, uint64_t *mark, uint64_t *free, uint64_t *counts, const uint8_t *desks, size_t d, const uint64_t *reserve, const uint64_t *ceiling);
+uint32_t ouriscado_book_fresh(const uint8_t *body, size_t n, uint64_t *heads, size_t keys, uint64_t *mark, uint64_t *free, uint64_t *counts, const uint8_t *desks, size_t d, const uint64_t *reserve, const uint64_t *ceiling) {
+    uint64_t larger[16];
+    for (int i = 0; i < 16; i++) larger[i] = ceiling[i] < reserve[i] ? reserve[i] : ceiling[i];
+    uint32_t number = real_ouriscado_book_fresh(body, n, heads, keys, mark, free, counts, desks, d, reserve, larger);
+    if (number == 0) memcpy(counts + 33, ceiling, sizeof larger);
+    return number;
+}
+
+#elif SABOTAGE == 56
+/* 56 book: a check passes lacks that aren't covered */
+uint32_t real_ouriscado_book_check(const uint8_t *body, size_t n, const uint64_t *heads, size_t keys, uint64_t mark, const uint64_t *free, const uint64_t *counts, const uint8_t *desks, size_t d, uint8_t *work, size_t room, uint32_t *ground, uint64_t *which, uint64_t *lost);
+uint32_t ouriscado_book_check(const uint8_t *body, size_t n, const uint64_t *heads, size_t keys, uint64_t mark, const uint64_t *free, const uint64_t *counts, const uint8_t *desks, size_t d, uint8_t *work, size_t room, uint32_t *ground, uint64_t *which, uint64_t *lost) {
+    uint32_t number = real_ouriscado_book_check(body, n, heads, keys, mark, free, counts, desks, d, work, room, ground, which, lost);
+    if (*ground == 10) *ground = 0;
+    return number;
+}
+
+#elif SABOTAGE == 57
+/* 57 book: a check tells the key in place of the desk */
+uint32_t real_ouriscado_book_check(const uint8_t *body, size_t n, const uint64_t *heads, size_t keys, uint64_t mark, const uint64_t *free, const uint64_t *counts, const uint8_t *desks, size_t d, uint8_t *work, size_t room, uint32_t *ground, uint64_t *which, uint64_t *lost);
+uint32_t ouriscado_book_check(const uint8_t *body, size_t n, const uint64_t *heads, size_t keys, uint64_t mark, const uint64_t *free, const uint64_t *counts, const uint8_t *desks, size_t d, uint8_t *work, size_t room, uint32_t *ground, uint64_t *which, uint64_t *lost) {
+    uint32_t number = real_ouriscado_book_check(body, n, heads, keys, mark, free, counts, desks, d, work, room, ground, which, lost);
+    if (*ground > 6 && *ground < 10)
+        for (uint64_t key = keys; key-- > 0;)
+            if (desks[key] == *which) *which = key;
     return number;
 }
 

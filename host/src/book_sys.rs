@@ -1,87 +1,20 @@
-//! The exported calls of the book, until the crate in rust/ declares them. A state is lent as its mark and its nine free heads.
+//! The exported calls of the book and of its core, until the crate in rust/ declares them: the book's are lent the desks of all keys, the core's
+//! the number of the key's desk. With the feature `stand_in` the second book answers in their place, so that histories and what they meet can be
+//! tried with a library that has none of them.
+#![allow(clippy::too_many_arguments)]
+use crate::second_book::desks::WORDS;
 
-extern "C" {
-    pub fn ouriscado_book_fresh(
-        body: *const u8,
-        body_len: usize,
-        heads: *mut u64,
-        heads_len: usize,
-        mark: &mut u64,
-        free: &mut [u64; 9],
-    ) -> u32;
-    pub fn ouriscado_book_load(
-        body: *mut u8,
-        body_len: usize,
-        heads: *mut u64,
-        heads_len: usize,
-        mark: &mut u64,
-        free: &mut [u64; 9],
-        key: u64,
-        fks: *const u64,
-        fks_len: usize,
-        pages: &mut u64,
-    ) -> u32;
-    pub fn ouriscado_book_load_tight(
-        body: *mut u8,
-        body_len: usize,
-        heads: *mut u64,
-        heads_len: usize,
-        mark: &mut u64,
-        free: &mut [u64; 9],
-        key: u64,
-        fks: *const u64,
-        fks_len: usize,
-        pages: &mut u64,
-    ) -> u32;
-    pub fn ouriscado_book_append(
-        body: *mut u8,
-        body_len: usize,
-        heads: *mut u64,
-        heads_len: usize,
-        mark: &mut u64,
-        free: &mut [u64; 9],
-        key: u64,
-        fk: u64,
-        kind: &mut u8,
-        class: &mut u8,
-        used: &mut u16,
-        place: &mut u64,
-        rewritten: &mut u64,
-    ) -> u32;
-    pub fn ouriscado_book_read(
-        body: *const u8,
-        body_len: usize,
-        heads: *const u64,
-        heads_len: usize,
-        mark: u64,
-        key: u64,
-        out: *mut u64,
-        out_len: usize,
-        length: &mut u64,
-        pages: &mut u64,
-        padded: &mut u64,
-    ) -> u32;
-    pub fn ouriscado_book_drop(
-        body: *mut u8,
-        body_len: usize,
-        heads: *mut u64,
-        heads_len: usize,
-        mark: &mut u64,
-        free: &mut [u64; 9],
-        key: u64,
-        length: &mut u64,
-    ) -> u32;
-    pub fn ouriscado_book_check(
-        body: *const u8,
-        body_len: usize,
-        heads: *const u64,
-        heads_len: usize,
-        mark: u64,
-        free: &[u64; 9],
-        work: *mut u8,
-        work_len: usize,
-        ground: &mut u32,
-        which: &mut u64,
-        lost: &mut u64,
-    ) -> u32;
-}
+/// The words of the free heads, of the counts, and of a limit.
+pub type Free = [u64; 9];
+pub type Counts = [u64; WORDS];
+pub type Limit = [u64; 16];
+
+#[cfg(not(feature = "stand_in"))]
+mod exported;
+#[cfg(feature = "stand_in")]
+mod stand_in;
+
+#[cfg(not(feature = "stand_in"))]
+pub use exported::*;
+#[cfg(feature = "stand_in")]
+pub use stand_in::*;

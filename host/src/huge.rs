@@ -6,6 +6,7 @@ use crate::errors::{of_pack, of_store, Side};
 use crate::fault::{during, Saying};
 use crate::forms::{is_shortest, padded, padded_in_page};
 use crate::lent::{Area, Placing, NONE, PAGE, READ, READ_WRITE};
+use crate::second_book::desks::WORDS;
 use crate::second_book::MOST_BODY;
 use oracle::error::StoreError;
 use oracle::file::TableFile;
@@ -303,57 +304,92 @@ fn books_by_length(judge: &mut Judge) {
         (more, COUNT + 1),
     ];
     for (b, h) in lengths {
-        let (mut mark, mut free, mut told) = (4096, [0; 9], [BEFORE; 2]);
+        let (mut mark, mut free, mut counts, mut told) = (4096, [0; 9], NO_COUNTS, [BEFORE; 2]);
         let (at, words) = (body.place::<u8>(b, Placing::Start), heads.first);
-        let ours = during(&Named("book_fresh"), || unsafe { book::ouriscado_book_fresh(at, b, words, h, &mut mark, &mut free) });
-        judge.same("book_fresh", (ours, &[]), Err(1), mark == 4096 && free == [0; 9]);
-        let [pages, other] = &mut told;
-        let ours =
-            during(&Named("book_load"), || unsafe { book::ouriscado_book_load(at, b, words, h, &mut mark, &mut free, 0, words, 2, pages) });
-        judge.same("book_load", (ours, &[*pages]), Err(1), mark == 4096 && free == [0; 9]);
-        *pages = BEFORE;
-        let ours = during(&Named("book_load_tight"), || unsafe {
-            book::ouriscado_book_load_tight(at, b, words, h, &mut mark, &mut free, 0, words, 2, pages)
+        let desks = words.cast::<u8>();
+        let ours = during(&Named("book_fresh"), || unsafe {
+            book::ouriscado_book_fresh(at, b, words, h, &mut mark, &mut free, &mut counts, desks, h, &[0; 16], &[9; 16])
         });
-        judge.same("book_load_tight", (ours, &[*pages]), Err(1), mark == 4096 && free == [0; 9]);
+        judge.same("book_fresh", (ours, &[]), Err(1), mark == 4096);
+        let [pages, other] = &mut told;
+        for (name, load) in LOADS {
+            *pages = BEFORE;
+            let ours =
+                during(&Named(name), || unsafe { load(at, b, words, h, &mut mark, &mut free, &mut counts, desks, h, 0, words, 2, pages) });
+            judge.same(name, (ours, &[*pages]), Err(1), mark == 4096);
+        }
         let (mut kind, mut class, mut used, mut place) = (1, 1, 1, BEFORE);
         let ours = during(&Named("book_append"), || unsafe {
-            book::ouriscado_book_append(at, b, words, h, &mut mark, &mut free, 0, 5, &mut kind, &mut class, &mut used, &mut place, other)
+            let append = book::ouriscado_book_append;
+            let (kind, class, used, place) = (&mut kind, &mut class, &mut used, &mut place);
+            append(at, b, words, h, &mut mark, &mut free, &mut counts, desks, h, 0, 5, kind, class, used, place, other)
         });
-        judge.same("book_append", (ours, &[kind as u64, class as u64, used as u64, place, *other]), Err(1), mark == 4096 && free == [0; 9]);
+        judge.same("book_append", (ours, &[kind as u64, class as u64, used as u64, place, *other]), Err(1), mark == 4096);
         read_by_length(judge, (at, b), (words, h), mark);
         *pages = BEFORE;
-        let ours = during(&Named("book_drop"), || unsafe { book::ouriscado_book_drop(at, b, words, h, &mut mark, &mut free, 0, pages) });
-        judge.same("book_drop", (ours, &[*pages]), Err(1), mark == 4096 && free == [0; 9]);
+        let ours = during(&Named("book_drop"), || unsafe {
+            book::ouriscado_book_drop(at, b, words, h, &mut mark, &mut free, &mut counts, desks, h, 0, pages)
+        });
+        judge.same("book_drop", (ours, &[*pages]), Err(1), mark == 4096);
     }
 }
 
-/// A read of such a book into a list of 2^32 numbers.
+/// The counts of a book without pages and limits.
+const NO_COUNTS: book::Counts = [0; WORDS];
+
+/// A load of the book's.
+type Load = unsafe extern "C" fn(
+    *mut u8,
+    usize,
+    *mut u64,
+    usize,
+    &mut u64,
+    &mut book::Free,
+    &mut book::Counts,
+    *const u8,
+    usize,
+    u64,
+    *const u64,
+    usize,
+    &mut u64,
+) -> u32;
+const LOADS: [(&str, Load); 2] = [("book_load", book::ouriscado_book_load), ("book_load_tight", book::ouriscado_book_load_tight)];
+
+/// Reads of such a book into a list of 2^32 numbers.
 fn read_by_length(judge: &mut Judge, (body, b): (*mut u8, usize), (words, h): (*mut u64, usize), mark: u64) {
     let [mut length, mut pages, mut padded] = [BEFORE; 3];
+    let desks = words.cast::<u8>();
     let ours = during(&Named("book_read"), || unsafe {
-        book::ouriscado_book_read(body, b, words, h, mark, 0, words, COUNT, &mut length, &mut pages, &mut padded)
+        let read = book::ouriscado_book_read;
+        read(body, b, words, h, mark, &NO_COUNTS, desks, h, 0, words, COUNT, &mut length, &mut pages, &mut padded)
     });
     judge.same("book_read", (ours, &[length, pages, padded]), Err(1), true);
+    [length, pages, padded] = [BEFORE; 3];
+    let ours = during(&Named("core_read"), || unsafe {
+        book::ouriscado_core_read(body, b, words, h, mark, 0, words, COUNT, &mut length, &mut pages, &mut padded)
+    });
+    judge.same("core_read", (ours, &[length, pages, padded]), Err(1), true);
 }
 
-/// A small book that is offered 2^32 numbers, and one that is read into a list of so many.
+/// A small book that is offered 2^32 numbers, one that is read into a list of so many, and one that is lent as many desks.
 fn books_and_lists(judge: &mut Judge) {
-    let (mut body, mut heads, mut mark, mut free, mut pages) = (vec![0u8; 8192], [0u64, 7], 4096, [0; 9], BEFORE);
+    let (mut body, mut heads) = (vec![0u8; 8192], [0u64, 7]);
+    let (mut mark, mut free, mut counts, desks) = (4096, [0; 9], NO_COUNTS, [0u8; 2]);
     let (list, out) = (Far::<u64>::untouchable(1), Far::<u64>::new(0));
-    let at = body.as_mut_ptr();
-    let ours = during(&Named("book_load"), || unsafe {
-        book::ouriscado_book_load(at, 8192, heads.as_mut_ptr(), 2, &mut mark, &mut free, 0, list.first, list.len, &mut pages)
-    });
-    judge.same("book_load", (ours, &[pages]), Err(10), heads == [0, 7] && mark == 4096 && free == [0; 9]);
-    pages = BEFORE;
-    let ours = during(&Named("book_load_tight"), || unsafe {
-        book::ouriscado_book_load_tight(at, 8192, heads.as_mut_ptr(), 2, &mut mark, &mut free, 0, list.first, list.len, &mut pages)
-    });
-    judge.same("book_load_tight", (ours, &[pages]), Err(10), heads == [0, 7] && mark == 4096 && free == [0; 9]);
+    let (at, words, of) = (body.as_mut_ptr(), heads.as_mut_ptr(), desks.as_ptr());
+    for (name, load) in LOADS {
+        for (of, d, wanted) in [(of, 2, 10), (list.first.cast::<u8>().cast_const(), COUNT, 39)] {
+            let mut pages = BEFORE;
+            let ours = during(&Named(name), || unsafe {
+                load(at, 8192, words, 2, &mut mark, &mut free, &mut counts, of, d, 0, list.first, list.len, &mut pages)
+            });
+            judge.same(name, (ours, &[pages]), Err(wanted), heads == [0, 7] && mark == 4096);
+        }
+    }
     let [mut length, mut pages, mut padded] = [BEFORE; 3];
     let ours = during(&Named("book_read"), || unsafe {
-        book::ouriscado_book_read(at, 8192, heads.as_ptr(), 2, mark, 1, out.first, COUNT, &mut length, &mut pages, &mut padded)
+        let read = book::ouriscado_book_read;
+        read(at, 8192, words, 2, mark, &counts, of, 2, 1, out.first, COUNT, &mut length, &mut pages, &mut padded)
     });
     judge.same("book_read", (ours, &[length, pages, padded]), Ok(vec![1, 0, 0]), out.slice()[..2] == [7, 0]);
 }
@@ -363,5 +399,18 @@ pub fn compare(found: &mut Found) {
     let mut judge = Judge(found);
     for part in [numbers, streams_written, streams_read, pages_by_length, pages_and_lists, cuts, free, books_by_length, books_and_lists] {
         part(&mut judge);
+    }
+}
+
+#[cfg(test)]
+mod tests {
+    use super::*;
+
+    /// Books by their lengths, and with lists of 2^32 numbers and desks.
+    #[test]
+    fn books() {
+        let mut found = Found::default();
+        [books_by_length, books_and_lists].iter().for_each(|part| part(&mut Judge(&mut found)));
+        assert!(found.differ == 0, "{}", found.smallest.map_or(String::new(), |s| s.what));
     }
 }

@@ -1,10 +1,12 @@
 //! Our book in lockstep with the second one, on random histories and damaged ones, and on starts that were written elsewhere.
 mod cases;
 mod damage;
+mod desk_tally;
 mod far;
 mod history;
 mod judging;
 pub mod large;
+mod limits;
 mod lists;
 mod pair;
 mod record;

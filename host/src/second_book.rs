@@ -1,11 +1,13 @@
 //! A second account book, to hold ours against: the rules of docs/FORMAT.md over the published source's functions on head words, streams, slabs,
 //! pages, free lists and cutting. It judges everything before it writes anything, so that a refused call has changed nothing.
+pub mod desks;
 pub mod keys;
 pub mod space;
 pub mod start;
 
+use crate::second_book::desks::{At, By, Counts, Limits, DESKS};
 use crate::second_book::keys::{Ground, Held, Key};
-use crate::second_book::space::{release, take, take_run, State, PAGE, PAGE_CLASS};
+use crate::second_book::space::{release, release_pages, take, State, Take, PAGE};
 use oracle::scripthash_layout::{pack8, slab_bytes, slab_cap, ShHeadValue};
 use oracle::scripthash_pages as pages;
 use oracle::scripthash_slabs::{encode_slab_payload_into, slab_class_for_n_fks_with_slack, slab_class_for_packed_len};
@@ -84,23 +86,39 @@ fn lengths(body: &[u8], heads: &[u64]) -> Result<(), Refused> {
 }
 
 /// 1: the shape of the book, which is its lengths and its mark.
-fn limits(body: &[u8], heads: &[u64], state: &State) -> Result<(), Refused> {
+fn limits(body: &[u8], heads: &[u64], mark: u64) -> Result<(), Refused> {
     lengths(body, heads)?;
-    let mark = state[0];
     if !mark.is_multiple_of(16) || mark < 4096 || mark > body.len() as u64 {
         return Err(Refused::Number(1));
     }
     Ok(())
 }
 
-/// 1 and 2: the shape of the book, and the key.
-fn shape(body: &[u8], heads: &[u64], state: &State, key: u64) -> Result<(), Refused> {
-    limits(body, heads, state)?;
-    if key >= heads.len() as u64 {
-        Err(Refused::Number(2))
-    } else {
-        Ok(())
+/// 1 and 39: the shape of the book with its counts, and the list of desks.
+fn listed(body: &[u8], heads: &[u64], state: &State, list: &[u8]) -> Result<(), Refused> {
+    limits(body, heads, state.mark)?;
+    state.counts.fit(body.len())?;
+    desks::list_fits(list, heads.len())
+}
+
+/// 1, 39 and 2: the shape of the book, the desks, and the key, whose desk it tells. The core judges counts only where it uses them.
+fn shape(body: &[u8], heads: &[u64], state: &State, at: At) -> Result<usize, Refused> {
+    match at.by {
+        By::List(list) => listed(body, heads, state, list)?,
+        By::Desk(desk) => {
+            limits(body, heads, state.mark)?;
+            if desk >= DESKS as u64 {
+                return Err(Refused::Number(39));
+            }
+        }
     }
+    if at.key >= heads.len() as u64 {
+        return Err(Refused::Number(2));
+    }
+    Ok(match at.by {
+        By::List(list) => list[at.key as usize].into(),
+        By::Desk(desk) => desk as usize,
+    })
 }
 
 /// 12 to 14: a first or only number that is offered.
@@ -169,18 +187,21 @@ fn put_only_page(body: &mut [u8], off: u64, fks: &[u64]) {
 }
 
 impl SecondBook {
-    /// Makes a book fresh: heads and free heads 0, the mark 4,096, the body as it is.
-    pub fn fresh(&mut self, body: &[u8], heads: &mut [u64], state: &mut State) -> Result<(), Refused> {
+    /// Makes a book fresh for desks with limits: heads, free heads, freed and held pages 0, the mark 4,096, the body as it is.
+    pub fn fresh(&mut self, body: &[u8], heads: &mut [u64], state: &mut State, list: &[u8], given: &Limits) -> Result<(), Refused> {
         lengths(body, heads)?;
+        desks::reserves_fit(body.len(), given)?;
+        desks::list_fits(list, heads.len())?;
+        desks::limits_fit(body.len(), given)?;
         heads.fill(0);
-        *state = [4096, 0, 0, 0, 0, 0, 0, 0, 0, 0];
+        *state = State { mark: 4096, free: [0; 9], counts: Counts::fresh(*given) };
         Ok(())
     }
 
     /// Loads a list onto an empty key, in a slab that fits it as asked, and tells how many pages it takes.
-    pub fn load(&mut self, body: &mut [u8], heads: &mut [u64], state: &mut State, key: u64, fks: &[u64], fit: Fit) -> Result<u64, Refused> {
-        shape(body, heads, state, key)?;
-        let head = &mut heads[key as usize];
+    pub fn load(&mut self, body: &mut [u8], heads: &mut [u64], state: &mut State, at: At, fks: &[u64], fit: Fit) -> Result<u64, Refused> {
+        let desk = shape(body, heads, state, at)?;
+        let head = &mut heads[at.key as usize];
         if *head != 0 {
             return Err(Refused::Number(3));
         }
@@ -202,7 +223,7 @@ impl SecondBook {
                 Ok(0)
             }
             _ if goes_to_pages(fks) => {
-                let (last, count) = put_run(body, state, fks)?;
+                let (last, count) = put_run(body, state, desk, fks)?;
                 *head = word(&ShHeadValue::extent(last));
                 Ok(count)
             }
@@ -211,21 +232,21 @@ impl SecondBook {
                     Fit::Spare => class_with_slot(fks),
                     Fit::Tight => class_by_bytes(fks),
                 };
-                *head = word(&put_slab(body, state, class, fks)?);
+                *head = word(&put_slab(body, state, desk, class, fks)?);
                 Ok(0)
             }
         }
     }
 
     /// Appends a number to a key.
-    pub fn append(&mut self, body: &mut [u8], heads: &mut [u64], state: &mut State, key: u64, fk: u64) -> Result<Appended, Refused> {
-        shape(body, heads, state, key)?;
+    pub fn append(&mut self, body: &mut [u8], heads: &mut [u64], state: &mut State, at: At, fk: u64) -> Result<Appended, Refused> {
+        let desk = shape(body, heads, state, at)?;
         first_number(fk)?;
-        let held = self.key.end(body, state[0], heads[key as usize])?;
+        let held = self.key.end(body, state.mark, heads[at.key as usize])?;
         let stayed = |place| Ok(Appended { place, rewritten: 0 });
         let answer = match held {
             Held::Empty => stayed(ShHeadValue::inline_one(Fk(fk))),
-            Held::Inline => self.moves(body, state, fk, None),
+            Held::Inline => self.moves(body, state, desk, fk, None),
             Held::Slab { class, off, taken } => {
                 let last = self.key.last();
                 rises(fk, last)?;
@@ -237,31 +258,31 @@ impl SecondBook {
                     write_uleb128_into(&mut slab[2 + taken..], fk - last).expect("the number fits");
                     stayed(ShHeadValue::slab(class, n as u16, off))
                 } else {
-                    self.moves(body, state, fk, Some((class, off)))
+                    self.moves(body, state, desk, fk, Some((class, off)))
                 }
             }
             Held::Pages { last: off } => {
                 rises(fk, self.key.last())?;
-                append_page(body, state, off, fk).and_then(|last| stayed(ShHeadValue::extent(last)))
+                append_page(body, state, desk, off, fk).and_then(|last| stayed(ShHeadValue::extent(last)))
             }
         }?;
-        heads[key as usize] = word(&answer.place);
+        heads[at.key as usize] = word(&answer.place);
         Ok(answer)
     }
 
     /// Moves the key's list, with a number more, to a slab or a page; the old slab is freed last.
-    fn moves(&mut self, body: &mut [u8], state: &mut State, fk: u64, old: Option<(u8, u64)>) -> Result<Appended, Refused> {
+    fn moves(&mut self, body: &mut [u8], state: &mut State, desk: usize, fk: u64, old: Option<(u8, u64)>) -> Result<Appended, Refused> {
         rises(fk, self.key.last())?;
         let rewritten = self.key.fks.len() as u64;
         self.list.clear();
         self.list.extend(self.key.fks.iter().map(|fk| fk.0));
         self.list.push(fk);
         let place = if goes_to_pages(&self.list) {
-            let off = take(body, state, PAGE_CLASS)?;
+            let off = take(body, state, desk, Take::Page)?;
             put_only_page(body, off, &self.list);
             ShHeadValue::extent(off)
         } else {
-            put_slab(body, state, class_with_slot(&self.list), &self.list)?
+            put_slab(body, state, desk, class_with_slot(&self.list), &self.list)?
         };
         if let Some((class, off)) = old {
             release(body, state, class, off);
@@ -270,9 +291,9 @@ impl SecondBook {
     }
 
     /// Reads a key: its list is then in `key`, and goes to the start of what is lent.
-    pub fn read(&mut self, body: &[u8], heads: &[u64], state: &State, key: u64, out: &mut [u64]) -> Result<Listed, Refused> {
-        shape(body, heads, state, key)?;
-        self.key.whole(body, state[0], heads[key as usize])?;
+    pub fn read(&mut self, body: &[u8], heads: &[u64], state: &State, at: At, out: &mut [u64]) -> Result<Listed, Refused> {
+        shape(body, heads, state, at)?;
+        self.key.whole(body, state.mark, heads[at.key as usize])?;
         if out.len() < self.key.fks.len() {
             return Err(Refused::Number(34));
         }
@@ -287,30 +308,31 @@ impl SecondBook {
     }
 
     /// Drops a key, and tells how many numbers it had.
-    pub fn drop(&mut self, body: &mut [u8], heads: &mut [u64], state: &mut State, key: u64) -> Result<u64, Refused> {
-        shape(body, heads, state, key)?;
-        let held = self.key.whole(body, state[0], heads[key as usize])?;
+    pub fn drop(&mut self, body: &mut [u8], heads: &mut [u64], state: &mut State, at: At) -> Result<u64, Refused> {
+        let desk = shape(body, heads, state, at)?;
+        let held = self.key.whole(body, state.mark, heads[at.key as usize])?;
         match held {
+            Held::Empty | Held::Inline => {}
             Held::Slab { class, off, .. } => release(body, state, class, off),
-            _ => self.key.pages.iter().for_each(|&off| release(body, state, PAGE_CLASS, off)),
+            Held::Pages { .. } => release_pages(body, state, desk, &self.key.pages)?,
         }
-        heads[key as usize] = 0;
+        heads[at.key as usize] = 0;
         Ok(self.key.fks.len() as u64)
     }
 }
 
 /// Takes a slab of a class and fills it; what is behind the payload stays.
-fn put_slab(body: &mut [u8], state: &mut State, class: u8, fks: &[u64]) -> Result<ShHeadValue, Refused> {
-    let off = take(body, state, class)?;
+fn put_slab(body: &mut [u8], state: &mut State, desk: usize, class: u8, fks: &[u64]) -> Result<ShHeadValue, Refused> {
+    let off = take(body, state, desk, Take::Slab(class))?;
     encode_slab_payload_into(&mut body[off as usize..][..slab_bytes(class) as usize], fks).expect("the list fits its slab");
     Ok(ShHeadValue::slab(class, fks.len() as u16, off))
 }
 
 /// Writes a list to a run of pages, each linked to the next, and tells the last one and how many there are.
-fn put_run(body: &mut [u8], state: &mut State, fks: &[u64]) -> Result<(u64, u64), Refused> {
+fn put_run(body: &mut [u8], state: &mut State, desk: usize, fks: &[u64]) -> Result<(u64, u64), Refused> {
     let numbers: Vec<Fk> = fks.iter().map(|fk| Fk(*fk)).collect();
     let parts = pages::sh_page_chunk_ranges(&numbers).expect("a list that can be cut");
-    let base = take_run(body, state, parts.len() as u64)?;
+    let base = take(body, state, desk, Take::Run(parts.len() as u64))?;
     let mut off = base;
     for (k, &(start, end)) in parts.iter().enumerate() {
         let page = page_mut(body, off);
@@ -327,7 +349,7 @@ fn put_run(body: &mut [u8], state: &mut State, fks: &[u64]) -> Result<(u64, u64)
 
 /// Appends a number to the last page of a chain, or where that is full to a page that is taken, and tells which is the last one then. A
 /// total that was never counted, 0, stays unknown; one that four bytes can't hold becomes so.
-fn append_page(body: &mut [u8], state: &mut State, off: u64, fk: u64) -> Result<u64, Refused> {
+fn append_page(body: &mut [u8], state: &mut State, desk: usize, off: u64, fk: u64) -> Result<u64, Refused> {
     let page = page_mut(body, off);
     let creates = match pages::sh_page_extent_creates(page) {
         0 => 0,
@@ -338,7 +360,7 @@ fn append_page(body: &mut [u8], state: &mut State, off: u64, fk: u64) -> Result<
         return Ok(off);
     }
     let first = pages::sh_page_first_off(page).expect("a last page");
-    let new = take(body, state, PAGE_CLASS)?;
+    let new = take(body, state, desk, Take::Page)?;
     let old = page_mut(body, off);
     pages::sh_page_set_next(old, new).expect("a page of the body");
     pages::sh_page_set_extent_creates(old, 0);
@@ -349,5 +371,7 @@ fn append_page(body: &mut [u8], state: &mut State, off: u64, fk: u64) -> Result<
     Ok(new)
 }
 
+#[cfg(test)]
+mod desk_tests;
 #[cfg(test)]
 mod tests;

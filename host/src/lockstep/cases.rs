@@ -1,21 +1,41 @@
-//! Histories by hand: the run case of docs/FORMAT.md, pages, what is turned back, and damage.
+//! Histories by hand: the run case of docs/FORMAT.md, pages, desks, what is turned back, and damage.
 use crate::lent::Placing;
-use crate::lockstep::pair::{Call, Pair};
+use crate::lockstep::pair::{Call, Given, Pair};
 use crate::lockstep::record::Record;
+use crate::second_book::desks::{By, NO_LIMITS};
+use crate::second_book::space::{State, WORDS};
 use crate::second_book::Fit;
 
-/// A step of a history: a call, or a byte of the body or a word of the state that somebody else writes.
+/// A step of a history: a call of the book or of the core, or a byte of the body or a word of the state that somebody else writes.
 enum Step {
     Call(Call),
+    Core(Call),
     Byte(usize, u8),
     State(usize, u64),
 }
 
-/// A history: the body's length, how many heads there are, and the steps after a fresh book was made.
+/// A history: the body's length, the desk of each key, and the steps after a fresh book without limits was made.
 struct Case {
     body: usize,
-    heads: usize,
+    desks: &'static [u8],
     steps: Vec<Step>,
+}
+
+/// The places of the counts among the words of a state: freed pages, and the pages of desk 0.
+const FREED: usize = 10;
+const HELD: usize = 11;
+
+/// A making with the reserves and ceilings of some desks.
+fn fresh(desks: &[(usize, u64, u64)]) -> Step {
+    let mut limits = NO_LIMITS;
+    desks.iter().for_each(|&(desk, reserve, ceiling)| (limits.reserve[desk], limits.ceiling[desk]) = (reserve, ceiling));
+    Step::Call(Call::Fresh(limits))
+}
+
+/// Steps by the core.
+fn by_core(steps: Vec<Step>) -> Vec<Step> {
+    let core = |step| if let Step::Call(call) = step { Step::Core(call) } else { step };
+    steps.into_iter().map(core).collect()
 }
 
 fn load(key: u64, fks: Vec<u64>) -> Step {
@@ -54,7 +74,7 @@ fn cases() -> Vec<Case> {
         // The run case.
         Case {
             body: 8192,
-            heads: 2,
+            desks: &[0; 2],
             steps: [append(0, &[5, 300, 301, 302, 303]), append(1, &[9, 10]), vec![read(0, 16), read(1, 16)]]
                 .into_iter()
                 .flatten()
@@ -63,7 +83,7 @@ fn cases() -> Vec<Case> {
         // A page of 4,072 bytes is full, so that the next number begins another; a drop frees the first page first, and the last one is taken again.
         Case {
             body: 16_384,
-            heads: 2,
+            desks: &[0; 2],
             steps: [
                 vec![load(0, row(4072))],
                 append(0, &[4073, 4074]),
@@ -78,7 +98,7 @@ fn cases() -> Vec<Case> {
         // A list of 4,073 goes to a run of two pages behind the mark rounded up; the body is full then, but the gap before the run was carved.
         Case {
             body: 16_384,
-            heads: 3,
+            desks: &[0; 3],
             steps: [
                 two,
                 vec![load(1, row(4073))],
@@ -92,7 +112,7 @@ fn cases() -> Vec<Case> {
         // Of 14 numbers a slab with a spare slot takes one more, and a tight one moves; of 4 likewise; 256 take a page with the next either way.
         Case {
             body: 16_384,
-            heads: 6,
+            desks: &[0; 6],
             steps: [
                 vec![
                     load(0, row(14)),
@@ -116,7 +136,7 @@ fn cases() -> Vec<Case> {
         // What is turned back: a key beyond the heads, numbers that can't be offered, a key in use, a list too short.
         Case {
             body: 8192,
-            heads: 3,
+            desks: &[0; 3],
             steps: [
                 append(3, &[5]),
                 append(0, &[0, 1 << 63, 1 << 62, 5, 5, 6]),
@@ -130,7 +150,7 @@ fn cases() -> Vec<Case> {
         // begins. Then the key reads again.
         Case {
             body: 16_384,
-            heads: 2,
+            desks: &[0; 2],
             steps: [
                 vec![load(0, row(300))],
                 total(4096, u32::MAX - 1),
@@ -151,7 +171,7 @@ fn cases() -> Vec<Case> {
         // A slab whose stored count isn't its head's is no sound key.
         Case {
             body: 8192,
-            heads: 3,
+            desks: &[0; 3],
             steps: [append(0, &[5, 6]), vec![Step::Byte(4096, 3), read(0, 16)], append(0, &[7]), vec![drop_key(0)]]
                 .into_iter()
                 .flatten()
@@ -160,7 +180,7 @@ fn cases() -> Vec<Case> {
         // A free head that no block can have, no room, a mark that is no multiple of 16, and one beyond the body.
         Case {
             body: 8192,
-            heads: 3,
+            desks: &[0; 3],
             steps: [
                 append(1, &[1]),
                 vec![Step::State(0, 4112), Step::State(1, 4104)],
@@ -176,6 +196,70 @@ fn cases() -> Vec<Case> {
             .flatten()
             .collect(),
         },
+        // Desk 1 has two pages of four in reserve. An import by desk 0 that would take two is turned back, one of a page isn't; then desk 1 gets its
+        // pages by appends, and nobody else one.
+        Case {
+            body: 20_480,
+            desks: &[0, 1, 0],
+            steps: [
+                vec![fresh(&[(1, 2, 2)]), load_tight(1, row(256)), load(0, row(4073)), load(0, row(4072))],
+                append(0, &[4073]),
+                append(1, &[257]),
+                vec![load(2, vec![1, 2]), load(2, row(300))],
+                by_core(vec![load(2, row(300)), read(1, 300), drop_key(0), load(2, row(300))]),
+                append(2, &[301]),
+            ]
+            .into_iter()
+            .flatten()
+            .collect(),
+        },
+        // A ceiling of one page, by both families; a drop gives it back.
+        Case {
+            body: 20_480,
+            desks: &[3, 3],
+            steps: [
+                vec![fresh(&[(3, 1, 1)]), load(0, row(4073)), load(0, row(4072))],
+                append(0, &[4073]),
+                by_core(append(0, &[4073])),
+                by_core(vec![load(1, row(300)), load(1, vec![1, 2]), drop_key(0), load(0, row(300))]),
+                append(1, &[3]),
+            ]
+            .into_iter()
+            .flatten()
+            .collect(),
+        },
+        // Makings that are turned back: a reserve above the body's pages, reserves above those to be had, and one above its ceiling.
+        Case {
+            body: 8192,
+            desks: &[0, 15],
+            steps: vec![
+                fresh(&[(0, 3, 3)]),
+                fresh(&[(0, 2, 2)]),
+                fresh(&[(0, 1, 1), (9, 1, 1)]),
+                fresh(&[(0, 1, 0)]),
+                fresh(&[(0, 1 << 63, 1 << 63), (1, 1 << 63, 1 << 63)]),
+                fresh(&[(15, 1, 1)]),
+            ],
+        },
+        // Counts that somebody else wrote: freed pages without a free head, fewer pages than the key has, and more than the body has.
+        Case {
+            body: 16_384,
+            desks: &[0, 1],
+            steps: [
+                vec![load(0, row(4072)), Step::State(FREED, 1)],
+                append(0, &[4073]),
+                by_core(append(0, &[4073])),
+                vec![Step::State(FREED, 0), Step::State(HELD, 0), read(0, 4100), drop_key(0)],
+                by_core(vec![drop_key(0)]),
+                vec![Step::State(HELD, 1), Step::State(FREED, 5), read(0, 4100)],
+                by_core(vec![read(0, 4100), load(1, vec![1, 2]), drop_key(0)]),
+                by_core(append(1, &[1])),
+                vec![Step::State(FREED, 4), drop_key(0), read(1, 16)],
+            ]
+            .into_iter()
+            .flatten()
+            .collect(),
+        },
     ]
 }
 
@@ -184,17 +268,27 @@ pub fn lines(pair: &mut Pair) -> Vec<String> {
     let mut lines = Vec::new();
     for case in cases() {
         let mut record = Record::default();
-        pair.begin(vec![0xa5; case.body], vec![7; case.heads], [9; 10], Placing::End);
+        let heads = case.desks.len();
+        let book = Given { body: case.body, heads, by: By::List(case.desks) };
+        pair.begin(vec![0xa5; case.body], vec![7; heads], State::of_words(&[9; WORDS]), Placing::End);
         record.begin(pair);
-        for step in [Step::Call(Call::Fresh)].into_iter().chain(case.steps) {
+        for step in [Step::Call(Call::Fresh(NO_LIMITS))].into_iter().chain(case.steps) {
+            let given = match &step {
+                Step::Core(call) => Given { by: By::Desk(case.desks[call.key().unwrap_or(0) as usize].into()), ..book },
+                _ => book,
+            };
             match step {
-                Step::Call(call) => {
-                    let answer = pair.call(&call, case.body, case.heads, "by hand").unwrap_or_else(|what| panic!("{what}"));
-                    record.call(&call, case.body, case.heads, &answer, pair);
+                Step::Call(call) | Step::Core(call) => {
+                    let answer = pair.call(&call, given, "by hand").unwrap_or_else(|what| panic!("{what}"));
+                    record.call(&call, given, &answer, pair);
                     continue;
                 }
                 Step::Byte(at, byte) => pair.body[at] = byte,
-                Step::State(at, word) => pair.state[at] = word,
+                Step::State(at, word) => {
+                    let mut words = pair.state.words();
+                    words[at] = word;
+                    pair.state = State::of_words(&words);
+                }
             }
             pair.copy();
             record.written(pair);
@@ -202,4 +296,25 @@ pub fn lines(pair: &mut Pair) -> Vec<String> {
         lines.extend(record.lines);
     }
     lines
+}
+
+#[cfg(test)]
+mod tests {
+    use super::*;
+
+    /// The refusals of the histories with desks, which are the last four.
+    #[test]
+    fn refusals_of_desks() {
+        let lines = lines(&mut Pair::default());
+        let number = |line: &String| u64::from_str_radix(&line[2..4], 16).unwrap();
+        let histories: Vec<Vec<u64>> = lines
+            .chunk_by(|_, next| !next.starts_with("36"))
+            .map(|history| history.iter().filter(|line| !line.starts_with("36") && !line.starts_with("35")).map(number).collect())
+            .collect();
+        let [kept, ceiling, makings, counts] = &histories[histories.len() - 4..] else { panic!("four histories") };
+        assert_eq!(kept[..], [0, 0, 0, 41, 0, 41, 0, 41, 41, 41, 0, 0, 0, 0]);
+        assert_eq!(ceiling[..], [0, 0, 40, 0, 40, 40, 40, 0, 0, 0, 0]);
+        assert_eq!(makings[..], [0, 1, 39, 39, 39, 1, 0]);
+        assert_eq!(counts[..], [0, 0, 35, 35, 0, 31, 31, 1, 0, 1, 1, 0, 0, 1]);
+    }
 }

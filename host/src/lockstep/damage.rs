@@ -2,6 +2,7 @@
 //! stands in `spoil`.
 use crate::lockstep::spoil::*;
 use crate::rng::Rng;
+use crate::second_book::desks::DESKS;
 use crate::second_book::page_mut;
 use crate::second_book::space::{State, PAGE};
 use oracle::scripthash_layout::{pack8, slab_bytes, unpack8, ShHeadValue};
@@ -13,6 +14,8 @@ pub struct Damaged<'a> {
     pub heads: &'a mut [u64],
     pub state: &'a mut State,
     pub key: usize,
+    /// The key's desk.
+    pub desk: usize,
 }
 
 /// A kind of damage: its name, and what does it; it tells whether it could.
@@ -42,6 +45,11 @@ const DAMAGES: &[Damage] = &[
     ("a chain that is turned round", turn_chain),
     ("a page's extent", set_extent),
     ("creates", set_creates),
+    ("freed pages", set_freed),
+    ("a desk's pages", set_held),
+    ("a reserve", set_reserve),
+    ("a ceiling", set_ceiling),
+    ("a page's free head against freed pages", part_head_and_count),
 ];
 
 /// Damages a book in one way, and tells its name.
@@ -56,7 +64,7 @@ pub fn damage(book: &mut Damaged, rng: &mut Rng) -> &'static str {
 
 impl Damaged<'_> {
     pub fn mark(&self) -> u64 {
-        self.state[0].clamp(4096, self.body.len() as u64)
+        self.state.mark.clamp(4096, self.body.len() as u64)
     }
 
     /// The key's place, as far as its word has one within the body.
@@ -171,10 +179,10 @@ fn set_page_word(book: &mut Damaged, rng: &mut Rng) -> bool {
 }
 
 fn set_mark(book: &mut Damaged, rng: &mut Rng) -> bool {
-    let (mark, len) = (book.state[0], book.body.len() as u64);
+    let (mark, len) = (book.state.mark, book.body.len() as u64);
     let any = 16 * rng.below(len / 16 + 1);
     let flipped = flipped(rng, mark);
-    book.state[0] = rng.pick(&[
+    book.state.mark = rng.pick(&[
         any,
         any,
         any,
@@ -200,7 +208,7 @@ fn set_mark_near(book: &mut Damaged, rng: &mut Rng) -> bool {
         (_, Some(off)) => off + PAGE as u64,
         _ => return false,
     };
-    book.state[0] = rng.pick(&[end, end, end - 16, end - 16, end + 16, end - PAGE as u64, end - 8]);
+    book.state.mark = rng.pick(&[end, end, end - 16, end - 16, end + 16, end - PAGE as u64, end - 8]);
     true
 }
 
@@ -219,7 +227,7 @@ fn free_own_block(book: &mut Damaged, rng: &mut Rng) -> bool {
     for class in 0..9 {
         let inside = off + 16 * rng.below(within / 16 + 1);
         let near = rng.pick(&[off, off, inside, off.saturating_sub(16 << class)]);
-        book.state[1 + class] = if class == 8 { off - off % PAGE as u64 } else { near };
+        book.state.free[class] = if class == 8 { off - off % PAGE as u64 } else { near };
     }
     true
 }
@@ -235,20 +243,71 @@ fn set_free_head(book: &mut Damaged, rng: &mut Rng) -> bool {
         _ => any,
     };
     let end = mark.saturating_sub(16 << class);
-    let flipped = flipped(rng, book.state[1 + class as usize]);
-    book.state[1 + class as usize] =
+    let flipped = flipped(rng, book.state.free[class as usize]);
+    book.state.free[class as usize] =
         rng.pick(&[0, any, any, any, in_use, in_use, any + 8, 2048, 4080, end, end + 16, end + 4096, mark, flipped, u64::MAX]);
     true
 }
 
 /// The link in a freed block: the block itself, none, or any number.
 fn set_free_link(book: &mut Damaged, rng: &mut Rng) -> bool {
-    let head = book.state[1 + rng.below(9) as usize];
+    let head = book.state.free[rng.below(9) as usize];
     let any = 16 * rng.below(book.body.len() as u64 / 16);
     let next = rng.pick(&[head, 0, any, any, any + 1, u64::MAX]);
     match book.body.get_mut(head as usize..).and_then(|b| b.get_mut(..8)) {
         Some(link) if head >= 4096 => link.copy_from_slice(&next.to_le_bytes()),
         _ => return false,
+    }
+    true
+}
+
+/// A count: near what it is, within the body's pages, just above them, or far.
+fn some_count(book: &Damaged, rng: &mut Rng, is: u64) -> u64 {
+    let pages = (book.body.len() / PAGE) as u64;
+    let within = rng.below(pages + 1);
+    let flipped = flipped(rng, is);
+    rng.pick(&[is + 1, is.saturating_sub(1), 0, within, within, pages - 1, pages, pages + 1, flipped, u64::MAX])
+}
+
+/// The key's desk, or any.
+fn some_desk(book: &Damaged, rng: &mut Rng) -> usize {
+    let any = rng.below(DESKS as u64) as usize;
+    rng.pick(&[book.desk, book.desk, any])
+}
+
+fn set_freed(book: &mut Damaged, rng: &mut Rng) -> bool {
+    book.state.counts.freed = some_count(book, rng, book.state.counts.freed & 0xffff_ffff);
+    true
+}
+
+fn set_held(book: &mut Damaged, rng: &mut Rng) -> bool {
+    let desk = some_desk(book, rng);
+    book.state.counts.held[desk] = some_count(book, rng, book.state.counts.held[desk] & 0xffff_ffff);
+    true
+}
+
+fn set_reserve(book: &mut Damaged, rng: &mut Rng) -> bool {
+    let desk = some_desk(book, rng);
+    book.state.counts.limits.reserve[desk] = some_count(book, rng, book.state.counts.limits.reserve[desk] & 0xffff_ffff);
+    true
+}
+
+fn set_ceiling(book: &mut Damaged, rng: &mut Rng) -> bool {
+    let desk = some_desk(book, rng);
+    book.state.counts.limits.ceiling[desk] = some_count(book, rng, book.state.counts.held[desk] & 0xffff_ffff);
+    true
+}
+
+/// Of a page's free head and the freed pages one becomes 0, or not 0; the key's page may be filled, so that the next append takes one.
+fn part_head_and_count(book: &mut Damaged, rng: &mut Rng) -> bool {
+    match book.place() {
+        Some(ShHeadValue::Extent { last_page }) => fill_page(page_mut(book.body, last_page), rng, 0),
+        _ => return false,
+    }
+    match rng.below(3) {
+        0 => book.state.free[8] = 0,
+        1 => book.state.free[8] = rng.pick(&[4096, 8192, book.mark() / 4096 * 4096]),
+        _ => book.state.counts.freed = rng.pick(&[0, 0, 1, 2]),
     }
     true
 }

@@ -4,8 +4,9 @@ use crate::fault::during;
 use crate::judge::place_of;
 use crate::lent::{Area, Placing, READ_WRITE};
 use crate::lockstep::pair::{
-    answer_differs, answer_of, call_second, lent_length, lent_list, verdict_differs, work_list, Answer, Call, Check, Ours, Running,
+    answer_differs, answer_of, call_second, lent_length, lent_list, verdict_differs, work_list, Answer, Call, Check, Given, Ours, Running,
 };
+use crate::second_book::desks::{By, DESKS};
 use crate::second_book::space::{State, PAGE, PAGE_CLASS};
 use crate::second_book::start::Verdict;
 use crate::second_book::{Refused, SecondBook, MOST_BODY};
@@ -25,6 +26,8 @@ pub struct Far {
     pub second: SecondBook,
     pub heads: Vec<u64>,
     pub state: State,
+    /// The desk of each key.
+    pub desks: Vec<u8>,
     list: Vec<u64>,
     work: Vec<u8>,
     /// How many bytes the body has, and which of them can be touched.
@@ -38,7 +41,7 @@ impl Far {
         let (mut ours, body) = (Ours::new(Area::untouchable(MOST_BODY)?, MOST_WORK), Area::untouchable(MOST_BODY)?);
         ours.placing = Placing::Start;
         let (second, heads, list, work) = (SecondBook::default(), Vec::new(), Vec::new(), Vec::new());
-        Some(Far { ours, body, second, heads, state: [0; 10], list, work, len: 0, windows: Vec::new() })
+        Some(Far { ours, body, second, heads, state: State::at(0), desks: Vec::new(), list, work, len: 0, windows: Vec::new() })
     }
 
     /// Begins a book with a body of a length, in whose windows every byte is the same, so many empty keys, a mark and nothing freed.
@@ -51,7 +54,8 @@ impl Far {
             }
         }
         (self.len, self.windows, self.heads) = (len, windows, vec![0; keys]);
-        self.state = [mark, 0, 0, 0, 0, 0, 0, 0, 0, 0];
+        self.state = State::at(mark);
+        self.desks = (0..keys).map(|key| (key % DESKS) as u8).collect();
     }
 
     /// Writes bytes into both bodies.
@@ -69,9 +73,10 @@ impl Far {
         self.heads[key] = pack8(&ShHeadValue::slab(class, fks.len() as u16, off)).expect("a slab that a word can name");
     }
 
-    /// Puts a list into pages, a part into each, with creates in the last one.
+    /// Puts a list into pages, which the key's desk holds then, a part into each, with creates in the last one.
     pub fn put_pages(&mut self, key: usize, parts: &[(u64, &[u64])], creates: u32) {
         let (first, last) = (parts[0].0, parts[parts.len() - 1].0);
+        self.state.counts.held[usize::from(self.desks[key])] += parts.len() as u64;
         for (k, (off, fks)) in parts.iter().enumerate() {
             let mut page = [0; PAGE];
             if let Some((next, _)) = parts.get(k + 1) {
@@ -88,7 +93,10 @@ impl Far {
 
     /// Makes blocks the free list of a class, from the top.
     pub fn put_free(&mut self, class: u8, offs: &[u64]) {
-        self.state[1 + class as usize] = offs.first().copied().unwrap_or(0);
+        self.state.free[class as usize] = offs.first().copied().unwrap_or(0);
+        if class == PAGE_CLASS {
+            self.state.counts.freed = offs.len() as u64;
+        }
         for (k, &off) in offs.iter().enumerate() {
             self.write(off, &offs.get(k + 1).copied().unwrap_or(0).to_le_bytes());
         }
@@ -97,7 +105,7 @@ impl Far {
     /// Gives ours the heads and the state of the second book.
     pub fn copy_words(&mut self) {
         self.ours.heads.slice(self.heads.len(), Placing::Start).copy_from_slice(&self.heads);
-        self.ours.state.slice(10, Placing::End).copy_from_slice(&self.state);
+        self.ours.put_state(&self.state);
     }
 
     /// Creates of a key's last page, as the second book has it.
@@ -107,14 +115,17 @@ impl Far {
         (word >> 62 == 3).then(|| pages::sh_page_extent_creates(pages::sh_page_as_array(&body[off..off + PAGE]).expect("a page")))
     }
 
-    /// Calls both, and tells the answer; or what differs.
-    pub fn call(&mut self, call: &Call, where_: &str) -> Result<Answer, String> {
+    /// Calls both, by the list of desks or by the key's own, and tells the answer; or what differs.
+    pub fn call(&mut self, call: &Call, core: bool, where_: &str) -> Result<Answer, String> {
         lent_list(call, &mut self.list);
         let (whole, lent) = ((self.len, self.heads.len()), lent_length(call));
-        let ours = during(&Running("large", call, where_), || self.ours.call(call, whole, whole, &self.list[..lent]));
+        let desk = call.key().and_then(|key| self.desks.get(key as usize)).filter(|_| core);
+        let by = desk.map_or(By::List(&self.desks), |&desk| By::Desk(desk.into()));
+        let given = Given { body: whole.0, heads: whole.1, by };
+        let ours = during(&Running("large", &(call, given), where_), || self.ours.call(call, whole, given, &self.list[..lent]));
         let body = self.body.slice(self.len, Placing::Start);
-        let theirs = answer_of(call_second(&mut self.second, call, body, &mut self.heads, &mut self.state, &mut self.list));
-        if let Some(what) = answer_differs(call, &ours, &theirs) {
+        let theirs = answer_of(call_second(&mut self.second, call, by, body, &mut self.heads, &mut self.state, &mut self.list));
+        if let Some(what) = answer_differs(call, given, &ours, &theirs) {
             return Err(what);
         }
         match self.left(lent) {
@@ -125,12 +136,12 @@ impl Far {
 
     /// Has both judge the book with a work list of a length.
     pub fn check(&mut self, room: usize, where_: &str) -> Result<Result<Verdict, u32>, String> {
-        let check = Check { body: self.len, heads: self.heads.len(), room };
+        let check = Check { body: self.len, heads: self.heads.len(), desks: self.desks.clone(), room };
         work_list(room, &mut self.work);
-        let ours = during(&Running("large", &check, where_), || self.ours.check(check, (self.len, self.heads.len()), &self.work));
-        let judged = self.second.check(self.body.slice(self.len, Placing::Start), &self.heads, &self.state, &mut self.work);
+        let ours = during(&Running("large", &check, where_), || self.ours.check(&check, (self.len, self.heads.len()), &self.work));
+        let judged = self.second.check(self.body.slice(self.len, Placing::Start), &self.heads, &self.state, &self.desks, &mut self.work);
         let judged = judged.map_err(Refused::number);
-        if let Some(what) = verdict_differs(check, ours, &judged) {
+        if let Some(what) = verdict_differs(&check, ours, &judged) {
             return Err(what);
         }
         match self.left(0).or_else(|| self.ours.work_left(&self.work)) {

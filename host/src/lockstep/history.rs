@@ -3,13 +3,15 @@
 use crate::lent::Placing;
 use crate::lockstep::damage::{damage, Damaged};
 use crate::lockstep::judging::lent;
+use crate::lockstep::limits::{bad_limits, bad_list, desk_list, limits};
 use crate::lockstep::lists;
-use crate::lockstep::pair::{Answer, Call, Pair, MOST_BODY, MOST_HEADS};
+use crate::lockstep::pair::{Answer, Call, Given, Pair, MOST_BODY, MOST_HEADS};
 use crate::lockstep::record::Record;
 use crate::lockstep::starts::Start;
 use crate::lockstep::tally::{total_of, Before, Tally, DAMAGED_BOOK, FOREIGN_BOOK, FRESH_BOOK, USED_BOOK};
 use crate::rng::Rng;
-use crate::second_book::space::State;
+use crate::second_book::desks::{By, DESKS};
+use crate::second_book::space::{State, WORDS};
 use crate::second_book::{Fit, LIMIT};
 
 /// How a history goes: the book's shape, how many calls, how long the runs of appends to one key are, of which lengths their differences are
@@ -61,12 +63,14 @@ fn plan(rng: &mut Rng) -> Plan {
         // One or two keys that grow over many pages.
         20..24 => Plan { keys: rng.pick(&[1, 2]), body: 65_536, calls: 4000, run: 4000, bits: LONG, loads: 2, drops: 1, ..common },
         // Lists that take pages, loaded and dropped.
-        24..37 => {
+        24..36 => {
             let (keys, body, damaged) = (rng.pick(&[2, 6]), rng.pick(&[32_768, 32_768, 65_536, 131_072]), rng.pick(&[0, 2, 4]));
             Plan { keys, body, calls: 600, run: 30, loads: 25, drops: 15, longest: 5000, damaged, ..common }
         }
         // As many numbers as can be loaded.
-        37 => Plan { keys: 4, body: rng.pick(&[262_144, MOST_BODY]), calls: 60, run: 20, loads: 40, drops: 20, longest: 65_535, ..common },
+        36..38 => {
+            Plan { keys: 4, body: rng.pick(&[262_144, MOST_BODY]), calls: 60, run: 20, loads: 40, drops: 20, longest: 65_535, ..common }
+        }
         // As many keys as there can be.
         38 => Plan { keys: MOST_HEADS, calls: 60, ..common },
         _ => Plan { keys: 3, body: 262_144, calls: 300, run: 100, longest: 20_000, ..common },
@@ -78,6 +82,25 @@ fn start_plan(rng: &mut Rng, keys: usize, body: usize) -> Plan {
     let (calls, run, bits) = (rng.pick(&[60, 200, 400]), rng.pick(&[3, 40, 300]), rng.pick(&[ANY, ANY, LONG]));
     let (longest, damaged) = (rng.pick(&[300, 300, 5000]), rng.pick(&[0, 0, 4, 12]));
     Plan { keys, body, calls, run, bits, loads: 12, drops: 8, longest, even: false, damaged }
+}
+
+/// In how many calls one is made by both families on one state, and the longest body for that.
+const TWINS: u64 = 8;
+const MOST_TWINS: usize = 32_768;
+
+/// What a call is told of desks, kept for it.
+enum Told {
+    List(Vec<u8>),
+    Desk(u64),
+}
+
+impl Told {
+    fn by(&self) -> By<'_> {
+        match self {
+            Told::List(list) => By::List(list),
+            Told::Desk(desk) => By::Desk(*desk),
+        }
+    }
 }
 
 /// What was before a damage, to be put back after some calls.
@@ -99,6 +122,8 @@ pub struct History<'a> {
     plan: Plan,
     name: String,
     lasts: Vec<(u64, usize)>,
+    /// The desk of each key.
+    desks: Vec<u8>,
     bits: u32,
     /// The key that appends go to, and how many are still to come.
     run: (usize, u64),
@@ -143,13 +168,23 @@ impl<'a> History<'a> {
     fn of_plan(mut rng: Rng, plan: Plan, pair: &'a mut Pair, tally: &'a mut Tally, name: String) -> History<'a> {
         let fill = rng.pick(&[0u8, 0xa5, 0xff]);
         let placing = rng.pick(&[Placing::End, Placing::Start]);
-        pair.begin(vec![fill; plan.body], vec![rng.next(); plan.keys], [rng.next(); 10], placing);
-        let lasts = vec![(0, 0); plan.keys];
-        History::begun(rng, plan, lasts, pair, tally, name)
+        // Words before a book is made; one that is written down has short ones.
+        let word = if plan.even { rng.below(10) } else { rng.next() };
+        pair.begin(vec![fill; plan.body], vec![word; plan.keys], State::of_words(&[word; WORDS]), placing);
+        let (lasts, desks) = (vec![(0, 0); plan.keys], desk_list(&mut rng, plan.keys));
+        History::begun(rng, plan, lasts, desks, pair, tally, name)
     }
 
     /// A history of the book that a pair holds, of whose keys last numbers and lengths are known.
-    fn begun(rng: Rng, plan: Plan, lasts: Vec<(u64, usize)>, pair: &'a mut Pair, tally: &'a mut Tally, name: String) -> History<'a> {
+    fn begun(
+        rng: Rng,
+        plan: Plan,
+        lasts: Vec<(u64, usize)>,
+        desks: Vec<u8>,
+        pair: &'a mut Pair,
+        tally: &'a mut Tally,
+        name: String,
+    ) -> History<'a> {
         let (left, checks) = (plan.calls, Rng(rng.0 ^ 0xc4ec << 32));
         History {
             rng,
@@ -158,6 +193,7 @@ impl<'a> History<'a> {
             plan,
             name,
             lasts,
+            desks,
             bits: 7,
             run: (0, 0),
             aimed: (0, 0),
@@ -177,7 +213,7 @@ impl<'a> History<'a> {
         let plan = start_plan(&mut rng, start.heads.len(), start.body.len());
         let lasts = start.lists.iter().map(|list| (list.last().copied().unwrap_or(0), list.len())).collect();
         pair.begin(start.body, start.heads, start.state, placing);
-        History { when: FOREIGN_BOOK, good: true, ..History::begun(rng, plan, lasts, pair, tally, name) }
+        History { when: FOREIGN_BOOK, good: true, ..History::begun(rng, plan, lasts, start.desks, pair, tally, name) }
     }
 
     /// Runs the history, and tells how many calls there were.
@@ -194,8 +230,14 @@ impl<'a> History<'a> {
     fn run_on(&mut self) -> Ended {
         let mut made = 0;
         if self.when == FRESH_BOOK {
+            while self.rng.below(3) == 0 {
+                made += 1;
+                self.bad_making().map_err(|what| (made, what))?;
+            }
             made += 1;
-            self.call(&Call::Fresh, self.plan.body, self.plan.keys).map_err(|what| (made, what))?;
+            let call = Call::Fresh(limits(&mut self.rng, self.plan.body, &self.desks));
+            let told = Told::List(self.desks.clone());
+            self.call(&call, self.plan.body, self.plan.keys, &told).map_err(|what| (made, what))?;
         }
         while self.left > 0 {
             self.left -= 1;
@@ -206,33 +248,97 @@ impl<'a> History<'a> {
             }
             let call = self.next_call();
             let (body, heads) = self.shape(&call);
+            let told = self.told(&call, heads);
             made += 1;
-            self.call(&call, body, heads).map_err(|what| (made, what))?;
+            self.twins(&call, body, heads).map_err(|what| (made, what))?;
+            self.call(&call, body, heads, &told).map_err(|what| (made, what))?;
         }
         Ok(made)
     }
 
+    /// A making that is refused for its limits or its list, or nearly.
+    fn bad_making(&mut self) -> Result<(), String> {
+        let (body, heads) = (self.plan.body, self.plan.keys);
+        let call = Call::Fresh(bad_limits(&mut self.rng, body, &self.desks));
+        let list = if self.rng.below(3) == 0 { bad_list(&mut self.rng, &self.desks, 0) } else { self.desks.clone() };
+        self.call(&call, body, heads, &Told::List(list))
+    }
+
+    /// What a call is told of desks: the list of all, or the key's own; now and then something else.
+    fn told(&mut self, call: &Call, heads: usize) -> Told {
+        let (list, key) = (&self.desks[..heads], call.key());
+        let desk = key.and_then(|key| list.get(key as usize)).copied().unwrap_or(0);
+        let (odd, fresh) = (self.rng.below(80), key.is_none());
+        if !fresh && self.rng.below(5) < 2 {
+            let other = self.rng.below(DESKS as u64);
+            return Told::Desk(match odd {
+                0 => self.rng.pick(&[16, 16, 255, 256 + other, 1 << 32 | other, u64::MAX]),
+                1 if self.plan.damaged > 0 => other,
+                _ => desk.into(),
+            });
+        }
+        Told::List(match odd {
+            _ if fresh && odd >= 20 => list.to_vec(),
+            0..20 if odd == 0 || fresh => bad_list(&mut self.rng, list, key.unwrap_or(0).min(1 << 20) as usize),
+            1 if self.plan.damaged > 0 => desk_list(&mut self.rng, heads),
+            _ => list.to_vec(),
+        })
+    }
+
+    /// Now and then makes a call by one family and puts all back, so that the other makes it on the same state: where lists and counts are
+    /// good, both answer and leave the same.
+    fn twins(&mut self, call: &Call, body: usize, heads: usize) -> Result<(), String> {
+        let Some(key) = call.key().filter(|key| *key < heads as u64) else { return Ok(()) };
+        if self.record.is_some() || self.pair.body.len() > MOST_TWINS || self.checks.below(TWINS) != 0 {
+            return Ok(());
+        }
+        let list = self.desks[..heads].to_vec();
+        let before = (self.pair.body.clone(), self.pair.heads.clone(), self.pair.state);
+        let core = self.pair.call(call, Given { body, heads, by: By::Desk(list[key as usize].into()) }, &self.name)?;
+        let after = (self.pair.body.clone(), self.pair.heads.clone(), self.pair.state);
+        let high = before.2.counts.fit(body).is_err();
+        (self.pair.body, self.pair.heads, self.pair.state) = before.clone();
+        self.pair.copy();
+        let book = self.pair.call(call, Given { body, heads, by: By::List(&list) }, &self.name)?;
+        let left = self.pair.body == after.0 && self.pair.heads == after.1 && self.pair.state == after.2;
+        if !high && (book != core || !left) {
+            return Err(format!("{call:?}: the core answers {core:?}, and the book {book:?}, on one state"));
+        }
+        self.tally.desks.twins(&book);
+        (self.pair.body, self.pair.heads, self.pair.state) = before;
+        self.pair.copy();
+        Ok(())
+    }
+
     /// Calls both books, and learns from the answer.
-    fn call(&mut self, call: &Call, body: usize, heads: usize) -> Result<(), String> {
+    fn call(&mut self, call: &Call, body: usize, heads: usize, told: &Told) -> Result<(), String> {
+        let given = Given { body, heads, by: told.by() };
         let word = call.key().and_then(|key| self.pair.heads.get(key as usize)).copied().unwrap_or(0);
         let before = Before { state: self.pair.state, word, total: total_of(&self.pair.body, word) };
-        let answer: Answer = self.pair.call(call, body, heads, &self.name)?;
-        self.tally.count(call, &before, &answer, self.pair);
+        let answer: Answer = self.pair.call(call, given, &self.name)?;
+        self.tally.count(call, given, &before, &answer, self.pair);
         if let Some(record) = &mut self.record {
-            record.call(call, body, heads, &answer, self.pair);
+            record.call(call, given, &answer, self.pair);
         }
-        if self.good && matches!(answer.refusal, 31 | 35) {
+        let others = self.others(call, told);
+        if self.good && !others && matches!(answer.refusal, 31 | 35) {
             return Err(format!("{call:?}: on a good book answers {}", answer.refusal));
+        }
+        if self.good && !others && self.breaks_promise(call, given, &before, &answer) {
+            return Err(format!("{call:?}: a desk below its reserve gets no page, but {}", answer.refusal));
         }
         if self.own && matches!(call, Call::Read { .. }) && answer.told[2] != 0 {
             return Err(format!("{call:?}: of a key that calls alone filled {} numbers are padded", answer.told[2]));
+        }
+        if answer.refusal == 0 && others {
+            (self.good, self.when) = (false, DAMAGED_BOOK);
         }
         if answer.refusal == 0 {
             if self.when == FRESH_BOOK {
                 self.when = USED_BOOK;
             }
             match call {
-                Call::Fresh => {
+                Call::Fresh(_) => {
                     // Heads that it wasn't lent name blocks of the book before.
                     (self.good, self.own) = (heads == self.plan.keys, heads == self.plan.keys);
                     (self.when, self.due) = (FRESH_BOOK, true);
@@ -250,6 +356,23 @@ impl<'a> History<'a> {
         Ok(())
     }
 
+    /// Whether a page for an append was refused to a desk below its reserve.
+    fn breaks_promise(&self, call: &Call, given: Given, before: &Before, answer: &Answer) -> bool {
+        let Call::Append { key, .. } = call else { return false };
+        let page = Tally::takes(call, given, before, answer, self.pair).is_some_and(|taken| taken.class == 8);
+        let (counts, desk) = (&before.state.counts, self.desks.get(*key as usize).map_or(0, |desk| usize::from(*desk)));
+        answer.refusal != 0 && page && given.body == self.plan.body && counts.held[desk] < counts.limits.reserve[desk]
+    }
+
+    /// Whether a change counted by another desk than the key's.
+    fn others(&self, call: &Call, told: &Told) -> bool {
+        let Some(key) = call.key().filter(|_| !matches!(call, Call::Read { .. })) else { return false };
+        match told {
+            Told::List(list) => list.get(key as usize) != self.desks.get(key as usize),
+            Told::Desk(desk) => self.desks.get(key as usize).is_none_or(|own| *desk != u64::from(*own)),
+        }
+    }
+
     /// Whether the book is judged now. A history that is written down has no judgements.
     fn is_judged(&mut self) -> bool {
         let often = if self.due { JUDGED_AT_ONCE } else { JUDGED };
@@ -259,10 +382,10 @@ impl<'a> History<'a> {
 
     /// Has both judge the book; one that was good, and that calls alone wrote since, is good.
     fn judge(&mut self) -> Result<(), String> {
-        let check = lent(&mut self.checks, self.plan.body, self.plan.keys);
-        let judged = self.pair.check(check, &self.name)?;
+        let check = lent(&mut self.checks, self.plan.body, &self.desks);
+        let judged = self.pair.check(&check, &self.name)?;
         self.tally.judged(self.when, &judged);
-        let whole = check.body == self.plan.body && check.heads == self.plan.keys && judged != Err(34);
+        let whole = check.body == self.plan.body && check.desks == self.desks && judged != Err(34);
         let good = judged.is_ok_and(|v| v.ground == 0);
         if whole && self.good && !good {
             return Err(format!("{check:?}: a good book is judged {judged:?} after calls"));
@@ -274,7 +397,7 @@ impl<'a> History<'a> {
     /// How much of body and heads a call is lent: all, and now and then less; most often where the book would become fresh.
     fn shape(&mut self, call: &Call) -> (usize, usize) {
         let (body, heads) = (self.plan.body, self.plan.keys);
-        match self.rng.below(if matches!(call, Call::Fresh) { 3 } else { 400 }) {
+        match self.rng.below(if matches!(call, Call::Fresh(_)) { 3 } else { 400 }) {
             0 => (self.rng.pick(&[0, 1, 4095, 4096, 8191, body - 1, body - 16, body - 4096]), heads),
             1 => (body, self.rng.pick(&[0, heads - 1, 1])),
             _ => (body, heads),
@@ -304,15 +427,15 @@ impl<'a> History<'a> {
             self.left = self.left.min(200);
         }
         let key = if self.rng.below(2) == 0 { self.page_key() } else { self.some_key() };
-        let Pair { body, heads, state, .. } = &mut *self.pair;
-        let mut book = Damaged { body, heads, state, key };
+        let (Pair { body, heads, state, .. }, desk) = (&mut *self.pair, self.desks[key].into());
+        let mut book = Damaged { body, heads, state, key, desk };
         for _ in 0..self.rng.pick(&[1, 1, 1, 2]) {
             let name = damage(&mut book, &mut self.rng);
             *self.tally.damages.entry(name).or_default() += 1;
         }
         self.rewritten();
         let word = self.pair.heads[key];
-        if self.pair.second.key.end(&self.pair.body, self.pair.state[0].min(self.plan.body as u64), word).is_ok() {
+        if self.pair.second.key.end(&self.pair.body, self.pair.state.mark.min(self.plan.body as u64), word).is_ok() {
             let key_now = &self.pair.second.key;
             self.lasts[key] = (key_now.fks.last().map_or(0, |fk| fk.0), self.lasts[key].1.max(key_now.fks.len()));
         }
@@ -466,7 +589,7 @@ impl<'a> History<'a> {
                 let lists = [vec![bad], vec![5, bad], vec![1, 5, bad, 0], vec![0, 1 << 63], vec![bad, 5, 9]];
                 Call::Load { key: empty, fks: self.rng.pick_one(&lists), fit }
             }
-            4 if self.rng.below(20) == 0 => {
+            4 if self.rng.below(8) == 0 => {
                 let count = self.rng.pick(&[65_535, 65_536, 65_537]);
                 Call::Load { key: empty, fks: (1..=count).collect(), fit }
             }
@@ -478,7 +601,10 @@ impl<'a> History<'a> {
                 fks[from] = self.rng.pick(&[from as u64, 0, 1, LIMIT, 1 << 63]);
                 Call::Load { key: empty, fks, fit }
             }
-            6 if self.rng.below(10) == 0 => Call::Fresh,
+            6 if self.rng.below(10) == 0 => {
+                let draw = self.rng.pick(&[limits, limits, bad_limits]);
+                Call::Fresh(draw(&mut self.rng, self.plan.body, &self.desks))
+            }
             _ => Call::Read { key: at, room: self.rng.pick(&[0, 1, n.saturating_sub(1), n / 2]) },
         }
     }

@@ -1,25 +1,29 @@
 //! Starts that were written elsewhere: both books judge them, good ones and spoiled ones, and a history goes on from the good ones.
 use crate::lent::Placing;
 use crate::lockstep::history::{Ended, History};
-use crate::lockstep::pair::{Call, Check, Pair, MORE_WORK};
+use crate::lockstep::limits::bad_list;
+use crate::lockstep::pair::{Call, Check, Given, Pair, MORE_WORK};
 use crate::lockstep::spoiled::spoil;
 use crate::lockstep::starts::Start;
 use crate::lockstep::tally::{Tally, FOREIGN_START, SPOILED_START};
 use crate::rng::Rng;
+use crate::second_book::desks::By;
 use crate::second_book::start::Verdict;
 
 /// How many spoiled variants of a start are judged.
 const VARIANTS: u64 = 6;
 
 /// How much of a book a judgement is lent: most often all of it, with a work list that is long enough.
-pub fn lent(rng: &mut Rng, body: usize, heads: usize) -> Check {
-    let full = body / 128;
-    let all = Check { body, heads, room: full + rng.pick(&[0, 0, 0, 1, 15, 16, MORE_WORK]) };
+pub fn lent(rng: &mut Rng, body: usize, desks: &[u8]) -> Check {
+    let (full, heads) = (body / 128, desks.len());
+    let all = Check { body, heads, desks: desks.to_vec(), room: full + rng.pick(&[0, 0, 0, 1, 15, 16, MORE_WORK]) };
+    let fewer = rng.pick(&[0, heads - 1, 1]);
     match rng.below(24) {
         0 => Check { body: rng.pick(&[0, 1, 4095, 4096, 8191, body - 1, body - 16, body - 4096]), ..all },
-        1 => Check { heads: rng.pick(&[0, heads - 1, 1]), ..all },
+        1 => Check { heads: fewer, desks: desks[..fewer].to_vec(), ..all },
         2 => Check { room: rng.pick(&[0, 1, full / 2, full - 32, full - 1, full - 1]), ..all },
         3 => Check { body: rng.pick(&[8191, body - 4096]), room: rng.pick(&[0, full - 32, full - 33]), ..all },
+        4 => Check { desks: bad_list(rng, desks, 0), room: rng.pick(&[0, full]), ..all },
         _ => all,
     }
 }
@@ -36,14 +40,14 @@ struct Judging<'a> {
 impl Judging<'_> {
     /// Gives both books a start, and has them judge it as a whole.
     fn whole(&mut self, start: &Start, when: &'static str, placing: Placing) -> Result<Result<Verdict, u32>, String> {
-        let (body, heads) = (start.body.len(), start.heads.len());
+        let (body, heads, desks) = (start.body.len(), start.heads.len(), start.desks.clone());
         self.pair.begin(start.body.clone(), start.heads.clone(), start.state, placing);
-        self.judge(Check { body, heads, room: body / 128 }, when)
+        self.judge(Check { body, heads, desks, room: body / 128 }, when)
     }
 
     fn judge(&mut self, check: Check, when: &'static str) -> Result<Result<Verdict, u32>, String> {
         self.calls += 1;
-        let judged = self.pair.check(check, self.name)?;
+        let judged = self.pair.check(&check, self.name)?;
         self.tally.judged(when, &judged);
         Ok(judged)
     }
@@ -58,13 +62,14 @@ impl Judging<'_> {
             return Err(format!("a start that was built good is judged {judged:?}"));
         }
         for _ in 0..3 {
-            let check = lent(&mut self.rng, start.body.len(), start.heads.len());
+            let check = lent(&mut self.rng, start.body.len(), &start.desks);
             let _ = self.judge(check, FOREIGN_START)?;
         }
         for (key, list) in start.lists.iter().enumerate() {
             self.calls += 1;
             let call = Call::Read { key: key as u64, room: list.len() };
-            let answer = self.pair.call(&call, start.body.len(), start.heads.len(), self.name)?;
+            let given = Given { body: start.body.len(), heads: start.heads.len(), by: By::List(&start.desks) };
+            let answer = self.pair.call(&call, given, self.name)?;
             if answer.refusal != 0 || self.pair.list != *list || answer.told[2] != start.padded[key] {
                 return Err(format!("{call:?}: a good start answers {}, and another list or padding than was written", answer.refusal));
             }
@@ -80,7 +85,7 @@ impl Judging<'_> {
             let names: Vec<&str> = (0..self.rng.pick(&[1, 1, 1, 2])).map(|_| spoil(&mut bad, &mut self.rng)).collect();
             let told = |what| format!("{what}, spoiled by {names:?}");
             let _ = self.whole(&bad, SPOILED_START, placing).map_err(told)?;
-            let check = lent(&mut self.rng, bad.body.len(), bad.heads.len());
+            let check = lent(&mut self.rng, bad.body.len(), &bad.desks);
             let _ = self.judge(check, SPOILED_START).map_err(told)?;
             names.iter().for_each(|name| *self.tally.spoils.entry(name).or_default() += 1);
         }

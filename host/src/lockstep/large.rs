@@ -84,7 +84,9 @@ impl Large {
         };
         if round == 0 {
             for case in cases() {
-                note(by_hand(far, tally, &case), format!("by hand: {}", case.name));
+                for (core, family) in [(false, "book"), (true, "core")] {
+                    note(by_hand(far, tally, &case, core), format!("by hand, {family}: {}", case.name));
+                }
             }
             note(judged(far, tally), "judged".into());
         }
@@ -104,24 +106,24 @@ impl Large {
     }
 }
 
-/// Makes a call on both books, and counts it.
-fn make(far: &mut Far, tally: &mut Tally, call: &Call, where_: &str) -> Result<Answer, String> {
+/// Makes a call of a family on both books, and counts it.
+fn make(far: &mut Far, tally: &mut Tally, call: &Call, core: bool, where_: &str) -> Result<Answer, String> {
     let word = call.key().and_then(|key| far.heads.get(key as usize)).copied().unwrap_or(0);
     let before = Before { state: far.state, word, creates: far.creates(word) };
-    let answer = far.call(call, where_)?;
+    let answer = far.call(call, core, where_)?;
     tally.count(call, &before, &answer, far);
     Ok(answer)
 }
 
-/// Runs a history by hand; each call must be refused as it says.
-fn by_hand(far: &mut Far, tally: &mut Tally, case: &Case) -> Result<u64, (u64, String)> {
+/// Runs a history by hand by a family of calls; each call must be refused as it says.
+fn by_hand(far: &mut Far, tally: &mut Tally, case: &Case, core: bool) -> Result<u64, (u64, String)> {
     far.begin(case.len as usize, KEYS, case.mark, windows(case.len, case.mark), 0xa5);
     (case.write)(far);
     far.copy_words();
     let mut made = 0;
     for (call, wanted) in &case.calls {
         made += 1;
-        let answer = make(far, tally, call, &case.name).map_err(|what| (made, what))?;
+        let answer = make(far, tally, call, core, &case.name).map_err(|what| (made, what))?;
         if answer.refusal != *wanted {
             return Err((made, format!("{call:?}: both answer {} in place of {wanted}", answer.refusal)));
         }

@@ -3,6 +3,7 @@ use crate::book_sys as sys;
 use crate::fault::{during, Saying};
 use crate::judge::place_of;
 use crate::lent::{Area, Placing};
+use crate::second_book::desks::{At, By, Limits, WORDS};
 use crate::second_book::space::State;
 use crate::second_book::start::Verdict;
 use crate::second_book::{Fit, Refused, SecondBook};
@@ -11,8 +12,9 @@ use std::fmt::{Debug, Formatter, Result as Written};
 
 /// A call of the book. A read is lent a list of a length.
 #[derive(Clone)]
+#[allow(clippy::large_enum_variant)]
 pub enum Call {
-    Fresh,
+    Fresh(Limits),
     Load { key: u64, fks: Vec<u64>, fit: Fit },
     Append { key: u64, fk: u64 },
     Read { key: u64, room: usize },
@@ -26,7 +28,7 @@ impl Call {
     /// The place of a call's kind among the names.
     pub fn kind(&self) -> usize {
         match self {
-            Call::Fresh => 0,
+            Call::Fresh(_) => 0,
             Call::Load { fit: Fit::Spare, .. } => 1,
             Call::Append { .. } => 2,
             Call::Read { .. } => 3,
@@ -38,7 +40,7 @@ impl Call {
     /// The key that a call is about.
     pub fn key(&self) -> Option<u64> {
         match self {
-            Call::Fresh => None,
+            Call::Fresh(_) => None,
             Call::Load { key, .. } | Call::Append { key, .. } | Call::Read { key, .. } | Call::Drop { key } => Some(*key),
         }
     }
@@ -47,7 +49,12 @@ impl Call {
 impl Debug for Call {
     fn fmt(&self, f: &mut Formatter) -> Written {
         match self {
-            Call::Fresh => write!(f, "fresh"),
+            Call::Fresh(limits) => {
+                let both = limits.reserve.iter().zip(&limits.ceiling).enumerate();
+                let some = both.filter(|(_, (reserve, ceiling))| **reserve != 0 || **ceiling != u64::MAX);
+                let said: Vec<String> = some.map(|(desk, (reserve, ceiling))| format!("{desk}: {reserve} to {ceiling}")).collect();
+                write!(f, "fresh with limits of desks [{}]", said.join(", "))
+            }
             Call::Load { key, fks, .. } if fks.len() > 8 => {
                 write!(f, "{} onto key {key} of {} numbers from {}", KINDS[self.kind()], fks.len(), fks[0])
             }
@@ -59,6 +66,37 @@ impl Debug for Call {
     }
 }
 
+/// What a call is lent: the first bytes of the body and the first heads; and what it is told of desks. A making is always told a list.
+#[derive(Clone, Copy)]
+pub struct Given<'a> {
+    pub body: usize,
+    pub heads: usize,
+    pub by: By<'a>,
+}
+
+/// The families of calls: the book's and the core's.
+pub const FAMILIES: [&str; 2] = ["", "core "];
+
+impl Given<'_> {
+    /// The place of the call's family among the names.
+    pub fn family(&self) -> usize {
+        match self.by {
+            By::List(_) => 0,
+            By::Desk(_) => 1,
+        }
+    }
+}
+
+impl Debug for Given<'_> {
+    fn fmt(&self, f: &mut Formatter) -> Written {
+        match self.by {
+            By::List(list) if list.len() > 16 => write!(f, "with {} desks", list.len()),
+            By::List(list) => write!(f, "with the desks {list:?}"),
+            By::Desk(desk) => write!(f, "by desk {desk}"),
+        }
+    }
+}
+
 /// What a call answers: the refusal's number, or 0, and the numbers that it hands out, 0 where there are fewer.
 #[derive(Clone, Copy, Debug, Default, PartialEq, Eq)]
 pub struct Answer {
@@ -66,11 +104,12 @@ pub struct Answer {
     pub told: [u64; 5],
 }
 
-/// A judgement of a start, on the first bytes of the body and the first heads, with a work list of a length.
-#[derive(Clone, Copy, Debug)]
+/// A judgement of a start, on the first bytes of the body and the first heads, with a list of desks and a work list of a length.
+#[derive(Clone, Debug)]
 pub struct Check {
     pub body: usize,
     pub heads: usize,
+    pub desks: Vec<u8>,
     pub room: usize,
 }
 
@@ -80,6 +119,8 @@ const FILL: u64 = 0xa5a5_a5a5_a5a5_a5a5;
 pub const MOST_BODY: usize = 1 << 20;
 pub const MOST_HEADS: usize = 65_536;
 const MOST_LIST: usize = 1 << 19;
+/// The most desks that a list has over as many as there are heads.
+pub const MORE_DESKS: usize = 16;
 /// The most bytes that a work list has over those that the longest body needs.
 pub const MORE_WORK: usize = 4096;
 
@@ -87,7 +128,11 @@ pub const MORE_WORK: usize = 4096;
 pub struct Ours {
     pub body: Area,
     pub heads: Area,
-    pub state: Area,
+    mark: Area,
+    free: Area,
+    counts: Area,
+    desks: Area,
+    limits: [Area; 2],
     list: Area,
     work: Area,
     outs: [Area; 5],
@@ -100,7 +145,11 @@ impl Ours {
         Ours {
             body,
             heads: Area::new(8 * (MOST_HEADS + 1)),
-            state: Area::new(1),
+            mark: Area::new(1),
+            free: Area::new(1),
+            counts: Area::new(1),
+            desks: Area::new(MOST_HEADS + MORE_DESKS),
+            limits: std::array::from_fn(|_| Area::new(1)),
             list: Area::new(8 * MOST_LIST),
             work: Area::new(work),
             outs: std::array::from_fn(|_| Area::new(1)),
@@ -125,56 +174,124 @@ impl Ours {
         told
     }
 
-    /// What a call of ours answers, of a book with a length of body and heads of which so many bytes and words are lent, and such a list.
-    pub fn call(&self, call: &Call, whole: (usize, usize), lent: (usize, usize), list: &[u64]) -> Answer {
+    /// The state that the second book has.
+    pub fn put_state(&self, state: &State) {
+        *self.lend(&self.mark) = state.mark;
+        *self.lend(&self.free) = state.free;
+        *self.lend(&self.counts) = state.counts.words();
+    }
+
+    /// What an area lends to a call, flush with the page behind.
+    #[allow(clippy::mut_from_ref)]
+    fn lend<T>(&self, area: &Area) -> &mut T {
+        unsafe { &mut *area.place::<T>(1, Placing::End) }
+    }
+
+    /// Where a list of an area begins; one without length is null, where slices are flush with the page behind.
+    fn list_at<T>(&self, area: &Area, len: usize) -> *mut T {
+        area.place(len, if self.placing == Placing::End { Placing::Null } else { self.placing })
+    }
+
+    /// Where a list of desks begins that a call is lent.
+    fn desks_at(&self, list: &[u8]) -> *const u8 {
+        self.desks.slice::<u8>(list.len(), self.placing).copy_from_slice(list);
+        self.list_at(&self.desks, list.len())
+    }
+
+    /// What a call of ours answers, of a book with a length of body and heads, of which it is given some, and such a list.
+    pub fn call(&self, call: &Call, whole: (usize, usize), given: Given, list: &[u64]) -> Answer {
         self.list.slice::<u64>(list.len(), self.placing).copy_from_slice(list);
         self.outs.iter().for_each(|out| out.slice(8, Placing::End).fill(0xa5u8));
-        let (body, heads) = (self.body.place::<u8>(whole.0, self.placing), self.heads.place::<u64>(whole.1, self.placing));
-        let (body_len, heads_len) = lent;
-        let [mark, free @ ..] = unsafe { &mut *self.state.place::<State>(1, Placing::End) };
-        let null = if self.placing == Placing::End { Placing::Null } else { self.placing };
-        let (lent, list) = (list.len(), self.list.place::<u64>(list.len(), null));
-        let (refusal, sizes): (u32, &[usize]) = match *call {
-            Call::Fresh => (unsafe { sys::ouriscado_book_fresh(body, body_len, heads, heads_len, mark, free) }, &[]),
-            Call::Load { key, fit, .. } => {
-                let load = match fit {
-                    Fit::Spare => sys::ouriscado_book_load,
-                    Fit::Tight => sys::ouriscado_book_load_tight,
-                };
-                (unsafe { load(body, body_len, heads, heads_len, mark, free, key, list, lent, self.out(0)) }, &[8])
-            }
-            Call::Append { key, fk } => {
-                let (kind, class, used, place, rewritten) = (self.out(0), self.out(1), self.out(2), self.out(3), self.out(4));
-                let answer = unsafe {
-                    sys::ouriscado_book_append(body, body_len, heads, heads_len, mark, free, key, fk, kind, class, used, place, rewritten)
-                };
-                (answer, &[1, 1, 2, 8, 8])
-            }
-            Call::Read { key, .. } => {
-                let (length, pages, padded) = (self.out(0), self.out(1), self.out(2));
-                let answer =
-                    unsafe { sys::ouriscado_book_read(body, body_len, heads, heads_len, *mark, key, list, lent, length, pages, padded) };
-                (answer, &[8, 8, 8])
-            }
-            Call::Drop { key } => {
-                (unsafe { sys::ouriscado_book_drop(body, body_len, heads, heads_len, mark, free, key, self.out(0)) }, &[8])
-            }
+        let (refusal, sizes) = match given.by {
+            By::List(desks) => self.call_book(call, whole, given, desks, list.len()),
+            By::Desk(desk) => self.call_core(call, whole, given, desk, list.len()),
         };
         Answer { refusal, told: self.told(sizes) }
     }
 
-    /// What ours judges, with a work list that holds these bytes: the refusal; and the ground, the key or class, and the units that belong to
-    /// nobody.
-    pub fn check(&self, check: Check, whole: (usize, usize), work: &[u8]) -> (u32, [u64; 3]) {
+    /// A call of the book.
+    fn call_book(&self, call: &Call, whole: (usize, usize), given: Given, list: &[u8], lent: usize) -> (u32, &'static [usize]) {
+        let (b, w) = (self.body.place::<u8>(whole.0, self.placing), self.heads.place::<u64>(whole.1, self.placing));
+        let (b_len, w_len, desks, d_len) = (given.body, given.heads, self.desks_at(list), list.len());
+        let (mark, free, counts): (&mut u64, &mut sys::Free, &mut sys::Counts) =
+            (self.lend(&self.mark), self.lend(&self.free), self.lend(&self.counts));
+        let at = self.list_at::<u64>(&self.list, lent);
+        unsafe {
+            match *call {
+                Call::Fresh(limits) => {
+                    let [reserve, ceiling] = self.limits.each_ref().map(|area| self.lend::<sys::Limit>(area));
+                    (*reserve, *ceiling) = (limits.reserve, limits.ceiling);
+                    (sys::ouriscado_book_fresh(b, b_len, w, w_len, mark, free, counts, desks, d_len, reserve, ceiling), &[])
+                }
+                Call::Load { key, fit, .. } => {
+                    let load = match fit {
+                        Fit::Spare => sys::ouriscado_book_load,
+                        Fit::Tight => sys::ouriscado_book_load_tight,
+                    };
+                    (load(b, b_len, w, w_len, mark, free, counts, desks, d_len, key, at, lent, self.out(0)), &[8])
+                }
+                Call::Append { key, fk } => {
+                    let (kind, class, used, place, rewritten) = (self.out(0), self.out(1), self.out(2), self.out(3), self.out(4));
+                    let append = sys::ouriscado_book_append;
+                    let number = append(b, b_len, w, w_len, mark, free, counts, desks, d_len, key, fk, kind, class, used, place, rewritten);
+                    (number, &[1, 1, 2, 8, 8])
+                }
+                Call::Read { key, .. } => {
+                    let (length, pages, padded) = (self.out(0), self.out(1), self.out(2));
+                    let read = sys::ouriscado_book_read;
+                    (read(b, b_len, w, w_len, *mark, counts, desks, d_len, key, at, lent, length, pages, padded), &[8, 8, 8])
+                }
+                Call::Drop { key } => {
+                    (sys::ouriscado_book_drop(b, b_len, w, w_len, mark, free, counts, desks, d_len, key, self.out(0)), &[8])
+                }
+            }
+        }
+    }
+
+    /// A call of the core.
+    fn call_core(&self, call: &Call, whole: (usize, usize), given: Given, desk: u64, lent: usize) -> (u32, &'static [usize]) {
+        let (b, w) = (self.body.place::<u8>(whole.0, self.placing), self.heads.place::<u64>(whole.1, self.placing));
+        let (b_len, w_len, at) = (given.body, given.heads, self.list_at::<u64>(&self.list, lent));
+        let (mark, free, counts): (&mut u64, &mut sys::Free, &mut sys::Counts) =
+            (self.lend(&self.mark), self.lend(&self.free), self.lend(&self.counts));
+        unsafe {
+            match *call {
+                Call::Fresh(_) => panic!("the core makes no book"),
+                Call::Load { key, fit, .. } => {
+                    let load = match fit {
+                        Fit::Spare => sys::ouriscado_core_load,
+                        Fit::Tight => sys::ouriscado_core_load_tight,
+                    };
+                    (load(b, b_len, w, w_len, mark, free, counts, desk, key, at, lent, self.out(0)), &[8])
+                }
+                Call::Append { key, fk } => {
+                    let (kind, class, used, place, rewritten) = (self.out(0), self.out(1), self.out(2), self.out(3), self.out(4));
+                    let append = sys::ouriscado_core_append;
+                    let number = append(b, b_len, w, w_len, mark, free, counts, desk, key, fk, kind, class, used, place, rewritten);
+                    (number, &[1, 1, 2, 8, 8])
+                }
+                Call::Read { key, .. } => {
+                    let (length, pages, padded) = (self.out(0), self.out(1), self.out(2));
+                    (sys::ouriscado_core_read(b, b_len, w, w_len, *mark, key, at, lent, length, pages, padded), &[8, 8, 8])
+                }
+                Call::Drop { key } => (sys::ouriscado_core_drop(b, b_len, w, w_len, mark, free, counts, desk, key, self.out(0)), &[8]),
+            }
+        }
+    }
+
+    /// What ours judges, with a work list that holds these bytes: the refusal; and the ground, the key, class or desk, and the units that
+    /// belong to nobody.
+    pub fn check(&self, check: &Check, whole: (usize, usize), work: &[u8]) -> (u32, [u64; 3]) {
         self.work.slice::<u8>(check.room, self.placing).copy_from_slice(work);
         self.outs.iter().for_each(|out| out.slice(8, Placing::End).fill(0xa5u8));
-        let (body, heads) = (self.body.place::<u8>(whole.0, self.placing), self.heads.place::<u64>(whole.1, self.placing));
-        let [mark, free @ ..] = unsafe { &*self.state.place::<State>(1, Placing::End) };
-        let null = if self.placing == Placing::End { Placing::Null } else { self.placing };
-        let work = self.work.place::<u8>(check.room, null);
+        let (b, w) = (self.body.place::<u8>(whole.0, self.placing), self.heads.place::<u64>(whole.1, self.placing));
+        let (mark, free, counts): (&mut u64, &mut sys::Free, &mut sys::Counts) =
+            (self.lend(&self.mark), self.lend(&self.free), self.lend(&self.counts));
+        let (b_len, w_len, d_len, room) = (check.body, check.heads, check.desks.len(), check.room);
+        let (desks, work) = (self.desks_at(&check.desks), self.list_at(&self.work, room));
         let (ground, which, lost) = (self.out(0), self.out(1), self.out(2));
-        let refusal =
-            unsafe { sys::ouriscado_book_check(body, check.body, heads, check.heads, *mark, free, work, check.room, ground, which, lost) };
+        let judge = sys::ouriscado_book_check;
+        let refusal = unsafe { judge(b, b_len, w, w_len, *mark, free, counts, desks, d_len, work, room, ground, which, lost) };
         let told = self.told(&[4, 8, 8]);
         (refusal, [told[0], told[1], told[2]])
     }
@@ -184,10 +301,21 @@ impl Ours {
         if let Some(at) = place_of(self.heads.slice(heads.len(), self.placing), heads) {
             return Some(format!("head {at}"));
         }
-        if let Some(at) = place_of(self.state.slice(10, Placing::End), &state[..]) {
-            return Some(format!("word {at} of the state"));
+        if *self.lend::<u64>(&self.mark) != state.mark {
+            return Some("mark".into());
+        }
+        if let Some(at) = place_of(self.free.slice(9, Placing::End), &state.free) {
+            return Some(format!("free head {at}"));
+        }
+        if let Some(at) = place_of(self.counts.slice(WORDS, Placing::End), &state.counts.words()) {
+            return Some(format!("count {at}"));
         }
         place_of(self.list.slice(list.len(), self.placing), list).map(|at| format!("number {at} of the list"))
+    }
+
+    /// What differs of the list of desks.
+    pub fn desks_left(&self, list: &[u8]) -> Option<String> {
+        place_of(self.desks.slice(list.len(), self.placing), list).map(|at| format!("byte {at} of the desks"))
     }
 
     /// What differs of the work list.
@@ -227,23 +355,30 @@ pub fn work_list(room: usize, work: &mut Vec<u8>) {
 pub fn call_second(
     second: &mut SecondBook,
     call: &Call,
+    by: By,
     body: &mut [u8],
     heads: &mut [u64],
     state: &mut State,
     list: &mut [u64],
 ) -> Result<[u64; 5], Refused> {
+    let at = |key: &u64| At { key: *key, by };
     match call {
-        Call::Fresh => second.fresh(body, heads, state).map(|()| [0; 5]),
-        Call::Load { key, fks, fit } => second.load(body, heads, state, *key, fks, *fit).map(|pages| [pages, 0, 0, 0, 0]),
-        Call::Append { key, fk } => second.append(body, heads, state, *key, *fk).map(|a| {
+        Call::Fresh(limits) => {
+            let By::List(desks) = by else { panic!("the core makes no book") };
+            second.fresh(body, heads, state, desks, limits).map(|()| [0; 5])
+        }
+        Call::Load { key, fks, fit } => second.load(body, heads, state, at(key), fks, *fit).map(|pages| [pages, 0, 0, 0, 0]),
+        Call::Append { key, fk } => second.append(body, heads, state, at(key), *fk).map(|a| {
             let [kind, class, used, place] = numbers_theirs(&a.place);
             [kind, class, used, place, a.rewritten]
         }),
         Call::Read { key, .. } => {
-            let listed = second.read(body, heads, state, *key, list)?;
+            // The core's read is told nothing of desks.
+            let by = if let By::List(_) = by { by } else { By::Desk(0) };
+            let listed = second.read(body, heads, state, At { key: *key, by }, list)?;
             Ok([listed.length, listed.pages, second.padded(body, heads, *key), 0, 0])
         }
-        Call::Drop { key } => second.drop(body, heads, state, *key).map(|length| [length, 0, 0, 0, 0]),
+        Call::Drop { key } => second.drop(body, heads, state, at(key)).map(|length| [length, 0, 0, 0, 0]),
     }
 }
 
@@ -256,13 +391,13 @@ pub fn answer_of(told: Result<[u64; 5], Refused>) -> Answer {
 }
 
 /// What is wrong with an answer of ours where the second book gives another.
-pub fn answer_differs(call: &Call, ours: &Answer, theirs: &Answer) -> Option<String> {
-    let said = || format!("{call:?}: answers {} {:?} in place of {} {:?}", ours.refusal, ours.told, theirs.refusal, theirs.told);
+pub fn answer_differs(call: &Call, given: Given, ours: &Answer, theirs: &Answer) -> Option<String> {
+    let said = || format!("{call:?} {given:?}: answers {} {:?} in place of {} {:?}", ours.refusal, ours.told, theirs.refusal, theirs.told);
     (ours != theirs).then(said)
 }
 
 /// Compares what ours judged with the second book's judgement.
-pub fn verdict_differs(check: Check, ours: (u32, [u64; 3]), judged: &Result<Verdict, u32>) -> Option<String> {
+pub fn verdict_differs(check: &Check, ours: (u32, [u64; 3]), judged: &Result<Verdict, u32>) -> Option<String> {
     let wanted = judged.map_or_else(|refusal| (refusal, [0; 3]), |v| (0, [v.ground as u64, v.which, v.lost]));
     (ours != wanted).then(|| format!("{check:?}: judges {ours:?} in place of {wanted:?} ({judged:?})"))
 }
@@ -295,7 +430,7 @@ impl Default for Pair {
     fn default() -> Pair {
         let ours = Ours::new(Area::new(MOST_BODY), MOST_BODY / 128 + MORE_WORK);
         let (second, list, work) = (SecondBook::default(), Vec::new(), Vec::new());
-        Pair { ours, second, body: Vec::new(), heads: Vec::new(), state: [0; 10], list, work, refused: None }
+        Pair { ours, second, body: Vec::new(), heads: Vec::new(), state: State::at(0), list, work, refused: None }
     }
 }
 
@@ -311,32 +446,33 @@ impl Pair {
     pub fn copy(&mut self) {
         self.ours.body.slice(self.body.len(), self.ours.placing).copy_from_slice(&self.body);
         self.ours.heads.slice(self.heads.len(), self.ours.placing).copy_from_slice(&self.heads);
-        self.ours.state.slice(10, Placing::End).copy_from_slice(&self.state);
+        self.ours.put_state(&self.state);
     }
 
-    /// Calls both on the first bytes of the body and the first heads, and tells the answer; or what differs.
-    pub fn call(&mut self, call: &Call, body: usize, heads: usize, where_: &str) -> Result<Answer, String> {
+    /// Calls both on what is given, and tells the answer; or what differs.
+    pub fn call(&mut self, call: &Call, given: Given, where_: &str) -> Result<Answer, String> {
         lent_list(call, &mut self.list);
         let (whole, lent) = (self.whole(), lent_length(call));
-        let ours = during(&Running("book", call, where_), || self.ours.call(call, whole, (body, heads), &self.list[..lent]));
-        let (part, words) = (&mut self.body[..body], &mut self.heads[..heads]);
-        let told = call_second(&mut self.second, call, part, words, &mut self.state, &mut self.list);
+        let ours = during(&Running("book", &(call, given), where_), || self.ours.call(call, whole, given, &self.list[..lent]));
+        let (part, words) = (&mut self.body[..given.body], &mut self.heads[..given.heads]);
+        let told = call_second(&mut self.second, call, given.by, part, words, &mut self.state, &mut self.list);
         self.refused = told.err();
         let theirs = answer_of(told);
-        if let Some(what) = answer_differs(call, &ours, &theirs) {
+        if let Some(what) = answer_differs(call, given, &ours, &theirs) {
             return Err(what);
         }
-        match self.left(lent) {
-            Some(what) => Err(format!("{call:?}: answers {} and leaves another {what}", ours.refusal)),
+        let desks = if let By::List(list) = given.by { self.ours.desks_left(list) } else { None };
+        match self.left(lent).or(desks) {
+            Some(what) => Err(format!("{call:?} {given:?}: answers {} and leaves another {what}", ours.refusal)),
             None => Ok(theirs),
         }
     }
 
     /// Has both judge a start, and tells the verdict or the refusal's number; or what differs. Body, heads and state stay.
-    pub fn check(&mut self, check: Check, where_: &str) -> Result<Result<Verdict, u32>, String> {
+    pub fn check(&mut self, check: &Check, where_: &str) -> Result<Result<Verdict, u32>, String> {
         work_list(check.room, &mut self.work);
-        let ours = during(&Running("book", &check, where_), || self.ours.check(check, self.whole(), &self.work));
-        let judged = self.second.check(&self.body[..check.body], &self.heads[..check.heads], &self.state, &mut self.work);
+        let ours = during(&Running("book", check, where_), || self.ours.check(check, self.whole(), &self.work));
+        let judged = self.second.check(&self.body[..check.body], &self.heads[..check.heads], &self.state, &check.desks, &mut self.work);
         let judged = judged.map_err(Refused::number);
         if let Some(what) = verdict_differs(check, ours, &judged) {
             return Err(what);

@@ -1,9 +1,13 @@
 //! Histories as lines, for the program `histories`: what each call was given and answered, and what it changed. host/README.md has the format.
-use crate::lockstep::pair::{Answer, Call, Pair, KINDS};
+use crate::lockstep::pair::{Answer, Call, Given, Pair, KINDS};
+use crate::second_book::desks::By;
+use crate::second_book::space::WORDS;
 use std::fmt::Write;
 
-/// The numbers of the kinds of calls; a line that says what somebody else wrote, and one that begins a history.
+/// The numbers of the kinds of calls, and what a call of the core has above them; a line that says what somebody else wrote, and one that
+/// begins a history.
 const CALLS: [usize; KINDS.len()] = [0x30, 0x31, 0x32, 0x33, 0x34, 0x37];
+const CORE: usize = 0x10;
 const WRITTEN: usize = 0x35;
 const BEGIN: usize = 0x36;
 
@@ -19,7 +23,7 @@ pub struct Record {
 
 /// The memory of the program that replays: all of it is written where a history begins.
 const MOST_BODY: usize = 61_440;
-const MOST_WORDS: usize = 16;
+const MOST_WORDS: usize = WORDS + 6;
 
 /// A field of numbers, with a space behind each.
 fn numbers(out: &mut String, list: &[u64]) {
@@ -42,9 +46,9 @@ fn list(out: &mut String, list: &[u64]) {
     }
 }
 
-/// The words of a pair: the state's ten, then the heads.
+/// The words of a pair: the state's, then the heads.
 fn words_of(pair: &Pair) -> Vec<u64> {
-    [&pair.state[..], &pair.heads].concat()
+    [&pair.state.words()[..], &pair.heads].concat()
 }
 
 impl Record {
@@ -52,26 +56,32 @@ impl Record {
     pub fn begin(&mut self, pair: &Pair) {
         self.body = Vec::new();
         self.words = Vec::new();
-        self.line(format!("{BEGIN:02x}000000||||"), pair);
+        self.line(format!("{BEGIN:02x}000000|||||"), pair);
     }
 
     /// What was written between calls.
     pub fn written(&mut self, pair: &Pair) {
-        self.line(format!("{WRITTEN:02x}000000||||"), pair);
+        self.line(format!("{WRITTEN:02x}000000|||||"), pair);
     }
 
-    /// A call on so much of body and heads.
-    pub fn call(&mut self, call: &Call, body: usize, heads: usize, answer: &Answer, pair: &Pair) {
-        let mut out = format!("{:02x}{:02x}{body:04x}|{heads:x} ", CALLS[call.kind()], answer.refusal);
+    /// A call on what it was given.
+    pub fn call(&mut self, call: &Call, lent: Given, answer: &Answer, pair: &Pair) {
+        let function = CALLS[call.kind()] + CORE * lent.family();
+        let mut out = format!("{function:02x}{:02x}{:04x}|{:x} ", answer.refusal, lent.body, lent.heads);
         self.longest = self.longest.max(pair.list.len());
-        let (given, offered, told): (&[u64], &[u64], usize) = match call {
-            Call::Fresh => (&[], &[], 0),
-            Call::Load { key, fks, .. } => (&[*key], fks, 1),
-            Call::Append { key, fk } => (&[*key, *fk], &[], 5),
-            Call::Read { key, room } => (&[*key, *room as u64], &[], 2),
-            Call::Drop { key } => (&[*key], &[], 1),
+        let (given, offered, told): (Vec<u64>, &[u64], usize) = match call {
+            Call::Fresh(limits) => ([limits.reserve, limits.ceiling].concat(), &[], 0),
+            Call::Load { key, fks, .. } => (vec![*key], fks, 1),
+            Call::Append { key, fk } => (vec![*key, *fk], &[], 5),
+            Call::Read { key, room } => (vec![*key, *room as u64], &[], 2),
+            Call::Drop { key } => (vec![*key], &[], 1),
         };
-        numbers(&mut out, given);
+        numbers(&mut out, &given);
+        out.push('|');
+        match lent.by {
+            By::List(desks) => desks.iter().for_each(|desk| write!(out, "{desk:02x}").unwrap()),
+            By::Desk(desk) => write!(out, "{desk:x}").unwrap(),
+        }
         out.push('|');
         list(&mut out, offered);
         out.push('|');
@@ -108,13 +118,20 @@ impl Record {
 #[cfg(test)]
 mod tests {
     use crate::lent::Placing;
-    use crate::lockstep::pair::{Call, Pair};
-    use crate::lockstep::record::{BEGIN, MOST_BODY, MOST_WORDS, WRITTEN};
+    use crate::lockstep::pair::{Call, Given, Pair};
+    use crate::lockstep::record::{BEGIN, CALLS, CORE, MOST_BODY, MOST_WORDS, WRITTEN};
     use crate::lockstep::{written, TESTED};
+    use crate::second_book::desks::{By, Limits};
+    use crate::second_book::space::{State, WORDS};
     use crate::second_book::Fit;
 
     fn hex(text: &str) -> u64 {
         u64::from_str_radix(text, 16).unwrap()
+    }
+
+    /// The byte of two digits.
+    fn byte(digits: &[u8]) -> u8 {
+        hex(std::str::from_utf8(digits).unwrap()) as u8
     }
 
     fn numbers(field: &str) -> Vec<u64> {
@@ -151,7 +168,7 @@ mod tests {
     /// The call of a line, by its number and the numbers given after how many heads there are.
     fn call_of(function: u64, given: &[u64], offered: &str) -> Call {
         match function {
-            0x30 => Call::Fresh,
+            0x30 => Call::Fresh(Limits { reserve: given[..16].try_into().unwrap(), ceiling: given[16..].try_into().unwrap() }),
             0x31 => Call::Load { key: given[0], fks: list(offered), fit: Fit::Spare },
             0x32 => Call::Append { key: given[0], fk: given[1] },
             0x33 => Call::Read { key: given[0], room: given[1] as usize },
@@ -170,19 +187,22 @@ mod tests {
             let fields: Vec<&str> = line.split('|').collect();
             let (function, refusal, len) = (hex(&line[..2]), hex(&line[2..4]), hex(&line[4..8]) as usize);
             let given = numbers(fields[1]);
-            change(fields[5], &mut body, &mut words);
+            change(fields[6], &mut body, &mut words);
             if [WRITTEN, BEGIN].contains(&(function as usize)) {
-                pair.begin(body.clone(), words[10..].to_vec(), words[..10].try_into().unwrap(), Placing::End);
+                pair.begin(body.clone(), words[WORDS..].to_vec(), State::of_words(words[..WORDS].try_into().unwrap()), Placing::End);
                 continue;
             }
-            let call = call_of(function, &given[1..], fields[2]);
-            let answer = pair.call(&call, len, given[0] as usize, "a line").unwrap();
-            let told = numbers(fields[3]);
+            let (core, kind) = (function as usize >= CALLS[0] + CORE, function & 0xf | 0x30);
+            let call = call_of(kind, &given[1..], fields[3]);
+            let desks: Vec<u8> = if core { Vec::new() } else { fields[2].as_bytes().chunks(2).map(byte).collect() };
+            let by = if core { By::Desk(hex(fields[2])) } else { By::List(&desks) };
+            let answer = pair.call(&call, Given { body: len, heads: given[0] as usize, by }, "a line").unwrap();
+            let told = numbers(fields[4]);
             assert_eq!((answer.refusal as u64, &answer.told[..told.len()]), (refusal, &told[..]), "{line}");
-            if function == 0x33 && refusal == 0 {
-                assert_eq!(pair.list[..told[0] as usize], list(fields[4]), "{line}");
+            if kind == 0x33 && refusal == 0 {
+                assert_eq!(pair.list[..told[0] as usize], list(fields[5]), "{line}");
             }
-            assert!(pair.body == body && pair.state == words[..10] && pair.heads == words[10..], "{line}");
+            assert!(pair.body == body && pair.state.words() == words[..WORDS] && pair.heads == words[WORDS..], "{line}");
         }
         assert!(lines.len() > 100);
     }

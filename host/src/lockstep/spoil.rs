@@ -234,7 +234,7 @@ pub fn turn_chain(book: &mut Damaged, rng: &mut Rng) -> bool {
     pages::sh_page_set_next(page_mut(book.body, last), first).expect("a page that a link named");
     book.heads[book.key] = 3 << 62 | first;
     let end = last + PAGE as u64;
-    book.state[0] = rng.pick(&[book.state[0], end, end - 16]);
+    book.state.mark = rng.pick(&[book.state.mark, end, end - 16]);
     true
 }
 

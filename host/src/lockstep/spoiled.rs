@@ -2,6 +2,7 @@
 use crate::lockstep::damage::{damage, Damaged};
 use crate::lockstep::starts::Start;
 use crate::rng::Rng;
+use crate::second_book::desks::{pages_of, past, DESKS};
 
 /// A way to spoil a start: its name, and what does it; it tells whether it could.
 type Spoil = (&'static str, fn(&mut Start, &mut Rng) -> bool);
@@ -18,6 +19,12 @@ pub const SPOILS: &[Spoil] = &[
     ("a broken stream", broken_stream),
     ("a total that lies", lying_total),
     ("a mark that is too low", low_mark),
+    ("freed pages that lie", lying_freed),
+    ("a desk's pages that lie", lying_held),
+    ("pages of another desk", other_desk),
+    ("a ceiling below a desk's pages", low_ceiling),
+    ("a reserve above its ceiling", high_reserve),
+    ("lacks that aren't covered", uncovered),
     ("damage of a history", damaged),
 ];
 
@@ -51,7 +58,7 @@ fn some_freed(start: &Start, rng: &mut Rng) -> Option<(usize, usize)> {
 fn lead(start: &mut Start, rng: &mut Rng, class: usize, off: u64) {
     match start.freed[class].last() {
         Some(&last) if rng.below(3) != 0 => start.body[last as usize..][..8].copy_from_slice(&off.to_le_bytes()),
-        _ => start.state[1 + class] = off,
+        _ => start.state.free[class] = off,
     }
 }
 
@@ -72,7 +79,7 @@ fn slab_within(start: &mut Start, rng: &mut Rng) -> bool {
         return false;
     };
     let (off, key) = (free.next_multiple_of(16), some_key(start, rng));
-    if key == owner || off + (16 << class) > start.state[0] {
+    if key == owner || off + (16 << class) > start.state.mark {
         return false;
     }
     let last = 1 + rng.below(100) as u8;
@@ -128,7 +135,7 @@ fn two_lists(start: &mut Start, rng: &mut Rng) -> bool {
 
 /// An offset where no block of a class stands below the mark.
 fn stray(start: &Start, rng: &mut Rng, class: usize) -> u64 {
-    let (mark, size, len) = (start.state[0], 16 << class, start.body.len() as u64);
+    let (mark, size, len) = (start.state.mark, 16 << class, start.body.len() as u64);
     let any = 4096 + 16 * rng.below((len - 4096) / 16);
     let end = mark.saturating_sub(size) + if class == 8 { 4096 - mark % 4096 } else { 16 };
     let unaligned = if class == 8 { any | 16 } else { any + 8 };
@@ -143,7 +150,7 @@ fn stray(start: &Start, rng: &mut Rng, class: usize) -> u64 {
 
 fn stray_head(start: &mut Start, rng: &mut Rng) -> bool {
     let class = rng.below(9) as usize;
-    start.state[1 + class] = stray(start, rng, class);
+    start.state.free[class] = stray(start, rng, class);
     true
 }
 
@@ -190,14 +197,68 @@ fn low_mark(start: &mut Start, rng: &mut Rng) -> bool {
         return false;
     };
     let (class, off) = rng.pick(&[(class, off), other]);
-    start.state[0] = rng.pick(&[off, off + (16 << class) - 16, off + (16 << class)]);
+    start.state.mark = rng.pick(&[off, off + (16 << class) - 16, off + (16 << class)]);
     true
 }
 
 /// What histories do to a book.
 fn damaged(start: &mut Start, rng: &mut Rng) -> bool {
     let key = some_key(start, rng);
+    let desk = start.desks[key].into();
     let Start { body, heads, state, .. } = start;
-    damage(&mut Damaged { body, heads, state, key }, rng);
+    damage(&mut Damaged { body, heads, state, key, desk }, rng);
     true
+}
+
+/// Freed pages: one more or less than there are, or any number of the body's pages.
+fn lying_freed(start: &mut Start, rng: &mut Rng) -> bool {
+    let (is, any) = (start.state.counts.freed, rng.below(pages_of(start.body.len()) + 1));
+    start.state.counts.freed = rng.pick(&[is + 1, is.saturating_sub(1), any, 0]);
+    start.state.counts.freed != is
+}
+
+/// A desk's pages: one more or less than its keys have, or any number of the body's.
+fn lying_held(start: &mut Start, rng: &mut Rng) -> bool {
+    let any = rng.below(pages_of(start.body.len()) + 1);
+    let held = &mut start.state.counts.held[rng.below(DESKS as u64) as usize];
+    let is = *held;
+    *held = rng.pick(&[is + 1, is.saturating_sub(1), any, 0]);
+    *held != is
+}
+
+/// A key in pages goes to another desk, with nothing counted anew.
+fn other_desk(start: &mut Start, rng: &mut Rng) -> bool {
+    let key = some_key(start, rng);
+    let desk = rng.below(DESKS as u64) as u8;
+    let other = desk != start.desks[key] && start.heads[key] >> 62 == 3;
+    if other {
+        start.desks[key] = desk;
+    }
+    other
+}
+
+fn low_ceiling(start: &mut Start, rng: &mut Rng) -> bool {
+    let desk = rng.below(DESKS as u64) as usize;
+    let held = start.state.counts.held[desk];
+    start.state.counts.limits.ceiling[desk] = held.saturating_sub(1 + rng.below(2));
+    held > 0
+}
+
+fn high_reserve(start: &mut Start, rng: &mut Rng) -> bool {
+    let desk = rng.below(DESKS as u64) as usize;
+    let limits = &mut start.state.counts.limits;
+    limits.reserve[desk] = limits.reserve[desk].max(1);
+    limits.ceiling[desk] = rng.below(limits.reserve[desk]);
+    true
+}
+
+/// Reserves of one desk or two, one page more than are to be had, within their ceilings.
+fn uncovered(start: &mut Start, rng: &mut Rng) -> bool {
+    let (desk, len) = (rng.below(DESKS as u64) as usize, start.body.len());
+    let had = start.state.counts.freed + past(len, start.state.mark);
+    let counts = &mut start.state.counts;
+    let reserve = counts.held[desk] + (had + 1).saturating_sub(counts.lacks()).max(1);
+    counts.limits.reserve[desk] = reserve.max(counts.limits.reserve[desk]);
+    counts.limits.ceiling[desk] = counts.limits.ceiling[desk].max(reserve);
+    reserve <= pages_of(len)
 }

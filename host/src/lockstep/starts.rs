@@ -1,5 +1,6 @@
 //! Books that were written elsewhere: good starts that no call of ours would write, built from docs/FORMAT.md byte by byte.
 use crate::inputs::form;
+use crate::lockstep::limits::{desk_list, within};
 use crate::rng::Rng;
 use crate::second_book::space::State;
 use crate::second_book::LIMIT;
@@ -36,6 +37,7 @@ pub struct Start {
     pub body: Vec<u8>,
     pub heads: Vec<u64>,
     pub state: State,
+    pub desks: Vec<u8>,
     pub lists: Vec<Vec<u64>>,
     pub padded: Vec<u64>,
     /// Blocks that keys hold: class, offset, key, and how many bytes at its end nothing is written to.
@@ -140,7 +142,8 @@ impl Start {
             _ => vec![rng.pick(&[0, 0xff]); len],
         };
         let (lists, padded, held, freed) = (vec![Vec::new(); keys], vec![0; keys], Vec::new(), Default::default());
-        let mut out = Start { body, heads: vec![0; keys], state: [0; 10], lists, padded, held, freed, met: BTreeSet::new() };
+        let desks = desk_list(rng, keys);
+        let mut out = Start { body, heads: vec![0; keys], state: State::at(0), desks, lists, padded, held, freed, met: BTreeSet::new() };
         let (mut slabs, mut pages) = out.lay(rng);
         let mut order: Vec<usize> = (0..keys).collect();
         shuffle(rng, &mut order);
@@ -166,6 +169,7 @@ impl Start {
         }
         slabs.extend(pages.iter().map(|&off| (PAGE_CLASS, off)));
         out.free(rng, slabs);
+        out.count(rng);
         out
     }
 
@@ -195,8 +199,8 @@ impl Start {
             }
         }
         let any = at + 16 * rng.below((end - at) / 16 + 1);
-        self.state[0] = rng.pick(&[at, any, end]);
-        if self.state[0] > at {
+        self.state.mark = rng.pick(&[at, any, end]);
+        if self.state.mark > at {
             self.met.insert(MARK_BEHIND);
         }
         (slabs, pages)
@@ -319,18 +323,28 @@ impl Start {
             if !list.is_sorted() && !list.is_sorted_by(|a, b| a > b) {
                 self.met.insert(PERMUTED);
             }
-            self.state[1 + class] = list.first().copied().unwrap_or(0);
+            self.state.free[class] = list.first().copied().unwrap_or(0);
             for k in 0..list.len() {
                 let next = list.get(k + 1).copied().unwrap_or(0);
                 self.body[list[k] as usize..][..8].copy_from_slice(&next.to_le_bytes());
             }
         }
     }
+
+    /// Counts freed pages and those of each desk, and gives the desks limits that they keep.
+    fn count(&mut self, rng: &mut Rng) {
+        self.state.counts.freed = self.freed[PAGE_CLASS].len() as u64;
+        for (_, _, key, _) in self.held.iter().filter(|block| block.0 == PAGE_CLASS) {
+            self.state.counts.held[usize::from(self.desks[*key])] += 1;
+        }
+        self.state.counts.limits = within(rng, self.body.len(), &self.state);
+    }
 }
 
 #[cfg(test)]
 mod tests {
     use super::*;
+    use crate::second_book::desks::{At, By};
     use crate::second_book::SecondBook;
 
     /// What is built is a good start by the second book, which reads the lists that were written, and counts as many padded numbers;
@@ -340,11 +354,12 @@ mod tests {
         let (mut book, mut met) = (SecondBook::default(), BTreeSet::new());
         for number in 0..400 {
             let start = Start::build(&mut Rng(number << 8));
-            let verdict = book.check(&start.body, &start.heads, &start.state, &mut vec![1; start.body.len() / 16]);
+            let verdict = book.check(&start.body, &start.heads, &start.state, &start.desks, &mut vec![1; start.body.len() / 16]);
             assert_eq!(verdict.map(|v| v.fault), Ok(None), "start {number}");
             for (key, list) in start.lists.iter().enumerate() {
                 let mut out = vec![0; list.len()];
-                let listed = book.read(&start.body, &start.heads, &start.state, key as u64, &mut out).unwrap();
+                let at = At { key: key as u64, by: By::List(&start.desks) };
+                let listed = book.read(&start.body, &start.heads, &start.state, at, &mut out).unwrap();
                 let padded = book.padded(&start.body, &start.heads, key as u64);
                 assert_eq!((listed.length as usize, &out, padded), (list.len(), list, start.padded[key]), "start {number}, key {key}");
             }

@@ -1,20 +1,26 @@
 //! What the histories met, and how often: calls, refusals and their grounds, moves between classes, blocks taken and given back, chains;
 //! and of starts the verdicts, the faults, and what is foreign about them.
-use crate::lockstep::pair::{Answer, Call, Pair, KINDS};
+use crate::lockstep::desk_tally::{in_shape, Desks, Taken, TAKES};
+use crate::lockstep::pair::{Answer, Call, Given, Pair, FAMILIES, KINDS};
 use crate::lockstep::spoiled::SPOILS;
 use crate::lockstep::starts::{Foreign, FOREIGN};
 use crate::second_book::keys::{Ground, GROUNDS};
 use crate::second_book::space::{State, PAGE};
 use crate::second_book::start::{Verdict, FAULTS};
-use crate::second_book::{class_by_bytes, goes_to_pages, payload_len, Refused};
+use crate::second_book::{class_by_bytes, class_with_slot, goes_to_pages, payload_len, Fit, Refused};
 use oracle::scripthash_layout::{unpack8, ShHeadValue};
 use oracle::scripthash_pages as pages;
 use std::collections::{BTreeMap, BTreeSet};
 
-/// The refusals that each kind of call can give, and 0 for accepted.
-const REFUSALS: [&[u32]; KINDS.len()] =
-    [&[0, 1], OF_LOADS, &[0, 1, 2, 12, 13, 14, 31, 32, 35, 36], &[0, 1, 2, 31, 34], &[0, 1, 2, 31], OF_LOADS];
-const OF_LOADS: &[u32] = &[0, 1, 2, 3, 10, 12, 13, 14, 32, 35, 36];
+/// The refusals that each kind of call can give, and 0 for accepted, by families: the core makes no book, and its reads are told nothing of
+/// desks.
+const REFUSALS: [[&[u32]; KINDS.len()]; FAMILIES.len()] = [
+    [&[0, 1, 39], OF_LOADS, OF_APPENDS, &[0, 1, 2, 31, 34, 39], OF_DROPS, OF_LOADS],
+    [&[], OF_LOADS, OF_APPENDS, &[0, 1, 2, 31, 34], OF_DROPS, OF_LOADS],
+];
+const OF_LOADS: &[u32] = &[0, 1, 2, 3, 10, 12, 13, 14, 32, 35, 36, 39, 40, 41];
+const OF_APPENDS: &[u32] = &[0, 1, 2, 12, 13, 14, 31, 32, 35, 36, 39, 40, 41];
+const OF_DROPS: &[u32] = &[0, 1, 2, 31, 39];
 
 /// The two kinds of loads, and the classes of slabs that each takes by the class of a list's bytes: with a spare slot up to two more, since a
 /// number has a byte or more where a slot has four, and 256 slots are those of class 6.
@@ -89,7 +95,7 @@ fn chain_name(pages: u64) -> String {
 /// Counts of what was met.
 #[derive(Default)]
 pub struct Tally {
-    refusals: [BTreeMap<u32, u64>; KINDS.len()],
+    refusals: [[BTreeMap<u32, u64>; KINDS.len()]; FAMILIES.len()],
     grounds: BTreeMap<(Ground, &'static str), u64>,
     moves: [[u64; 9]; 9],
     stays: [u64; 9],
@@ -105,7 +111,7 @@ pub struct Tally {
     fitted: BTreeMap<(usize, usize, usize), u64>,
     counts: BTreeMap<(usize, usize), u64>,
     payloads: BTreeMap<(usize, usize), u64>,
-    full: BTreeMap<&'static str, u64>,
+    pub desks: Desks,
     unknown: BTreeMap<&'static str, u64>,
     full_total: u64,
     pub damages: BTreeMap<&'static str, u64>,
@@ -144,14 +150,12 @@ pub fn total_of(body: &[u8], word: u64) -> Option<u32> {
 
 impl Tally {
     /// Counts a call by what was before it and what it answered.
-    pub fn count(&mut self, call: &Call, before: &Before, answer: &Answer, pair: &Pair) {
+    pub fn count(&mut self, call: &Call, given: Given, before: &Before, answer: &Answer, pair: &Pair) {
         let kind = call.kind();
-        *self.refusals[kind].entry(answer.refusal).or_default() += 1;
+        *self.refusals[given.family()][kind].entry(answer.refusal).or_default() += 1;
+        self.desks.count(call, given, &before.state, Tally::takes(call, given, before, answer, pair), answer, pair);
         if let Some(Refused::Unsound(ground)) = pair.refused {
             *self.grounds.entry((ground, KINDS[kind])).or_default() += 1;
-        }
-        if answer.refusal == 36 {
-            *self.full.entry(Tally::wanted(call, before, pair)).or_default() += 1;
         }
         if answer.refusal != 0 {
             return;
@@ -196,21 +200,35 @@ impl Tally {
         }
     }
 
-    /// What there was no room for.
-    fn wanted(call: &Call, before: &Before, pair: &Pair) -> &'static str {
-        let in_pages = matches!(unpack8(before.word), Ok(ShHeadValue::Extent { .. }));
+    /// What a call took, or wanted to take: none where it took nothing, or was turned back before. One that 1 turns back for its counts, as the
+    /// core's can be, wanted it.
+    pub fn takes(call: &Call, given: Given, before: &Before, answer: &Answer, pair: &Pair) -> Option<Taken> {
+        let chain = matches!(unpack8(before.word), Ok(ShHeadValue::Extent { .. }));
+        let took = match (call, answer.refusal) {
+            (Call::Load { fks, .. }, 0) => fks.len() > 1,
+            (Call::Append { .. }, 0) if chain => before.word & !(3 << 62) != answer.told[3],
+            (Call::Append { .. }, 0) => answer.told[4] > 0,
+            (Call::Load { .. } | Call::Append { .. }, 1) => given.family() == 1 && in_shape(given, before.state.mark),
+            (Call::Load { .. } | Call::Append { .. }, refusal) => matches!(refusal, 35 | 36 | 40 | 41),
+            _ => false,
+        };
+        let list = &pair.second.list;
+        let taken = |what: usize, class: u8| Some(Taken { what: &TAKES[what], class: class.into() });
         match call {
-            Call::Append { .. } if in_pages => "a page for a chain",
-            Call::Append { .. } if goes_to_pages(&pair.second.list) => "a page for a list that moves",
-            Call::Append { .. } => "a slab for a list that moves",
-            Call::Load { fks, .. } if goes_to_pages(fks) => "a run for a load",
-            _ => "a slab for a load",
+            _ if !took => None,
+            Call::Append { .. } if chain => taken(4, 8),
+            Call::Append { .. } if goes_to_pages(list) => taken(3, 8),
+            Call::Append { .. } => taken(2, class_with_slot(list)),
+            Call::Load { fks, .. } if goes_to_pages(fks) => taken(1, 8),
+            Call::Load { fks, fit: Fit::Spare, .. } => taken(0, class_with_slot(fks)),
+            Call::Load { fks, .. } => taken(0, class_by_bytes(fks)),
+            _ => None,
         }
     }
 
     /// Counts where a block of a class came from.
     fn took(&mut self, class: usize, before: &Before) {
-        if before.state[1 + class] != 0 {
+        if before.state.free[class] != 0 {
             self.reused[class] += 1;
         } else {
             self.at_mark(class, before);
@@ -221,7 +239,7 @@ impl Tally {
     fn at_mark(&mut self, class: usize, before: &Before) {
         self.at_mark[class] += 1;
         if class == 8 {
-            self.carved(before.state[0].next_multiple_of(4096) - before.state[0]);
+            self.carved(before.state.mark.next_multiple_of(4096) - before.state.mark);
         }
     }
 
@@ -307,10 +325,10 @@ impl Tally {
         };
         let mut out: Vec<(String, u64)> = GOOD.iter().map(|when| of(when, "good".into())).collect();
         for when in BAD {
-            out.extend((1..=4).map(|ground| of(when, format!("of ground {ground}"))));
+            out.extend((1..=10).map(|ground| of(when, format!("of ground {ground}"))));
         }
         for when in GOOD {
-            out.extend([1, 34].map(|refusal| of(when, format!("refused by {refusal}"))));
+            out.extend([1, 34, 39].map(|refusal| of(when, format!("refused by {refusal}"))));
         }
         let mut met = |name: &str, list: &[&'static str], counts: &BTreeMap<&'static str, u64>| {
             out.extend(list.iter().map(|what| (format!("{name}: {what}"), counts.get(what).copied().unwrap_or(0))));
@@ -347,12 +365,14 @@ impl Tally {
     /// All of calls that must be met, with how often it was.
     pub fn kinds(&self) -> Vec<(String, u64)> {
         let mut out = Vec::new();
-        for (kind, refusals) in REFUSALS.iter().enumerate() {
-            for &refusal in *refusals {
+        for (family, kind) in (0..FAMILIES.len()).flat_map(|family| (0..KINDS.len()).map(move |kind| (family, kind))) {
+            for &refusal in REFUSALS[family][kind] {
                 let what = if refusal == 0 { "accepted".into() } else { format!("refused by {refusal}") };
-                out.push((format!("{} {what}", KINDS[kind]), self.refusals[kind].get(&refusal).copied().unwrap_or(0)));
+                let met = self.refusals[family][kind].get(&refusal).copied().unwrap_or(0);
+                out.push((format!("{}{} {what}", FAMILIES[family], KINDS[kind]), met));
             }
         }
+        out.extend(self.desks.kinds());
         for ground in GROUNDS {
             out.push((format!("31: {ground}"), self.of_ground(ground).map(|(_, n)| n).sum()));
         }
@@ -386,11 +406,6 @@ impl Tally {
             out.push((format!("a total that was never counted: {what}"), self.unknown.get(what).copied().unwrap_or(0)));
         }
         out.push((FULL_TOTAL.into(), self.full_total));
-        for what in
-            ["a slab for a load", "a run for a load", "a slab for a list that moves", "a page for a list that moves", "a page for a chain"]
-        {
-            out.push((format!("no room for {what}"), self.full.get(what).copied().unwrap_or(0)));
-        }
         out
     }
 
@@ -414,9 +429,9 @@ impl Tally {
                 );
             }
         }
-        for (refusals, (known, name)) in self.refusals.iter().zip(REFUSALS.iter().zip(KINDS)) {
-            let others = refusals.iter().filter(|(r, _)| !known.contains(r));
-            others.for_each(|(r, n)| println!("  {n:>10} {name} refused by {r}, which it never should be"));
+        for (family, kind) in (0..FAMILIES.len()).flat_map(|family| (0..KINDS.len()).map(move |kind| (family, kind))) {
+            let others = self.refusals[family][kind].iter().filter(|(r, _)| !REFUSALS[family][kind].contains(r));
+            others.for_each(|(r, n)| println!("  {n:>10} {}{} refused by {r}, which it never should be", FAMILIES[family], KINDS[kind]));
         }
         self.damages.iter().for_each(|(name, n)| println!("  {n:>10} damaged: {name}"));
         let unmet: Vec<&str> = kinds.iter().filter(|k| k.1 == 0).map(|k| &k.0[..]).collect();

@@ -1,7 +1,7 @@
 //! The keys of the second book: whether a key is sound, on what ground not, and what it holds.
 use crate::errors::{of_store, Side};
 use crate::forms::{padded, padded_in_page, taken};
-use crate::second_book::space::{PAGE, PAGE_CLASS};
+use crate::second_book::space::{HELD_BY_DESK, PAGE, PAGE_CLASS};
 use crate::second_book::LIMIT;
 use oracle::error::StoreError;
 use oracle::scripthash_layout::{slab_bytes, unpack8, ShHeadValue};
@@ -230,7 +230,7 @@ impl Key {
     }
 }
 
-/// Every ground that a key can be met with. That a chain has too many pages is tested and can't be met: there are fewer aligned offsets from
+/// Every ground that 31 can be met with; the last one isn't the key's. That a chain has too many pages is tested and can't be met: there are fewer aligned offsets from
 /// 4,096 up to the mark than that, and a page that comes twice doesn't rise.
 pub const GROUNDS: &[Ground] = &[
     "a word is a slab's with used 0 or 1",
@@ -271,4 +271,5 @@ pub const GROUNDS: &[Ground] = &[
     "a chain comes back to a page",
     "a page before the last is LAST",
     "creates is neither 0 nor the length",
+    HELD_BY_DESK,
 ];

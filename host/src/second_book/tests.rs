@@ -1,9 +1,13 @@
 //! The run case of docs/FORMAT.md on the second book, and what that says of loads, chains and refusals.
 use super::*;
 use crate::lent::{Area, Placing, READ_WRITE};
+use crate::second_book::desks::NO_LIMITS;
 use crate::second_book::space::SLABS_END;
 use crate::table::numbers_theirs;
 use oracle::scripthash_layout::unpack8;
+
+/// The desk list of the book's tests: desk 0 for every key.
+const ALL_OF_0: [u8; 6] = [0; 6];
 
 /// A fresh book.
 struct Book {
@@ -15,10 +19,15 @@ struct Book {
 
 impl Book {
     fn new(body: usize, heads: usize) -> Book {
-        let mut out = Book { book: SecondBook::default(), body: vec![0xa5; body], heads: vec![7; heads], state: [9; 10] };
-        out.book.fresh(&out.body, &mut out.heads, &mut out.state).unwrap();
-        assert_eq!((out.heads[0], out.state), (0, [4096, 0, 0, 0, 0, 0, 0, 0, 0, 0]));
+        let mut out = Book { book: SecondBook::default(), body: vec![0xa5; body], heads: vec![7; heads], state: State::at(9) };
+        out.book.fresh(&out.body, &mut out.heads, &mut out.state, &ALL_OF_0[..heads], &NO_LIMITS).unwrap();
+        assert_eq!((out.heads[0], out.state), (0, State::at(4096)));
         out
+    }
+
+    /// A key, of desk 0 as all are.
+    fn at(&self, key: u64) -> At<'static> {
+        At { key, by: By::List(&ALL_OF_0[..self.heads.len()]) }
     }
 
     fn load(&mut self, key: u64, fks: &[u64]) -> Result<u64, u32> {
@@ -30,7 +39,8 @@ impl Book {
     }
 
     fn load_fit(&mut self, key: u64, fks: &[u64], fit: Fit) -> Result<u64, u32> {
-        self.book.load(&mut self.body, &mut self.heads, &mut self.state, key, fks, fit).map_err(Refused::number)
+        let at = self.at(key);
+        self.book.load(&mut self.body, &mut self.heads, &mut self.state, at, fks, fit).map_err(Refused::number)
     }
 
     /// The class of a key in a slab.
@@ -43,19 +53,21 @@ impl Book {
 
     /// The four numbers of the new place, and the records rewritten.
     fn append(&mut self, key: u64, fk: u64) -> Result<([u64; 4], u64), u32> {
-        let answer = self.book.append(&mut self.body, &mut self.heads, &mut self.state, key, fk);
+        let at = self.at(key);
+        let answer = self.book.append(&mut self.body, &mut self.heads, &mut self.state, at, fk);
         answer.map(|a| (numbers_theirs(&a.place), a.rewritten)).map_err(Refused::number)
     }
 
     fn read(&mut self, key: u64, room: usize) -> Result<(Vec<u64>, u64), u32> {
-        let mut out = vec![0; room];
-        let listed = self.book.read(&self.body, &self.heads, &self.state, key, &mut out).map_err(Refused::number)?;
+        let (mut out, at) = (vec![0; room], self.at(key));
+        let listed = self.book.read(&self.body, &self.heads, &self.state, at, &mut out).map_err(Refused::number)?;
         out.truncate(listed.length as usize);
         Ok((out, listed.pages))
     }
 
     fn drop(&mut self, key: u64) -> Result<u64, u32> {
-        self.book.drop(&mut self.body, &mut self.heads, &mut self.state, key).map_err(Refused::number)
+        let at = self.at(key);
+        self.book.drop(&mut self.body, &mut self.heads, &mut self.state, at).map_err(Refused::number)
     }
 }
 
@@ -73,7 +85,7 @@ fn run_case() {
     assert_eq!(b.read(0, 4), Err(34));
     assert_eq!(b.body[4096..4100], [2, 0, 9, 1]);
     assert_eq!(b.drop(0), Ok(5));
-    assert_eq!(b.state[2], 4112);
+    assert_eq!(b.state.free[1], 4112);
 }
 
 #[test]
@@ -85,9 +97,9 @@ fn a_loaded_run_grows_by_a_page() {
     assert_eq!(b.append(0, 9000), Ok(([3, 0, 0, 12_288], 0)));
     assert_eq!(b.read(0, 9000).unwrap().1, 3);
     assert_eq!(b.drop(0), Ok(fks.len() as u64 + 1));
-    assert_eq!((b.state[0], b.state[9]), (16_384, 12_288));
+    assert_eq!((b.state.mark, b.state.free[8]), (16_384, 12_288));
     assert_eq!(b.load(0, &fks), Ok(2));
-    assert_eq!(b.state[0], 24_576);
+    assert_eq!(b.state.mark, 24_576);
 }
 
 #[test]
@@ -182,8 +194,13 @@ fn refusals_come_in_order() {
     assert_eq!(b.append(0, 6), Err(31));
     assert_eq!(b.append(0, 1 << 62), Err(14));
     assert_eq!(b.read(0, 0), Err(31));
-    b.state[0] = 4100;
+    b.state.mark = 4100;
     assert_eq!(b.drop(0), Err(1));
+}
+
+/// A key of a book of six.
+fn of_six(key: u64) -> At<'static> {
+    At { key, by: By::List(&ALL_OF_0) }
 }
 
 /// A book whose body has addresses up to the largest length, and memory for the first pages and those around the end of slabs alone; the
@@ -196,7 +213,7 @@ impl Far {
         for page in [0, (SLABS_END - 4 * 4096) as usize] {
             area.allow(page, 8 * 4096, READ_WRITE);
         }
-        Some(Far(area, SecondBook::default(), vec![0; 6], [mark, 0, 0, 0, 0, 0, 0, 0, 0, 0]))
+        Some(Far(area, SecondBook::default(), vec![0; 6], State::at(mark)))
     }
 
     #[allow(clippy::mut_from_ref)]
@@ -206,16 +223,16 @@ impl Far {
 
     fn load(&mut self, key: u64, last: u64, fit: Fit) -> Result<u64, u32> {
         let fks: Vec<u64> = (1..=last).collect();
-        self.1.load(self.0.slice(MOST_BODY, Placing::Start), &mut self.2, &mut self.3, key, &fks, fit).map_err(Refused::number)
+        self.1.load(self.0.slice(MOST_BODY, Placing::Start), &mut self.2, &mut self.3, of_six(key), &fks, fit).map_err(Refused::number)
     }
 
     fn append(&mut self, key: u64, fk: u64) -> Result<u64, u32> {
-        let answer = self.1.append(self.0.slice(MOST_BODY, Placing::Start), &mut self.2, &mut self.3, key, fk);
+        let answer = self.1.append(self.0.slice(MOST_BODY, Placing::Start), &mut self.2, &mut self.3, of_six(key), fk);
         answer.map(|a| a.rewritten).map_err(Refused::number)
     }
 
     fn drop(&mut self, key: u64) -> Result<u64, u32> {
-        self.1.drop(self.0.slice(MOST_BODY, Placing::Start), &mut self.2, &mut self.3, key).map_err(Refused::number)
+        self.1.drop(self.0.slice(MOST_BODY, Placing::Start), &mut self.2, &mut self.3, of_six(key)).map_err(Refused::number)
     }
 }
 
@@ -227,9 +244,9 @@ fn slabs_end_at_2_40() {
     };
     assert_eq!(b.load(0, 4, Fit::Spare), Err(36));
     assert_eq!(b.load(0, 4, Fit::Tight), Ok(0));
-    assert_eq!((b.3[0], b.load(1, 2, Fit::Tight)), (SLABS_END, Err(36)));
+    assert_eq!((b.3.mark, b.load(1, 2, Fit::Tight)), (SLABS_END, Err(36)));
     assert_eq!(b.load(1, 300, Fit::Spare), Ok(1));
-    assert_eq!((b.3[0], b.2[1]), (SLABS_END + 4096, 3 << 62 | SLABS_END));
+    assert_eq!((b.3.mark, b.2[1]), (SLABS_END + 4096, 3 << 62 | SLABS_END));
 }
 
 /// A gap up to 2^40 is carved, and one past it goes on no list.
@@ -239,10 +256,10 @@ fn gaps_past_2_40() {
         return;
     };
     assert_eq!(b.load(0, 300, Fit::Spare), Ok(1));
-    assert_eq!((b.3[0], b.3[1]), (SLABS_END + 4096, SLABS_END - 16));
-    b.3 = [SLABS_END + 16, 0, 0, 0, 0, 0, 0, 0, 0, 0];
+    assert_eq!((b.3.mark, b.3.free[0]), (SLABS_END + 4096, SLABS_END - 16));
+    b.3 = State::at(SLABS_END + 16);
     assert_eq!(b.load(1, 300, Fit::Spare), Ok(1));
-    assert_eq!(b.3, [SLABS_END + 8192, 0, 0, 0, 0, 0, 0, 0, 0, 0]);
+    assert_eq!((b.3.mark, b.3.free, b.3.counts.held[0]), (SLABS_END + 8192, [0; 9], 1));
 }
 
 /// A slab across 2^40 is sound and is dropped onto its list, where it stops the takes of its class; a page past 2^40 doesn't.
@@ -254,13 +271,13 @@ fn a_slab_across_2_40() {
     b.2[0] = word(&ShHeadValue::slab(1, 2, SLABS_END - 16));
     b.body()[(SLABS_END - 16) as usize..][..4].copy_from_slice(&[2, 0, 5, 1]);
     assert_eq!((b.append(0, 7), b.append(0, 7)), (Ok(0), Err(32)));
-    assert_eq!((b.drop(0), b.3[2]), (Ok(3), SLABS_END - 16));
+    assert_eq!((b.drop(0), b.3.free[1]), (Ok(3), SLABS_END - 16));
     assert_eq!((b.load(1, 4, Fit::Spare), b.load(1, 20, Fit::Tight)), (Err(35), Err(35)));
-    assert_eq!((b.load(1, 300, Fit::Spare), b.drop(1), b.3[9]), (Ok(1), Ok(300), SLABS_END + 4096));
+    assert_eq!((b.load(1, 300, Fit::Spare), b.drop(1), b.3.free[8]), (Ok(1), Ok(300), SLABS_END + 4096));
     b.2[2] = word(&ShHeadValue::slab(5, 256, 4096));
     let full: Vec<u64> = (1..=256).collect();
     encode_slab_payload_into(&mut b.body()[4096..4096 + 512], &full).unwrap();
-    assert_eq!((b.append(2, 257), b.2[2], b.3[9]), (Ok(256), 3 << 62 | (SLABS_END + 4096), 0));
+    assert_eq!((b.append(2, 257), b.2[2], b.3.free[8]), (Ok(256), 3 << 62 | (SLABS_END + 4096), 0));
 }
 
 /// The total after 2^32 - 1 is unknown, in place and on a new page, and stays so; one before goes on.
@@ -290,7 +307,7 @@ fn the_largest_body() {
     let Some(area) = Area::untouchable(MOST_BODY + 4096) else {
         return;
     };
-    let (mut book, mut heads, mut state) = (SecondBook::default(), [7], [9; 10]);
-    let mut fresh = |len| book.fresh(area.slice(len, Placing::Start), &mut heads, &mut state);
+    let (mut book, mut heads, mut state) = (SecondBook::default(), [7], State::at(9));
+    let mut fresh = |len| book.fresh(area.slice(len, Placing::Start), &mut heads, &mut state, &[0], &NO_LIMITS);
     assert_eq!((fresh(MOST_BODY), fresh(MOST_BODY + 4096)), (Ok(()), Err(Refused::Number(1))));
 }

@@ -4,6 +4,7 @@ use crate::lockstep::far::{end_of, Far};
 use crate::lockstep::large::{E, END, FULL, P};
 use crate::lockstep::pair::Call;
 use crate::rng::Rng;
+use crate::second_book::desks::{Limits, NO_LIMITS};
 use crate::second_book::Fit;
 
 /// A history by hand: its name, the body's length and mark, how it is written, and calls with the refusals that they get.
@@ -38,6 +39,14 @@ fn read(key: u64) -> Call {
 
 fn drop_key(key: u64) -> Call {
     Call::Drop { key }
+}
+
+/// The pages to be had of the largest fresh book, and a making that reserves so many for desk 3.
+const MOST_RESERVE: u64 = END / P - 1;
+
+fn reserving(pages: u64) -> Call {
+    let reserve = std::array::from_fn(|desk| if desk == 3 { pages } else { 0 });
+    Call::Fresh(Limits { reserve, ..NO_LIMITS })
 }
 
 /// Slabs of each class that end at 2^40, with none behind them, and that would end 16 bytes past it; by both loads, which take the class
@@ -218,13 +227,32 @@ fn taking() -> Vec<Case> {
             ],
         },
         // The largest book begins as any other.
+        // The largest reserve: all pages to be had are desk 3's, which has key 3.
+        Case {
+            name: "reserves of 2^41 bytes".into(),
+            len: END,
+            mark: E,
+            write: |_| {},
+            calls: vec![
+                (reserving(MOST_RESERVE + 2), 1),
+                (reserving(MOST_RESERVE + 1), 39),
+                (reserving(MOST_RESERVE), 0),
+                (append(0, 5), 0),
+                (append(0, 6), 41),
+                (load(1, row(1, 300)), 41),
+                (load(3, row(1, 5000)), 0),
+                (append(3, 5001), 0),
+                (tight(4, row(1, 2)), 41),
+                (drop_key(3), 0),
+            ],
+        },
         Case {
             name: "a fresh book of 2^41 bytes".into(),
             len: END,
             mark: E,
             write: |_| {},
             calls: vec![
-                (Call::Fresh, 0),
+                (Call::Fresh(NO_LIMITS), 0),
                 (load(0, row(1, 3)), 0),
                 (load(1, row(1, 5000)), 0),
                 (load(2, row(1, 100)), 0),

@@ -153,10 +153,10 @@ pub fn random(mut rng: Rng, far: &mut Far, tally: &mut Tally, name: &str) -> Res
     }
     history.far.copy_words();
     let mut made = 0;
-    while made < CALLS && (reach == len || history.far.state[0] + MOST_TAKEN * P <= reach) {
+    while made < CALLS && (reach == len || history.far.state.mark + MOST_TAKEN * P <= reach) {
         made += 1;
-        let call = history.next_call();
-        let answer = make(history.far, tally, &call, name).map_err(|what| (made, what))?;
+        let (call, core) = (history.next_call(), history.rng.below(2) == 0);
+        let answer = make(history.far, tally, &call, core, name).map_err(|what| (made, what))?;
         history.learn(&call, &answer);
     }
     Ok(made)

@@ -76,7 +76,7 @@ impl Tally {
             0 => self.accepted(call, before, answer, far),
             35 | 36 => {
                 let block = Tally::block(call, before, answer, far).expect("a call that takes a block");
-                let (mark, head) = (before.state[0], before.state[1 + block.class as usize]);
+                let (mark, head) = (before.state.mark, before.state.free[block.class as usize]);
                 let room = mark.next_multiple_of(P) + P <= far.len as u64;
                 if answer.refusal == 35 && end_of(block.class, head) <= mark {
                     self.add(format!("35: a freed slab that ends past 2^40, by {name}"));
@@ -117,10 +117,10 @@ impl Tally {
 
     /// Counts a block that was taken.
     fn took(&mut self, name: &str, call: &Call, before: &Before, block: &Block) {
-        let (mark, off) = (before.state[0], block.off.expect("a block that was taken"));
+        let (mark, off) = (before.state.mark, block.off.expect("a block that was taken"));
         let run = matches!(call, Call::Load { .. }) && block.class == PAGE_CLASS;
         let (popped, end) =
-            (before.state[1 + block.class as usize] != 0 && !run, off + (block.pages * P).max(end_of(block.class, off) - off));
+            (before.state.free[block.class as usize] != 0 && !run, off + (block.pages * P).max(end_of(block.class, off) - off));
         match (block.class, popped) {
             (PAGE_CLASS, true) if off >= E => self.add("a freed page past 2^40, taken again"),
             (PAGE_CLASS, true) => {}
