@@ -60,10 +60,10 @@
                                     on with
 
    They are lent the list of desks, and judge all of it and all counts each time, which takes a time that grows
-   with the accounts: a read of one number took 13 ns with 1 account, 23 with 1,000 and 455 with 50,000 (AMD
-   EPYC, x86-64). Beside five of them stands a core, which is told one desk, and judges counts where it uses
+   with the accounts: a read of one number took 14 ns with 1 account, 27 with 1,000 and 560 with 50,000 (Intel
+   Xeon, x86-64). Beside five of them stands a core, which is told one desk, and judges counts where it uses
    them: ouriscado_core_load, ouriscado_core_load_tight, ouriscado_core_append, ouriscado_core_read and
-   ouriscado_core_drop; that read took 10 ns there. Where list and counts are good both do the same. Take the
+   ouriscado_core_drop; that read took 5 ns there. Where list and counts are good both do the same. Take the
    core where you keep the list of desks yourself, and nobody else writes it: hand on desks[key].
 
    All take the state as pointers to its mark, its free heads and its counts; a read of the core takes the mark

@@ -86,11 +86,13 @@ pub fn move_list(
         (space (now (body .entry)) (now (mark .entry)) (now (free .entry))) (now (counts .entry))
         (space (now (body .exit)) (now (mark .exit)) (now (free .exit))) (now (counts .exit)) (placeAnswer r) ⌝ }
 {
-    let bytes = compact_len(fks);
-    let class = book_rules::moves_to(fks.len(), bytes);
+    // as a part, so that the compiler hands its place and length on in registers
+    let list = &fks[0..];
+    let bytes = compact_len(list);
+    let class = book_rules::moves_to(list.len(), bytes);
     match class {
-        SlabClass::Class(class) => place_in_slab(body, mark, free, counts, desk, fks, class),
-        SlabClass::Nothing => place_in_page(body, mark, free, counts, desk, fks),
+        SlabClass::Class(class) => place_in_slab(body, mark, free, counts, desk, list, class),
+        SlabClass::Nothing => place_in_page(body, mark, free, counts, desk, list),
     }
 }
 

@@ -12,9 +12,15 @@ use Rattle.scripthash_stream.specs.Stream.{Scan}
 use Rattle.scripthash_pages.specs.Entries.{lastOf, spotBehind}
 use Rattle.book_rules.specs.Places.{stays}
 use Rattle.book_desks.specs.Desks.{desks}
-use Rattle.book_space.specs.Space.{InShape}
+use Rattle.book_space.specs.Space.{InShape, shapeBroken}
 use Rattle.book_keys.specs.Keys.{pageAt, slabScan, Tail, tailAt}
 use Rattle.book.specs.Book.{Book, wordOf, seen}
+
+-- What is known of an append whose shape, desk and key passed their tests.
+pub record KeyKnown (desk : ℕ) (b : Book) (key : ℕ) : Type 0 where
+  pub shape : shapeBroken (b .space) (length (b .heads)) ≡ false
+  pub known : desk < desks
+  pub keyed : key < length (b .heads)
 
 -- What is known of an append whose shape, desk, key and number passed their tests.
 pub record ToAppend (desk : ℕ) (b : Book) (key n : ℕ) : Type 0 where

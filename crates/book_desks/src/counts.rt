@@ -3,8 +3,9 @@ ghost use mathlib.Core.Path.{_≡_};
 ghost use mathlib.Core.Bool.{not, _&&_};
 ghost use Prim.Native.Nat.{_+_, _-_, _≤_, _<_, _^_};
 ghost use lib.Dec.{ltb, eqb};
-ghost use Rattle.book_desks.specs.Desks.{lacks, toBeHad, permissionNumber};
-ghost use Rattle.book_desks.specs.Counts.{heldIn, limitsIn, countsHigh};
+ghost use lib.ListN.{getD};
+ghost use Rattle.book_desks.specs.Desks.{desks, sumTo, lacks, toBeHad, permissionNumber};
+ghost use Rattle.book_desks.specs.Counts.{heldIn, limitsIn, reserveAt, countsHigh};
 ghost use Rattle.book_desks.specs.Judged.{SmallCounts, ToJudge};
 use crate::DESKS;
 use error::Refusal;
@@ -39,11 +40,28 @@ pub fn counts_high(counts: &[u64; 49], size: u64) -> bool
     false
 }
 
-// What the desks together still lack of their reserves.
+// The reserves together.
+fn sum_of_reserves(counts: &[u64; 49]) -> u64
+    requires { ⌜ SmallCounts (now counts) ⌝ }
+    ensures { λ r. ⌜ r ≡ sumTo desks (λ d. getD (now (counts .entry)) (reserveAt d) 0) ⌝ }
+{
+    let mut sum: u64 = 0;
+    let mut d: usize = 0;
+    while d < DESKS {
+        sum += counts[RESERVE + d];
+        d += 1;
+    }
+    sum
+}
+
+// What the desks together still lack of their reserves: nothing, where there are none, as in a book without desks.
 pub fn sum_of_lacks(counts: &[u64; 49]) -> u64
     requires { ⌜ SmallCounts (now counts) ⌝ }
     ensures { λ r. ⌜ r ≡ lacks (limitsIn (now (counts .entry))) (heldIn (now (counts .entry))) ⌝ }
 {
+    if sum_of_reserves(counts) == 0 {
+        return 0;
+    }
     let mut sum: u64 = 0;
     let mut d: usize = 0;
     while d < DESKS {

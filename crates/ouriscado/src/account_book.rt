@@ -113,7 +113,7 @@ fn load_by(
         return put_loaded(BookLoad::Refused(refusal), pages);
     }
     let desk = desk_of(desks, key);
-    core_load_by(fit, fks, body, heads, mark, free, counts, desk, key, pages)
+    core_load_by(fit, fks, body, heads, mark, free, desk, counts, key, pages)
 }
 
 // Loads a list of record numbers onto an empty key; keys count from 0. The numbers rise strictly, from 1 to 2^62 - 1, and there are

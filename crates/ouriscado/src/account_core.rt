@@ -22,7 +22,8 @@ use crate::handed::put_listed;
 use crate::handed::put_loaded;
 use book_rules::SlabFit;
 
-// Loads a list onto an empty key for a desk, by a rule for its slab.
+// Loads a list onto an empty key for a desk, by a rule for its slab. The desk stands before the counts, other than in the exports: two
+// arguments that lie side by side there would be copied as one, which waits until both are written.
 pub fn core_load_by(
     fit: SlabFit,
     fks: &[u64],
@@ -30,8 +31,8 @@ pub fn core_load_by(
     heads: &mut [u64],
     mark: &mut u64,
     free: &mut [u64; 9],
-    counts: &mut [u64; 49],
     desk: u64,
+    counts: &mut [u64; 49],
     key: u64,
     pages: &mut u64,
 ) -> u32
@@ -48,7 +49,8 @@ pub fn core_load_by(
     ensures kept { λ r. ⌜ (r ≢ 0 → bookOf (now (body .exit)) (now (heads .exit)) (now (mark .exit)) (now (free .exit)) (now (counts .exit))
         ≡ bookOf (now (body .entry)) (now (heads .entry)) (now (mark .entry)) (now (free .entry)) (now (counts .entry))) ⌝ }
 {
-    let answer = book_load::load(body, heads, mark, free, counts, desk, fit, key, fks);
+    // the list as a part, so that the compiler hands its place and length on in registers
+    let answer = book_load::load(body, heads, mark, free, counts, desk, fit, key, &fks[0..]);
     put_loaded(answer, pages)
 }
 
@@ -87,8 +89,8 @@ pub extern "C" fn ouriscado_core_load(
         heads,
         mark,
         free,
-        counts,
         desk,
+        counts,
         key,
         pages,
     )
@@ -129,8 +131,8 @@ pub extern "C" fn ouriscado_core_load_tight(
         heads,
         mark,
         free,
-        counts,
         desk,
+        counts,
         key,
         pages,
     )
@@ -205,7 +207,8 @@ pub extern "C" fn ouriscado_core_read(
         (lengthOfList (now (out .entry)))) 0) ⌝ }
     ensures kept { λ r. ⌜ (r ≢ 0 → now (out .exit) ≡ now (out .entry)) ⌝ }
 {
-    let answer = book_read::read(body, heads, mark, key, out);
+    // both as parts, so that the compiler hands places and lengths on in registers
+    let answer = book_read::read(&body[0..], &heads[0..], mark, key, out);
     put_listed(answer, length, pages, padded)
 }
 
