@@ -15,7 +15,7 @@ use Rattle.book_words.specs.Spelled.{SpelledCall, callsIn, flat}
 use Rattle.book_rules.specs.Outcomes.{listing}
 use Rattle.book_statements.specs.Calls.{Call, afterCalls, answersTo}
 use Rattle.book_limits.specs.Limits.{outOfShape}
-use Rattle.book_desks.specs.Desks.{desks, countOf, total, above, reserveHigh, listBad, making}
+use Rattle.book_desks.specs.Desks.{desks, deskCount, total, above, reserveHigh, listBad, making}
 use Rattle.book_statements.specs.Recorded.{recorded}
 use Rattle.plain_book.specs.Key.{pagesOf}
 use Rattle.plain_book.specs.Book.{Book as PlainBook, unlimited, makes, answers as plainAnswers, after as plainAfter, keyOf}
@@ -77,7 +77,7 @@ module _ (ds : List ℕ) (b : Book) where
   unfolding makesFresh makes making
   both-made e =
       two-made begun plain
-      (outOfShape (length body) keys || above (length body / pageSize) desks (λ d. countOf d (unlimited .reserve)))
+      (outOfShape (length body) keys || above (length body / pageSize) desks (λ d. deskCount d (unlimited .reserve)))
       (listBad ds keys || (ltb (length body / pageSize - 1) (total (unlimited .reserve)) || reserveHigh desks unlimited)) e
 
   -- it isn't, and neither is the plain book

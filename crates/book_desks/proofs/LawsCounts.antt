@@ -10,7 +10,7 @@ use lib.Dec.{ltb}
 use lib.ListN.{length, getD, set, replicate, length-append, length-set, getD-replicate, List·getD-append}
 use lib.Seq.{ext-getD, getD-set-same, getD-set-other, getD-append-add, getD-at}
 use Rattle.scripthash_layout.specs.Sizes.{pageSize}
-use Rattle.book_desks.specs.Desks.{desks, Limits, countOf, sumTo, lacks}
+use Rattle.book_desks.specs.Desks.{desks, Limits, deskCount, sumTo, lacks}
 use Rattle.book_desks.specs.Counts.{countWords, heldAt, reserveAt, ceilingAt, freedCount, heldCount, listed, heldIn, limitsIn}
 use Rattle.book_desks.specs.Counts.{freshCounts, countsHigh, counted}
 use Rattle.book_desks.proofs.LawsSums.{same-or-not, below-next, sum-same, above-no, none-above}
@@ -24,16 +24,16 @@ length-listed zero f = refl
 length-listed (suc n) f = let l = length-append (listed n f) (f n ∷ []) in let h = length-listed n f in omega arith
 
 -- A value below the number stands where it is looked for.
-pub listed-at : (n : ℕ) (f : ℕ → ℕ) (d : ℕ) → d < n → countOf d (listed n f) ≡ f d
+pub listed-at : (n : ℕ) (f : ℕ → ℕ) (d : ℕ) → d < n → deskCount d (listed n f) ≡ f d
 unfolding listed
 listed-at zero f d h = absurd (omega arith)
 listed-at (suc n) f d h =
-    below-next (λ i. countOf i (listed n f ++ (f n ∷ [])) ≡ f i) n
+    below-next (λ i. deskCount i (listed n f ++ (f n ∷ [])) ≡ f i) n
     (λ i k. List·getD-append (listed n f) (f n ∷ []) 0 i (let l = length-listed n f in omega arith) ∙ listed-at n f i k)
     (getD-at (listed n f) (f n) [] 0 n (length-listed n f)) d h
 
 -- A list that holds a function's values is the list of them.
-pub listed-is : (n : ℕ) (f : ℕ → ℕ) (xs : List ℕ) → length xs ≡ n → ((d : ℕ) → d < n → f d ≡ countOf d xs) → listed n f ≡ xs
+pub listed-is : (n : ℕ) (f : ℕ → ℕ) (xs : List ℕ) → length xs ≡ n → ((d : ℕ) → d < n → f d ≡ deskCount d xs) → listed n f ≡ xs
 listed-is n f xs long same =
     ext-getD 0 (listed n f) xs (length-listed n f ∙ sym long)
     (λ d h. let k : d < n = let l = length-listed n f in omega arith in listed-at n f d k ∙ same d k)
@@ -50,17 +50,17 @@ unfolding heldIn
 length-held counts = length-listed desks _
 
 -- The pages that a desk holds.
-pub held-at : (counts : List ℕ) (d : ℕ) → d < desks → countOf d (heldIn counts) ≡ heldCount d counts
+pub held-at : (counts : List ℕ) (d : ℕ) → d < desks → deskCount d (heldIn counts) ≡ heldCount d counts
 unfolding heldIn
 held-at counts d h = listed-at desks _ d h
 
 -- The pages kept for a desk.
-pub reserve-at : (counts : List ℕ) (d : ℕ) → d < desks → countOf d (limitsIn counts .reserve) ≡ getD counts (reserveAt d) 0
+pub reserve-at : (counts : List ℕ) (d : ℕ) → d < desks → deskCount d (limitsIn counts .reserve) ≡ getD counts (reserveAt d) 0
 unfolding limitsIn
 reserve-at counts d h = listed-at desks (λ i. getD counts (reserveAt i) 0) d h
 
 -- The most pages that a desk gets.
-pub ceiling-at : (counts : List ℕ) (d : ℕ) → d < desks → countOf d (limitsIn counts .ceiling) ≡ getD counts (ceilingAt d) 0
+pub ceiling-at : (counts : List ℕ) (d : ℕ) → d < desks → deskCount d (limitsIn counts .ceiling) ≡ getD counts (ceilingAt d) 0
 unfolding limitsIn
 ceiling-at counts d h = listed-at desks (λ i. getD counts (ceilingAt i) 0) d h
 
@@ -86,8 +86,8 @@ counts-low end counts e =
 
 -- And back: where they are, no count is high.
 pub none-high : (end : ℕ) (counts : List ℕ) → freedCount counts ≤ end / pageSize
-    → ((d : ℕ) → d < desks → countOf d (heldIn counts) ≤ end / pageSize)
-    → ((d : ℕ) → d < desks → countOf d (limitsIn counts .reserve) ≤ end / pageSize) → countsHigh end counts ≡ false
+    → ((d : ℕ) → d < desks → deskCount d (heldIn counts) ≤ end / pageSize)
+    → ((d : ℕ) → d < desks → deskCount d (limitsIn counts .reserve) ≤ end / pageSize) → countsHigh end counts ≡ false
 unfolding countsHigh
 none-high end counts freed held reserve = none-above (end / pageSize) 33 (λ i. getD counts i 0) each
   where
@@ -152,11 +152,11 @@ module _ (freed desk held : ℕ) (counts : List ℕ) (within : desk < desks) whe
         listed-is desks (λ d. heldCount d (counted freed desk held counts)) (set (heldIn counts) desk held)
         (length-set (heldIn counts) desk held ∙ length-held counts) each
       where
-        each : (d : ℕ) → d < desks → heldCount d (counted freed desk held counts) ≡ countOf d (set (heldIn counts) desk held)
+        each : (d : ℕ) → d < desks → heldCount d (counted freed desk held counts) ≡ deskCount d (set (heldIn counts) desk held)
         each d h =
             ⊎-elim
             (λ (e : d ≡ desk).
-            subst (λ (x : ℕ). heldCount x (counted freed desk held counts) ≡ countOf x (set (heldIn counts) desk held)) (sym e)
+            subst (λ (x : ℕ). heldCount x (counted freed desk held counts) ≡ deskCount x (set (heldIn counts) desk held)) (sym e)
             (getD-set-same (set counts 0 freed) (heldAt desk) held 0 (let l = length-set counts 0 freed in omega arith)
             ∙ sym (getD-set-same (heldIn counts) desk held 0 (let l = length-held counts in omega arith))))
             (λ (n : d ≢ desk).
@@ -174,43 +174,43 @@ module _ (freed desk held : ℕ) (counts : List ℕ) (within : desk < desks) whe
 
 -- Limits with a number for each of the desks, and no more.
 abbrev pub sixteenOf : Limits → Limits
-sixteenOf l = record { reserve = listed desks (λ d. countOf d (l .reserve)); ceiling = listed desks (λ d. countOf d (l .ceiling)) }
+sixteenOf l = record { reserve = listed desks (λ d. deskCount d (l .reserve)); ceiling = listed desks (λ d. deskCount d (l .ceiling)) }
 
 -- Where there is just one for each, they are the limits.
 pub sixteen-same : (l : Limits) → length (l .reserve) ≡ desks → length (l .ceiling) ≡ desks → sixteenOf l ≡ l
 sixteen-same l r c =
-    let e = listed-is desks (λ d. countOf d (l .reserve)) (l .reserve) r (λ d h. refl) in
-    let f = listed-is desks (λ d. countOf d (l .ceiling)) (l .ceiling) c (λ d h. refl) in
-    ap (λ (x : List ℕ). record { reserve = x; ceiling = listed desks (λ d. countOf d (l .ceiling)) }) e
+    let e = listed-is desks (λ d. deskCount d (l .reserve)) (l .reserve) r (λ d h. refl) in
+    let f = listed-is desks (λ d. deskCount d (l .ceiling)) (l .ceiling) c (λ d h. refl) in
+    ap (λ (x : List ℕ). record { reserve = x; ceiling = listed desks (λ d. deskCount d (l .ceiling)) }) e
     ∙ ap (λ (x : List ℕ). record { reserve = l .reserve; ceiling = x }) f
 
 module _ (l : Limits) where
   abbrev front : List ℕ
-  front = listed desks (λ d. countOf d (l .reserve))
+  front = listed desks (λ d. deskCount d (l .reserve))
 
   abbrev behind : List ℕ
-  behind = listed desks (λ d. countOf d (l .ceiling))
+  behind = listed desks (λ d. deskCount d (l .ceiling))
 
   -- The words before the reserves, the reserves, and the ceilings.
   pub fresh-none : (i : ℕ) → i < 1 + desks → getD (freshCounts l) i 0 ≡ 0
   unfolding freshCounts
   fresh-none i h = List·getD-append (replicate (1 + desks) 0) (front ++ behind) 0 i h ∙ getD-replicate (1 + desks) i 0 0 h
 
-  pub fresh-reserve : (d : ℕ) → d < desks → getD (freshCounts l) (reserveAt d) 0 ≡ countOf d (l .reserve)
+  pub fresh-reserve : (d : ℕ) → d < desks → getD (freshCounts l) (reserveAt d) 0 ≡ deskCount d (l .reserve)
   unfolding freshCounts
   fresh-reserve d h =
       getD-append-add (replicate (1 + desks) 0) (front ++ behind) d 0
-      ∙ List·getD-append front behind 0 d (let n = length-listed desks (λ d. countOf d (l .reserve)) in omega arith)
-      ∙ listed-at desks (λ d. countOf d (l .reserve)) d h
+      ∙ List·getD-append front behind 0 d (let n = length-listed desks (λ d. deskCount d (l .reserve)) in omega arith)
+      ∙ listed-at desks (λ d. deskCount d (l .reserve)) d h
 
-  pub fresh-ceiling : (d : ℕ) → d < desks → getD (freshCounts l) (ceilingAt d) 0 ≡ countOf d (l .ceiling)
+  pub fresh-ceiling : (d : ℕ) → d < desks → getD (freshCounts l) (ceilingAt d) 0 ≡ deskCount d (l .ceiling)
   unfolding freshCounts
   fresh-ceiling d h =
-      let n = length-listed desks (λ d. countOf d (l .reserve)) in
+      let n = length-listed desks (λ d. deskCount d (l .reserve)) in
       let at : ceilingAt d ≡ 17 + (16 + d) = omega arith in
       ap (λ (k : ℕ). getD (freshCounts l) k 0) at ∙ getD-append-add (replicate (1 + desks) 0) (front ++ behind) (16 + d) 0
       ∙ ap (λ (k : ℕ). getD (front ++ behind) (k + d) 0) (sym n) ∙ getD-append-add front behind d 0
-      ∙ listed-at desks (λ d. countOf d (l .ceiling)) d h
+      ∙ listed-at desks (λ d. deskCount d (l .ceiling)) d h
 
   -- Fresh counts are 49 words.
   pub length-fresh : length (freshCounts l) ≡ countWords
@@ -218,8 +218,8 @@ module _ (l : Limits) where
   length-fresh =
       let a = length-append (replicate (1 + desks) 0) (front ++ behind) in
       let b = length-append front behind in
-      let c = length-listed desks (λ d. countOf d (l .reserve)) in
-      let d = length-listed desks (λ d. countOf d (l .ceiling)) in
+      let c = length-listed desks (λ d. deskCount d (l .reserve)) in
+      let d = length-listed desks (λ d. deskCount d (l .ceiling)) in
       omega arith
 
   -- Nothing is freed.
@@ -238,7 +238,7 @@ module _ (l : Limits) where
   pub limits-fresh : limitsIn (freshCounts l) ≡ sixteenOf l
   unfolding limitsIn
   limits-fresh =
-      let e = listed-same desks (λ d. getD (freshCounts l) (reserveAt d) 0) (λ d. countOf d (l .reserve)) (λ d h. fresh-reserve d h) in
-      let f = listed-same desks (λ d. getD (freshCounts l) (ceilingAt d) 0) (λ d. countOf d (l .ceiling)) (λ d h. fresh-ceiling d h) in
+      let e = listed-same desks (λ d. getD (freshCounts l) (reserveAt d) 0) (λ d. deskCount d (l .reserve)) (λ d h. fresh-reserve d h) in
+      let f = listed-same desks (λ d. getD (freshCounts l) (ceilingAt d) 0) (λ d. deskCount d (l .ceiling)) (λ d h. fresh-ceiling d h) in
       ap (λ (x : List ℕ). record { reserve = x; ceiling = listed desks (λ d. getD (freshCounts l) (ceilingAt d) 0) }) e
       ∙ ap (λ (x : List ℕ). record { reserve = front; ceiling = x }) f

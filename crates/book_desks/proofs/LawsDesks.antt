@@ -12,7 +12,7 @@ use lib.ListN.{length, getD, set, drop}
 use lib.Seq.{getD-set-same, getD-set-other, drop-cons, drop-length}
 use Rattle.error.specs.Refusal.{Answer, accepted, refused, refuseIf, refusalOf, pastCeiling, intoReserves}
 use Rattle.error.proofs.LawsAnswer.{neither, passed, refuse-yes, refuse-no}
-use Rattle.book_desks.specs.Desks.{desks, beyondDesks, listBad, deskOf, countOf, Limits, sumTo, lacks, lacksWith, toBeHad}
+use Rattle.book_desks.specs.Desks.{desks, beyondDesks, listBad, deskOf, deskCount, Limits, sumTo, lacks, lacksWith, toBeHad}
 use Rattle.book_desks.specs.Desks.{reserveHigh, permitted, permissionNumber}
 use Rattle.book_desks.proofs.LawsSums.{same-or-not, below-next, sum-same, sum-moved, sum-set}
 
@@ -62,48 +62,48 @@ unfolding beyondDesks
 beyond-end ds top i g h = let e : i ≡ length ds = omega arith in rw (e, drop-length ds) (or-false (leb desks top))
 
 -- Where no reserve is above its ceiling, each is at most that.
-pub reserves-low : (n : ℕ) (l : Limits) → reserveHigh n l ≡ false → (d : ℕ) → d < n → countOf d (l .reserve) ≤ countOf d (l .ceiling)
+pub reserves-low : (n : ℕ) (l : Limits) → reserveHigh n l ≡ false → (d : ℕ) → d < n → deskCount d (l .reserve) ≤ deskCount d (l .ceiling)
 unfolding reserveHigh
 reserves-low zero l e d h = absurd (omega arith)
 reserves-low (suc n) l e d h =
-    let (all, last) = neither (reserveHigh n l) (ltb (countOf n (l .ceiling)) (countOf n (l .reserve))) e in
-    below-next (λ i. countOf i (l .reserve) ≤ countOf i (l .ceiling)) n (reserves-low n l all) (ltb-false _ _ last) d h
+    let (all, last) = neither (reserveHigh n l) (ltb (deskCount n (l .ceiling)) (deskCount n (l .reserve))) e in
+    below-next (λ i. deskCount i (l .reserve) ≤ deskCount i (l .ceiling)) n (reserves-low n l all) (ltb-false _ _ last) d h
 
 -- ---- one desk's count changed
 
 module _ (held : List ℕ) (desk new : ℕ) (sixteen : length held ≡ desks) (within : desk < desks) where
   -- That desk has the new count.
-  pub own-count : countOf desk (set held desk new) ≡ new
+  pub own-count : deskCount desk (set held desk new) ≡ new
   own-count = getD-set-same held desk new 0 (omega arith)
 
   -- Where counts are below ceilings, they stay so if the new one is.
-  pub ceilings-kept : (most : List ℕ) → ((d : ℕ) → d < desks → countOf d held ≤ countOf d most) → new ≤ countOf desk most
-      → (d : ℕ) → d < desks → countOf d (set held desk new) ≤ countOf d most
+  pub ceilings-kept : (most : List ℕ) → ((d : ℕ) → d < desks → deskCount d held ≤ deskCount d most) → new ≤ deskCount desk most
+      → (d : ℕ) → d < desks → deskCount d (set held desk new) ≤ deskCount d most
   ceilings-kept most all h d k =
       ⊎-elim
       (λ (e : d ≡ desk).
-      subst (λ (x : ℕ). countOf x (set held desk new) ≤ countOf x most) (sym e)
-      (let o : countOf desk (set held desk new) ≡ new = own-count in omega arith))
+      subst (λ (x : ℕ). deskCount x (set held desk new) ≤ deskCount x most) (sym e)
+      (let o : deskCount desk (set held desk new) ≡ new = own-count in omega arith))
       (λ (n : d ≢ desk).
-      let e : countOf d (set held desk new) ≡ countOf d held = getD-set-other held desk d new 0 n in let o = all d k in omega arith)
+      let e : deskCount d (set held desk new) ≡ deskCount d held = getD-set-other held desk d new 0 n in let o = all d k in omega arith)
       (same-or-not d desk)
 
   -- The lacks move no further than that desk's lack.
-  pub lacks-moved : (l : Limits) (a b : ℕ) → (countOf desk (l .reserve) - new) + a ≤ (countOf desk (l .reserve) - countOf desk held) + b
+  pub lacks-moved : (l : Limits) (a b : ℕ) → (deskCount desk (l .reserve) - new) + a ≤ (deskCount desk (l .reserve) - deskCount desk held) + b
       → lacks l (set held desk new) + a ≤ lacks l held + b
   unfolding lacks
   lacks-moved l a b h =
-      sum-moved desks desk a b (λ d. countOf d (l .reserve) - countOf d (set held desk new))
-      (λ d. countOf d (l .reserve) - countOf d held) within
-      (λ i k n. let e : countOf i (set held desk new) ≡ countOf i held = getD-set-other held desk i new 0 n in omega arith)
-      (let e : countOf desk (set held desk new) ≡ new = own-count in omega arith)
+      sum-moved desks desk a b (λ d. deskCount d (l .reserve) - deskCount d (set held desk new))
+      (λ d. deskCount d (l .reserve) - deskCount d held) within
+      (λ i k n. let e : deskCount i (set held desk new) ≡ deskCount i held = getD-set-other held desk i new 0 n in omega arith)
+      (let e : deskCount desk (set held desk new) ≡ new = own-count in omega arith)
 
   -- The sum of the counts changes as that desk's does.
-  pub total-set : sumTo desks (λ d. countOf d (set held desk new)) + countOf desk held ≡ sumTo desks (λ d. countOf d held) + new
+  pub total-set : sumTo desks (λ d. deskCount d (set held desk new)) + deskCount desk held ≡ sumTo desks (λ d. deskCount d held) + new
   total-set =
-      let s = sum-set desks desk (λ d. countOf d (set held desk new)) (λ d. countOf d held) within
+      let s = sum-set desks desk (λ d. deskCount d (set held desk new)) (λ d. deskCount d held) within
       (λ i k n. getD-set-other held desk i new 0 n) in
-      let e : countOf desk (set held desk new) ≡ new = own-count in
+      let e : deskCount desk (set held desk new) ≡ new = own-count in
       omega arith
 
 -- ---- lacks
@@ -120,35 +120,35 @@ more-other desk pages d n = ap (λ (t : Bool). cond t pages 0) (ne-eqb d desk n)
 
 -- What is lacking with a desk's pages more is what is lacking once they are counted.
 pub lacks-with : (l : Limits) (held : List ℕ) (desk pages : ℕ) → length held ≡ desks → desk < desks
-    → lacks l (set held desk (countOf desk held + pages)) ≡ lacksWith l held desk pages
+    → lacks l (set held desk (deskCount desk held + pages)) ≡ lacksWith l held desk pages
 unfolding lacks lacksWith
 lacks-with l held desk pages sixteen within =
-    sum-same desks _ _ (λ d h. ap (λ (x : ℕ). countOf d (l .reserve) - x) (counted-at d))
+    sum-same desks _ _ (λ d h. ap (λ (x : ℕ). deskCount d (l .reserve) - x) (counted-at d))
   where
-    counted-at : (d : ℕ) → countOf d (set held desk (countOf desk held + pages)) ≡ countOf d held + more desk pages d
+    counted-at : (d : ℕ) → deskCount d (set held desk (deskCount desk held + pages)) ≡ deskCount d held + more desk pages d
     counted-at d =
         ⊎-elim
         (λ (e : d ≡ desk).
-        subst (λ (x : ℕ). countOf x (set held desk (countOf desk held + pages)) ≡ countOf x held + more desk pages x) (sym e)
-        (let o = own-count held desk (countOf desk held + pages) sixteen within in let p = more-own desk pages in omega arith))
+        subst (λ (x : ℕ). deskCount x (set held desk (deskCount desk held + pages)) ≡ deskCount x held + more desk pages x) (sym e)
+        (let o = own-count held desk (deskCount desk held + pages) sixteen within in let p = more-own desk pages in omega arith))
         (λ (n : d ≢ desk).
-        let e = getD-set-other held desk d (countOf desk held + pages) 0 n in let p = more-other desk pages d n in omega arith)
+        let e = getD-set-other held desk d (deskCount desk held + pages) 0 n in let p = more-other desk pages d n in omega arith)
         (same-or-not d desk)
 
 -- The same as an equation of sums: only that desk's lack is another.
 pub lacks-by : (l : Limits) (held : List ℕ) (desk pages : ℕ) → desk < desks
-    → lacksWith l held desk pages + (countOf desk (l .reserve) - countOf desk held)
-    ≡ lacks l held + (countOf desk (l .reserve) - (countOf desk held + pages))
+    → lacksWith l held desk pages + (deskCount desk (l .reserve) - deskCount desk held)
+    ≡ lacks l held + (deskCount desk (l .reserve) - (deskCount desk held + pages))
 unfolding lacks lacksWith
 lacks-by l held desk pages within =
-    let s = sum-set desks desk (λ d. countOf d (l .reserve) - (countOf d held + more desk pages d))
-    (λ d. countOf d (l .reserve) - countOf d held) within
+    let s = sum-set desks desk (λ d. deskCount d (l .reserve) - (deskCount d held + more desk pages d))
+    (λ d. deskCount d (l .reserve) - deskCount d held) within
     (λ i k n. let p = more-other desk pages i n in omega arith) in
     let p = more-own desk pages in
     omega arith
 
 -- A desk below its reserve lacks less by a page that it gets.
-pub one-lacks : (l : Limits) (held : List ℕ) (desk : ℕ) → desk < desks → countOf desk held < countOf desk (l .reserve)
+pub one-lacks : (l : Limits) (held : List ℕ) (desk : ℕ) → desk < desks → deskCount desk held < deskCount desk (l .reserve)
     → lacksWith l held desk 1 + 1 ≤ lacks l held
 one-lacks l held desk within below = let s = lacks-by l held desk 1 within in omega arith
 
@@ -157,31 +157,31 @@ one-lacks l held desk within below = let s = lacks-by l held desk 1 within in om
 module _ (l : Limits) (end desk pages : ℕ) (held : List ℕ) (freed mark : ℕ) where
   -- With some pages more, if any, the desk stays within its ceiling.
   abbrev pub Within : Type 0
-  Within = pages ≢ 0 → countOf desk held + pages ≤ countOf desk (l .ceiling)
+  Within = pages ≢ 0 → deskCount desk held + pages ≤ deskCount desk (l .ceiling)
 
   -- What is to be had then covers what the desks lack then.
   abbrev pub Covers : Type 0
   Covers = lacksWith l held desk pages ≤ toBeHad end freed mark
 
   abbrev past : Bool
-  past = not (eqb pages 0) && ltb (countOf desk (l .ceiling)) (countOf desk held + pages)
+  past = not (eqb pages 0) && ltb (deskCount desk (l .ceiling)) (deskCount desk held + pages)
 
   -- The first test, read: it fails where the desk stays within its ceiling, and passes above it.
   not-past : Within → past ≡ false
   not-past h = go (eqb pages 0) refl
     where
-      go : (t : Bool) → eqb pages 0 ≡ t → not t && ltb (countOf desk (l .ceiling)) (countOf desk held + pages) ≡ false
+      go : (t : Bool) → eqb pages 0 ≡ t → not t && ltb (deskCount desk (l .ceiling)) (deskCount desk held + pages) ≡ false
       go true e = refl
       go false e = le-ltb _ _ (h (eqb-false pages 0 e))
 
   within-by : past ≡ false → Within
   within-by e n =
       ltb-false _ _
-      (subst (λ (t : Bool). not t && ltb (countOf desk (l .ceiling)) (countOf desk held + pages) ≡ false) (ne-eqb pages 0 n) e)
+      (subst (λ (t : Bool). not t && ltb (deskCount desk (l .ceiling)) (deskCount desk held + pages) ≡ false) (ne-eqb pages 0 n) e)
 
-  is-past : pages ≢ 0 → countOf desk (l .ceiling) < countOf desk held + pages → past ≡ true
+  is-past : pages ≢ 0 → deskCount desk (l .ceiling) < deskCount desk held + pages → past ≡ true
   is-past n h =
-      subst (λ (t : Bool). not t && ltb (countOf desk (l .ceiling)) (countOf desk held + pages) ≡ true) (sym (ne-eqb pages 0 n))
+      subst (λ (t : Bool). not t && ltb (deskCount desk (l .ceiling)) (deskCount desk held + pages) ≡ true) (sym (ne-eqb pages 0 n))
       (lt-ltb _ _ h)
 
   module _ {A : Type 0} (after : Answer A) where
@@ -200,7 +200,7 @@ module _ (l : Limits) (end desk pages : ℕ) (held : List ℕ) (freed mark : ℕ
     permits-by w c = refuse-no past _ _ (not-past w) ∙ refuse-no _ _ _ (le-ltb _ _ c)
 
     -- Past the ceiling it is turned back with 40.
-    pub permits-no : pages ≢ 0 → countOf desk (l .ceiling) < countOf desk held + pages → asked ≡ refused pastCeiling
+    pub permits-no : pages ≢ 0 → deskCount desk (l .ceiling) < deskCount desk held + pages → asked ≡ refused pastCeiling
     unfolding permitted
     permits-no n h = refuse-yes past _ _ (is-past n h)
 

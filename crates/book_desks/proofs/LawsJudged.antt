@@ -9,7 +9,7 @@ use lib.Dec.{ltb, eqb}
 use lib.ListN.{getD}
 use Rattle.error.specs.Refusal.{refusalOf, pastCeiling, intoReserves}
 use Rattle.error.proofs.LawsAnswer.{refuse-yes, refuse-no}
-use Rattle.book_desks.specs.Desks.{desks, countOf, lacks, lacksWith, toBeHad, permitted, permissionNumber}
+use Rattle.book_desks.specs.Desks.{desks, deskCount, lacks, lacksWith, toBeHad, permitted, permissionNumber}
 use Rattle.book_desks.specs.Counts.{heldCount, reserveAt, ceilingAt, heldIn, limitsIn}
 use Rattle.book_desks.specs.Judged.{SmallCounts, ToJudge}
 use Rattle.book_desks.proofs.LawsSums.{sum-most}
@@ -48,7 +48,7 @@ module _ {counts : List ℕ} {size desk pages freed mark : ℕ} (k : ToJudge cou
   abbrev past : Bool
   past = not (eqb pages 0) && ltb ceiling (held + pages)
 
-  past-same : (not (eqb pages 0) && ltb (countOf desk (limitsIn counts .ceiling)) (countOf desk (heldIn counts) + pages)) ≡ past
+  past-same : (not (eqb pages 0) && ltb (deskCount desk (limitsIn counts .ceiling)) (deskCount desk (heldIn counts) + pages)) ≡ past
   past-same = rw (ceiling-at counts desk (k .known), held-at counts desk (k .known))
 
   -- It holds: 40.

@@ -9,7 +9,7 @@ use Rattle.error.specs.Refusal.{Answer, accepted}
 use Rattle.error.proofs.LawsAnswer.{neither, passed}
 use Rattle.scripthash_layout.specs.Sizes.{pageSize}
 use Rattle.book_limits.specs.Limits.{outOfShape}
-use Rattle.book_desks.specs.Desks.{desks, Limits, countOf, total, listBad, reserveHigh, making}
+use Rattle.book_desks.specs.Desks.{desks, Limits, deskCount, total, listBad, reserveHigh, making}
 use Rattle.book_desks.proofs.LawsSums.{above-no}
 use Rattle.book_desks.proofs.LawsDesks.{reserves-low}
 
@@ -17,12 +17,12 @@ use Rattle.book_desks.proofs.LawsDesks.{reserves-low}
 pub record Makable (ds : List ℕ) (size heads : ℕ) (l : Limits) : Type 0 where
   -- Its lengths keep the limits, and no reserve is above the body's pages.
   pub shape : outOfShape size heads ≡ false
-  pub low : (d : ℕ) → d < desks → countOf d (l .reserve) ≤ size / pageSize
+  pub low : (d : ℕ) → d < desks → deskCount d (l .reserve) ≤ size / pageSize
   -- The list names a desk for each key.
   pub named : listBad ds heads ≡ false
   -- The pages but the first cover the reserves, and none is above its own ceiling.
   pub covered : total (l .reserve) ≤ size / pageSize - 1
-  pub reserves : (d : ℕ) → d < desks → countOf d (l .reserve) ≤ countOf d (l .ceiling)
+  pub reserves : (d : ℕ) → d < desks → deskCount d (l .reserve) ≤ deskCount d (l .ceiling)
 
 -- What goes on behind a making was makable.
 pub making-passed : {A : Type 0} (ds : List ℕ) (size heads : ℕ) (l : Limits) {after : Answer A} {a : A}
@@ -36,7 +36,7 @@ making-passed ds size heads l e =
     let (sum, each) = neither (ltb (size / pageSize - 1) (total (l .reserve))) (reserveHigh desks l) kept in (
       record {
         shape = shape;
-        low = above-no (size / pageSize) desks (λ d. countOf d (l .reserve)) few;
+        low = above-no (size / pageSize) desks (λ d. deskCount d (l .reserve)) few;
         named = named;
         covered = ltb-false _ _ sum;
         reserves = reserves-low desks l each;

@@ -5,7 +5,7 @@ use mathlib.Core.Bool.{Bool}
 use mathlib.Core.List.{List, [], _∷_, _++_}
 use lib.ListN.{getD, set, replicate}
 use Rattle.scripthash_layout.specs.Sizes.{pageSize}
-use Rattle.book_desks.specs.Desks.{desks, Limits, countOf, above}
+use Rattle.book_desks.specs.Desks.{desks, Limits, deskCount, above}
 
 -- How many words there are.
 abbrev pub countWords : ℕ
@@ -48,7 +48,7 @@ limitsIn counts =
 -- The counts of a fresh book with some limits: nothing is freed, and nothing held.
 unfoldable pub freshCounts : Limits → List ℕ
 freshCounts l =
-    replicate (1 + desks) 0 ++ (listed desks (λ d. countOf d (l .reserve)) ++ listed desks (λ d. countOf d (l .ceiling)))
+    replicate (1 + desks) 0 ++ (listed desks (λ d. deskCount d (l .reserve)) ++ listed desks (λ d. deskCount d (l .ceiling)))
 
 -- The count of freed pages, a desk's pages, or a reserve is above the pages of a body.
 unfoldable pub countsHigh : ℕ → List ℕ → Bool

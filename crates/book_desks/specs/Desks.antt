@@ -30,8 +30,8 @@ deskOf ds key = getD ds key 0
 -- ---- counts by desk
 
 -- A desk's count among counts.
-abbrev pub countOf : ℕ → List ℕ → ℕ
-countOf desk counts = getD counts desk 0
+abbrev pub deskCount : ℕ → List ℕ → ℕ
+deskCount desk counts = getD counts desk 0
 
 -- What desks may hold: of each, the pages that are kept for it, and the most that it gets.
 pub record Limits : Type 0 where
@@ -45,15 +45,15 @@ sumTo (suc n) f = sumTo n f + f n
 
 -- What the desks together hold, or keep, or may hold.
 abbrev pub total : List ℕ → ℕ
-total counts = sumTo desks (λ d. countOf d counts)
+total counts = sumTo desks (λ d. deskCount d counts)
 
 -- What the desks together still lack of their reserves; one that holds more than its reserve lacks nothing.
 unfoldable pub lacks : Limits → List ℕ → ℕ
-lacks l held = sumTo desks (λ d. countOf d (l .reserve) - countOf d held)
+lacks l held = sumTo desks (λ d. deskCount d (l .reserve) - deskCount d held)
 
 -- The same where a desk holds some pages more.
 unfoldable pub lacksWith : Limits → List ℕ → ℕ → ℕ → ℕ
-lacksWith l held desk pages = sumTo desks (λ d. countOf d (l .reserve) - (countOf d held + cond (eqb d desk) pages 0))
+lacksWith l held desk pages = sumTo desks (λ d. deskCount d (l .reserve) - (deskCount d held + cond (eqb d desk) pages 0))
 
 -- Pages to be had: the freed ones, and the whole ones past the mark, rounded up.
 abbrev pub toBeHad : ℕ → ℕ → ℕ → ℕ
@@ -67,7 +67,7 @@ above most (suc n) f = above most n f || ltb most (f n)
 -- Some reserve is above its own ceiling, of the desks below a number.
 unfoldable pub reserveHigh : ℕ → Limits → Bool
 reserveHigh zero l = false
-reserveHigh (suc n) l = reserveHigh n l || ltb (countOf n (l .ceiling)) (countOf n (l .reserve))
+reserveHigh (suc n) l = reserveHigh n l || ltb (deskCount n (l .ceiling)) (deskCount n (l .reserve))
 
 -- ---- the rule
 
@@ -75,14 +75,14 @@ reserveHigh (suc n) l = reserveHigh n l || ltb (countOf n (l .ceiling)) (countOf
 -- ceiling, and where fewer pages are to be had then than the desks still lack.
 unfoldable pub permitted : {A : Type 0} → Limits → ℕ → ℕ → ℕ → List ℕ → ℕ → ℕ → Answer A → Answer A
 permitted l end desk pages held freed mark after =
-    refuseIf (not (eqb pages 0) && ltb (countOf desk (l .ceiling)) (countOf desk held + pages)) pastCeiling
+    refuseIf (not (eqb pages 0) && ltb (deskCount desk (l .ceiling)) (deskCount desk held + pages)) pastCeiling
     (refuseIf (ltb (toBeHad end freed mark) (lacksWith l held desk pages)) intoReserves after)
 
 -- A making of a book of so many bytes and heads: turned back where that is out of shape, also by a reserve above the body's pages; then
 -- where the list names no desk for each key, or the reserves exceed, summed, the pages to be had or, singly, their own ceilings.
 unfoldable pub making : {A : Type 0} → List ℕ → ℕ → ℕ → Limits → Answer A → Answer A
 making ds size heads l after =
-    refuseIf (outOfShape size heads || above (size / pageSize) desks (λ d. countOf d (l .reserve))) shapeBad
+    refuseIf (outOfShape size heads || above (size / pageSize) desks (λ d. deskCount d (l .reserve))) shapeBad
     (refuseIf (listBad ds heads || (ltb (size / pageSize - 1) (total (l .reserve)) || reserveHigh desks l)) desksBad after)
 
 -- The number that such a take is turned back with, and 0 where it isn't.

@@ -10,7 +10,7 @@ use Rattle.error.specs.Refusal.{accepted, answered, refuseIf, shapeBad, desksBa
 use Rattle.scripthash_layout.specs.Sizes.{pageSize}
 use Rattle.book_statements.specs.Calls.{Call}
 use Rattle.book_limits.specs.Limits.{outOfShape}
-use Rattle.book_desks.specs.Desks.{desks, Limits, countOf, total, above, reserveHigh, listBad, making}
+use Rattle.book_desks.specs.Desks.{desks, Limits, deskCount, total, above, reserveHigh, listBad, making}
 use Rattle.plain_book.specs.Book.{Book as PlainBook, fresh as plainFresh, makes, after as plainAfter, answers as plainAnswers}
 use Rattle.plain_book.specs.Good.{GoodPlain}
 use Rattle.plain_book.proofs.LawsGood.{calls-good, shapes-kept}
@@ -63,7 +63,7 @@ module _ (ds : List ℕ) (body : List ℕ) (heads : ℕ) (l : Limits) where
   makings-alike b is many =
       rw (is, many)
       (made-alike (fresh body heads l) (plainFresh ds (length body) heads l)
-      (outOfShape (length body) heads || above (length body / pageSize) desks (λ d. countOf d (l .reserve)))
+      (outOfShape (length body) heads || above (length body / pageSize) desks (λ d. deskCount d (l .reserve)))
       (listBad ds heads || (ltb (length body / pageSize - 1) (total (l .reserve)) || reserveHigh desks l)))
 
   -- Demand 3, one claim, of every book that was made fresh: the whole list of answers is the plain book's, and afterwards both stand alike,

@@ -26,7 +26,7 @@ use Rattle.book_desks.specs.Desks.{Limits, beyondDesks, listBad, sumTo, lacksWi
 use Rattle.book_desks.specs.Counts.{listed, heldIn, limitsIn, freshCounts, countsHigh, counted}
 use Rattle.plain_book.specs.Book.{unlimited}
 use Rattle.book_space.specs.Space.{markBad, shapeBroken, takeMark, takeSlab, rounded, takeFresh, takePopped, takeBlock, release, runAtMark}
-use Rattle.book_space.specs.Desks.{judged, slabFor, freedUntrue, pageFor, runFor, givenBack}
+use Rattle.book_space.specs.Desks.{judgedTake, slabFor, freedUntrue, pageFor, runFor, givenBack}
 use Rattle.book_keys.specs.Keys.{soundly, sure, goOn, slabScan, linkScan, goodExtent, lastAt, pageThen, walk, totalGood, chainAt, pageBlocks}
 use Rattle.book_keys.specs.Keys.{contentAt, content, tailAt}
 use Rattle.book.specs.Book.{Book, book, fresh, headWord, onKey, byDesk, withDesks}
@@ -48,7 +48,7 @@ unfolding refuseIf andThen answered part overwrite isForm value formAt overflows
     sure
     goOn slabScan linkScan goodExtent lastAt pageThen walk totalGood chainAt pageBlocks contentAt content tailAt headWord onKey
     movesInto moves slabWith appendSlab totalWith pageWith pageBefore growChain appendPage appendAt appends writeRun loadInto loadAt loads
-    reads dropped drops asks does beyondDesks listBad sumTo lacksWith above permitted listed heldIn limitsIn freshCounts countsHigh judged slabFor
+    reads dropped drops asks does beyondDesks listBad sumTo lacksWith above permitted listed heldIn limitsIn freshCounts countsHigh judgedTake slabFor
     freedUntrue pageFor runFor givenBack byDesk withDesks
 computed k b cs = answersTo k b cs
 

@@ -23,7 +23,7 @@ use Rattle.book_desks.specs.Desks.{beyondDesks, listBad, sumTo, lacksWith, abov
 use Rattle.book_desks.specs.Counts.{listed, heldIn, limitsIn, freshCounts, countsHigh}
 use Rattle.plain_book.specs.Book.{unlimited}
 use Rattle.book_space.specs.Space.{markBad, shapeBroken, takeMark, takeSlab, rounded, takeFresh, takePopped, takeBlock, release, runAtMark}
-use Rattle.book_space.specs.Desks.{judged, slabFor, freedUntrue, pageFor, runFor, givenBack}
+use Rattle.book_space.specs.Desks.{judgedTake, slabFor, freedUntrue, pageFor, runFor, givenBack}
 use Rattle.book_keys.specs.Keys.{soundly, sure, goOn, slabScan, linkScan, goodExtent, lastAt, pageThen, walk, totalGood, chainAt}
 use Rattle.book_keys.specs.Keys.{pageBlocks, contentAt, content, tailAt}
 use Rattle.book.specs.Book.{Book, fresh, headWord, byDesk, withDesks}
@@ -47,7 +47,7 @@ unfolding refuseIf andThen answered part overwrite isForm value formAt overflows
     spotBehind oneMore withAppended isBlock pushed popFree largestUpTo blockThen carve pushAll bookAfter afterCalls outOfShape offeredNumber
     offeredList stays larger movesTo loadsTo markBad shapeBroken takeMark takeSlab popEnd rounded runAtMark takeFresh takePopped takeBlock
     release soundly sure goOn slabScan linkScan goodExtent lastAt pageThen walk totalGood chainAt pageBlocks contentAt content tailAt headWord byDesk withDesks
-    beyondDesks listBad sumTo lacksWith above permitted listed heldIn limitsIn freshCounts countsHigh judged slabFor freedUntrue pageFor
+    beyondDesks listBad sumTo lacksWith above permitted listed heldIn limitsIn freshCounts countsHigh judgedTake slabFor freedUntrue pageFor
     runFor givenBack
     movesInto moves slabWith appendSlab totalWith pageWith pageBefore growChain appendPage appendAt appends writeRun loadInto loadAt loads
     dropped drops does both freeingAll takingPages taking filling writing moving growingSlab growingPage appendWrites loadWrites

@@ -17,7 +17,7 @@ use Rattle.scripthash_layout.specs.Sizes.{slabBytes, maxSlabClass, pageClass, p
 use Rattle.scripthash_free.specs.FreeList.{Block}
 use Rattle.scripthash_free.proofs.LawsBlock.{block-stands}
 use Rattle.book_limits.specs.Limits.{pageAfter}
-use Rattle.book_desks.specs.Desks.{desks, Limits, countOf, total, toBeHad, lacksWith, permitted, beyondDesks, listBad, deskOf}
+use Rattle.book_desks.specs.Desks.{desks, Limits, deskCount, total, toBeHad, lacksWith, permitted, beyondDesks, listBad, deskOf}
 use Rattle.book_desks.specs.Counts.{freedCount, heldCount, heldAt, heldIn, limitsIn, countsHigh, counted}
 use Rattle.book_desks.proofs.LawsSums.{term-least}
 use Rattle.book_desks.proofs.LawsDesks.{list-good}
@@ -31,7 +31,7 @@ use Rattle.plain_book.specs.Good.{Good, GoodDesks}
 use Rattle.plain_book.proofs.LawsTaking.{took-stack}
 use Rattle.plain_book.proofs.LawsDesks.{rounded-freed}
 use Rattle.book_space.specs.Space.{Space, Taken, takeBlock as takes, takeRun}
-use Rattle.book_space.specs.Desks.{TakenFor, judged, slabFor, freedUntrue, freedLeft, pageFor, runFor}
+use Rattle.book_space.specs.Desks.{TakenFor, judgedTake, slabFor, freedUntrue, freedLeft, pageFor, runFor}
 use Rattle.book_history.specs.Agrees.{top, Contents, AgreesSpace, AgreesCounts}
 use Rattle.book_history.proofs.LawsPush.{top-stands}
 use Rattle.book_history.proofs.LawsTake.{anyHand, TakenAlike, taken-alike, refused-taken, inHandOf, run-agrees, take-agrees}
@@ -53,9 +53,9 @@ key-desk plain key g = desk-low (plain .desks) key (list-good (plain .desks) (le
 pub counts-fine : (plain : PlainBook) (counts : List ℕ) → GoodDesks plain → AgreesCounts plain counts → countsHigh (plain .size) counts ≡ false
 counts-fine plain counts g a =
     none-high (plain .size) counts (let f = a .freed in let b = g .balanced in omega arith)
-    (λ d h. subst (λ (xs : List ℕ). countOf d xs ≤ plain .size / pageSize) (sym (a .held))
-    (let b = g .balanced in let t = term-least desks d (λ i. countOf i (plain .held)) h in omega arith))
-    (λ d h. subst (λ (l : Limits). countOf d (l .reserve) ≤ plain .size / pageSize) (sym (a .limits)) (g .low d h))
+    (λ d h. subst (λ (xs : List ℕ). deskCount d xs ≤ plain .size / pageSize) (sym (a .held))
+    (let b = g .balanced in let t = term-least desks d (λ i. deskCount i (plain .held)) h in omega arith))
+    (λ d h. subst (λ (l : Limits). deskCount d (l .reserve) ≤ plain .size / pageSize) (sym (a .limits)) (g .low d h))
 
 module _ (plain : PlainBook) (counts : List ℕ) (key : ℕ) (known : deskIn plain key < desks) (a : AgreesCounts plain counts) where
   -- the key's desk
@@ -63,12 +63,12 @@ module _ (plain : PlainBook) (counts : List ℕ) (key : ℕ) (known : deskIn pla
   desk = deskIn plain key
 
   -- The count of the key's desk is the plain book's.
-  pub held-same : heldCount desk counts ≡ countOf desk (plain .held)
-  held-same = sym (held-at counts desk known) ∙ ap (countOf desk) (a .held)
+  pub held-same : heldCount desk counts ≡ deskCount desk (plain .held)
+  held-same = sym (held-at counts desk known) ∙ ap (deskCount desk) (a .held)
 
   -- A key gets another place in a plain book: the counts that tell its freed pages and those of the key's desk are that book's.
   pub counts-placed : (new : Key) (inside : PlainSpace) (f h : ℕ) → f ≡ freedIn inside
-      → h ≡ countOf desk (plain .held) + pagesOf (new .place) - pagesOf (keyOf key plain .place)
+      → h ≡ deskCount desk (plain .held) + pagesOf (new .place) - pagesOf (keyOf key plain .place)
       → AgreesCounts (withKey key new inside plain) (counted f desk h counts)
   counts-placed new inside f h freed held =
       record {
@@ -118,7 +118,7 @@ permitted-alike : {A B : Type 0} (P : Answer A → Answer B → Type 0) (l : Lim
     → P (permitted l end desk n held freed mark x) (permitted l end desk n held freed mark y)
 unfolding permitted refuseIf
 permitted-alike P l end desk n held freed mark x y no' both =
-    go (not (eqb n 0) && ltb (countOf desk (l .ceiling)) (countOf desk held + n)) (ltb (toBeHad end freed mark) (lacksWith l held desk n))
+    go (not (eqb n 0) && ltb (deskCount desk (l .ceiling)) (deskCount desk held + n)) (ltb (toBeHad end freed mark) (lacksWith l held desk n))
   where
     go : (s t : Bool) → P (cond s (refused pastCeiling) (cond t (refused intoReserves) x)) (cond s (refused pastCeiling) (cond t (refused intoReserves) y))
     go true t = no' pastCeiling
@@ -136,8 +136,8 @@ module _ (plain : PlainBook) (counts : List ℕ) (key : ℕ) (g : GoodDesks plai
       → length (u .space .body) ≡ long → AgreesSpace (t .space) (u .space) at (held (t .off)) c
       → ForAlike at held c long own n counts
       (permitted (plain .limits) (plain .size) own n (plain .held) (freedIn (t .space)) (t .space .mark) (accepted t))
-      (judged (plain .size) own n freed counts after u)
-  unfolding judged
+      (judgedTake (plain .size) own n freed counts after u)
+  unfolding judgedTake
   one-judged at held c long n freed after t u same is off size agrees =
       rw (refuse-no (countsHigh (plain .size) counts) shapeBad _ (counts-fine plain counts g a), a .held, a .limits, same)
       (subst
@@ -153,7 +153,7 @@ module _ (plain : PlainBook) (counts : List ℕ) (key : ℕ) (g : GoodDesks plai
   judged-alike : (at : ℕ → Place) (held : ℕ → Option Block) (c : Contents) (long n freed : ℕ) (after : List ℕ) (x : Answer PlainTaken)
       (y : Answer Taken) → ((t : PlainTaken) → x ≡ accepted t → freed ≡ freedIn (t .space))
       → after ≡ counted freed own (heldCount own counts + n) counts → TakenAlike at held c long x y
-      → ForAlike at held c long own n counts (leaveOf plain key n x) (andThen y (judged (plain .size) own n freed counts after))
+      → ForAlike at held c long own n counts (leaveOf plain key n x) (andThen y (judgedTake (plain .size) own n freed counts after))
   unfolding allowed andThen
   judged-alike at held c long n freed after x y knows is refused-taken = refused-for
   judged-alike at held c long n freed after x y knows is (taken-alike {t} {u} off size agrees) =

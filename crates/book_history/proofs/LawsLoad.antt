@@ -38,7 +38,7 @@ use Rattle.book_limits.specs.Limits.{outOfShape, mostBody, mostCounted, totalTo
 use Rattle.book_rules.specs.Places.{loadsTo}
 use Rattle.book_limits.proofs.LawsLimits.{in-shape}
 use Rattle.book_rules.proofs.LawsRules.{loads-to}
-use Rattle.book_desks.specs.Desks.{countOf}
+use Rattle.book_desks.specs.Desks.{deskCount}
 use Rattle.book_desks.specs.Counts.{heldCount, counted}
 use Rattle.plain_book.specs.Space.{Space as PlainSpace, Taken as PlainTaken, takeBlock as plainTake, rounded as plainRounded}
 use Rattle.plain_book.specs.Space.{takeRun as plainTakeRun, runAtMark as plainRunAtMark}
@@ -488,11 +488,11 @@ load-alike fit plain b key [] g a shape h l is rises few = told-alike refl (subs
     same : withKey key emptyKey (plain .space) plain ≡ plain
     same =
         let was : pagesOf (keyOf key plain .place) ≡ 0 = ap (λ (p : Place). pagesOf p) is in
-        let none' : countOf (deskIn plain key) (plain .held) + 0 - pagesOf (keyOf key plain .place) ≡ countOf (deskIn plain key) (plain .held)
+        let none' : deskCount (deskIn plain key) (plain .held) + 0 - pagesOf (keyOf key plain .place) ≡ deskCount (deskIn plain key) (plain .held)
         = omega arith in
         let keys : set (plain .keys) key emptyKey ≡ plain .keys
         = ap (set (plain .keys) key) (sym (empty-key (keyOf key plain) (g .keys key) is)) ∙ set-getD (plain .keys) key emptyKey in
-        let held : set (plain .held) (deskIn plain key) (countOf (deskIn plain key) (plain .held) + 0 - pagesOf (keyOf key plain .place))
+        let held : set (plain .held) (deskIn plain key) (deskCount (deskIn plain key) (plain .held) + 0 - pagesOf (keyOf key plain .place))
         ≡ plain .held
         = ap (set (plain .held) (deskIn plain key)) none' ∙ set-getD (plain .held) (deskIn plain key) 0 in
         λ i. record {

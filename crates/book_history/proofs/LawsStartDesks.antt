@@ -7,7 +7,7 @@ use native.Mathlib.Omega.{arith}
 use lib.Dec.{eqb}
 use lib.ListN.{length}
 use Rattle.scripthash_layout.specs.Sizes.{pageClass, pageSize}
-use Rattle.book_desks.specs.Desks.{desks, Limits, deskOf, countOf, sumTo, total, lacks, listBad}
+use Rattle.book_desks.specs.Desks.{desks, Limits, deskOf, deskCount, sumTo, total, lacks, listBad}
 use Rattle.book_desks.specs.Counts.{freedCount, heldCount, heldIn, limitsIn}
 use Rattle.book_desks.proofs.LawsSums.{sum-same, term-least}
 use Rattle.book_desks.proofs.LawsCounts.{length-held, held-at, reserve-at, counts-low, none-high}
@@ -49,15 +49,15 @@ module _ (plain : PlainBook) (b : Book) (s : SameDesks plain b) where
       ∙ ap (λ (n : ℕ). sumTo n (plainFor plain d)) (s .count)
 
   -- A desk's count.
-  held-same : (d : ℕ) → d < desks → heldCount d (b .counts) ≡ countOf d (plain .held)
-  held-same d h = sym (held-at (b .counts) d h) ∙ ap (countOf d) (s .counts .held)
+  held-same : (d : ℕ) → d < desks → heldCount d (b .counts) ≡ deskCount d (plain .held)
+  held-same d h = sym (held-at (b .counts) d h) ∙ ap (deskCount d) (s .counts .held)
 
   -- Its ceiling and its reserve.
-  ceiling-same : (d : ℕ) → countOf d (limitsIn (b .counts) .ceiling) ≡ countOf d (plain .limits .ceiling)
-  ceiling-same d = ap (λ (l : Limits). countOf d (l .ceiling)) (s .counts .limits)
+  ceiling-same : (d : ℕ) → deskCount d (limitsIn (b .counts) .ceiling) ≡ deskCount d (plain .limits .ceiling)
+  ceiling-same d = ap (λ (l : Limits). deskCount d (l .ceiling)) (s .counts .limits)
 
-  reserve-same : (d : ℕ) → countOf d (limitsIn (b .counts) .reserve) ≡ countOf d (plain .limits .reserve)
-  reserve-same d = ap (λ (l : Limits). countOf d (l .reserve)) (s .counts .limits)
+  reserve-same : (d : ℕ) → deskCount d (limitsIn (b .counts) .reserve) ≡ deskCount d (plain .limits .reserve)
+  reserve-same d = ap (λ (l : Limits). deskCount d (l .reserve)) (s .counts .limits)
 
   -- What the desks lack and hold.
   lacks-same : lacks (limitsIn (b .counts)) (heldIn (b .counts)) ≡ lacks (plain .limits) (plain .held)
@@ -110,6 +110,6 @@ module _ (plain : PlainBook) (b : Book) (s : SameDesks plain b) where
       few : freedCount (b .counts) ≤ length (b .space .body) / pageSize
       few = let f = s .counts .freed in let z = size-same in let l = g .balanced in omega arith
 
-      held-few : (d : ℕ) → d < desks → countOf d (plain .held) ≤ length (b .space .body) / pageSize
+      held-few : (d : ℕ) → d < desks → deskCount d (plain .held) ≤ length (b .space .body) / pageSize
       held-few d h =
-          let t = term-least desks d (λ i. countOf i (plain .held)) h in let z = size-same in let l = g .balanced in omega arith
+          let t = term-least desks d (λ i. deskCount i (plain .held)) h in let z = size-same in let l = g .balanced in omega arith

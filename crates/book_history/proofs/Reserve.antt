@@ -12,7 +12,7 @@ use Rattle.scripthash_stream.specs.Stream.{lastFrom}
 use Rattle.book_rules.specs.Outcomes.{Appended, answerOf}
 use Rattle.book_statements.specs.Calls.{append, Call}
 use Rattle.book_limits.specs.Limits.{outOfShape}
-use Rattle.book_desks.specs.Desks.{desks, Limits, countOf, lacks, deskOf}
+use Rattle.book_desks.specs.Desks.{desks, Limits, deskCount, lacks, deskOf}
 use Rattle.book_desks.specs.Counts.{reserveAt, ceilingAt, heldCount, heldIn, limitsIn}
 use Rattle.book_desks.proofs.LawsCounts.{held-at, reserve-at, ceiling-at}
 use Rattle.plain_book.specs.Key.{Key, emptyKey}
@@ -40,7 +40,7 @@ use Rattle.book_history.proofs.LawsStartKept.{shape-after, after-agrees
 served-alike : (plain : PlainBook) (b : Book) (key n : ℕ) → GoodPlain plain → Agrees plain b
     → outOfShape (plain .size) (length (plain .keys)) ≡ false → key < length (plain .keys) → lastFrom 0 (keyOf key plain .list) < n
     → n < 2 ^ 62 → needsPage (keyOf key plain) n ≡ true
-    → countOf (deskIn plain key) (plain .held) < countOf (deskIn plain key) (plain .limits .reserve)
+    → deskCount (deskIn plain key) (plain .held) < deskCount (deskIn plain key) (plain .limits .reserve)
     → (a : Appended) × (answerOf (does (plain .desks) b (append key n)) ≡ accepted a)
 unfolding plainDoes answered
 served-alike plain b key n g a shape within rises low needs below =
@@ -51,7 +51,7 @@ served-alike plain b key n g a shape within rises low needs below =
 pub reserve-good : (plain : PlainBook) (b : Book) (cs : List Call) → GoodPlain plain → Agrees plain b
     → outOfShape (plain .size) (length (plain .keys)) ≡ false → (key n : ℕ) → let p = plainAfter plain cs in
     key < length (p .keys) → lastFrom 0 (keyOf key p .list) < n → n < 2 ^ 62 → needsPage (keyOf key p) n ≡ true
-    → countOf (deskIn plain key) (p .held) < countOf (deskIn plain key) (p .limits .reserve)
+    → deskCount (deskIn plain key) (p .held) < deskCount (deskIn plain key) (p .limits .reserve)
     → (a : Appended) × (answerOf (does (plain .desks) (after (plain .desks) b cs) (append key n)) ≡ accepted a)
 reserve-good plain b cs g a shape key n within rises low needs below =
     let p = plainAfter plain cs in
@@ -59,12 +59,12 @@ reserve-good plain b cs g a shape key n within rises low needs below =
     let b' = after (plain .desks) b cs in
     subst (λ (list : List ℕ). (a : Appended) × (answerOf (does list b' (append key n)) ≡ accepted a)) lent
     (served-alike p b' key n (calls-good cs g) (books-agree each-alike plain b cs g a) (rw (size, keys) shape) within rises low needs
-    (subst (λ (list : List ℕ). countOf (deskOf list key) (p .held) < countOf (deskOf list key) (p .limits .reserve)) (sym lent) below))
+    (subst (λ (list : List ℕ). deskCount (deskOf list key) (p .held) < deskCount (deskOf list key) (p .limits .reserve)) (sym lent) below))
 
 -- From every good start, after any calls.
 pub reserve-kept : (ds : List ℕ) (b : Book) → GoodStart ds b → (cs : List Call) (key n : ℕ) → let p = plainAfter (plainOf ds b) cs in
     key < length (p .keys) → lastFrom 0 (keyOf key p .list) < n → n < 2 ^ 62 → needsPage (keyOf key p) n ≡ true
-    → countOf (deskOf ds key) (p .held) < countOf (deskOf ds key) (p .limits .reserve)
+    → deskCount (deskOf ds key) (p .held) < deskCount (deskOf ds key) (p .limits .reserve)
     → (a : Appended) × (answerOf (does ds (after ds b cs) (append key n)) ≡ accepted a)
 unfolding plainOf
 reserve-kept ds b g cs key n within rises low needs below =
@@ -109,7 +109,7 @@ desks-kept ds b cs g =
       limits = same;
       freed = c .freed;
       held = c .exact;
-      ceilings = λ d h. subst (λ (l : Limits). heldCount d (after ds b cs .counts) ≤ countOf d (l .ceiling)) same (c .ceilings d h);
+      ceilings = λ d h. subst (λ (l : Limits). heldCount d (after ds b cs .counts) ≤ deskCount d (l .ceiling)) same (c .ceilings d h);
       covered = subst (λ (l : Limits). lacks l (heldIn (after ds b cs .counts)) ≤ toBeHadIn (after ds b cs)) same (c .covered);
     }
 
@@ -126,7 +126,7 @@ module _ (ds body : List ℕ) (heads : ℕ) (l : Limits)
   -- A desk below its reserve gets the page that it needs,
   pub reserve-fresh : (cs : List Call) (key n : ℕ) → let p = plainAfter (plainFresh ds (length body) heads l) cs in
       key < heads → lastFrom 0 (keyOf key p .list) < n → n < 2 ^ 62 → needsPage (keyOf key p) n ≡ true
-      → countOf (deskOf ds key) (p .held) < countOf (deskOf ds key) (l .reserve)
+      → deskCount (deskOf ds key) (p .held) < deskCount (deskOf ds key) (l .reserve)
       → (a : Appended) × (answerOf (does ds (after ds (fresh body heads l) cs) (append key n)) ≡ accepted a)
   reserve-fresh cs key n within rises low needs below =
       let start = plainFresh ds (length body) heads l in

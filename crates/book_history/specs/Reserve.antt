@@ -6,7 +6,7 @@ use mathlib.Core.Path.{_≡_}
 use lib.ListN.{length, getD}
 use Rattle.scripthash_layout.specs.Sizes.{pageClass}
 use Rattle.scripthash_stream.specs.Stream.{lastFrom}
-use Rattle.book_desks.specs.Desks.{desks, Limits, countOf, lacks, deskOf}
+use Rattle.book_desks.specs.Desks.{desks, Limits, deskCount, lacks, deskOf}
 use Rattle.book_desks.specs.Counts.{reserveAt, freedCount, heldCount, heldIn, limitsIn}
 use Rattle.plain_book.specs.Needs.{needsPage}
 use Rattle.book.specs.Book.{Book, wordOf}
@@ -22,7 +22,7 @@ pub record DesksKept (ds : List ℕ) (l : Limits) (b : Book) : Type 0 where
   -- Each desk's count is the pages of its keys.
   pub held : (d : ℕ) → d < desks → heldCount d (b .counts) ≡ pagesOfDesk ds b d
   -- No desk holds more than its ceiling.
-  pub ceilings : (d : ℕ) → d < desks → heldCount d (b .counts) ≤ countOf d (l .ceiling)
+  pub ceilings : (d : ℕ) → d < desks → heldCount d (b .counts) ≤ deskCount d (l .ceiling)
   -- The pages to be had cover what the desks lack of their reserves.
   pub covered : lacks l (heldIn (b .counts)) ≤ toBeHadIn b
 

@@ -17,7 +17,7 @@ use Rattle.book_desks.specs.Desks.{permissionNumber}
 use Rattle.book_desks.specs.Counts.{freedCount, heldCount, heldIn, limitsIn, countsHigh, counted}
 use Rattle.book_desks.proofs.LawsDesks.{Within, Covers, permits, permission-given, permission-not}
 use Rattle.book_space.specs.Space.{Space, Taken, takeRun, takeBlock}
-use Rattle.book_space.specs.Desks.{TakenFor, judged, slabFor, freedUntrue, freedLeft, pageFor, runFor, givenBack}
+use Rattle.book_space.specs.Desks.{TakenFor, judgedTake, slabFor, freedUntrue, freedLeft, pageFor, runFor, givenBack}
 use Rattle.book_space.specs.Steps.{Takes, markAfter, judgedNumber, spaceFor, countsFor, TakesFor, GivesBack}
 use Rattle.book_space.proofs.LawsSteps.{after-taken}
 
@@ -49,13 +49,13 @@ module _ (end desk pages freed : ℕ) (before after : List ℕ) where
   number mark = judgedNumber end desk pages freed before mark
 
   abbrev judging : Taken → Answer TakenFor
-  judging = judged end desk pages freed before after
+  judging = judgedTake end desk pages freed before after
 
   -- A take that passed its judgement: the counts are no more than the body's pages, the ceiling and the reserves are kept.
   pub judged-passed : (t : Taken) {u : TakenFor} → judging t ≡ accepted u
       → (countsHigh end before ≡ false) × Within (limitsIn before) end desk pages (heldIn before) freed (t .space .mark)
       × Covers (limitsIn before) end desk pages (heldIn before) freed (t .space .mark) × (takenFor t after ≡ u)
-  unfolding judged
+  unfolding judgedTake
   judged-passed t e =
       let (low, e1) = passed _ _ _ e in
       let (same, within, covers) =
@@ -64,14 +64,14 @@ module _ (end desk pages freed : ℕ) (before after : List ℕ) where
 
   -- Where its number is 0 it is given, and else turned back with that number.
   judged-given : (t : Taken) → number (t .space .mark) ≡ 0 → judging t ≡ accepted (takenFor t after)
-  unfolding judged judgedNumber
+  unfolding judgedTake judgedNumber
   judged-given t e =
       let (low, z) = both-zero _ _ e in
       refuse-no _ _ _ low
       ∙ permission-given (limitsIn before) end desk pages (heldIn before) freed (t .space .mark) (accepted (takenFor t after)) z
 
   judged-not : (t : Taken) → number (t .space .mark) ≢ 0 → judging t ≡ refused (number (t .space .mark))
-  unfolding judged judgedNumber
+  unfolding judgedTake judgedNumber
   judged-not t n =
       first-told (countsHigh end before) (permissionNumber (limitsIn before) end desk pages (heldIn before) freed (t .space .mark)) _
       (permission-not (limitsIn before) end desk pages (heldIn before) freed (t .space .mark) (accepted (takenFor t after))) n
@@ -151,7 +151,7 @@ module _ (desk : ℕ) (s : Space) (counts : List ℕ) where
   -- Where they agree, the page is taken and judged.
   pub page-tested : freedUntrue s counts ≡ false → pageFor desk s counts
       ≡ andThen (takeBlock pageClass s)
-      (judged (length (s .body)) desk 1 (freedLeft s counts) counts (counted (freedLeft s counts) desk (heldCount desk counts + 1) counts))
+      (judgedTake (length (s .body)) desk 1 (freedLeft s counts) counts (counted (freedLeft s counts) desk (heldCount desk counts + 1) counts))
   unfolding pageFor
   page-tested e = refuse-no _ _ _ e
 

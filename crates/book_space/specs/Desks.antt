@@ -18,8 +18,8 @@ pub record TakenFor : Type 0 where
 
 -- A take of so many pages, 0 for a slab, that leaves so many freed: turned back where the counts are above the body's pages, and by the
 -- rule of desks; then these are the counts.
-unfoldable pub judged : ℕ → ℕ → ℕ → ℕ → List ℕ → List ℕ → Taken → Answer TakenFor
-judged end desk pages freed before after t =
+unfoldable pub judgedTake : ℕ → ℕ → ℕ → ℕ → List ℕ → List ℕ → Taken → Answer TakenFor
+judgedTake end desk pages freed before after t =
     refuseIf (countsHigh end before) shapeBad
     (permitted (limitsIn before) end desk pages (heldIn before) freed (t .space .mark)
     (accepted (record { off = t .off; space = t .space; counts = after })))
@@ -27,7 +27,7 @@ judged end desk pages freed before after t =
 -- A slab of a class for a desk: no count changes.
 unfoldable pub slabFor : ℕ → ℕ → Space → List ℕ → Answer TakenFor
 slabFor desk class s counts =
-    andThen (takeBlock class s) (judged (length (s .body)) desk 0 (freedCount counts) counts counts)
+    andThen (takeBlock class s) (judgedTake (length (s .body)) desk 0 (freedCount counts) counts counts)
 
 -- The free head of pages and the count of freed pages differ: just one of them is 0.
 unfoldable pub freedUntrue : Space → List ℕ → Bool
@@ -43,13 +43,13 @@ unfoldable pub pageFor : ℕ → Space → List ℕ → Answer TakenFor
 pageFor desk s counts =
     refuseIf (freedUntrue s counts) freeHeadBad
     (andThen (takeBlock pageClass s)
-    (judged (length (s .body)) desk 1 (freedLeft s counts) counts (counted (freedLeft s counts) desk (heldCount desk counts + 1) counts)))
+    (judgedTake (length (s .body)) desk 1 (freedLeft s counts) counts (counted (freedLeft s counts) desk (heldCount desk counts + 1) counts)))
 
 -- A run of so many pages for a desk, as a load takes it.
 unfoldable pub runFor : ℕ → ℕ → Space → List ℕ → Answer TakenFor
 runFor desk pages s counts =
     andThen (takeRun pages s)
-    (judged (length (s .body)) desk pages (freedCount counts) counts
+    (judgedTake (length (s .body)) desk pages (freedCount counts) counts
     (counted (freedCount counts) desk (heldCount desk counts + pages) counts))
 
 -- Pages that a desk gives back, where there are some: turned back where the counts are above the body's pages, or the desk holds fewer; then

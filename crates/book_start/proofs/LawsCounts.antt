@@ -11,7 +11,7 @@ use borrow.Author.Tests.{ltb-false, le-ltb, eqb-true, eq-eqb, not-false}
 use lib.Dec.{ltb, eqb}
 use lib.ListN.{length}
 use Rattle.scripthash_layout.specs.Sizes.{pageClass, pageSize}
-use Rattle.book_desks.specs.Desks.{desks, countOf, total, lacks, listBad}
+use Rattle.book_desks.specs.Desks.{desks, deskCount, total, lacks, listBad}
 use Rattle.book_desks.specs.Counts.{countWords, freedCount, heldCount, heldIn, limitsIn, countsHigh}
 use Rattle.book.specs.Book.{Book}
 use Rattle.book_start.specs.Start.{Verdict, good, keyUnsound, keyShares, freeStrays, freeShares, countsExceed, freedDiffers, heldDiffers}
@@ -21,8 +21,8 @@ use Rattle.book_start.specs.Start.{pagesOfDesk, toBeHadIn, GoodCounts, d
 -- What is good of one desk: its count is the pages of its keys, and neither that nor its reserve is above its ceiling.
 pub record GoodDesk (ds : List ℕ) (b : Book) (d : ℕ) : Type 0 where
   pub exact : heldCount d (b .counts) ≡ pagesOfDesk ds b d
-  pub ceiling : heldCount d (b .counts) ≤ countOf d (limitsIn (b .counts) .ceiling)
-  pub reserve : countOf d (limitsIn (b .counts) .reserve) ≤ countOf d (limitsIn (b .counts) .ceiling)
+  pub ceiling : heldCount d (b .counts) ≤ deskCount d (limitsIn (b .counts) .ceiling)
+  pub reserve : deskCount d (limitsIn (b .counts) .reserve) ≤ deskCount d (limitsIn (b .counts) .ceiling)
 
 -- A test with a fault that a good verdict passed.
 passes : (t : Bool) (fault after : Verdict) (n : ℕ) → ((m : ℕ) → fault ≢ good m) → cond t fault after ≡ good n → (t ≡ false) × (after ≡ good n)
@@ -44,8 +44,8 @@ module _ (ds : List ℕ) (b : Book) where
   unfolding deskFault
   fault-none d e =
       let p = clear (not (eqb (heldCount d (b .counts)) (pagesOfDesk ds b d))) _ _ e in
-      let q = clear (ltb (countOf d (limitsIn (b .counts) .ceiling)) (heldCount d (b .counts))) _ _ (p .1) in
-      let r = clear (ltb (countOf d (limitsIn (b .counts) .ceiling)) (countOf d (limitsIn (b .counts) .reserve))) _ _ (q .1) in
+      let q = clear (ltb (deskCount d (limitsIn (b .counts) .ceiling)) (heldCount d (b .counts))) _ _ (p .1) in
+      let r = clear (ltb (deskCount d (limitsIn (b .counts) .ceiling)) (deskCount d (limitsIn (b .counts) .reserve))) _ _ (q .1) in
       record { exact = told-equal _ _ (p .0); ceiling = ltb-false _ _ (q .0); reserve = ltb-false _ _ (r .0) }
 
   -- A good desk has no fault.
@@ -53,15 +53,15 @@ module _ (ds : List ℕ) (b : Book) where
   unfolding deskFault
   none-fault d g =
       rw (eq-eqb (heldCount d (b .counts)) (pagesOfDesk ds b d) (g .exact))
-      (rw (le-ltb (countOf d (limitsIn (b .counts) .ceiling)) (heldCount d (b .counts)) (g .ceiling))
-      (rw (le-ltb (countOf d (limitsIn (b .counts) .ceiling)) (countOf d (limitsIn (b .counts) .reserve)) (g .reserve)) refl))
+      (rw (le-ltb (deskCount d (limitsIn (b .counts) .ceiling)) (heldCount d (b .counts)) (g .ceiling))
+      (rw (le-ltb (deskCount d (limitsIn (b .counts) .ceiling)) (deskCount d (limitsIn (b .counts) .reserve)) (g .reserve)) refl))
 
   -- A fault isn't good.
   fault-bad : (d : ℕ) (v : Verdict) (n : ℕ) → deskFault ds b d ≡ some v → v ≢ good n
   unfolding deskFault
   fault-bad d v n e is =
-      go (not (eqb (heldCount d (b .counts)) (pagesOfDesk ds b d))) (ltb (countOf d (limitsIn (b .counts) .ceiling)) (heldCount d (b .counts)))
-      (ltb (countOf d (limitsIn (b .counts) .ceiling)) (countOf d (limitsIn (b .counts) .reserve))) e
+      go (not (eqb (heldCount d (b .counts)) (pagesOfDesk ds b d))) (ltb (deskCount d (limitsIn (b .counts) .ceiling)) (heldCount d (b .counts)))
+      (ltb (deskCount d (limitsIn (b .counts) .ceiling)) (deskCount d (limitsIn (b .counts) .reserve))) e
     where
       go : (s t u : Bool) → cond s (some (heldDiffers d)) (cond t (some (heldHigh d)) (cond u (some (reserveHigh d)) none)) ≡ some v → ⊥
       go true t u f = let z : _≡_ {A = ℕ} 0 1 = cc in omega arith

@@ -13,7 +13,7 @@ use lib.Seq.{ext-getD, getD-set-same, getD-set-other}
 use Rattle.error.specs.Refusal.{Answer, accepted, refused, refuseIf, refusalOf, shapeBad, desksBad}
 use Rattle.scripthash_layout.specs.Sizes.{pageSize}
 use Rattle.book_limits.specs.Limits.{outOfShape}
-use Rattle.book_desks.specs.Desks.{desks, Limits, countOf, total, lacks, above, listBad, reserveHigh, making}
+use Rattle.book_desks.specs.Desks.{desks, Limits, deskCount, total, lacks, above, listBad, reserveHigh, making}
 use Rattle.book_desks.specs.Counts.{countWords, reserveAt, ceilingAt, heldCount, heldIn, limitsIn, freshCounts, countsHigh}
 use Rattle.book_desks.proofs.LawsSums.{same-or-not, sum-same, above-no, none-above}
 use Rattle.book_desks.proofs.LawsDesks.{reserves-low}
@@ -28,8 +28,8 @@ use Rattle.book_start.specs.Making.{makesFresh, makingNumber}
 pub record Filled (l : Limits) (words : List ℕ) (n : ℕ) : Type 0 where
   pub long : length words ≡ countWords
   pub none : (i : ℕ) → i < 17 → getD words i 0 ≡ 0
-  pub reserve : (d : ℕ) → d < n → getD words (reserveAt d) 0 ≡ countOf d (l .reserve)
-  pub ceiling : (d : ℕ) → d < n → getD words (ceilingAt d) 0 ≡ countOf d (l .ceiling)
+  pub reserve : (d : ℕ) → d < n → getD words (reserveAt d) 0 ≡ deskCount d (l .reserve)
+  pub ceiling : (d : ℕ) → d < n → getD words (ceilingAt d) 0 ≡ deskCount d (l .ceiling)
 
 -- Before the first.
 pub filled-none : (l : Limits) → Filled l (replicate countWords 0) 0
@@ -43,40 +43,40 @@ filled-none l =
 
 module _ (l : Limits) (words : List ℕ) (n : ℕ) (f : Filled l words n) (within : n < desks) where
   abbrev kept : List ℕ
-  kept = set words (reserveAt n) (countOf n (l .reserve))
+  kept = set words (reserveAt n) (deskCount n (l .reserve))
 
   abbrev next : List ℕ
-  next = set kept (ceilingAt n) (countOf n (l .ceiling))
+  next = set kept (ceilingAt n) (deskCount n (l .ceiling))
 
   -- What stands elsewhere stays.
   elsewhere : (i : ℕ) → i ≢ reserveAt n → i ≢ ceilingAt n → getD next i 0 ≡ getD words i 0
   elsewhere i r c =
-      getD-set-other kept (ceilingAt n) i (countOf n (l .ceiling)) 0 c ∙ getD-set-other words (reserveAt n) i (countOf n (l .reserve)) 0 r
+      getD-set-other kept (ceilingAt n) i (deskCount n (l .ceiling)) 0 c ∙ getD-set-other words (reserveAt n) i (deskCount n (l .reserve)) 0 r
 
-  at-reserve : getD next (reserveAt n) 0 ≡ countOf n (l .reserve)
+  at-reserve : getD next (reserveAt n) 0 ≡ deskCount n (l .reserve)
   at-reserve =
-      getD-set-other kept (ceilingAt n) (reserveAt n) (countOf n (l .ceiling)) 0 (λ (e : reserveAt n ≡ ceilingAt n). omega arith)
-      ∙ getD-set-same words (reserveAt n) (countOf n (l .reserve)) 0 (let e = f .long in omega arith)
+      getD-set-other kept (ceilingAt n) (reserveAt n) (deskCount n (l .ceiling)) 0 (λ (e : reserveAt n ≡ ceilingAt n). omega arith)
+      ∙ getD-set-same words (reserveAt n) (deskCount n (l .reserve)) 0 (let e = f .long in omega arith)
 
-  at-ceiling : getD next (ceilingAt n) 0 ≡ countOf n (l .ceiling)
+  at-ceiling : getD next (ceilingAt n) 0 ≡ deskCount n (l .ceiling)
   at-ceiling =
-      getD-set-same kept (ceilingAt n) (countOf n (l .ceiling)) 0
-      (let k = length-set words (reserveAt n) (countOf n (l .reserve)) in let e = f .long in omega arith)
+      getD-set-same kept (ceilingAt n) (deskCount n (l .ceiling)) 0
+      (let k = length-set words (reserveAt n) (deskCount n (l .reserve)) in let e = f .long in omega arith)
 
   -- One desk more.
   pub filled-next : Filled l next (n + 1)
   filled-next =
       record {
-        long = length-set kept (ceilingAt n) (countOf n (l .ceiling)) ∙ length-set words (reserveAt n) (countOf n (l .reserve)) ∙ f .long;
+        long = length-set kept (ceilingAt n) (deskCount n (l .ceiling)) ∙ length-set words (reserveAt n) (deskCount n (l .reserve)) ∙ f .long;
         none = λ i h. elsewhere i (λ (e : i ≡ reserveAt n). omega arith) (λ (e : i ≡ ceilingAt n). omega arith) ∙ f .none i h;
         reserve = λ d h.
-            ⊎-elim (λ (e : d ≡ n). subst (λ (x : ℕ). getD next (reserveAt x) 0 ≡ countOf x (l .reserve)) (sym e) at-reserve)
+            ⊎-elim (λ (e : d ≡ n). subst (λ (x : ℕ). getD next (reserveAt x) 0 ≡ deskCount x (l .reserve)) (sym e) at-reserve)
             (λ (q : d ≢ n).
             let u : (d ≡ n → ⊥) = q in
             elsewhere (reserveAt d) (λ (e : reserveAt d ≡ reserveAt n). u (omega arith)) (λ (e : reserveAt d ≡ ceilingAt n). omega arith)
             ∙ f .reserve d (omega arith)) (same-or-not d n);
         ceiling = λ d h.
-            ⊎-elim (λ (e : d ≡ n). subst (λ (x : ℕ). getD next (ceilingAt x) 0 ≡ countOf x (l .ceiling)) (sym e) at-ceiling)
+            ⊎-elim (λ (e : d ≡ n). subst (λ (x : ℕ). getD next (ceilingAt x) 0 ≡ deskCount x (l .ceiling)) (sym e) at-ceiling)
             (λ (q : d ≢ n).
             let u : (d ≡ n → ⊥) = q in
             elsewhere (ceilingAt d) (λ (e : ceilingAt d ≡ reserveAt n). omega arith) (λ (e : ceilingAt d ≡ ceilingAt n). u (omega arith))
@@ -107,7 +107,7 @@ filled-all l words f =
 
 -- Limits that are the same for the desks below a number have a reserve above its ceiling alike.
 reserves-same : (n : ℕ) (k m : Limits)
-    → ((d : ℕ) → d < n → (countOf d (k .reserve) ≡ countOf d (m .reserve)) × (countOf d (k .ceiling) ≡ countOf d (m .ceiling)))
+    → ((d : ℕ) → d < n → (deskCount d (k .reserve) ≡ deskCount d (m .reserve)) × (deskCount d (k .ceiling) ≡ deskCount d (m .ceiling)))
     → reserveHigh n k ≡ reserveHigh n m
 unfolding reserveHigh
 reserves-same zero k m same = refl
@@ -116,28 +116,28 @@ reserves-same (suc n) k m same =
 
 module _ (l : Limits) where
   -- The limits of a desk in them.
-  kept-in : (d : ℕ) → d < desks → countOf d (limitsIn (freshCounts l) .reserve) ≡ countOf d (l .reserve)
+  kept-in : (d : ℕ) → d < desks → deskCount d (limitsIn (freshCounts l) .reserve) ≡ deskCount d (l .reserve)
   kept-in d h = reserve-at (freshCounts l) d h ∙ fresh-reserve l d h
 
-  most-in : (d : ℕ) → d < desks → countOf d (limitsIn (freshCounts l) .ceiling) ≡ countOf d (l .ceiling)
+  most-in : (d : ℕ) → d < desks → deskCount d (limitsIn (freshCounts l) .ceiling) ≡ deskCount d (l .ceiling)
   most-in d h = ceiling-at (freshCounts l) d h ∙ fresh-ceiling l d h
 
   -- One of them is high exactly where a reserve is above the body's pages.
-  pub fresh-high : (size : ℕ) → countsHigh size (freshCounts l) ≡ above (size / pageSize) desks (λ d. countOf d (l .reserve))
-  fresh-high size = go (countsHigh size (freshCounts l)) (above (size / pageSize) desks (λ d. countOf d (l .reserve))) refl refl
+  pub fresh-high : (size : ℕ) → countsHigh size (freshCounts l) ≡ above (size / pageSize) desks (λ d. deskCount d (l .reserve))
+  fresh-high size = go (countsHigh size (freshCounts l)) (above (size / pageSize) desks (λ d. deskCount d (l .reserve))) refl refl
     where
-      low : countsHigh size (freshCounts l) ≡ false → above (size / pageSize) desks (λ d. countOf d (l .reserve)) ≡ false
+      low : countsHigh size (freshCounts l) ≡ false → above (size / pageSize) desks (λ d. deskCount d (l .reserve)) ≡ false
       low e =
-          none-above (size / pageSize) desks (λ d. countOf d (l .reserve))
+          none-above (size / pageSize) desks (λ d. deskCount d (l .reserve))
           (λ d h. let r = counts-low size (freshCounts l) e .reserve d h in let k = fresh-reserve l d h in omega arith)
 
-      high : above (size / pageSize) desks (λ d. countOf d (l .reserve)) ≡ false → countsHigh size (freshCounts l) ≡ false
+      high : above (size / pageSize) desks (λ d. deskCount d (l .reserve)) ≡ false → countsHigh size (freshCounts l) ≡ false
       high e =
           none-high size (freshCounts l) (let f = freed-fresh l in omega arith)
           (λ d h. let k = held-at (freshCounts l) d h in let z = fresh-none l (1 + d) (omega arith) in omega arith)
-          (λ d h. let k = kept-in d h in let r = above-no (size / pageSize) desks (λ i. countOf i (l .reserve)) e d h in omega arith)
+          (λ d h. let k = kept-in d h in let r = above-no (size / pageSize) desks (λ i. deskCount i (l .reserve)) e d h in omega arith)
 
-      go : (s t : Bool) → countsHigh size (freshCounts l) ≡ s → above (size / pageSize) desks (λ d. countOf d (l .reserve)) ≡ t → s ≡ t
+      go : (s t : Bool) → countsHigh size (freshCounts l) ≡ s → above (size / pageSize) desks (λ d. deskCount d (l .reserve)) ≡ t → s ≡ t
       go true true e f = refl
       go false false e f = refl
       go true false e f = absurd (true≢false (sym e ∙ high f))
@@ -147,7 +147,7 @@ module _ (l : Limits) where
   pub fresh-lacks : lacks (limitsIn (freshCounts l)) (heldIn (freshCounts l)) ≡ total (l .reserve)
   fresh-lacks =
       lacks-in (freshCounts l)
-      ∙ sum-same desks (λ d. getD (freshCounts l) (reserveAt d) 0 - heldCount d (freshCounts l)) (λ d. countOf d (l .reserve))
+      ∙ sum-same desks (λ d. getD (freshCounts l) (reserveAt d) 0 - heldCount d (freshCounts l)) (λ d. deskCount d (l .reserve))
       (λ d h. let k = fresh-reserve l d h in let z = fresh-none l (1 + d) (omega arith) in omega arith)
 
   -- A reserve in them is above its ceiling exactly where one is.
@@ -169,7 +169,7 @@ module _ (counts : List ℕ) (d : ℕ) (within : d < desks) where
   over-step e h =
       let r = reserve-at counts d within in
       let c = ceiling-at counts d within in
-      rw (add-one d, e) (le-ltb (countOf d (limitsIn counts .ceiling)) (countOf d (limitsIn counts .reserve)) (omega arith))
+      rw (add-one d, e) (le-ltb (deskCount d (limitsIn counts .ceiling)) (deskCount d (limitsIn counts .reserve)) (omega arith))
 
   -- One that has decides.
   pub over-yes : getD counts (ceilingAt d) 0 < getD counts (reserveAt d) 0 → reserveHigh desks (limitsIn counts) ≡ true
@@ -187,7 +187,7 @@ module _ (counts : List ℕ) (d : ℕ) (within : d < desks) where
 
 module _ (ds : List ℕ) (size heads : ℕ) (l : Limits) where
   abbrev shape : Bool
-  shape = outOfShape size heads || above (size / pageSize) desks (λ d. countOf d (l .reserve))
+  shape = outOfShape size heads || above (size / pageSize) desks (λ d. deskCount d (l .reserve))
 
   abbrev limits : Bool
   limits = listBad ds heads || (ltb (size / pageSize - 1) (total (l .reserve)) || reserveHigh desks l)

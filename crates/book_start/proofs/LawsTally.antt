@@ -16,7 +16,7 @@ use Rattle.scripthash_layout.specs.Sizes.{pageSize, pageClass}
 use Rattle.scripthash_layout.specs.declared.head.ShHeadValue.{ShHeadValue}
 use Rattle.scripthash_layout.specs.declared.head.ShHeadValue.the-variants.{Empty, Inline, Slab, Extent}
 use Rattle.scripthash_free.specs.FreeList.{isBlock, nextOf, IsFreeList, Each}
-use Rattle.book_desks.specs.Desks.{desks, countOf, sumTo, total, lacks, deskOf}
+use Rattle.book_desks.specs.Desks.{desks, deskCount, sumTo, total, lacks, deskOf}
 use Rattle.book_desks.specs.Counts.{freedCount, heldCount, heldIn, limitsIn}
 use Rattle.book_desks.proofs.LawsSums.{same-or-not, sum-none, sum-step, sum-most}
 use Rattle.book_desks.proofs.LawsCounts.{held-at, reserve-at, ceiling-at}
@@ -89,7 +89,7 @@ module _ (s : Ground) where
 -- A tally by desk of the keys below a number.
 pub record TalliedTo (ds : List ℕ) (b : Book) (tally : List ℕ) (key : ℕ) : Type 0 where
   pub sixteen : length tally ≡ desks
-  pub sums : (d : ℕ) → d < desks → countOf d tally ≡ sumTo key (pagesFor ds b d)
+  pub sums : (d : ℕ) → d < desks → deskCount d tally ≡ sumTo key (pagesFor ds b d)
 
 -- Of no keys.
 pub tallied-none : (ds : List ℕ) (b : Book) → TalliedTo ds b (replicate desks 0) 0
@@ -104,7 +104,7 @@ module _ (ds : List ℕ) (b : Book) (tally : List ℕ) (key : ℕ) (t : TalliedT
   other-pages d n = ap (λ (x : Bool). cond x (pagesHeld b key) 0) (ne-eqb (deskOf ds key) d (λ (e : deskOf ds key ≡ d). n (sym e)))
 
   -- A sum over so many keys is small.
-  pub tally-small : (most d : ℕ) → ((k : ℕ) → pagesHeld b k ≤ most) → d < desks → countOf d tally ≤ key * most
+  pub tally-small : (most d : ℕ) → ((k : ℕ) → pagesHeld b k ≤ most) → d < desks → deskCount d tally ≤ key * most
   tally-small most d few h =
       let s = sum-most key most (pagesFor ds b d) (λ i l. at-most (eqb (deskOf ds i) d) (pagesHeld b i) (few i)) in
       let e = t .sums d h in
@@ -120,26 +120,26 @@ module _ (ds : List ℕ) (b : Book) (tally : List ℕ) (key : ℕ) (t : TalliedT
     desk = deskOf ds key
 
     abbrev next : List ℕ
-    next = set tally desk (countOf desk tally + pages)
+    next = set tally desk (deskCount desk tally + pages)
 
-    own-sum : countOf desk next ≡ sumTo (key + 1) (pagesFor ds b desk)
+    own-sum : deskCount desk next ≡ sumTo (key + 1) (pagesFor ds b desk)
     own-sum =
-        getD-set-same tally desk (countOf desk tally + pages) 0 (let l = t .sixteen in omega arith)
-        ∙ sum-step (pagesFor ds b desk) key (countOf desk tally) pages (t .sums desk within) (is ∙ sym own-pages)
+        getD-set-same tally desk (deskCount desk tally + pages) 0 (let l = t .sixteen in omega arith)
+        ∙ sum-step (pagesFor ds b desk) key (deskCount desk tally) pages (t .sums desk within) (is ∙ sym own-pages)
 
-    other-sum : (d : ℕ) → d < desks → d ≢ desk → countOf d next ≡ sumTo (key + 1) (pagesFor ds b d)
+    other-sum : (d : ℕ) → d < desks → d ≢ desk → deskCount d next ≡ sumTo (key + 1) (pagesFor ds b d)
     other-sum d h n =
-        let z : countOf d tally + 0 ≡ sumTo (key + 1) (pagesFor ds b d)
-        = sum-step (pagesFor ds b d) key (countOf d tally) 0 (t .sums d h) (sym (other-pages d n)) in
-        let e = getD-set-other tally desk d (countOf desk tally + pages) 0 n in
+        let z : deskCount d tally + 0 ≡ sumTo (key + 1) (pagesFor ds b d)
+        = sum-step (pagesFor ds b d) key (deskCount d tally) 0 (t .sums d h) (sym (other-pages d n)) in
+        let e = getD-set-other tally desk d (deskCount desk tally + pages) 0 n in
         omega arith
 
     pub tally-next : TalliedTo ds b next (key + 1)
     tally-next =
         record {
-          sixteen = length-set tally desk (countOf desk tally + pages) ∙ t .sixteen;
+          sixteen = length-set tally desk (deskCount desk tally + pages) ∙ t .sixteen;
           sums = λ d h.
-              ⊎-elim (λ (e : d ≡ desk). subst (λ (x : ℕ). countOf x next ≡ sumTo (key + 1) (pagesFor ds b x)) (sym e) own-sum)
+              ⊎-elim (λ (e : d ≡ desk). subst (λ (x : ℕ). deskCount x next ≡ sumTo (key + 1) (pagesFor ds b x)) (sym e) own-sum)
               (λ (n : d ≢ desk). other-sum d h n) (same-or-not d desk);
         }
 
@@ -259,7 +259,7 @@ module _ (ds : List ℕ) (b : Book) (after : Verdict) where
 -- What the desks hold together, where each holds no more than the largest body has pages.
 pub total-small : (counts : List ℕ) → SmallHeld counts → total (heldIn counts) ≤ 16 * 2 ^ 29
 total-small counts small =
-    sum-most desks (2 ^ 29) (λ d. countOf d (heldIn counts)) (λ d h. let e = held-at counts d h in let s = small d h in omega arith)
+    sum-most desks (2 ^ 29) (λ d. deskCount d (heldIn counts)) (λ d h. let e = held-at counts d h in let s = small d h in omega arith)
 
 module _ (ds : List ℕ) (b : Book) (lost : ℕ) where
   abbrev told : ℕ

@@ -10,7 +10,7 @@ use lib.ListN.{length, getD}
 use Rattle.error.specs.Refusal.{Answer, accepted, refused, refuseIf, valueOr, shapeBad, desksBad, listTooShort}
 use Rattle.scripthash_layout.specs.Sizes.{slabBytes, pageClass, pageSize}
 use Rattle.scripthash_free.specs.FreeList.{Block, Disjoint, isBlock, nextOf, IsFreeList, Each}
-use Rattle.book_desks.specs.Desks.{desks, countOf, sumTo, total, lacks, toBeHad, listBad, deskOf}
+use Rattle.book_desks.specs.Desks.{desks, deskCount, sumTo, total, lacks, toBeHad, listBad, deskOf}
 use Rattle.book_desks.specs.Counts.{countWords, freedCount, heldCount, heldIn, limitsIn, countsHigh}
 use Rattle.book_space.specs.Space.{Space, shapeBroken}
 use Rattle.book_keys.specs.Keys.{Content, content}
@@ -119,8 +119,8 @@ pub record GoodCounts (ds : List ℕ) (b : Book) : Type 0 where
   -- Each desk's count is the pages of its keys.
   pub exact : (d : ℕ) → d < desks → heldCount d (b .counts) ≡ pagesOfDesk ds b d
   -- No desk holds more than its ceiling, and no reserve is above its ceiling.
-  pub ceilings : (d : ℕ) → d < desks → heldCount d (b .counts) ≤ countOf d (limitsIn (b .counts) .ceiling)
-  pub reserves : (d : ℕ) → d < desks → countOf d (limitsIn (b .counts) .reserve) ≤ countOf d (limitsIn (b .counts) .ceiling)
+  pub ceilings : (d : ℕ) → d < desks → heldCount d (b .counts) ≤ deskCount d (limitsIn (b .counts) .ceiling)
+  pub reserves : (d : ℕ) → d < desks → deskCount d (limitsIn (b .counts) .reserve) ≤ deskCount d (limitsIn (b .counts) .ceiling)
   -- The pages to be had cover what the desks lack.
   pub covered : lacks (limitsIn (b .counts)) (heldIn (b .counts)) ≤ toBeHadIn b
 
@@ -240,8 +240,8 @@ blocksVerdict b = judgeKeys (b .space) 0 (b .heads) []
 unfoldable pub deskFault : List ℕ → Book → ℕ → Option Verdict
 deskFault ds b d =
     cond (not (eqb (heldCount d (b .counts)) (pagesOfDesk ds b d))) (some (heldDiffers d))
-    (cond (ltb (countOf d (limitsIn (b .counts) .ceiling)) (heldCount d (b .counts))) (some (heldHigh d))
-    (cond (ltb (countOf d (limitsIn (b .counts) .ceiling)) (countOf d (limitsIn (b .counts) .reserve))) (some (reserveHigh d)) none))
+    (cond (ltb (deskCount d (limitsIn (b .counts) .ceiling)) (heldCount d (b .counts))) (some (heldHigh d))
+    (cond (ltb (deskCount d (limitsIn (b .counts) .ceiling)) (deskCount d (limitsIn (b .counts) .reserve))) (some (reserveHigh d)) none))
 
 -- A fault where there is one, or else another verdict.
 unfoldable pub faultOr : Option Verdict → Verdict → Verdict

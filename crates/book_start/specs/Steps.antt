@@ -9,7 +9,7 @@ use Rattle.scripthash_free.specs.FreeList.{Block, isBlock, IsFreeList, Each}
 use Rattle.book_keys.specs.Keys.{ground}
 use Rattle.book_keys.specs.Steps.{PagesLeft}
 use Rattle.book_limits.specs.Limits.{mostBody, mostHeads}
-use Rattle.book_desks.specs.Desks.{desks, listBad, countOf}
+use Rattle.book_desks.specs.Desks.{desks, listBad, deskCount}
 use Rattle.book_desks.specs.Counts.{heldCount, countsHigh}
 use Rattle.book.specs.Book.{Book}
 use Rattle.book_start.specs.Start.{Stands, block, blocksAt, followed, pagesOfDesk, GoodBlocks}
@@ -115,7 +115,7 @@ pub record KeysToTally (body heads : List ℕ) (mark : ℕ) (ds : List ℕ) : Ty
 
 -- A tally by desk tells the pages of each desk's keys.
 abbrev pub Tallied : List ℕ → Book → List ℕ → Type 0
-Tallied ds b tally = (d : ℕ) → d < desks → countOf d tally ≡ pagesOfDesk ds b d
+Tallied ds b tally = (d : ℕ) → d < desks → deskCount d tally ≡ pagesOfDesk ds b d
 
 -- No desk holds more than the pages of the largest body.
 abbrev pub SmallHeld : List ℕ → Type 0

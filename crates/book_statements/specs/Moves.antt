@@ -16,14 +16,14 @@ abbrev pub noMoves : Tally
 noMoves = record { moves = 0; rewritten = 0 }
 
 -- A tally after an append that rewrote some records: it is a move where there are some.
-unfoldable pub counted : ℕ → Tally → Tally
-counted rewritten t =
+unfoldable pub withMove : ℕ → Tally → Tally
+withMove rewritten t =
     cond (eqb rewritten 0) t (record { moves = suc (t .moves); rewritten = t .rewritten + rewritten })
 
 -- The tally of a key after what an accepted change told: an append counts, and a drop ends it.
 unfoldable pub talliedBy : (c : Change) → Made c → Tally → Tally
 talliedBy (load fit key ns) told t = t
-talliedBy (append key n) told t = counted (told .rewritten) t
+talliedBy (append key n) told t = withMove (told .rewritten) t
 talliedBy (drop key) told t = noMoves
 
 -- The tally of a key after a change: one that is turned back, or of another key, leaves it.

@@ -3,7 +3,7 @@ ghost use mathlib.Core.Path.{_≡_};
 ghost use lib.ListN.{length};
 ghost use Rattle.error.specs.Refusal.{refusalOf, valueOr};
 ghost use Rattle.scripthash_stream.specs.Stream.{encodeStream, afterEncode, paddedIn, decodeStream, afterDecode};
-ghost use Rattle.scripthash_stream.specs.Answers.{bytesAnswer, readAnswer};
+ghost use Rattle.scripthash_stream.specs.Answers.{bytesAnswer, streamReadAnswer};
 use scripthash_stream::StreamBytes;
 use scripthash_stream::StreamRead;
 
@@ -26,9 +26,9 @@ pub fn put_bytes(got: StreamBytes, len: &mut usize) -> u32
 
 // Hands out how many bytes a stream takes that was read, and how many of its numbers are padded.
 fn put_read(got: StreamRead, taken: &mut usize, padded: &mut usize) -> u32
-    ensures number { λ r. ⌜ r ≡ refusalOf (readAnswer got) ⌝ }
-    ensures taken { λ r. ⌜ now (taken .exit) ≡ valueOr (λ x. x .taken) (readAnswer got) 0 ⌝ }
-    ensures padded { λ r. ⌜ now (padded .exit) ≡ valueOr (λ x. x .padded) (readAnswer got) 0 ⌝ }
+    ensures number { λ r. ⌜ r ≡ refusalOf (streamReadAnswer got) ⌝ }
+    ensures taken { λ r. ⌜ now (taken .exit) ≡ valueOr (λ x. x .taken) (streamReadAnswer got) 0 ⌝ }
+    ensures padded { λ r. ⌜ now (padded .exit) ≡ valueOr (λ x. x .padded) (streamReadAnswer got) 0 ⌝ }
 {
     match got {
         StreamRead::Read {

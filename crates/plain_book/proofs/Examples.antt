@@ -19,7 +19,7 @@ use Rattle.plain_book.specs.Space.{freedAll, takeMark, takeSlab, rounded
 use Rattle.book_rules.specs.Places.{stays, larger, movesTo, loadsTo}
 use Rattle.plain_book.specs.Key.{Key, slab, written, longer, lastPage, headOf, paddedPages, freedPages, freedPlace, moved, joins, beginPage, keptAs, keyIn}
 use Rattle.plain_book.specs.Key.{appendPages, appendPlace, runPages, loadInto, loadPlace}
-use Rattle.book_statements.specs.Moves.{Tally, noMoves, counted, talliedBy, tallied, tallyOf}
+use Rattle.book_statements.specs.Moves.{Tally, noMoves, withMove, talliedBy, tallied, tallyOf}
 use Rattle.book_rules.specs.Offered.{offeredNumber, offeredList}
 use Rattle.book_limits.specs.Limits.{outOfShape, pastSlabs}
 use Rattle.book_desks.specs.Desks.{making, Limits, listBad, beyondDesks, permitted, lacksWith, sumTo, above, reserveHigh}
@@ -123,7 +123,7 @@ unfolding refuseIf andThen divided shortest ulebLen lastFrom streamLenFrom first
     greedyParts replaceLast largestUpTo blockThen carve freedAll takeMark takeSlab pastSlabs rounded runAtMark takeFresh takeFrom lastPage
     headOf freedPages freedPlace stays larger movesTo loadsTo moved joins beginPage appendPages written longer appendPlace runPages
     loadInto loadPlace outOfShape onKey listBad beyondDesks allowed permitted lacksWith sumTo offeredNumber offeredList loads appends
-    reads drops asks does bookAfter answered answersTo inARow appendSteps counted talliedBy tallied tallyOf tallyAfter
+    reads drops asks does bookAfter answered answersTo inARow appendSteps withMove talliedBy tallied tallyOf tallyAfter
 records-reached = refl
 
 -- The ceiling of 9 moves is reached: 1 to 146 are appended, and 111 more in steps of 2^50.
@@ -132,7 +132,7 @@ unfolding refuseIf andThen divided shortest ulebLen lastFrom streamLenFrom first
     greedyParts replaceLast largestUpTo blockThen carve freedAll takeMark takeSlab pastSlabs rounded runAtMark takeFresh takeFrom lastPage
     headOf freedPages freedPlace stays larger movesTo loadsTo moved joins beginPage appendPages written longer appendPlace runPages
     loadInto loadPlace outOfShape onKey listBad beyondDesks allowed permitted lacksWith sumTo offeredNumber offeredList loads appends
-    reads drops asks does bookAfter answered answersTo inARow appendSteps counted talliedBy tallied tallyOf tallyAfter
+    reads drops asks does bookAfter answered answersTo inARow appendSteps withMove talliedBy tallied tallyOf tallyAfter
 moves-reached = refl
 
 -- Behind a load with a spare slot no more than 8 moves and 763 records were found: 1 and 2 are loaded, and appends go on as above.
@@ -142,7 +142,7 @@ unfolding refuseIf andThen divided shortest ulebLen lastFrom streamLenFrom first
     greedyParts replaceLast largestUpTo blockThen carve freedAll takeMark takeSlab pastSlabs rounded runAtMark takeFresh takeFrom lastPage
     headOf freedPages freedPlace stays larger movesTo loadsTo moved joins beginPage appendPages written longer appendPlace runPages
     loadInto loadPlace outOfShape onKey listBad beyondDesks allowed permitted lacksWith sumTo offeredNumber offeredList loads appends
-    reads drops asks does bookAfter answered answersTo inARow appendSteps counted talliedBy tallied tallyOf tallyAfter
+    reads drops asks does bookAfter answered answersTo inARow appendSteps withMove talliedBy tallied tallyOf tallyAfter
 spare-reached = refl
 
 -- A list found in padded forms, 13 bytes in a slab of 16: a third number fits, and a fourth moves it, where shortest forms would let it

@@ -18,7 +18,7 @@ use Rattle.book_rules.specs.Outcomes.{Loaded, Appended, Dropped, bookAfter}
 use Rattle.book_rules.proofs.LawsOffered.{offered-on, offered-all}
 use Rattle.book_statements.specs.Calls.{Change, load, append, drop, Made}
 use Rattle.book_limits.proofs.LawsLimits.{in-shape}
-use Rattle.book_desks.specs.Desks.{desks, Limits, countOf, sumTo, total, lacks, listBad}
+use Rattle.book_desks.specs.Desks.{desks, Limits, deskCount, sumTo, total, lacks, listBad}
 use Rattle.book_desks.proofs.LawsSums.{same-or-not, sum-least, sum-most, sum-set, term-least}
 use Rattle.book_desks.proofs.LawsDesks.{desk-in, own-count, ceilings-kept, lacks-moved, total-set, lacks-with}
 use Rattle.book_desks.proofs.LawsMaking.{making-passed}
@@ -47,7 +47,7 @@ module _ (b : Book) (key : ℕ) (good : GoodDesks b) (within : key < length (b .
   desk-known = desk-in (b .desks) (length (b .keys)) key (good .named) within
 
   -- Its desk holds the key's pages.
-  pub own-held : pagesOf (keyOf key b .place) ≤ countOf (deskIn b key) (b .held)
+  pub own-held : pagesOf (keyOf key b .place) ≤ deskCount (deskIn b key) (b .held)
   own-held =
       let all = good .exact (deskIn b key) desk-known in
       let one = term-least (length (b .keys)) key (pagesFor b (deskIn b key)) within in
@@ -63,7 +63,7 @@ module _ (b : Book) (key : ℕ) (good : GoodDesks b) (within : key < length (b .
 
     -- How many pages its desk holds afterwards.
     abbrev new : ℕ
-    new = countOf desk (b .held) + pagesOf (k .place) - pagesOf (keyOf key b .place)
+    new = deskCount desk (b .held) + pagesOf (k .place) - pagesOf (keyOf key b .place)
 
     -- The changed key's pages for a desk, and those of the others.
     here : keyOf key b' ≡ k
@@ -82,14 +82,14 @@ module _ (b : Book) (key : ℕ) (good : GoodDesks b) (within : key < length (b .
         omega arith
 
     -- Counts stay true: each desk's is the pages of its keys.
-    pub true-counts : (d : ℕ) → d < desks → countOf d (b' .held) ≡ pagesOfDesk b' d
+    pub true-counts : (d : ℕ) → d < desks → deskCount d (b' .held) ≡ pagesOfDesk b' d
     true-counts d h = ⊎-elim own other (same-or-not d desk)
       where
-        own : d ≡ desk → countOf d (b' .held) ≡ pagesOfDesk b' d
+        own : d ≡ desk → deskCount d (b' .held) ≡ pagesOfDesk b' d
         own e =
-            let now : countOf d (b' .held) ≡ new =
-            ap (λ (x : ℕ). countOf x (b' .held)) e ∙ own-count (b .held) desk new (good .sixteen) desk-known in
-            let was : countOf desk (b .held) ≡ pagesOfDesk b d = ap (λ (x : ℕ). countOf x (b .held)) (sym e) ∙ good .exact d h in
+            let now : deskCount d (b' .held) ≡ new =
+            ap (λ (x : ℕ). deskCount x (b' .held)) e ∙ own-count (b .held) desk new (good .sixteen) desk-known in
+            let was : deskCount desk (b .held) ≡ pagesOfDesk b d = ap (λ (x : ℕ). deskCount x (b .held)) (sym e) ∙ good .exact d h in
             let mine : pagesFor b' d key ≡ pagesOf (k .place) =
             counted-own b' key d e ∙ ap (λ (x : Key). pagesOf (x .place)) here in
             let old = counted-own b key d e in
@@ -97,7 +97,7 @@ module _ (b : Book) (key : ℕ) (good : GoodDesks b) (within : key < length (b .
             let least = own-held in
             omega arith
 
-        other : d ≢ desk → countOf d (b' .held) ≡ pagesOfDesk b' d
+        other : d ≢ desk → deskCount d (b' .held) ≡ pagesOfDesk b' d
         other n =
             let now = getD-set-other (b .held) desk d new 0 n in
             let was = good .exact d h in
@@ -109,7 +109,7 @@ module _ (b : Book) (key : ℕ) (good : GoodDesks b) (within : key < length (b .
     -- ---- what a step keeps
 
     -- Desks stay good where the desk's new count is within its ceiling, the lacks are covered, and no page is had twice.
-    with-good : new ≤ countOf desk (b .limits .ceiling) → lacks (b .limits) (b' .held) ≤ toBeHadIn b'
+    with-good : new ≤ deskCount desk (b .limits .ceiling) → lacks (b .limits) (b' .held) ≤ toBeHadIn b'
         → 1 + (total (b' .held) + toBeHadIn b') ≤ b .size / pageSize → GoodDesks b'
     with-good ceiling covered balanced =
         record {
@@ -129,7 +129,7 @@ module _ (b : Book) (key : ℕ) (good : GoodDesks b) (within : key < length (b .
         → Allowed (b .limits) (b .size) desk (b .held) n space → n + hadIn (b .size) space ≤ hadIn (b .size) (b .space) → GoodDesks b'
     take-keeps n more a less =
         let least = own-held in
-        let is : new ≡ countOf desk (b .held) + n = omega arith in
+        let is : new ≡ deskCount desk (b .held) + n = omega arith in
         let with-it : lacks (b .limits) (b' .held) ≡ _ =
         ap (λ (x : ℕ). lacks (b .limits) (set (b .held) desk x)) is
         ∙ lacks-with (b .limits) (b .held) desk n (good .sixteen) desk-known in
@@ -138,8 +138,8 @@ module _ (b : Book) (key : ℕ) (good : GoodDesks b) (within : key < length (b .
         let whole = good .balanced in
         with-good (below n (a .within) is) (omega arith) (omega arith)
       where
-        below : (n : ℕ) → (n ≢ 0 → countOf desk (b .held) + n ≤ countOf desk (b .limits .ceiling)) → new ≡ countOf desk (b .held) + n
-            → new ≤ countOf desk (b .limits .ceiling)
+        below : (n : ℕ) → (n ≢ 0 → deskCount desk (b .held) + n ≤ deskCount desk (b .limits .ceiling)) → new ≡ deskCount desk (b .held) + n
+            → new ≤ deskCount desk (b .limits .ceiling)
         below n w is =
             ⊎-elim (λ (z : n ≡ 0). let c = good .ceilings desk desk-known in omega arith) (λ (z : n ≢ 0). let c = w z in omega arith)
             (same-or-not n 0)
@@ -149,7 +149,7 @@ module _ (b : Book) (key : ℕ) (good : GoodDesks b) (within : key < length (b .
         → hadIn (b .size) space ≡ hadIn (b .size) (b .space) + n → GoodDesks b'
     back-keeps n less more =
         let least = own-held in
-        let is : new + n ≡ countOf desk (b .held) = omega arith in
+        let is : new + n ≡ deskCount desk (b .held) = omega arith in
         let lack : lacks (b .limits) (b' .held) + 0 ≤ lacks (b .limits) (b .held) + n =
         lacks-moved (b .held) desk new (good .sixteen) desk-known (b .limits) 0 n (omega arith) in
         let sum = total-set (b .held) desk new (good .sixteen) desk-known in
@@ -252,17 +252,17 @@ made-desks ds size heads l made =
       reserves = may .reserves;
       low = may .low;
       covered =
-          let less : sumTo desks (λ d. countOf d (l .reserve) - countOf d (replicate desks 0)) ≤ total (l .reserve) =
-          sum-least desks _ (λ d. countOf d (l .reserve)) (λ d h. omega arith) in
+          let less : sumTo desks (λ d. deskCount d (l .reserve) - deskCount d (replicate desks 0)) ≤ total (l .reserve) =
+          sum-least desks _ (λ d. deskCount d (l .reserve)) (λ d h. omega arith) in
           omega arith;
       balanced = let z = none-held in omega arith;
     }
   where
-    nothing : (d : ℕ) → d < desks → countOf d (replicate desks 0) ≡ 0
+    nothing : (d : ℕ) → d < desks → deskCount d (replicate desks 0) ≡ 0
     nothing d h = getD-replicate desks d 0 0 h
 
     none-held : total (replicate desks 0) ≡ 0
-    none-held = let m = sum-most desks 0 (λ d. countOf d (replicate desks 0)) (λ d h. let z = nothing d h in omega arith) in omega arith
+    none-held = let m = sum-most desks 0 (λ d. deskCount d (replicate desks 0)) (λ d h. let z = nothing d h in omega arith) in omega arith
 
     no-pages : (d : ℕ) → pagesOfDesk (fresh ds size heads l) d ≡ 0
     no-pages d =
@@ -277,7 +277,7 @@ made-desks ds size heads l made =
 
 -- Freed pages, and those that each desk holds, are no more than the body's pages.
 pub counts-low : (b : Book) → GoodDesks b
-    → (freedIn (b .space) ≤ b .size / pageSize) × ((d : ℕ) → d < desks → countOf d (b .held) ≤ b .size / pageSize)
+    → (freedIn (b .space) ≤ b .size / pageSize) × ((d : ℕ) → d < desks → deskCount d (b .held) ≤ b .size / pageSize)
 counts-low b good =
     let whole = good .balanced in
-    (omega arith, λ d h. let t = term-least desks d (λ i. countOf i (b .held)) h in omega arith)
+    (omega arith, λ d h. let t = term-least desks d (λ i. deskCount i (b .held)) h in omega arith)

@@ -24,7 +24,7 @@ use Rattle.book_rules.proofs.LawsOffered.{offered-on, offered-all}
 use Rattle.plain_book.specs.Book.{Book, fresh, Outcome, onKey, keyOf, withKey, inUse, extended, loads, appends, reads, drops, does}
 use Rattle.plain_book.specs.Book.{after, answers, deskIn, leaveOf}
 use Rattle.plain_book.specs.Did.{LoadDid, AppendDid}
-use Rattle.book_statements.specs.Moves.{Tally, noMoves, counted, talliedBy, tallied, tallyOf}
+use Rattle.book_statements.specs.Moves.{Tally, noMoves, withMove, talliedBy, tallied, tallyOf}
 use Rattle.plain_book.proofs.LawsDid.{OnlyRefuses, allowed-refuses, load-cases, append-cases}
 
 -- A call that is accepted is on a key of the book.
@@ -119,7 +119,7 @@ pub record KeptByCalls (P : Key → Tally → Type 0) : Type 0 where
   pub appends : (end : ℕ) (k : Key) (n : ℕ) (s : Space) (p : Placed) (t : Tally) → P k t → lastFrom 0 (k .list) < n → n < 2 ^ 62
       → AppendDid end (length (k .list)) (extended (k .list) n) n s (k .place) p
       → P (keyIn (extended (k .list) n) (p .place) (countedAfter (k .place) (k .counted)))
-      (counted (p .rewritten) t)
+      (withMove (p .rewritten) t)
   pub drops : P emptyKey noMoves
 
 module _ (P : Key → Tally → Type 0) (kept : KeptByCalls P) where
@@ -149,7 +149,7 @@ module _ (P : Key → Tally → Type 0) (kept : KeptByCalls P) where
         new = keyIn (extended (keyOf key b .list) n) (p .place) (countedAfter (keyOf key b .place) (keyOf key b .counted));
         space = p .space;
         book = ap (λ (x : Outcome Appended). x .book) is;
-        keeps = λ t h. rw (ap (λ (x : Outcome Appended). counted (x .told .rewritten) t) is)
+        keeps = λ t h. rw (ap (λ (x : Outcome Appended). withMove (x .told .rewritten) t) is)
             (kept .appends (b .size) (keyOf key b) n (b .space) p t h rises low got);
       }
   call-changed b (drop key) e =

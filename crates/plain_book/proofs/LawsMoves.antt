@@ -15,7 +15,7 @@ use Rattle.book_rules.specs.declared.places.SlabFit.{SlabFit}
 use Rattle.plain_book.specs.Space.{Space}
 use Rattle.book_rules.specs.Places.{stays, movesTo}
 use Rattle.plain_book.specs.Key.{Place, empty, inline, slab, pages, Kept, written, longer, Placed}
-use Rattle.book_statements.specs.Moves.{Tally, counted}
+use Rattle.book_statements.specs.Moves.{Tally, withMove}
 use Rattle.plain_book.specs.Sound.{Shortest}
 use Rattle.plain_book.specs.Ceilings.{mostMoves, mostRewritten}
 use Rattle.plain_book.specs.Did.{LoadDid, loaded-none, loaded-one, loaded-slab, loaded-run, Outgrown, AppendDid, began, stayed, moved-slab, moved-page, joined-page, begun-page}
@@ -57,19 +57,19 @@ spent-most n (pages ps) t s = s
 -- ---- counting
 
 -- An append that rewrites some records counts as one move at most, and adds its records.
-counted-moves : (r : ℕ) (t : Tally) → counted r t .moves ≤ suc (t .moves)
-unfolding counted
+counted-moves : (r : ℕ) (t : Tally) → withMove r t .moves ≤ suc (t .moves)
+unfolding withMove
 counted-moves zero t = omega arith
 counted-moves (suc r) t = rw (ne-eqb (suc r) 0 (λ (e : suc r ≡ 0). omega arith)) (le-refl (suc (t .moves)))
 
-counted-rewritten : (r : ℕ) (t : Tally) → counted r t .rewritten ≡ t .rewritten + r
-unfolding counted
+counted-rewritten : (r : ℕ) (t : Tally) → withMove r t .rewritten ≡ t .rewritten + r
+unfolding withMove
 counted-rewritten zero t = sym (add-zero (t .rewritten))
 counted-rewritten (suc r) t = rw (ne-eqb (suc r) 0 (λ (e : suc r ≡ 0). omega arith))
 
 -- An append that rewrites none leaves the tally.
-pub counted-none : (t : Tally) → counted 0 t ≡ t
-unfolding counted
+pub counted-none : (t : Tally) → withMove 0 t ≡ t
+unfolding withMove
 counted-none t = refl
 
 -- ---- moving
@@ -77,7 +77,7 @@ counted-none t = refl
 -- A list of held + 1 numbers moves to a slab of class c: out of one of class d, which it doesn't fit, or out of the head word.
 module _ (held bytes c : ℕ) (kept : Kept) (shortest : Shortest kept) (t : Tally) (m : Moves (held + 1) bytes c) where
   abbrev now : Tally
-  now = counted held t
+  now = withMove held t
 
   moves-now : now .moves ≤ suc (t .moves)
   moves-now = counted-moves held t
@@ -122,8 +122,8 @@ module _ (held bytes c : ℕ) (kept : Kept) (shortest : Shortest kept) (t : Tall
       }
 
 -- Out of a slab into a page.
-to-page : (held c : ℕ) (kept : Kept) (t : Tally) → InSlab c held kept t → (counted held t .moves ≤ mostMoves)
-    × (counted held t .rewritten ≤ mostRewritten)
+to-page : (held c : ℕ) (kept : Kept) (t : Tally) → InSlab c held kept t → (withMove held t .moves ≤ mostMoves)
+    × (withMove held t .rewritten ≤ mostRewritten)
 to-page held c kept t i =
     let a = counted-moves held t in
     let b = counted-rewritten held t in
@@ -137,7 +137,7 @@ to-page held c kept t i =
 -- Where a list goes that outgrew its place: to a slab,
 to-slab : (held : ℕ) (list : List ℕ) (n : ℕ) (old : Place) (t : Tally) → length list ≡ held + 1
     → ((class off : ℕ) (kept : Kept) → old ≡ slab class off kept → longer n kept .numbers ≡ list) → Spent held old t → Outgrown list n old
-    → (c : ℕ) → movesTo (length list) (streamLen list) ≡ some c → InSlab c (held + 1) (written list) (counted held t)
+    → (c : ℕ) → movesTo (length list) (streamLen list) ≡ some c → InSlab c (held + 1) (written list) (withMove held t)
 to-slab held list n empty t l same h out c q = absurd out
 to-slab held list n inline t l same (o, m, r) out c q =
     first-move held (streamLen list) c (written list) (written-shortest list) t (rw l at (moves-to (length list) (streamLen list) q)) m r
@@ -154,7 +154,7 @@ to-slab held list n (pages ps) t l same h out c q = absurd out
 
 -- or to a page.
 to-pages : (held : ℕ) (list : List ℕ) (n : ℕ) (old : Place) (t : Tally) → Spent held old t → Outgrown list n old
-    → (counted held t .moves ≤ mostMoves) × (counted held t .rewritten ≤ mostRewritten)
+    → (withMove held t .moves ≤ mostMoves) × (withMove held t .rewritten ≤ mostRewritten)
 to-pages held list n empty t h out = absurd out
 to-pages held list n inline t (o, m, r) out = (omega (arith, counted-moves held t), omega (arith, counted-rewritten held t))
 to-pages held list n (slab d off kept) t i out = to-page held d kept t i
@@ -179,7 +179,7 @@ stays-spent d held list n kept t l i b =
 -- An append keeps the tally within what the new place allows.
 pub append-spent : (end held : ℕ) (list : List ℕ) (n : ℕ) (s : Space) {old : Place} {p : Placed} (t : Tally) → length list ≡ held + 1
     → ((class off : ℕ) (kept : Kept) → old ≡ slab class off kept → longer n kept .numbers ≡ list) → Spent held old t
-    → AppendDid end held list n s old p → Spent (length list) (p .place) (counted (p .rewritten) t)
+    → AppendDid end held list n s old p → Spent (length list) (p .place) (withMove (p .rewritten) t)
 append-spent end held list n s t l same (z, m, r) began = rw (counted-none t) (omega arith, m, r)
 append-spent end held list n s t l same i (stayed d off kept q) = rw (counted-none t) (stays-spent d held list n kept t l i q)
 append-spent end held list n s t l same h (moved-slab old c x out q got) = rw l (to-slab held list n old t l same h out c q)

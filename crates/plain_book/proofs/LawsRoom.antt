@@ -24,7 +24,7 @@ use Rattle.book_limits.proofs.LawsLimits.{in-shape}
 use Rattle.book_rules.specs.Places.{stays, movesTo, loadsTo}
 use Rattle.book_rules.specs.Offered.{offeredNumber, offeredList}
 use Rattle.book_rules.proofs.LawsRules.{moves-to, loads-to}
-use Rattle.book_desks.specs.Desks.{desks, Limits, countOf, sumTo, lacks, lacksWith, permitted, listBad}
+use Rattle.book_desks.specs.Desks.{desks, Limits, deskCount, sumTo, lacks, lacksWith, permitted, listBad}
 use Rattle.book_desks.proofs.LawsSums.{sum-least, sum-same}
 use Rattle.book_desks.proofs.LawsDesks.{list-good}
 use Rattle.plain_book.specs.Space.{Space, Taken, stackOf, takeMark, takeSlab, rounded, takeRun, takeFresh, takeFrom, takeBlock}
@@ -105,14 +105,14 @@ Lets leave s most n = (k : ℕ) (a : Answer Taken) → k ≤ most → Takes s n 
 
 -- So does a desk's, where what the desks lack is left, and the desk stays within its ceiling.
 allowed-lets : (l : Limits) (end desk : ℕ) (held : List ℕ) (s : Space) (most n : ℕ)
-    → pageAfter (s .mark) + (n + lacks l held) * pageSize ≤ end → countOf desk held + most ≤ countOf desk (l .ceiling)
+    → pageAfter (s .mark) + (n + lacks l held) * pageSize ≤ end → deskCount desk held + most ≤ deskCount desk (l .ceiling)
     → Lets (allowed l end desk held) s most n
 unfolding allowed permitted
 allowed-lets l end desk held s most n room within k a few (t, is, near) =
     let less = with-less l held desk k in (
       t,
       then-yes a _ is
-          ∙ refuse-no _ _ _ (rw (le-ltb (countOf desk (l .ceiling)) (countOf desk held + k) (omega arith)) (and-false (not (eqb k 0))))
+          ∙ refuse-no _ _ _ (rw (le-ltb (deskCount desk (l .ceiling)) (deskCount desk held + k) (omega arith)) (and-false (not (eqb k 0))))
           ∙ refuse-no _ _ _ (le-ltb _ (lacksWith l held desk k) (omega arith)),
     )
 
@@ -247,7 +247,7 @@ module _ (b : Book) (bytes : ℕ) (ds : List ℕ) (shape : outOfShape (b .size +
 
   -- What the grown book's desk has to pass.
   grown-lets : (key most n : ℕ) → pageAfter (b .space .mark) + (n + lacks (b .limits) (b .held)) * pageSize ≤ b .size + bytes
-      → countOf (deskIn b key) (b .held) + most ≤ countOf (deskIn b key) (b .limits .ceiling) → key < length (b .desks)
+      → deskCount (deskIn b key) (b .held) + most ≤ deskCount (deskIn b key) (b .limits .ceiling) → key < length (b .desks)
       → Lets (leaveOf (grown bytes ds b) key) (b .space) most n
   grown-lets key most n room within low =
       rw (desk-grown key low) (allowed-lets (b .limits) (b .size + bytes) (deskIn b key) (b .held) (b .space) most n room within)

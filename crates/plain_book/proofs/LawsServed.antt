@@ -16,7 +16,7 @@ use Rattle.book_limits.specs.Limits.{outOfShape, pageAfter, pastSlabs}
 use Rattle.book_rules.specs.Outcomes.{Appended}
 use Rattle.book_rules.specs.Places.{stays, movesTo}
 use Rattle.book_rules.proofs.LawsOffered.{rising-on}
-use Rattle.book_desks.specs.Desks.{desks, countOf}
+use Rattle.book_desks.specs.Desks.{desks, deskCount}
 use Rattle.book_desks.proofs.LawsDesks.{permits-by, one-lacks}
 use Rattle.plain_book.specs.Space.{Space, stackOf, Taken, takeMark, rounded, runAtMark, takeFresh, takeFrom, takeBlock}
 use Rattle.plain_book.specs.Key.{Place, empty, inline, slab, pages, longer, joins, Leave, Placed, moved, beginPage, appendPages}
@@ -28,7 +28,7 @@ use Rattle.plain_book.proofs.LawsDesks.{hadIn, rounded-freed, rounded-a
 use Rattle.plain_book.proofs.LawsCounts.{desk-known}
 
 module _ (b : Book) (desk : ℕ) (good : GoodDesks b) (nine : length (b .space .stacks) ≡ 9) (known : desk < desks)
-    (below : countOf desk (b .held) < countOf desk (b .limits .reserve)) where
+    (below : deskCount desk (b .held) < deskCount desk (b .limits .reserve)) where
   abbrev s : Space
   s = b .space
 
@@ -118,7 +118,7 @@ module _ (end : ℕ) (leave : Leave) (held : ℕ) (list : List ℕ) (s : Space) 
 -- A desk below its reserve is served: an append of its key that needs a page, of a number that rises, is accepted.
 pub served : (b : Book) (key n : ℕ) → GoodPlain b → outOfShape (b .size) (length (b .keys)) ≡ false → key < length (b .keys)
     → lastFrom 0 (keyOf key b .list) < n → n < 2 ^ 62 → needsPage (keyOf key b) n ≡ true
-    → countOf (deskIn b key) (b .held) < countOf (deskIn b key) (b .limits .reserve)
+    → deskCount (deskIn b key) (b .held) < deskCount (deskIn b key) (b .limits .reserve)
     → (o : Outcome Appended) × (appends b key n ≡ accepted o)
 unfolding appends onKey
 served b key n good shape within rises low needs below =

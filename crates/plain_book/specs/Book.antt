@@ -16,7 +16,7 @@ use Rattle.book_statements.specs.Calls.{Enquiry, read, Change, load, append, dr
 use Rattle.book_statements.specs.Calls.{answersTo}
 use Rattle.book_rules.specs.Offered.{offeredNumber, offeredList}
 use Rattle.book_limits.specs.Limits.{outOfShape}
-use Rattle.book_desks.specs.Desks.{desks, Limits, countOf, permitted, making, listBad, deskOf}
+use Rattle.book_desks.specs.Desks.{desks, Limits, deskCount, permitted, making, listBad, deskOf}
 use Rattle.plain_book.specs.Space.{Space, stackOf}
 use Rattle.plain_book.specs.Key.{Place, empty, inline, slab, pages, Key, emptyKey, headOf, pagesOf, paddedOf, freedPlace, countedAfter, keyIn}
 use Rattle.plain_book.specs.Key.{Leave, appendPlace, loadPlace}
@@ -99,7 +99,7 @@ withKey key k space b =
       keys = set (b .keys) key k;
       space = space;
       desks = b .desks;
-      held = set (b .held) (deskIn b key) (countOf (deskIn b key) (b .held) + pagesOf (k .place) - pagesOf (keyOf key b .place));
+      held = set (b .held) (deskIn b key) (deskCount (deskIn b key) (b .held) + pagesOf (k .place) - pagesOf (keyOf key b .place));
       limits = b .limits;
     }
 

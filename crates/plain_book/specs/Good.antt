@@ -8,7 +8,7 @@ use lib.ListN.{length}
 use Rattle.scripthash_layout.specs.Sizes.{pageSize}
 use Rattle.scripthash_free.specs.FreeList.{Block}
 use Rattle.book_limits.specs.Limits.{outOfShape}
-use Rattle.book_desks.specs.Desks.{desks, countOf, sumTo, total, lacks, toBeHad, listBad}
+use Rattle.book_desks.specs.Desks.{desks, deskCount, sumTo, total, lacks, toBeHad, listBad}
 use Rattle.plain_book.specs.Space.{Space}
 use Rattle.plain_book.specs.Key.{Place, pagesOf}
 use Rattle.plain_book.specs.Book.{Book, keyOf, deskIn, freedIn}
@@ -46,11 +46,11 @@ pub record GoodDesks (b : Book) : Type 0 where
   pub named : listBad (b .desks) (length (b .keys)) ≡ false
   -- There is a count for each desk: the pages of its keys.
   pub sixteen : length (b .held) ≡ desks
-  pub exact : (d : ℕ) → d < desks → countOf d (b .held) ≡ pagesOfDesk b d
+  pub exact : (d : ℕ) → d < desks → deskCount d (b .held) ≡ pagesOfDesk b d
   -- No desk holds more than its ceiling, no reserve is above its ceiling, and none above the body's pages.
-  pub ceilings : (d : ℕ) → d < desks → countOf d (b .held) ≤ countOf d (b .limits .ceiling)
-  pub reserves : (d : ℕ) → d < desks → countOf d (b .limits .reserve) ≤ countOf d (b .limits .ceiling)
-  pub low : (d : ℕ) → d < desks → countOf d (b .limits .reserve) ≤ b .size / pageSize
+  pub ceilings : (d : ℕ) → d < desks → deskCount d (b .held) ≤ deskCount d (b .limits .ceiling)
+  pub reserves : (d : ℕ) → d < desks → deskCount d (b .limits .reserve) ≤ deskCount d (b .limits .ceiling)
+  pub low : (d : ℕ) → d < desks → deskCount d (b .limits .reserve) ≤ b .size / pageSize
   -- The pages to be had cover what the desks lack.
   pub covered : lacks (b .limits) (b .held) ≤ toBeHadIn b
   -- With the first page, what is held and what is to be had is no more than the body's pages.

@@ -9,7 +9,7 @@ use Rattle.scripthash_layout.specs.Sizes.{pageSize}
 use Rattle.scripthash_cutting.specs.Cutting.{cutting}
 use Rattle.book_statements.specs.Calls.{Change, load, append, drop, keyOfChange}
 use Rattle.book_limits.specs.Limits.{pageAfter}
-use Rattle.book_desks.specs.Desks.{countOf, lacks}
+use Rattle.book_desks.specs.Desks.{deskCount, lacks}
 use Rattle.plain_book.specs.Key.{emptyKey}
 use Rattle.plain_book.specs.Book.{Book, deskIn}
 
@@ -41,7 +41,7 @@ pagesEnough (drop key) = 0
 -- with what it takes its desk stays within the desk's ceiling.
 pub record Affords (b : Book) (end : ℕ) (c : Change) : Type 0 where
   pub room : pageAfter (b .space .mark) + (pagesEnough c + lacks (b .limits) (b .held)) * pageSize ≤ end
-  pub within : countOf (deskIn b (keyOfChange c)) (b .held) + pagesTaken c ≤ countOf (deskIn b (keyOfChange c)) (b .limits .ceiling)
+  pub within : deskCount (deskIn b (keyOfChange c)) (b .held) + pagesTaken c ≤ deskCount (deskIn b (keyOfChange c)) (b .limits .ceiling)
 
 -- What a refusal for want of room says: 36, or 41 where the reserves need what is left.
 abbrev pub ForRoom : ℕ → Type 0

@@ -9,7 +9,7 @@ use borrow.Author.Tests.{lt-leb}
 use lib.ListN.{getD}
 use Rattle.buffer.proofs.LawsOrder.{lt-or-ge}
 use Rattle.compact.specs.Uleb128.{goesOn}
-use Rattle.scripthash_scan.specs.Weights.{total, twoBefore, threeBefore, behindTwo}
+use Rattle.scripthash_scan.specs.Weights.{totalOver, twoBefore, threeBefore, behindTwo}
 use Rattle.scripthash_scan.specs.Weights.{behindThree, behindFour, twoGoOn, threeGoOn, fiveGoOn}
 use Rattle.scripthash_scan.specs.Weights.{Lacks, Longest}
 use Rattle.scripthash_scan.proofs.LawsTotals.{total-same}
@@ -92,11 +92,11 @@ module _ (buf : List ℕ) (from to : ℕ) where
 
 -- where no form has three bytes, no byte is behind two, as far as one looks; where none has four, none is behind three, nor behind four
 module _ (buf : List ℕ) (from to longest at : ℕ) (l : Longest buf from to longest) (h : from ≤ at) (k : at ≤ to) where
-  pub no-thirds : longest ≤ 2 → total (behindTwo buf) from ≡ total (behindTwo buf) at
+  pub no-thirds : longest ≤ 2 → totalOver (behindTwo buf) from ≡ totalOver (behindTwo buf) at
   no-thirds m = total-same (behindTwo buf) from at h (λ i p q. rw (l .two m i p (omega arith)))
 
   pub no-fourths : longest ≤ 3
-      → (total (behindThree buf) from ≡ total (behindThree buf) at) × (total (behindFour buf) from ≡ total (behindFour buf) at)
+      → (totalOver (behindThree buf) from ≡ totalOver (behindThree buf) at) × (totalOver (behindFour buf) from ≡ totalOver (behindFour buf) at)
   no-fourths m = (
     total-same (behindThree buf) from at h (λ i p q. rw (l .three m i p (omega arith))),
     total-same (behindFour buf) from at h (λ i p q. rw (l .three m i p (omega arith))),

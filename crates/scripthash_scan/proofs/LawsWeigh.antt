@@ -14,7 +14,7 @@ use Rattle.error.specs.Refusal.{Answer, accepted}
 use Rattle.buffer.proofs.LawsOrder.{lt-or-ge}
 use Rattle.compact.specs.Uleb128.{goesOn, piece}
 use Rattle.scripthash_stream.specs.Stream.{End, endsFrom}
-use Rattle.scripthash_scan.specs.Weights.{total, endAt, oneBefore, twoBefore, threeBefore, fourBefore, pieceAt}
+use Rattle.scripthash_scan.specs.Weights.{totalOver, endAt, oneBefore, twoBefore, threeBefore, fourBefore, pieceAt}
 use Rattle.scripthash_scan.specs.Weights.{behindOne, behindTwo, behindThree, behindFour, weighed, fiveGoOn, Lacks}
 use Rattle.scripthash_forms.proofs.LawsForms.{Carried, form-start, form-on, form-last}
 use Rattle.scripthash_stream.proofs.LawsScanEnd.{ends-next, ends-now}
@@ -98,7 +98,7 @@ pub record Midway (buf : List ℕ) (from sum count i : ℕ) (a : Answer End) : T
   pub within : Within buf i j
   pub ends : endsFrom off prev (count - k) (drop off buf) ≡ a
   pub sums : prev + acc + weighed buf from ≡ sum + weighed buf i
-  pub counted : k + total (endAt buf) from ≡ total (endAt buf) i
+  pub counted : k + totalOver (endAt buf) from ≡ totalOver (endAt buf) i
   pub none : j ≡ 0 → acc ≡ 0
 
 -- before the first byte
@@ -207,7 +207,7 @@ weighed-rises bs a b h =
 
 -- bytes without a 0 and without a form of six bytes, in which so many forms end, and whose weights are `more`
 module _ (buf : List ℕ) (from sum count to more : ℕ) (l : 4 ≤ from) (r : from ≤ to) (inside : to ≤ length buf)
-    (plain : Lacks buf (fiveGoOn buf) from to) (counts : total (endAt buf) from + count ≡ total (endAt buf) to)
+    (plain : Lacks buf (fiveGoOn buf) from to) (counts : totalOver (endAt buf) from + count ≡ totalOver (endAt buf) to)
     (weighs : weighed buf from + more ≡ weighed buf to) (low : sum + more < 2 ^ 63) where
   midway-next : (i : ℕ) (a : Answer End) → from ≤ i → i < to → Midway buf from sum count i a → Midway buf from sum count (i + 1) a
   midway-next i a p q w =

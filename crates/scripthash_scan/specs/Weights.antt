@@ -8,9 +8,9 @@ use Rattle.compact.specs.Uleb128.{goesOn, piece}
 use Rattle.scripthash_words.specs.Words.{endOne}
 
 -- The sum of what f gives for the places before i.
-unfoldable pub total : (ℕ → ℕ) → ℕ → ℕ
-total f zero = 0
-total f (suc i) = total f i + f i
+unfoldable pub totalOver : (ℕ → ℕ) → ℕ → ℕ
+totalOver f zero = 0
+totalOver f (suc i) = totalOver f i + f i
 
 -- 1 where the byte at place i ends its form, else 0: the total counts the forms that end before a place.
 abbrev pub endAt : List ℕ → ℕ → ℕ
@@ -52,13 +52,13 @@ behindFour bs i = pieceIf (fourBefore bs i) (getD bs i 0)
 -- The differences whose forms stand before place i, where none has more than two bytes, than three, than five: the weights of a byte add up
 -- to a power of 128.
 abbrev pub weighedTwo : List ℕ → ℕ → ℕ
-weighedTwo bs i = total (pieceAt bs) i + 127 * total (behindOne bs) i
+weighedTwo bs i = totalOver (pieceAt bs) i + 127 * totalOver (behindOne bs) i
 
 abbrev pub weighedThree : List ℕ → ℕ → ℕ
-weighedThree bs i = weighedTwo bs i + 16256 * total (behindTwo bs) i
+weighedThree bs i = weighedTwo bs i + 16256 * totalOver (behindTwo bs) i
 
 abbrev pub weighed : List ℕ → ℕ → ℕ
-weighed bs i = weighedThree bs i + 2080768 * total (behindThree bs) i + 266338304 * total (behindFour bs) i
+weighed bs i = weighedThree bs i + 2080768 * totalOver (behindThree bs) i + 266338304 * totalOver (behindFour bs) i
 
 -- The byte at place i goes on, and the one before it does; the two before it do; the four.
 abbrev pub twoGoOn : List ℕ → ℕ → Bool

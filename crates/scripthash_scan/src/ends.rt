@@ -4,7 +4,7 @@ ghost use mathlib.Core.Path.{_≡_};
 ghost use Prim.Native.Nat.{_+_, _*_, _≤_, _<_};
 ghost use lib.ListN.{length};
 ghost use Rattle.scripthash_words.specs.Words.{endOne};
-ghost use Rattle.scripthash_scan.specs.Weights.{total, endAt};
+ghost use Rattle.scripthash_scan.specs.Weights.{totalOver, endAt};
 
 // The place up to which forms were counted, and how many are still to end.
 struct Counted {
@@ -39,7 +39,7 @@ fn forms(count: u8) -> usize
 // How many forms end in at most 240 bytes.
 fn ends_in(buf: &[u8], from: usize, to: usize) -> u8
     requires { ⌜ (from ≤ to) × (to ≤ length (now buf)) × (to ≤ from + 240) ⌝ }
-    ensures { λ r. ⌜ (total (endAt (now (buf .entry))) from + r ≡ total (endAt (now (buf .entry))) to) × (from + r ≤ to) ⌝ }
+    ensures { λ r. ⌜ (totalOver (endAt (now (buf .entry))) from + r ≡ totalOver (endAt (now (buf .entry))) to) × (from + r ≤ to) ⌝ }
 {
     let mut count: u8 = 0;
     let mut i = from;
@@ -62,7 +62,7 @@ pub fn ends_early(buf: &[u8]) -> usize {
 // bytes follow, or where forms of six bytes and more are met.
 fn count_blocks(buf: &[u8], from: usize, want: usize) -> Counted
     requires { ⌜ from ≤ length (now buf) ⌝ }
-    ensures { λ r. ⌜ (total (endAt (now (buf .entry))) from + want ≡ total (endAt (now (buf .entry))) (r .at) + r .left) × (from ≤ r .at)
+    ensures { λ r. ⌜ (totalOver (endAt (now (buf .entry))) from + want ≡ totalOver (endAt (now (buf .entry))) (r .at) + r .left) × (from ≤ r .at)
         × (r .at ≤ length (now (buf .entry))) ⌝ }
 {
     let mut at = from;
@@ -130,7 +130,7 @@ fn shorter(dense: usize) -> usize
 // there is none; nor is there where forms of six bytes and more are met.
 fn stepped(buf: &[u8], at: usize, left: usize, dense: usize) -> Counting
     requires { ⌜ (at ≤ length (now buf)) × (16 ≤ left) × (0 < dense) × (dense ≤ 16) ⌝ }
-    ensures { λ r. ⌜ (total (endAt (now (buf .entry))) at + left ≡ total (endAt (now (buf .entry))) (r .at) + r .left) × (at ≤ r .at)
+    ensures { λ r. ⌜ (totalOver (endAt (now (buf .entry))) at + left ≡ totalOver (endAt (now (buf .entry))) (r .at) + r .left) × (at ≤ r .at)
         × (r .at ≤ length (now (buf .entry))) × (r .dense ≤ 16) × (0 < r .dense → 32 * at + dense < 32 * r .at + r .dense) ⌝ }
 {
     let step = step_of(left, dense);
@@ -173,7 +173,7 @@ fn stepped(buf: &[u8], at: usize, left: usize, dense: usize) -> Counting
 // forms of six bytes and more are met.
 fn count_forms(buf: &[u8], from: usize, want: usize) -> Counted
     requires { ⌜ from ≤ length (now buf) ⌝ }
-    ensures { λ r. ⌜ (total (endAt (now (buf .entry))) from + want ≡ total (endAt (now (buf .entry))) (r .at) + r .left) × (from ≤ r .at)
+    ensures { λ r. ⌜ (totalOver (endAt (now (buf .entry))) from + want ≡ totalOver (endAt (now (buf .entry))) (r .at) + r .left) × (from ≤ r .at)
         × (r .at ≤ length (now (buf .entry))) ⌝ }
 {
     let mut at = from;
@@ -194,7 +194,7 @@ fn count_forms(buf: &[u8], from: usize, want: usize) -> Counted
 // The place behind so many forms from another place on, or 0 where the bytes end first or the forms are long.
 pub fn end_of(buf: &[u8], from: usize, want: usize) -> usize
     requires { ⌜ from ≤ length (now buf) ⌝ }
-    ensures { λ r. ⌜ (0 < r → (total (endAt (now (buf .entry))) from + want ≡ total (endAt (now (buf .entry))) r) × (from ≤ r)
+    ensures { λ r. ⌜ (0 < r → (totalOver (endAt (now (buf .entry))) from + want ≡ totalOver (endAt (now (buf .entry))) r) × (from ≤ r)
         × (r ≤ length (now (buf .entry)))) ⌝ }
 {
     let blocks = count_blocks(buf, from, want);

@@ -3,7 +3,7 @@ ghost use mathlib.Core.Path.{_≡_};
 ghost use lib.ListN.{length};
 ghost use Rattle.error.specs.Refusal.{answered};
 ghost use Rattle.scripthash_stream.specs.Stream.{endFrom, scan, decodeStream, afterDecode, streamTold};
-ghost use Rattle.scripthash_stream.specs.Answers.{scanAnswer, bytesAnswer, readAnswer};
+ghost use Rattle.scripthash_stream.specs.Answers.{scanAnswer, bytesAnswer, streamReadAnswer};
 use scripthash_stream::ScanStream;
 use scripthash_stream::StreamBytes;
 use scripthash_stream::StreamRead;
@@ -75,7 +75,7 @@ fn read_stream(buf: &[u8], n: usize, out: &mut [u64]) -> StreamBytes
 // Reads a stream of n numbers at the start of buf into the start of out: how many bytes it takes, and how many numbers are padded. These
 // are counted once the stream is read; where every form has one byte there is nothing to count.
 pub fn decode_fk_delta_stream_into(buf: &[u8], n: usize, out: &mut [u64]) -> StreamRead
-    ensures answer { λ r. ⌜ readAnswer r
+    ensures answer { λ r. ⌜ streamReadAnswer r
         ≡ answered (streamTold n (now (buf .entry))) (decodeStream (length (now (out .entry))) n (now (buf .entry))) ⌝ }
     ensures list { λ r. ⌜ now (out .exit)
         ≡ afterDecode (now (out .entry)) (decodeStream (length (now (out .entry))) n (now (buf .entry))) ⌝ }

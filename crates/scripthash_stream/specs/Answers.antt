@@ -28,6 +28,6 @@ bytesAnswer (Bytes len) = accepted len
 bytesAnswer (NoBytes number) = refused number
 
 -- The answer of `decode_fk_delta_stream_into`.
-abbrev pub readAnswer : StreamRead → Answer StreamTold
-readAnswer (Read taken padded) = accepted (record { taken = taken; padded = padded })
-readAnswer (NotRead number) = refused number
+abbrev pub streamReadAnswer : StreamRead → Answer StreamTold
+streamReadAnswer (Read taken padded) = accepted (record { taken = taken; padded = padded })
+streamReadAnswer (NotRead number) = refused number

@@ -5,7 +5,7 @@ ghost use lib.ListN.{length, drop};
 ghost use Rattle.error.specs.Refusal.{accepted, answered, refusalOf};
 ghost use Rattle.buffer.specs.Bytes.{overwrite};
 ghost use Rattle.scripthash_stream.specs.Stream.{Scan, storedNumber, nextNumber, endFrom, scan, decodeStream, afterDecode};
-ghost use Rattle.scripthash_stream.specs.Answers.{nextAnswer, scanAnswer, bytesAnswer, readAnswer};
+ghost use Rattle.scripthash_stream.specs.Answers.{nextAnswer, scanAnswer, bytesAnswer, streamReadAnswer};
 use compact::ReadUleb128;
 use error::Refusal;
 
@@ -78,7 +78,7 @@ impl StreamBytes {
 impl StreamRead {
     // The refusal's number, and 0 of another answer.
     pub fn refusal(self) -> Refusal
-        ensures { λ r. ⌜ r ≡ refusalOf (readAnswer self) ⌝ }
+        ensures { λ r. ⌜ r ≡ refusalOf (streamReadAnswer self) ⌝ }
     {
         match self {
             StreamRead::Read {

@@ -8,7 +8,7 @@ use borrow.Author.Needs.{needs}
 use borrow.Author.Tests.{lt-ltb, le-ltb}
 use lib.Dec.{ltb}
 use Rattle.error.specs.Refusal.{accepted}
-use Rattle.book_desks.specs.Desks.{desks, countOf, lacks}
+use Rattle.book_desks.specs.Desks.{desks, deskCount, lacks}
 use Rattle.book_desks.specs.Counts.{heldCount, heldIn, limitsIn}
 use Rattle.book.specs.Book.{Book}
 use Rattle.book.specs.Answers.{bookOf}
@@ -55,7 +55,7 @@ module _ (t : tie.In-loop Inv-loop μ-loop) where
       all : from ds book after d ≡ from ds book after 0
       all = t .before .loop .inv .left ds body heads mark free tallied
 
-      known : countOf d (at .args .t2) ≡ pagesOfDesk ds book d
+      known : deskCount d (at .args .t2) ≡ pagesOfDesk ds book d
       known = tallied d (t .loop-test .taken)
 
 -- its count is true

@@ -3,7 +3,7 @@ use Prim.Native.Nat.{ℕ, _*_, _-_, _≤_, _^_}
 use mathlib.Core.Path.{_≡_, refl, sym, ap, _∙_}
 use native.Mathlib.Omega.{arith}
 use borrow.Author.Needs.{needs}
-use Rattle.book_desks.specs.Desks.{desks, countOf, sumTo}
+use Rattle.book_desks.specs.Desks.{desks, deskCount, sumTo}
 use Rattle.book_desks.specs.Counts.{heldCount, heldIn}
 use Rattle.book_desks.proofs.LawsSums.{sum-none, sum-step, sum-same}
 use Rattle.book_desks.proofs.LawsCounts.{held-at}
@@ -53,7 +53,7 @@ returns c =
     let words = c .before .before .args .counts .now in
     let e : l .d ≡ 16 = omega arith in
     l .inv .1 ∙ ap (λ (n : ℕ). sumTo n (λ i. heldCount i words)) e
-    ∙ sum-same desks (λ i. heldCount i words) (λ i. countOf i (heldIn words)) (λ i h. sym (held-at words i h))
+    ∙ sum-same desks (λ i. heldCount i words) (λ i. deskCount i (heldIn words)) (λ i h. sym (held-at words i h))
 
 pub sum-of-held-spec : {M : Type 1} → statement M
 sum-of-held-spec =

@@ -5,7 +5,7 @@ use mathlib.Core.Path.{_≡_, ap, _∙_}
 use native.Mathlib.Omega.{arith}
 use borrow.Author.Needs.{needs}
 use lib.ListN.{length, getD}
-use Rattle.book_desks.specs.Desks.{desks, countOf, sumTo, deskOf}
+use Rattle.book_desks.specs.Desks.{desks, deskCount, sumTo, deskOf}
 use Rattle.book_desks.proofs.LawsDesks.{list-good, desk-in}
 use Rattle.book_keys.specs.Keys.{ground}
 use Rattle.book.specs.Book.{Book}
@@ -53,7 +53,7 @@ module _ (t : tie.In-loop Inv-loop μ-loop) where
       let m = at .pre .most in
       omega arith
 
-  small : countOf (deskOf ds key) (t .before .loop .tally) ≤ 2 ^ 45
+  small : deskCount (deskOf ds key) (t .before .loop .tally) ≤ 2 ^ 45
   small =
       let s = tally-small ds (book [] []) (t .before .loop .tally) key (t .before .loop .inv .all [] []) (2 ^ 29) (deskOf ds key)
       few desk in

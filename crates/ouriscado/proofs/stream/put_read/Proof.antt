@@ -2,7 +2,7 @@
 use mathlib.Core.Path.{ap}
 use Rattle.error.proofs.LawsOut.{number-accepted, number-refused, value-accepted, value-refused}
 use Rattle.scripthash_stream.specs.Stream.{StreamTold}
-use Rattle.scripthash_stream.specs.Answers.{readAnswer}
+use Rattle.scripthash_stream.specs.Answers.{streamReadAnswer}
 use borrow.Author.Needs.{needs}
 use Rattle.ouriscado.proofs.stream.put_read.Statement.{statement}
 use Rattle.ouriscado.proofs.stream.put_read.Tie as tie
@@ -15,12 +15,12 @@ enum-known-got-2 c = search needs
 
 returns : tie.Need-returns
 returns c =
-    let yes = ap readAnswer (c .before .got .given .1) in
+    let yes = ap streamReadAnswer (c .before .got .given .1) in
     (number-accepted yes, (value-accepted (λ (x : StreamTold). x .taken) _ yes, value-accepted (λ (x : StreamTold). x .padded) _ yes))
 
 returns-2 : tie.Need-returns-2
 returns-2 c =
-    let no = ap readAnswer (c .before .got2 .given .1) in
+    let no = ap streamReadAnswer (c .before .got2 .given .1) in
     (number-refused no, (value-refused (λ (x : StreamTold). x .taken) _ no, value-refused (λ (x : StreamTold). x .padded) _ no))
 
 pub put-read-spec : {M : Type 1} → statement M

@@ -9,7 +9,7 @@ use Rattle.error.specs.Refusal.{Answer, accepted, refused, refusalOf, answered}
 use Rattle.error.proofs.LawsAnswer.{was-accepted, was-refused, answered-yes, answered-no}
 use Rattle.buffer.proofs.LawsBytes.{part-to-end}
 use Rattle.scripthash_stream.specs.Stream.{Scan, StreamTold, streamTold, paddedIn, decodeStream, afterDecode}
-use Rattle.scripthash_stream.specs.Answers.{readAnswer}
+use Rattle.scripthash_stream.specs.Answers.{streamReadAnswer}
 use Rattle.scripthash_stream.specs.declared.stream.StreamRead.{StreamRead}
 use Rattle.scripthash_stream.proofs.LawsScan.{scan-accepted}
 use Rattle.scripthash_stream.proofs.LawsDecode.{decode-accepted, after-refused}
@@ -52,7 +52,7 @@ module _ (c : tie.After-decode-fk-delta-stream-into) where
   same = ap (decodeStream (length out) (place at .count)) (part-to-end (page at) (place at .off))
       ∙ sym (entries-yes (length out) (page at) (place at) (is at))
 
-  answer : readAnswer (c .decode-fk-delta-stream-into .result) ≡ answered (streamTold (place at .count) rest) decoded
+  answer : streamReadAnswer (c .decode-fk-delta-stream-into .result) ≡ answered (streamTold (place at .count) rest) decoded
   answer = c .decode-fk-delta-stream-into .ensures .0 ∙ ap (answered (streamTold (place at .count) rest)) same
 
   counts : paddedIn (place at .count) rest ≡ pagePadded (page at)
@@ -112,8 +112,8 @@ returns-2 : tie.Need-returns-2
 returns-2 c =
     let d = c .before .before .before .before .before in
     let told = c .before .enum-told2 .given in
-    let stop = was-refused (streamTold (place (at d) .count) (rest d)) (decoded d) (sym (answer d) ∙ ap readAnswer (told .1)) in (
-      ap refused (c .refusal2 .ensures ∙ ap (λ (g : StreamRead). refusalOf (readAnswer g)) (told .1))
+    let stop = was-refused (streamTold (place (at d) .count) (rest d)) (decoded d) (sym (answer d) ∙ ap streamReadAnswer (told .1)) in (
+      ap refused (c .refusal2 .ensures ∙ ap (λ (g : StreamRead). refusalOf (streamReadAnswer g)) (told .1))
           ∙ sym (answered-no (entriesReadOf (page (at d))) (decoded d) stop),
       list d,
     )
@@ -125,7 +125,7 @@ returns-3 : tie.Need-returns-3
 returns-3 c =
     let d = c .before .before .before .before .before in
     let told = c .before .got .given in
-    let got = was-accepted (streamTold (place (at d) .count) (rest d)) (decoded d) (sym (answer d) ∙ ap readAnswer (told .1)) in
+    let got = was-accepted (streamTold (place (at d) .count) (rest d)) (decoded d) (sym (answer d) ∙ ap streamReadAnswer (told .1)) in
     let known = scan-accepted 0 _ _ _ (decode-accepted (length (out d)) _ _ (same d ∙ got .1) .0) in
     let counted = sym (ap (λ (t : StreamTold). t .padded) (got .2)) ∙ counts d in (
       ap (λ (n : ℕ). accepted (record { count = n; padded = told .0 .1 .0 })) (sym (known .counted))

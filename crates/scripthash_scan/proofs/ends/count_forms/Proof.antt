@@ -4,14 +4,14 @@ use Prim.Native.Nat.{_+_, _-_, _*_, _≤_, _<_}
 use mathlib.Core.Path.{_≡_, refl}
 use native.Mathlib.Omega.{arith}
 use lib.ListN.{length}
-use Rattle.scripthash_scan.specs.Weights.{total, endAt}
+use Rattle.scripthash_scan.specs.Weights.{totalOver, endAt}
 use borrow.Author.Needs.{needs}
 use Rattle.scripthash_scan.proofs.ends.count_forms.Statement.{statement}
 use Rattle.scripthash_scan.proofs.ends.count_forms.Tie as tie
 
 abbrev Inv-loop : tie.InvT-loop
 Inv-loop buf from want at₀ left₀ dense₀ at left dense =
-    (from ≤ at) × (at ≤ length buf) × (0 < dense) × (dense ≤ 16) × (total (endAt buf) from + want ≡ total (endAt buf) at + left)
+    (from ≤ at) × (at ≤ length buf) × (0 < dense) × (dense ≤ 16) × (totalOver (endAt buf) from + want ≡ totalOver (endAt buf) at + left)
 
 abbrev μ-loop : tie.MeasureT-loop
 μ-loop buf from want at₀ left₀ dense₀ at left dense = 32 * (length buf - at) + (16 - dense)

@@ -4,7 +4,7 @@ use mathlib.Core.Path.{_≡_}
 use native.Mathlib.Nat.{not-suc-le-zero}
 use native.Mathlib.Omega.{arith}
 use lib.ListN.{length}
-use Rattle.scripthash_scan.specs.Weights.{total, endAt}
+use Rattle.scripthash_scan.specs.Weights.{totalOver, endAt}
 use Rattle.scripthash_scan.proofs.LawsTotals.{total-next}
 use borrow.Author.Needs.{needs}
 use Rattle.scripthash_scan.proofs.ends.end_of.Statement.{statement}
@@ -12,7 +12,7 @@ use Rattle.scripthash_scan.proofs.ends.end_of.Tie as tie
 
 abbrev Inv-loop : tie.InvT-loop
 Inv-loop buf from want at₀ left₀ at left =
-    (from ≤ at) × (at ≤ length buf) × (total (endAt buf) from + want ≡ total (endAt buf) at + left)
+    (from ≤ at) × (at ≤ length buf) × (totalOver (endAt buf) from + want ≡ totalOver (endAt buf) at + left)
 
 abbrev μ-loop : tie.MeasureT-loop
 μ-loop buf from want at₀ left₀ at left = length buf - at

@@ -4,7 +4,7 @@ use mathlib.Core.Path.{_≡_, refl}
 use native.Mathlib.Nat.{add-zero}
 use native.Mathlib.Omega.{arith}
 use lib.ListN.{length}
-use Rattle.scripthash_scan.specs.Weights.{total, endAt}
+use Rattle.scripthash_scan.specs.Weights.{totalOver, endAt}
 use Rattle.scripthash_scan.proofs.LawsTotals.{total-next}
 use borrow.Author.Needs.{needs}
 use Rattle.scripthash_scan.proofs.ends.ends_in.Statement.{statement}
@@ -13,7 +13,7 @@ use Rattle.scripthash_scan.proofs.ends.ends_in.Tie as tie
 abbrev Inv-loop : tie.InvT-loop
 Inv-loop buf from to count₀ i₀ count i =
     (from ≤ i) × (i ≤ to) × (to ≤ length buf) × (to ≤ from + 240) × (from + count ≤ i)
-    × (total (endAt buf) from + count ≡ total (endAt buf) i)
+    × (totalOver (endAt buf) from + count ≡ totalOver (endAt buf) i)
 
 abbrev μ-loop : tie.MeasureT-loop
 μ-loop buf from to count₀ i₀ count i = to - i

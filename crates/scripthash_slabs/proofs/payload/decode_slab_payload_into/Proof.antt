@@ -11,7 +11,7 @@ use Rattle.error.proofs.LawsAnswer.{answered-yes, answered-no, was-accepted, wa
 use Rattle.buffer.proofs.LawsBytes.{part-to-end}
 use Rattle.scripthash_stream.specs.Stream.{Scan, scan, StreamTold, streamTold, paddedIn, decodeStream, afterDecode}
 use Rattle.scripthash_slabs.specs.Slab.{SlabList, slabUsed, slabPadded, slabListOf, decodeSlab}
-use Rattle.scripthash_stream.specs.Answers.{readAnswer}
+use Rattle.scripthash_stream.specs.Answers.{streamReadAnswer}
 use Rattle.scripthash_slabs.specs.Answers.{slabAnswer}
 use Rattle.scripthash_stream.specs.declared.stream.StreamRead.{StreamRead}
 use Rattle.scripthash_stream.proofs.LawsScan.{scan-accepted}
@@ -46,7 +46,7 @@ module _ (c : tie.After-decode-fk-delta-stream-into) where
   abbrev used : ℕ
   used = c .before .before .before .get-u16 .result
 
-  answer : readAnswer (c .decode-fk-delta-stream-into .result) ≡ answered (streamTold used rest) decoded
+  answer : streamReadAnswer (c .decode-fk-delta-stream-into .result) ≡ answered (streamTold used rest) decoded
   answer = c .decode-fk-delta-stream-into .ensures .0 ∙ ap (answered (streamTold used rest)) slab
 
   -- what a stream that was read tells
@@ -58,7 +58,7 @@ module _ (c : tie.After-decode-fk-delta-stream-into) where
     counted : length (scanned .numbers) ≡ c .before .before .before .get-u16 .result
     within : len ≤ length bytes - 2
 
-  read : (len padded : ℕ) → readAnswer (c .decode-fk-delta-stream-into .result) ≡ accepted (record { taken = len; padded = padded })
+  read : (len padded : ℕ) → streamReadAnswer (c .decode-fk-delta-stream-into .result) ≡ accepted (record { taken = len; padded = padded })
       → Read len padded
   unfolding slabPadded
   read len padded e =
@@ -120,8 +120,8 @@ returns-2 : tie.Need-returns-2
 returns-2 c =
     let d = c .before .before .before .before .before in
     let told = c .before .enum-told .given in
-    let stop = was-refused (streamTold (used d) (rest d)) (decoded d) (sym (answer d) ∙ ap readAnswer (told .1)) in (
-      ap refused (c .refusal .ensures ∙ ap (λ (g : StreamRead). refusalOf (readAnswer g)) (told .1))
+    let stop = was-refused (streamTold (used d) (rest d)) (decoded d) (sym (answer d) ∙ ap streamReadAnswer (told .1)) in (
+      ap refused (c .refusal .ensures ∙ ap (λ (g : StreamRead). refusalOf (streamReadAnswer g)) (told .1))
           ∙ sym (answered-no (slabListOf (bytes d)) (decoded d) stop),
       list d,
     )
@@ -129,7 +129,7 @@ returns-2 c =
 add-t7 : tie.Need-add-t7
 add-t7 c =
     let d = c .before .before .before .before .before in
-    omega (arith, read d (c .before .got .given .0 .0) (c .before .got .given .0 .1 .0) (ap readAnswer (c .before .got .given .1)) .within)
+    omega (arith, read d (c .before .got .given .0 .0) (c .before .got .given .0 .1 .0) (ap streamReadAnswer (c .before .got .given .1)) .within)
 
 same-length-2 : tie.Need-same-length-2
 same-length-2 c = search needs
@@ -139,7 +139,7 @@ returns-3 c =
     let d = c .before .before .before .before .before in
     let len = c .before .got .given .0 .0 in
     let padded = c .before .got .given .0 .1 .0 in
-    let r = read d len padded (ap readAnswer (c .before .got .given .1)) in (
+    let r = read d len padded (ap streamReadAnswer (c .before .got .given .1)) in (
       ap (λ (u : ℕ). accepted (record { used = u; len = 2 + len; padded = padded })) (sym (r .counted))
           ∙ ap (λ (t : ℕ). accepted (record { used = length (r .scanned .numbers); len = 2 + t; padded = padded })) (sym (r .taken))
           ∙ ap (λ (m : ℕ). accepted (record { used = length (r .scanned .numbers); len = 2 + r .scanned .taken; padded = m })) (r .counts)
