@@ -23,17 +23,8 @@ use crate::words::READ;
 use crate::words::fit_of;
 use crate::words::is_load;
 use crate::words::next_call;
+use book_desks::desk_of;
 use book_rules::SlabFit;
-
-// The desk that a list names for a key; 0 past its end.
-fn desk_of(desks: &[u8], key: u64) -> u64
-    ensures { λ r. ⌜ r ≡ deskOf (now (desks .entry)) key ⌝ }
-{
-    if desks.len() as u64 <= key {
-        return 0;
-    }
-    desks[key as usize] as u64
-}
 
 // Loads a list onto a key, for its desk.
 fn run_load(

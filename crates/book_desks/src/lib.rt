@@ -10,6 +10,7 @@ pub use counts::permission;
 pub use counts::sum_of_lacks;
 pub use counts::to_be_had;
 pub use lists::beyond_desks;
+pub use lists::desk_of;
 pub use lists::list_bad;
 
 // How many desks there are.

@@ -1,7 +1,7 @@
 // The list that names each key's desk: a byte for each head.
 ghost use mathlib.Core.Path.{_≡_};
 ghost use Prim.Native.Nat.{max};
-ghost use Rattle.book_desks.specs.Desks.{beyondDesks, listBad};
+ghost use Rattle.book_desks.specs.Desks.{beyondDesks, listBad, deskOf};
 
 // The larger of two bytes.
 fn larger(a: u8, b: u8) -> u8
@@ -31,4 +31,14 @@ pub fn list_bad(desks: &[u8], heads: usize) -> bool
         return true;
     }
     beyond_desks(desks)
+}
+
+// The desk that a list names for a key; 0 past its end.
+pub fn desk_of(desks: &[u8], key: u64) -> u64
+    ensures { λ r. ⌜ r ≡ deskOf (now (desks .entry)) key ⌝ }
+{
+    if desks.len() as u64 <= key {
+        return 0;
+    }
+    desks[key as usize] as u64
 }

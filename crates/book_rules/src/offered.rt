@@ -9,12 +9,11 @@ ghost use Rattle.scripthash_stream.specs.Stream.{streamLen};
 ghost use Rattle.scripthash_stream.specs.Answers.{bytesAnswer};
 ghost use Rattle.book_rules.specs.Offered.{offeredNumber, offeredList};
 use error::Refusal;
+use scripthash_stream::BIT_63;
 use scripthash_stream::StreamBytes;
 
 // The first number that a book doesn't take.
 const TOO_LARGE: u64 = 0x4000_0000_0000_0000;
-// Bit 63.
-const BIT_63: u64 = 0x8000_0000_0000_0000;
 
 // Judges a number that is offered behind an accepted one, 0 where it is the first: the length of its form there, or its refusal.
 fn judge_behind(prev: u64, fk: u64) -> StreamBytes

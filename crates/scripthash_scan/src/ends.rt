@@ -6,6 +6,12 @@ ghost use lib.ListN.{length};
 ghost use Rattle.scripthash_words.specs.Words.{endOne};
 ghost use Rattle.scripthash_scan.specs.Weights.{totalOver, endAt};
 
+// The most bytes that are looked at together: 15 rows of 16, so that a count of them fits a byte.
+const BLOCK: usize = 240;
+
+// The least forms that end in so many bytes; where they are fewer, forms of six bytes and more are among them.
+const LEAST_ENDS: usize = 40;
+
 // The place up to which forms were counted, and how many are still to end.
 struct Counted {
     at: usize,
@@ -62,21 +68,22 @@ pub fn ends_early(buf: &[u8]) -> usize {
 // bytes follow, or where forms of six bytes and more are met.
 fn count_blocks(buf: &[u8], from: usize, want: usize) -> Counted
     requires { ⌜ from ≤ length (now buf) ⌝ }
-    ensures { λ r. ⌜ (totalOver (endAt (now (buf .entry))) from + want ≡ totalOver (endAt (now (buf .entry))) (r .at) + r .left) × (from ≤ r .at)
+    ensures { λ r. ⌜ (totalOver (endAt (now (buf .entry))) from + want ≡ totalOver (endAt (now (buf .entry))) (r .at) + r .left)
+        × (from ≤ r .at)
         × (r .at ≤ length (now (buf .entry))) ⌝ }
 {
     let mut at = from;
     let mut left = want;
-    while 240 <= left {
-        if buf.len() - at < 240 {
+    while BLOCK <= left {
+        if buf.len() - at < BLOCK {
             return Counted { at, left };
         }
-        let count = forms(ends_in(buf, at, at + 240));
-        if count < 40 {
+        let count = forms(ends_in(buf, at, at + BLOCK));
+        if count < LEAST_ENDS {
             return Counted { at, left };
         }
         left -= count;
-        at += 240;
+        at += BLOCK;
     }
     Counted { at, left }
 }
@@ -87,15 +94,15 @@ fn step_of(left: usize, dense: usize) -> usize
     requires { ⌜ (16 ≤ left) × (0 < dense) ⌝ }
     ensures { λ r. ⌜ (16 ≤ r) × (r ≤ 240) × (16 ≤ dense → r ≤ left) ⌝ }
 {
-    if 240 <= left {
-        return 240;
+    if BLOCK <= left {
+        return BLOCK;
     }
     if 16 <= dense {
         return left / 16 * 16;
     }
     let guess = left * 14 / dense;
-    if 240 <= guess {
-        return 240;
+    if BLOCK <= guess {
+        return BLOCK;
     }
     if guess < 32 {
         return 16;
@@ -130,7 +137,8 @@ fn shorter(dense: usize) -> usize
 // there is none; nor is there where forms of six bytes and more are met.
 fn stepped(buf: &[u8], at: usize, left: usize, dense: usize) -> Counting
     requires { ⌜ (at ≤ length (now buf)) × (16 ≤ left) × (0 < dense) × (dense ≤ 16) ⌝ }
-    ensures { λ r. ⌜ (totalOver (endAt (now (buf .entry))) at + left ≡ totalOver (endAt (now (buf .entry))) (r .at) + r .left) × (at ≤ r .at)
+    ensures { λ r. ⌜ (totalOver (endAt (now (buf .entry))) at + left ≡ totalOver (endAt (now (buf .entry))) (r .at) + r .left)
+        × (at ≤ r .at)
         × (r .at ≤ length (now (buf .entry))) × (r .dense ≤ 16) × (0 < r .dense → 32 * at + dense < 32 * r .at + r .dense) ⌝ }
 {
     let step = step_of(left, dense);
@@ -173,7 +181,8 @@ fn stepped(buf: &[u8], at: usize, left: usize, dense: usize) -> Counting
 // forms of six bytes and more are met.
 fn count_forms(buf: &[u8], from: usize, want: usize) -> Counted
     requires { ⌜ from ≤ length (now buf) ⌝ }
-    ensures { λ r. ⌜ (totalOver (endAt (now (buf .entry))) from + want ≡ totalOver (endAt (now (buf .entry))) (r .at) + r .left) × (from ≤ r .at)
+    ensures { λ r. ⌜ (totalOver (endAt (now (buf .entry))) from + want ≡ totalOver (endAt (now (buf .entry))) (r .at) + r .left)
+        × (from ≤ r .at)
         × (r .at ≤ length (now (buf .entry))) ⌝ }
 {
     let mut at = from;

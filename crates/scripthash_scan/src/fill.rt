@@ -9,6 +9,7 @@ ghost use Rattle.scripthash_forms.specs.Quick.{OneByteForms, ShortRead};
 use crate::quick::one_byte_forms;
 use crate::quick::sum_bytes;
 use crate::quick::sum_of_bytes;
+use crate::streams::SLAB_MOST;
 use scripthash_forms::copy_fks;
 use scripthash_forms::sum_forms;
 use scripthash_words::fill_by_words;
@@ -16,6 +17,9 @@ use scripthash_words::read_by_words;
 
 // From how many numbers on forms that differ in length are read by words; fewer take as long one by one.
 const WORDS: usize = 17;
+
+// The most numbers that are held in a shorter list on the stack, which is cleared sooner.
+const SHORT_LIST: usize = 64;
 
 // Writes the n numbers of a stream that scans to the start of out, where that has room for them; what it writes of another is not told.
 pub fn fill_fk_delta_stream(buf: &[u8], n: usize, out: &mut [u64])
@@ -107,7 +111,7 @@ fn read_singly(buf: &[u8], n: usize, top: u64, out: &mut [u64]) -> usize
     requires { ⌜ (n ≤ 256) × (n ≤ length (now out)) ⌝ }
     ensures { λ r. ⌜ ShortRead r top (now (out .entry)) (now (out .exit)) (scan n (now (buf .entry))) ⌝ }
 {
-    if n <= 64 {
+    if n <= SHORT_LIST {
         return read_some(buf, n, top, out);
     }
     read_many(buf, n, top, out)
@@ -151,7 +155,7 @@ pub fn read_short_stream(buf: &[u8], n: usize, top: u64, out: &mut [u64]) -> usi
         if one_byte_forms(buf, n) {
             return read_bytes(buf, n, top, out);
         }
-        if n <= 256 {
+        if n <= SLAB_MOST {
             return read_forms(buf, n, top, out);
         }
     }

@@ -8,6 +8,8 @@ ghost use Rattle.compact.specs.Uleb128.{goesOn};
 ghost use Rattle.scripthash_stream.specs.Stream.{scan, endFrom, decodeStream};
 ghost use Rattle.scripthash_forms.specs.Quick.{OneByteForms, Quick, QuickEnd};
 use crate::fill::read_forms;
+use crate::streams::PARTS_MOST;
+use crate::streams::SLAB_MOST;
 use scripthash_forms::StreamEnd;
 use scripthash_forms::decode_parts;
 use scripthash_forms::sum_forms;
@@ -100,10 +102,10 @@ pub fn decode_quickly(buf: &[u8], n: usize, out: &mut [u64]) -> usize
         if one_byte_forms(buf, n) {
             return sum_bytes(buf, n, out);
         }
-        if n <= 256 {
+        if n <= SLAB_MOST {
             return read_forms(buf, n, BIT_63, out);
         }
-        if n <= 4096 {
+        if n <= PARTS_MOST {
             return decode_parts(buf, 0, 0, n, out, 0);
         }
     }

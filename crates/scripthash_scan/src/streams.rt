@@ -9,10 +9,10 @@ use scripthash_stream::StreamBytes;
 use scripthash_stream::StreamRead;
 
 // The most numbers of a slab: so many are read in one pass through a list on the stack.
-const SLAB_MOST: usize = 256;
+pub const SLAB_MOST: usize = 256;
 
 // The most numbers that are read in one pass in parts.
-const PARTS_MOST: usize = 4096;
+pub const PARTS_MOST: usize = 4096;
 
 // Scans a stream of n numbers at the start of buf: quickly where that can be, else number by number, which tells a refusal.
 pub fn scan_fk_delta_stream(buf: &[u8], n: usize) -> ScanStream

@@ -3,8 +3,8 @@ use mathlib.Core.Path.{sym}
 use native.Mathlib.Omega.{arith}
 use lib.ListN.{List·getD-eq-default}
 use borrow.Author.Needs.{needs}
-use Rattle.book_calls.proofs.running.desk_of.Statement.{statement}
-use Rattle.book_calls.proofs.running.desk_of.Tie as tie
+use Rattle.book_desks.proofs.lists.desk_of.Statement.{statement}
+use Rattle.book_desks.proofs.lists.desk_of.Tie as tie
 
 returns : tie.Need-returns
 returns c = sym (List·getD-eq-default (c .before .args .desks .now) 0 (omega arith))
