@@ -8,7 +8,8 @@ use native.Mathlib.Omega.{arith}
 use borrow.Author.Tests.{le-leb, lt-leb, leb-false, eqb-false}
 use lib.Dec.{leb, eqb}
 use lib.ListN.{length, set, take as firsts, length-append}
-use Rattle.error.specs.Refusal.{Answer, accepted, refused, refuseIf, andThen, answered, refusalOf, shapeBad, keyBeyond, desksBad, offeredNotRising}
+use Rattle.error.specs.Refusal.{Answer, accepted, refused, refuseIf, andThen, answered, refusalOf, shapeBad, keyBeyond, desksBad}
+use Rattle.error.specs.Refusal.{offeredNotRising}
 use Rattle.error.specs.Refusal.{keyUnsound}
 use Rattle.error.specs.Refusal.{slabUsedTooSmall, modeTwo, extentPayloadZero}
 use Rattle.error.proofs.LawsAnswer.{accepted-inj, passed, went-on, refuse-yes, refuse-no, then-yes, then-no, was-accepted, was-refused}
@@ -138,7 +139,8 @@ module _ (body : List ℕ) (mark : ℕ) (free : List ℕ) where
       let (m, is) = was-unsound _ (was-refused tailEndOf _ (sym e ∙ t)) in
       (m, sym (tail-free last) ∙ is)
 
--- What is known of a sound last page: where it stands, that it is version 2, that it counts few numbers, and that its stream ends within it.
+-- What is known of a sound last page: where it stands, that it is version 2, that it counts few numbers, and that its stream ends within
+-- it.
 pub record SoundTail (s : Space) (last : ℕ) (t : Tail) : Type 0 where
   pub stands : isBlock pageClass last (s .mark) ≡ true
   pub names : namesExtent (pageAt (seen s) last) ≡ true

@@ -35,7 +35,8 @@ unfoldable pub movesInto : ℕ → Book → ℕ → List ℕ → ℕ → List Bl
 movesInto desk b key ns n old (some class) =
     let list = ns ++ (n ∷ []) in
     andThen (slabFor desk class (b .space) (b .counts))
-    (λ t. accepted (appending key (Slab class (length list) (t .off)) (length ns) (release old (filled t (slabPayload list))) (t .counts) b))
+    (λ t. accepted (appending key (Slab class (length list) (t .off)) (length ns) (release old (filled t (slabPayload list)))
+    (t .counts) b))
 movesInto desk b key ns n old none =
     let list = ns ++ (n ∷ []) in
     andThen (pageFor desk (b .space) (b .counts))
@@ -74,7 +75,8 @@ growChain desk b key n last t =
 unfoldable pub appendPage : ℕ → Book → ℕ → ℕ → ℕ → Tail → Option Spot → Answer (Outcome Appended)
 appendPage desk b key n last t (some w) =
     accepted (appending key (Extent last) 0
-    (space (overwrite (b .space .body) last (pageWith (pageAt (seen (b .space)) last) w (t .last .creates))) (b .space .mark) (b .space .free))
+    (space (overwrite (b .space .body) last (pageWith (pageAt (seen (b .space)) last) w (t .last .creates))) (b .space .mark)
+    (b .space .free))
     (b .counts) b)
 appendPage desk b key n last t none = growChain desk b key n last t
 

@@ -68,30 +68,37 @@ pub after-flat : (ds : List ℕ) (b : Book) (cs : List SpelledCall) → afterSpe
 unfolding afterSpelled afterCalls callsIn doesSpelled coreDoes
 after-flat ds b [] = refl
 after-flat ds b (load fit key ns ∷ cs) =
-    ap (λ (x : Book). afterSpelled ds x cs) (retold-book loaded b (loads fit (deskOf ds key) b key ns)) ∙ after-flat ds (bookAfter b (loads fit (deskOf ds key) b key ns)) cs
+    ap (λ (x : Book). afterSpelled ds x cs) (retold-book loaded b (loads fit (deskOf ds key) b key ns))
+    ∙ after-flat ds (bookAfter b (loads fit (deskOf ds key) b key ns)) cs
 after-flat ds b (append key n ∷ cs) =
-    ap (λ (x : Book). afterSpelled ds x cs) (retold-book appended b (appends (deskOf ds key) b key n)) ∙ after-flat ds (bookAfter b (appends (deskOf ds key) b key n)) cs
+    ap (λ (x : Book). afterSpelled ds x cs) (retold-book appended b (appends (deskOf ds key) b key n))
+    ∙ after-flat ds (bookAfter b (appends (deskOf ds key) b key n)) cs
 after-flat ds b (read key room ∷ cs) = ap (λ (x : Book). afterSpelled ds x cs) (read-book b (reads b key room)) ∙ after-flat ds b cs
 after-flat ds b (drop key ∷ cs) =
-    ap (λ (x : Book). afterSpelled ds x cs) (retold-book dropped b (drops (deskOf ds key) b key)) ∙ after-flat ds (bookAfter b (drops (deskOf ds key) b key)) cs
+    ap (λ (x : Book). afterSpelled ds x cs) (retold-book dropped b (drops (deskOf ds key) b key))
+    ∙ after-flat ds (bookAfter b (drops (deskOf ds key) b key)) cs
 
 -- An answer before others.
 abbrev first : Answer SpelledTold → List (Answer SpelledTold) → List (Answer SpelledTold)
 first a rest = a ∷ rest
 
 -- So are the answers.
-pub answers-flat : (ds : List ℕ) (b : Book) (cs : List SpelledCall) → answersSpelled ds b cs ≡ flat cs (answersTo (coreServes ds) b (callsIn cs))
+pub answers-flat : (ds : List ℕ) (b : Book) (cs : List SpelledCall) → answersSpelled ds b cs
+    ≡ flat cs (answersTo (coreServes ds) b (callsIn cs))
 unfolding answersSpelled answersTo callsIn flat doesSpelled coreDoes coreAsks
 answers-flat ds b [] = refl
 answers-flat ds b (load fit key ns ∷ cs) =
     ap₂ first (retold-answer loaded (loads fit (deskOf ds key) b key ns))
-    (ap (λ (x : Book). answersSpelled ds x cs) (retold-book loaded b (loads fit (deskOf ds key) b key ns)) ∙ answers-flat ds (bookAfter b (loads fit (deskOf ds key) b key ns)) cs)
+    (ap (λ (x : Book). answersSpelled ds x cs) (retold-book loaded b (loads fit (deskOf ds key) b key ns))
+    ∙ answers-flat ds (bookAfter b (loads fit (deskOf ds key) b key ns)) cs)
 answers-flat ds b (append key n ∷ cs) =
     ap₂ first (retold-answer appended (appends (deskOf ds key) b key n))
-    (ap (λ (x : Book). answersSpelled ds x cs) (retold-book appended b (appends (deskOf ds key) b key n)) ∙ answers-flat ds (bookAfter b (appends (deskOf ds key) b key n)) cs)
+    (ap (λ (x : Book). answersSpelled ds x cs) (retold-book appended b (appends (deskOf ds key) b key n))
+    ∙ answers-flat ds (bookAfter b (appends (deskOf ds key) b key n)) cs)
 answers-flat ds b (read key room ∷ cs) =
     ap₂ first (read-answer b (reads b key room))
     (ap (λ (x : Book). answersSpelled ds x cs) (read-book b (reads b key room)) ∙ answers-flat ds b cs)
 answers-flat ds b (drop key ∷ cs) =
     ap₂ first (retold-answer dropped (drops (deskOf ds key) b key))
-    (ap (λ (x : Book). answersSpelled ds x cs) (retold-book dropped b (drops (deskOf ds key) b key)) ∙ answers-flat ds (bookAfter b (drops (deskOf ds key) b key)) cs)
+    (ap (λ (x : Book). answersSpelled ds x cs) (retold-book dropped b (drops (deskOf ds key) b key))
+    ∙ answers-flat ds (bookAfter b (drops (deskOf ds key) b key)) cs)

@@ -52,7 +52,8 @@ sixteen = record { reserve = length-replicate {A = ℕ} desks 0; ceiling = lengt
 -- two makings by the same tests, one of which is accepted
 two-made : {A B : Type 0} (a : A) (b : B) (s t : Bool)
     → answered {B = Unit {0}} (λ (made : A). tt) (refuseIf s shapeBad (refuseIf t desksBad (accepted a))) ≡ accepted tt
-    → (refuseIf s shapeBad (refuseIf t desksBad (accepted a)) ≡ accepted a) × (refuseIf s shapeBad (refuseIf t desksBad (accepted b)) ≡ accepted b)
+    → (refuseIf s shapeBad (refuseIf t desksBad (accepted a)) ≡ accepted a)
+    × (refuseIf s shapeBad (refuseIf t desksBad (accepted b)) ≡ accepted b)
 unfolding refuseIf answered
 two-made a b true t e = absurd (refused≢accepted e)
 two-made a b false true e = absurd (refused≢accepted e)
@@ -154,7 +155,8 @@ module _ (ds : List ℕ) (b : Book) (calls out : List ℕ) where
             ∙ ap (λ (x : List SpelledCall). leb (answersRoom x) (length out)) (some-inj (sym f ∙ e)) ∙ l));
       }
 
-  pub not-made : (left : Book) (cs : List SpelledCall) (answer : BookFresh) (number : ℕ) → callsOf calls ≡ some cs → leb (answersRoom cs) (length out) ≡ true
+  pub not-made : (left : Book) (cs : List SpelledCall) (answer : BookFresh) (number : ℕ) → callsOf calls ≡ some cs
+      → leb (answersRoom cs) (length out) ≡ true
       → freshAnswer answer ≡ answered (λ (made : Book). tt) (makesFresh ds unlimited b) → answer ≡ NotMade number
       → left ≡ madeAfter b (makesFresh ds unlimited b) → Runs ds b calls out (Refused number) left out
   unfolding runs ranOn wordsAfter wordsOn leftBy leftOn madeAfter

@@ -42,7 +42,8 @@ use Rattle.book_words.proofs.LawsCalls.{call-at}
 use Rattle.book_calls.specs.Flat.{doesSpelled, afterSpelled, answersSpelled, loadTold, appendTold, dropTold}
 use Rattle.book_calls.specs.Steps.{NextIs, Answered, Done, CallHere, Spelled, AllDone}
 use Rattle.book_calls.specs.declared.words.NextCall.the-variants.{At, Nowhere}
-use Rattle.book_calls.proofs.LawsSteps.{not-first, of-load, of-append, of-read, of-drop, of-other, was-somewhere, spelled-end, spelled-nowhere}
+use Rattle.book_calls.proofs.LawsSteps.{not-first, of-load, of-append, of-read, of-drop, of-other, was-somewhere, spelled-end}
+use Rattle.book_calls.proofs.LawsSteps.{spelled-nowhere}
 use Rattle.book_calls.proofs.LawsSteps.{spelled-on, was-before, only}
 use Rattle.book_calls.proofs.LawsFlat.{retold-book, retold-answer, read-book, read-answer, load-told, append-told, drop-told}
 use Rattle.book_calls.proofs.LawsPut.{re-said, place-words}
@@ -80,9 +81,11 @@ short-as {room = room} e h = subst (λ (x : Answer SpelledTold). length (spellAn
 -- ---- the call at an index
 
 -- the same call
-pub re-done : {ds : List ℕ} {b after : Book} {c other : SpelledCall} {out written : List ℕ} {len : ℕ} → other ≡ c → Done ds b c out after written len
+pub re-done : {ds : List ℕ} {b after : Book} {c other : SpelledCall} {out written : List ℕ} {len : ℕ} → other ≡ c
+    → Done ds b c out after written len
     → Done ds b other out after written len
-re-done {ds} {b} {after} {out = out} {written = written} {len = len} e h = subst (λ (x : SpelledCall). Done ds b x out after written len) (sym e) h
+re-done {ds} {b} {after} {out = out} {written = written} {len = len} e h = subst (λ (x : SpelledCall). Done ds b x out after written len)
+    (sym e) h
 
 module _ {calls : List ℕ} {at room : ℕ} (h : CallHere calls at room) where
   abbrev kind : ℕ
@@ -171,7 +174,8 @@ module _ {calls : List ℕ} {at room : ℕ} (h : CallHere calls at room) where
       ∙ ap (λ (x : SlabFit). load x key (firstOf (at + 3 + third - (at + 3)) rest)) (sym f)
 
 -- a change was done, and its answer put as it is spelled
-change-done : {T : Type 0} (spell : T → SpelledTold) (a : Answer (Outcome T)) {ds : List ℕ} {b left : Book} {c : SpelledCall} {put : Answer SpelledTold}
+change-done : {T : Type 0} (spell : T → SpelledTold) (a : Answer (Outcome T)) {ds : List ℕ} {b left : Book} {c : SpelledCall}
+    {put : Answer SpelledTold}
     {out written : List ℕ} {len : ℕ} → doesSpelled ds b c ≡ retold spell a → left ≡ bookAfter b a → put ≡ answered spell (answerOf a)
     → length (spellAnswer put) ≤ answerRoom c
     → Answered put out written len → Done ds b c out left written len
@@ -209,7 +213,8 @@ drop-done {b = b} {key = key} {desk = desk} answer is said left put =
     (drop-told answer ∙ ap (answered dropped) said) (drop-short answer) put
 
 -- a read leaves the book, and tells its list
-pub read-done : (ds : List ℕ) (b : Book) (key room : ℕ) {out written : List ℕ} {len : ℕ} → Answered (answered listed (reads b key room)) out written len
+pub read-done : (ds : List ℕ) (b : Book) (key room : ℕ) {out written : List ℕ} {len : ℕ}
+    → Answered (answered listed (reads b key room)) out written len
     → Done ds b (read key room) out b written len
 unfolding doesSpelled answerRoom
 read-done ds b key room s =
@@ -224,7 +229,8 @@ read-done ds b key room s =
 
 -- What is known in the middle of running calls: those of the words from an index on are left, and the words of their answers, written from
 -- another index on, make up the words of all.
-pub record Running (ds : List ℕ) (first : Book) (cs : List SpelledCall) (calls out₀ : List ℕ) (b : Book) (out : List ℕ) (at to : ℕ) : Type 0 where
+pub record Running (ds : List ℕ) (first : Book) (cs : List SpelledCall) (calls out₀ : List ℕ) (b : Book) (out : List ℕ) (at to : ℕ) :
+    Type 0 where
   pub left : List SpelledCall
   pub spelled : callsOf (behind at calls) ≡ some left
   pub room : to + answersRoom left ≤ length out
@@ -234,7 +240,8 @@ pub record Running (ds : List ℕ) (first : Book) (cs : List SpelledCall) (calls
   pub book : afterSpelled ds b left ≡ afterSpelled ds first cs
 
 -- the calls of the words are those that have room
-pub spelled-room : {calls : List ℕ} {room : ℕ} → Spelled calls room → (cs : List SpelledCall) → callsOf calls ≡ some cs → answersRoom cs ≤ room
+pub spelled-room : {calls : List ℕ} {room : ℕ} → Spelled calls room → (cs : List SpelledCall) → callsOf calls ≡ some cs
+    → answersRoom cs ≤ room
 spelled-room {room = room} s cs e = subst (λ (l : List SpelledCall). answersRoom l ≤ room) (some-inj (sym (s .is) ∙ e)) (s .fits)
 
 -- the part of a list from an index on has the room that is left
@@ -245,7 +252,8 @@ here-in {calls} {at} out to h =
     subst (CallHere calls at) (sym same) h
 
 -- nothing is run yet
-pub runs-start : (ds : List ℕ) (b : Book) (cs : List SpelledCall) (calls out : List ℕ) → callsOf calls ≡ some cs → answersRoom cs ≤ length out
+pub runs-start : (ds : List ℕ) (b : Book) (cs : List SpelledCall) (calls out : List ℕ) → callsOf calls ≡ some cs
+    → answersRoom cs ≤ length out
     → Running ds b cs calls out b out 0 0
 runs-start ds b cs calls out e h =
     record { left = cs; spelled = e; room = omega arith; same = refl; words = refl; count = zero-add _; book = refl }
@@ -260,9 +268,11 @@ module _ {ds : List ℕ} {first : Book} {cs : List SpelledCall} {calls out₀ : 
       record {
         left-is = sym (ap (afterSpelled ds b) none-left) ∙ r .book;
         words =
-            sym (overwrite-nil out to) ∙ ap (λ (l : List SpelledCall). overwrite out to (spellAnswers (answersSpelled ds b l))) (sym none-left)
+            sym (overwrite-nil out to) ∙ ap (λ (l : List SpelledCall). overwrite out to (spellAnswers (answersSpelled ds b l)))
+            (sym none-left)
             ∙ r .words;
-        count = sym (add-zero to) ∙ ap (λ (l : List SpelledCall). to + length (spellAnswers (answersSpelled ds b l))) (sym none-left) ∙ r .count;
+        count = sym (add-zero to) ∙ ap (λ (l : List SpelledCall). to + length (spellAnswers (answersSpelled ds b l))) (sym none-left)
+            ∙ r .count;
       }
 
   -- no call begins, which can't be

@@ -169,7 +169,8 @@ room-of k key third rest b e = go (isLoad k) refl
 
     loads : isLoad k ≡ true → answerRoom (b .first) ≡ needOf k third
     loads z =
-        ap (λ (x : Begins SpelledCall). answerRoom (x .first)) (sym (only (leb third (length rest)) _ b (sym (of-load k key third rest z) ∙ e)))
+        ap (λ (x : Begins SpelledCall). answerRoom (x .first))
+        (sym (only (leb third (length rest)) _ b (sym (of-load k key third rest z) ∙ e)))
         ∙ sym (load-needs k third z)
 
     appends : k ≡ 1 → answerRoom (b .first) ≡ needOf k third
@@ -179,12 +180,14 @@ room-of k key third rest b e = go (isLoad k) refl
     reads z = ap (λ (x : Begins SpelledCall). answerRoom (x .first)) (sym (some-inj (sym (of-read k key third rest z) ∙ e))) ∙ rw z
 
     drops : k ≡ 3 → answerRoom (b .first) ≡ needOf k third
-    drops z = ap (λ (x : Begins SpelledCall). answerRoom (x .first)) (sym (only (eqb third 0) _ b (sym (of-drop k key third rest z) ∙ e))) ∙ rw z
+    drops z = ap (λ (x : Begins SpelledCall). answerRoom (x .first)) (sym (only (eqb third 0) _ b (sym (of-drop k key third rest z) ∙ e)))
+        ∙ rw z
 
     go : (t : Bool) → isLoad k ≡ t → answerRoom (b .first) ≡ needOf k third
     go true l = loads l
     go false l =
-        ⊎-elim (λ (h : k < 2). ⊎-elim (λ (p : k < 1). absurd (not-first k l (omega arith))) (λ (q : 1 ≤ k). appends (omega arith)) (lt-or-ge k 1))
+        ⊎-elim (λ (h : k < 2). ⊎-elim (λ (p : k < 1). absurd (not-first k l (omega arith))) (λ (q : 1 ≤ k). appends (omega arith))
+        (lt-or-ge k 1))
         (λ (h : 2 ≤ k). ⊎-elim (λ (p : k < 3). reads (omega arith)) (λ (q : 3 ≤ k). drops (three l q)) (lt-or-ge k 3))
         (lt-or-ge k 2)
 

@@ -75,7 +75,8 @@ plainMade ds b = makes ds (sizeOf b) (keysOf b) unlimited
 abbrev pub recordedFor : ℕ → PlainBook → List SpelledCall → List ℕ
 recordedFor key p cs = recorded key (plainAnswers p (callsIn cs)) []
 
--- The contract of `run_calls`, on a list of desks, a book, the words of calls and a list for answers, with the book and the list afterwards.
+-- The contract of `run_calls`, on a list of desks, a book, the words of calls and a list for answers, with the book and the list
+-- afterwards.
 pub record Runs (ds : List ℕ) (b : Book) (calls out : List ℕ) (r : RunCalls) (ended : Book) (out' : List ℕ) : Type 0 where
   -- The answer, and the words of the answers: those of the plain book.
   pub answer : r ≡ runs (plainMade ds b) (length out) (callsOf calls)

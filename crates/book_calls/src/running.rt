@@ -40,7 +40,8 @@ fn run_load(
     out: &mut [u64],
 ) -> usize
     requires { ⌜ 3 ≤ length (now out) ⌝ }
-    ensures { λ r. ⌜ Done (now (desks .entry)) (bookOf (now (body .entry)) (now (heads .entry)) (now (mark .entry)) (now (free .entry)) (now (counts .entry)))
+    ensures { λ r. ⌜ Done (now (desks .entry)) (bookOf (now (body .entry)) (now (heads .entry)) (now (mark .entry)) (now (free .entry))
+        (now (counts .entry)))
         (Calls.load fit key (now (numbers .entry))) (now (out .entry))
         (bookOf (now (body .exit)) (now (heads .exit)) (now (mark .exit)) (now (free .exit)) (now (counts .exit))) (now (out .exit)) r ⌝ }
 {
@@ -62,7 +63,8 @@ fn run_append(
     out: &mut [u64],
 ) -> usize
     requires { ⌜ 7 ≤ length (now out) ⌝ }
-    ensures { λ r. ⌜ Done (now (desks .entry)) (bookOf (now (body .entry)) (now (heads .entry)) (now (mark .entry)) (now (free .entry)) (now (counts .entry)))
+    ensures { λ r. ⌜ Done (now (desks .entry)) (bookOf (now (body .entry)) (now (heads .entry)) (now (mark .entry)) (now (free .entry))
+        (now (counts .entry)))
         (Calls.append key n) (now (out .entry))
         (bookOf (now (body .exit)) (now (heads .exit)) (now (mark .exit)) (now (free .exit)) (now (counts .exit))) (now (out .exit)) r ⌝ }
 {
@@ -83,7 +85,8 @@ fn run_drop(
     out: &mut [u64],
 ) -> usize
     requires { ⌜ 3 ≤ length (now out) ⌝ }
-    ensures { λ r. ⌜ Done (now (desks .entry)) (bookOf (now (body .entry)) (now (heads .entry)) (now (mark .entry)) (now (free .entry)) (now (counts .entry)))
+    ensures { λ r. ⌜ Done (now (desks .entry)) (bookOf (now (body .entry)) (now (heads .entry)) (now (mark .entry)) (now (free .entry))
+        (now (counts .entry)))
         (Calls.drop key) (now (out .entry))
         (bookOf (now (body .exit)) (now (heads .exit)) (now (mark .exit)) (now (free .exit)) (now (counts .exit))) (now (out .exit)) r ⌝ }
 {
@@ -118,7 +121,8 @@ fn run_call(
 ) -> usize
     requires { ⌜ CallHere (now calls) at (length (now out)) ⌝ }
     ensures { λ r. ⌜ ((b : Begins SpelledCall) → callAt (drop at (now (calls .entry))) ≡ some b
-        → Done (now (desks .entry)) (bookOf (now (body .entry)) (now (heads .entry)) (now (mark .entry)) (now (free .entry)) (now (counts .entry))) (b .first) (now (out .entry))
+        → Done (now (desks .entry)) (bookOf (now (body .entry)) (now (heads .entry)) (now (mark .entry)) (now (free .entry))
+        (now (counts .entry))) (b .first) (now (out .entry))
         (bookOf (now (body .exit)) (now (heads .exit)) (now (mark .exit)) (now (free .exit)) (now (counts .exit))) (now (out .exit)) r) ⌝ }
 {
     let kind = calls[at];
@@ -163,7 +167,8 @@ pub fn run_spelled(
 ) -> usize
     requires { ⌜ Spelled (now calls) (length (now out)) ⌝ }
     ensures { λ r. ⌜ ((cs : List SpelledCall) → callsOf (now (calls .entry)) ≡ some cs
-        → AllDone (now (desks .entry)) (bookOf (now (body .entry)) (now (heads .entry)) (now (mark .entry)) (now (free .entry)) (now (counts .entry))) cs (now (out .entry))
+        → AllDone (now (desks .entry)) (bookOf (now (body .entry)) (now (heads .entry)) (now (mark .entry)) (now (free .entry))
+        (now (counts .entry))) cs (now (out .entry))
         (bookOf (now (body .exit)) (now (heads .exit)) (now (mark .exit)) (now (free .exit)) (now (counts .exit))) (now (out .exit)) r) ⌝ }
 {
     let mut at: usize = 0;

@@ -33,7 +33,8 @@ pub fn run_calls(
     calls: &[u64],
     answers: &mut [u64],
 ) -> RunCalls
-    ensures { λ r. ⌜ Runs (now (desks .entry)) (bookOf (now (body .entry)) (now (heads .entry)) (now (mark .entry)) (now (free .entry)) (now (counts .entry))) (now (calls .entry))
+    ensures { λ r. ⌜ Runs (now (desks .entry)) (bookOf (now (body .entry)) (now (heads .entry)) (now (mark .entry)) (now (free .entry))
+        (now (counts .entry))) (now (calls .entry))
         (now (answers .entry)) r (bookOf (now (body .exit)) (now (heads .exit)) (now (mark .exit)) (now (free .exit)) (now (counts .exit)))
         (now (answers .exit)) ⌝ }
 {

@@ -89,7 +89,8 @@ module _ (held : List ℕ) (desk new : ℕ) (sixteen : length held ≡ desks) (w
       (same-or-not d desk)
 
   -- The lacks move no further than that desk's lack.
-  pub lacks-moved : (l : Limits) (a b : ℕ) → (deskCount desk (l .reserve) - new) + a ≤ (deskCount desk (l .reserve) - deskCount desk held) + b
+  pub lacks-moved : (l : Limits) (a b : ℕ)
+      → (deskCount desk (l .reserve) - new) + a ≤ (deskCount desk (l .reserve) - deskCount desk held) + b
       → lacks l (set held desk new) + a ≤ lacks l held + b
   unfolding lacks
   lacks-moved l a b h =

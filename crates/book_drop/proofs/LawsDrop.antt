@@ -190,7 +190,8 @@ pub record Turn (s : Space) (off left : ℕ) (offs : List ℕ) : Type 0 where
   pub rest : PagesLeft (seen (given off s)) (linkOffset (linkOf (pageAt (seen s) off))) (left - 1) behind
 
 -- A turn of a walk.
-walk-turn : (k : ℕ) (s : Space) (last prev off left : ℕ) (offs : List ℕ) (c : Chain) → walk k (seen s) last prev off ≡ accepted c → c .offs ≡ offs
+walk-turn : (k : ℕ) (s : Space) (last prev off left : ℕ) (offs : List ℕ) (c : Chain) → walk k (seen s) last prev off ≡ accepted c
+    → c .offs ≡ offs
     → s .mark ≤ length (s .body) → length offs ≡ left → Turn s off left offs
 unfolding walk pageThen pageBlocks
 walk-turn zero s last prev off left offs c e met within count = absurd (refused≢accepted e)

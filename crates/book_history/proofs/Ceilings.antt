@@ -1,7 +1,7 @@
 -- The ceilings and the fewest pages, by the answers of the book over bytes: from the start or the last drop no key is moved more than 9
 -- times, nor has more than 765 records rewritten by moves, and no allowed cutting of a loaded list has fewer pages than the load reports.
--- They hold of any list of calls, and so of each beginning of one: every earlier period of a key, from empty to a drop, is the end of such a
--- beginning. Assumes nothing.
+-- They hold of any list of calls, and so of each beginning of one: every earlier period of a key, from empty to a drop, is the end of such
+-- a beginning. Assumes nothing.
 use Prim.Native.Nat.{ℕ, _≤_}
 use mathlib.Core.List.{List}
 use mathlib.Core.Path.{_≡_}

@@ -111,7 +111,8 @@ module _ (b : Book) (key room : ℕ) (l : Listed) (e : reads b key room ≡ acce
 
   -- On any book, a damaged one too: the counts that an accepted read met are those of the list that it tells, and none is 0.
   pub read-counts : KeyCounts (seen (b .space)) (wordOf key b) (l .numbers)
-  read-counts = let (k, is, same) = read-found in subst (KeyCounts (seen (b .space)) (wordOf key b)) same (key-counts (seen (b .space)) (wordOf key b) k is)
+  read-counts = let (k, is, same) = read-found in subst (KeyCounts (seen (b .space)) (wordOf key b)) same
+      (key-counts (seen (b .space)) (wordOf key b) k is)
 
   -- On any book whose words have 64 bits: a read that tells an empty list read the head word 0.
   pub empty-word : wordOf key b < 2 ^ 64 → l .numbers ≡ [] → wordOf key b ≡ 0
@@ -119,7 +120,8 @@ module _ (b : Book) (key room : ℕ) (l : Listed) (e : reads b key room ≡ acce
   empty-word word none =
       let (place, at, counts) = read-counts in
       let empty = none-there (seen (b .space)) place (subst (PlaceCounts (seen (b .space)) place) none counts) in
-      sym (accepted-inj (subst (λ (v : ShHeadValue). packHead v ≡ accepted (wordOf key b)) empty (pack-unpacked (wordOf key b) place word at)))
+      sym (accepted-inj (subst (λ (v : ShHeadValue). packHead v ≡ accepted (wordOf key b)) empty
+      (pack-unpacked (wordOf key b) place word at)))
 
 -- ---- every history
 

@@ -18,7 +18,8 @@ use Rattle.scripthash_pages.specs.Entries.{streamPlace, pageScan, pagePadded, s
 use Rattle.scripthash_free.specs.FreeList.{isBlock, pushed, popFree, largestUpTo, blockThen, carve, pushAll}
 use Rattle.book_rules.specs.declared.places.SlabFit.the-variants.{Spare}
 use Rattle.book_rules.specs.Outcomes.{Loaded, Appended, Listed, bookAfter, appendedTo, droppedOf, listing, loadedIn}
-use Rattle.book_statements.specs.Calls.{load, append, read, drop, Call, ask, change, Serves, Answers, done, asked, changed, answersTo, afterCalls}
+use Rattle.book_statements.specs.Calls.{load, append, read, drop, Call, ask, change, Serves, Answers, done, asked, changed, answersTo}
+use Rattle.book_statements.specs.Calls.{afterCalls}
 use Rattle.book_rules.specs.Offered.{offeredNumber, offeredList}
 use Rattle.book_limits.specs.Limits.{outOfShape, popEnd}
 use Rattle.book_rules.specs.Places.{stays, larger, movesTo, loadsTo}
@@ -27,7 +28,8 @@ use Rattle.book_desks.specs.Counts.{listed, heldIn, limitsIn, freshCounts, coun
 use Rattle.plain_book.specs.Book.{unlimited}
 use Rattle.book_space.specs.Space.{markBad, shapeBroken, takeMark, takeSlab, rounded, takeFresh, takePopped, takeBlock, release, runAtMark}
 use Rattle.book_space.specs.Desks.{judgedTake, slabFor, freedUntrue, pageFor, runFor, givenBack}
-use Rattle.book_keys.specs.Keys.{soundly, sure, goOn, slabScan, linkScan, goodExtent, lastAt, pageThen, walk, totalGood, chainAt, pageBlocks}
+use Rattle.book_keys.specs.Keys.{soundly, sure, goOn, slabScan, linkScan, goodExtent, lastAt, pageThen, walk, totalGood, chainAt}
+use Rattle.book_keys.specs.Keys.{pageBlocks}
 use Rattle.book_keys.specs.Keys.{contentAt, content, tailAt}
 use Rattle.book.specs.Book.{Book, book, fresh, headWord, onKey, byDesk, withDesks}
 use Rattle.book_blocks.specs.Blocks.{slabWith, lastPageOf, totalWith, pageWith, pageBefore, writeRun}
@@ -39,16 +41,20 @@ use Rattle.book_history.specs.Calls.{asks, serves, after, does}
 
 -- The answers to some calls of a book that does so with each, so that they can be computed.
 unfoldable pub computed : Serves Book → Book → (cs : List Call) → Answers cs
-unfolding refuseIf andThen answered part overwrite isForm value formAt overflows readForm readUleb divided ulebLen shortest isPadded packHead
+unfolding refuseIf andThen answered part overwrite isForm value formAt overflows readForm readUleb divided ulebLen shortest isPadded
+    packHead
     unpackHead lastFrom streamFrom streamLenFrom storedNumber nextNumber scanFrom paddedIn decodeStream firstClass classFor classWithSlack
     slabPayload
-    decodeSlab fitting firstPart greedyParts replaceLast field setField nextOff deltaHeader extentHeader pageOf slabPadded streamPlace pageScan pagePadded
+    decodeSlab fitting firstPart greedyParts replaceLast field setField nextOff deltaHeader extentHeader pageOf slabPadded streamPlace
+    pageScan pagePadded
     spotBehind oneMore withAppended isBlock pushed popFree largestUpTo blockThen carve pushAll bookAfter answersTo outOfShape offeredNumber
-    offeredList stays larger movesTo loadsTo markBad shapeBroken takeMark takeSlab popEnd rounded runAtMark takeFresh takePopped takeBlock release soundly
+    offeredList stays larger movesTo loadsTo markBad shapeBroken takeMark takeSlab popEnd rounded runAtMark takeFresh takePopped takeBlock
+    release soundly
     sure
     goOn slabScan linkScan goodExtent lastAt pageThen walk totalGood chainAt pageBlocks contentAt content tailAt headWord onKey
     movesInto moves slabWith appendSlab totalWith pageWith pageBefore growChain appendPage appendAt appends writeRun loadInto loadAt loads
-    reads dropped drops asks does beyondDesks listBad sumTo lacksWith above permitted listed heldIn limitsIn freshCounts countsHigh judgedTake slabFor
+    reads dropped drops asks does beyondDesks listBad sumTo lacksWith above permitted listed heldIn limitsIn freshCounts countsHigh
+    judgedTake slabFor
     freedUntrue pageFor runFor givenBack byDesk withDesks
 computed k b cs = answersTo k b cs
 
@@ -87,30 +93,55 @@ bodyOf size = replicate size 165
 
 -- 5, 300, 301, 302, 303 to key 0 move at 300 and at 303; 9, 10 to key 1 take the block that was freed.
 pub run-case : runs (alone (bodyOf 8192) 2)
-    (change (append 0 5) ∷ change (append 0 300) ∷ change (append 0 301) ∷ change (append 0 302) ∷ change (append 0 303) ∷ change (append 1 9) ∷ change (append 1 10) ∷ ask (read 0 5) ∷ ask (read 1 2) ∷ [])
-    ≡ changed (at (Inline 5 1) 0) (changed (at (Slab 0 2 4096) 1) (changed (at (Slab 0 3 4096) 0) (changed (at (Slab 0 4 4096) 0) (changed (at (Slab 1 5 4112) 4) (changed (at (Inline 9 1) 0) (changed (at (Slab 0 2 4096) 1) (asked (lists-as (5 ∷ 300 ∷ 301 ∷ 302 ∷ 303 ∷ []) 0 0) (asked (lists-as (9 ∷ 10 ∷ []) 0 0) done))))))))
+    (change (append 0 5) ∷ change (append 0 300) ∷ change (append 0 301) ∷ change (append 0 302) ∷ change (append 0 303) ∷
+    change (append 1 9) ∷ change (append 1 10) ∷ ask (read 0 5) ∷ ask (read 1 2) ∷ [])
+    ≡ changed (at (Inline 5 1) 0)
+    (changed (at (Slab 0 2 4096) 1)
+    (changed (at (Slab 0 3 4096) 0)
+    (changed (at (Slab 0 4 4096) 0)
+    (changed (at (Slab 1 5 4112) 4)
+    (changed (at (Inline 9 1) 0)
+    (changed (at (Slab 0 2 4096) 1)
+    (asked (lists-as (5 ∷ 300 ∷ 301 ∷ 302 ∷ 303 ∷ []) 0 0) (asked (lists-as (9 ∷ 10 ∷ []) 0 0) done))))))))
 unfolding computed
 run-case = refl
 
 -- What is turned back.
 pub turned-back : (runs (alone (bodyOf 4096) 1) (ask (read 0 0) ∷ [])
     ≡ asked (refused 1) done)
-    × (runs (alone (bodyOf 8192) 1) (change (append 1 5) ∷ change (append 0 0) ∷ change (append 0 (2 ^ 63)) ∷ change (append 0 (2 ^ 62)) ∷ change (append 0 5) ∷ change (append 0 5) ∷ change (load Spare 0 []) ∷ ask (read 0 0) ∷ change (drop 0) ∷ ask (read 0 0) ∷ [])
-    ≡ changed (refused 2) (changed (refused 12) (changed (refused 13) (changed (refused 14) (changed (at (Inline 5 1) 0) (changed (refused 32) (changed (refused 3) (asked (refused 34) (changed (accepted (droppedOf 1)) (asked (lists-as [] 0 0) done))))))))))
+    × (runs (alone (bodyOf 8192) 1) (change (append 1 5) ∷ change (append 0 0) ∷ change (append 0 (2 ^ 63)) ∷ change (append 0 (2 ^ 62)) ∷
+    change (append 0 5) ∷ change (append 0 5) ∷ change (load Spare 0 []) ∷ ask (read 0 0) ∷ change (drop 0) ∷ ask (read 0 0) ∷ [])
+    ≡ changed (refused 2)
+    (changed (refused 12)
+    (changed (refused 13)
+    (changed (refused 14)
+    (changed (at (Inline 5 1) 0)
+    (changed (refused 32)
+    (changed (refused 3) (asked (refused 34) (changed (accepted (droppedOf 1)) (asked (lists-as [] 0 0) done))))))))))
 unfolding computed
 turned-back = (refl, refl)
 
 -- A page of 4,072 bytes is full, so that the next number begins another. A drop frees the first page first, so that the last one is taken
 -- again, here by a list that moves out of its slab.
-pub full-page : runs (alone (bodyOf 16384) 2) (change (load Spare 0 (inARow 1 4072)) ∷ change (append 0 4073) ∷ change (append 0 4074) ∷ ask (read 0 4074) ∷ change (drop 0) ∷ change (load Spare 1 (inARow 1 256)) ∷ change (append 1 257) ∷ ask (read 1 257) ∷ [])
-    ≡ changed (loads-in 1) (changed (at (Extent 8192) 0) (changed (at (Extent 8192) 0) (asked (lists-as (inARow 1 4074) 2 0) (changed (accepted (droppedOf 4074)) (changed (loads-in 0) (changed (at (Extent 8192) 256) (asked (lists-as (inARow 1 257) 1 0) done)))))))
+pub full-page : runs (alone (bodyOf 16384) 2) (change (load Spare 0 (inARow 1 4072)) ∷ change (append 0 4073) ∷ change (append 0 4074) ∷
+    ask (read 0 4074) ∷ change (drop 0) ∷ change (load Spare 1 (inARow 1 256)) ∷ change (append 1 257) ∷ ask (read 1 257) ∷ [])
+    ≡ changed (loads-in 1)
+    (changed (at (Extent 8192) 0)
+    (changed (at (Extent 8192) 0)
+    (asked (lists-as (inARow 1 4074) 2 0)
+    (changed (accepted (droppedOf 4074))
+    (changed (loads-in 0) (changed (at (Extent 8192) 256) (asked (lists-as (inARow 1 257) 1 0) done)))))))
 unfolding computed inARow
 full-page = refl
 
 -- A list of 4,073 goes to a run of two pages, behind the mark rounded up; the body is full then, but the gap before the run was carved.
 pub loaded-run : runs (alone (bodyOf 16384) 3)
-    (change (append 0 1) ∷ change (append 0 2) ∷ change (load Spare 1 (inARow 1 4073)) ∷ change (append 1 4074) ∷ change (load Spare 2 (inARow 1 300)) ∷ change (load Spare 2 (inARow 1 256)) ∷ ask (read 1 4074) ∷ [])
-    ≡ changed (at (Inline 1 1) 0) (changed (at (Slab 0 2 4096) 1) (changed (loads-in 2) (changed (at (Extent 12288) 0) (changed (refused 36) (changed (loads-in 0) (asked (lists-as (inARow 1 4074) 2 0) done))))))
+    (change (append 0 1) ∷ change (append 0 2) ∷ change (load Spare 1 (inARow 1 4073)) ∷ change (append 1 4074) ∷
+    change (load Spare 2 (inARow 1 300)) ∷ change (load Spare 2 (inARow 1 256)) ∷ ask (read 1 4074) ∷ [])
+    ≡ changed (at (Inline 1 1) 0)
+    (changed (at (Slab 0 2 4096) 1)
+    (changed (loads-in 2)
+    (changed (at (Extent 12288) 0) (changed (refused 36) (changed (loads-in 0) (asked (lists-as (inARow 1 4074) 2 0) done))))))
 unfolding computed inARow
 loaded-run = refl
 
@@ -142,7 +173,8 @@ totalAfter b cs = createsFieldOf (part (after (0 ∷ []) b cs .space .body) 4096
 -- counts on, and another is no sound key's for a read or a drop, while an append looks at the last page only.
 pub never-counted :
     (runs (pageBook 0 (5 ∷ 9 ∷ [])) (ask (read 0 2) ∷ change (append 0 300) ∷ ask (read 0 3) ∷ change (drop 0) ∷ [])
-    ≡ asked (lists-as (5 ∷ 9 ∷ []) 1 0) (changed (at (Extent 4096) 0) (asked (lists-as (5 ∷ 9 ∷ 300 ∷ []) 1 0) (changed (accepted (droppedOf 3)) done))))
+    ≡ asked (lists-as (5 ∷ 9 ∷ []) 1 0)
+    (changed (at (Extent 4096) 0) (asked (lists-as (5 ∷ 9 ∷ 300 ∷ []) 1 0) (changed (accepted (droppedOf 3)) done))))
     × (totalAfter (pageBook 0 (5 ∷ 9 ∷ [])) (change (append 0 300) ∷ []) ≡ 0)
     × (totalAfter (pageBook 2 (5 ∷ 9 ∷ [])) (change (append 0 300) ∷ []) ≡ 3)
     × (runs (pageBook 1 (5 ∷ 9 ∷ [])) (ask (read 0 2) ∷ change (drop 0) ∷ change (append 0 300) ∷ [])
@@ -154,8 +186,11 @@ never-counted = (refl, refl, refl, refl)
 -- its class is by shortest forms. Reads tell two padded numbers until then, and none afterwards.
 pub padded :
     let slab : List ℕ = 2 ∷ 0 ∷ 133 ∷ 128 ∷ 128 ∷ 128 ∷ 128 ∷ 128 ∷ 0 ∷ 129 ∷ 128 ∷ 128 ∷ 128 ∷ 128 ∷ 0 ∷ [] in
-    runs (book (overwrite (bodyOf 8192) 4096 slab) (slabWord 0 2 4096 ∷ []) 4112 (replicate 9 0) (holding 0)) (ask (read 0 4) ∷ change (append 0 7) ∷ ask (read 0 4) ∷ change (append 0 8) ∷ ask (read 0 4) ∷ [])
-    ≡ asked (lists-as (5 ∷ 6 ∷ []) 0 2) (changed (at (Slab 0 3 4096) 0) (asked (lists-as (5 ∷ 6 ∷ 7 ∷ []) 0 2) (changed (at (Slab 1 4 4112) 3) (asked (lists-as (5 ∷ 6 ∷ 7 ∷ 8 ∷ []) 0 0) done))))
+    runs (book (overwrite (bodyOf 8192) 4096 slab) (slabWord 0 2 4096 ∷ []) 4112 (replicate 9 0) (holding 0)) (ask (read 0 4) ∷
+    change (append 0 7) ∷ ask (read 0 4) ∷ change (append 0 8) ∷ ask (read 0 4) ∷ [])
+    ≡ asked (lists-as (5 ∷ 6 ∷ []) 0 2)
+    (changed (at (Slab 0 3 4096) 0)
+    (asked (lists-as (5 ∷ 6 ∷ 7 ∷ []) 0 2) (changed (at (Slab 1 4 4112) 3) (asked (lists-as (5 ∷ 6 ∷ 7 ∷ 8 ∷ []) 0 0) done))))
 unfolding computed
 padded = refl
 
@@ -164,13 +199,15 @@ padded = refl
 -- A slab for key 2, two loads of a page onto keys 0 and 1, and a number more for which the slab is too small.
 abbrev callsOfTwo : List Call
 callsOfTwo =
-    change (load Spare 2 (inARow 1 256)) ∷ change (load Spare 0 (inARow 1 300)) ∷ change (load Spare 1 (inARow 1 300)) ∷ change (append 2 257)
+    change (load Spare 2 (inARow 1 256)) ∷ change (load Spare 0 (inARow 1 300)) ∷ change (load Spare 1 (inARow 1 300)) ∷
+    change (append 2 257)
     ∷ []
 
 -- What they answer over four pages, where keys 0 and 1 are of desk 0 with a ceiling, and key 2 of desk 1, for which a page is kept.
 abbrev keptFor1 : ℕ → Answers callsOfTwo
 keptFor1 most =
-    computed (serves (0 ∷ 0 ∷ 1 ∷ [])) (fresh (bodyOf 16384) 3 (record { reserve = 0 ∷ 1 ∷ replicate 14 0; ceiling = most ∷ replicate 15 1 }))
+    computed (serves (0 ∷ 0 ∷ 1 ∷ []))
+    (fresh (bodyOf 16384) 3 (record { reserve = 0 ∷ 1 ∷ replicate 14 0; ceiling = most ∷ replicate 15 1 }))
     callsOfTwo
 
 -- The page kept for desk 1 isn't taken by desk 0: 41, or 40 where its ceiling is met.

@@ -46,7 +46,8 @@ unfolding refuseIf andThen answered part overwrite isForm value formAt overflows
     decodeSlab fitting firstPart greedyParts replaceLast field setField nextOff deltaHeader extentHeader pageOf streamPlace pageScan
     spotBehind oneMore withAppended isBlock pushed popFree largestUpTo blockThen carve pushAll bookAfter afterCalls outOfShape offeredNumber
     offeredList stays larger movesTo loadsTo markBad shapeBroken takeMark takeSlab popEnd rounded runAtMark takeFresh takePopped takeBlock
-    release soundly sure goOn slabScan linkScan goodExtent lastAt pageThen walk totalGood chainAt pageBlocks contentAt content tailAt headWord byDesk withDesks
+    release soundly sure goOn slabScan linkScan goodExtent lastAt pageThen walk totalGood chainAt pageBlocks contentAt content tailAt
+    headWord byDesk withDesks
     beyondDesks listBad sumTo lacksWith above permitted listed heldIn limitsIn freshCounts countsHigh judgedTake slabFor freedUntrue pageFor
     runFor givenBack
     movesInto moves slabWith appendSlab totalWith pageWith pageBefore growChain appendPage appendAt appends writeRun loadInto loadAt loads

@@ -252,7 +252,8 @@ module _ (ds : List ℕ) (b : Book) (bytes more : List ℕ) (g : GoodStart ds b)
   unfolding answersTo plainOf answered
   grown-accepts c number for low page enough e =
       let was : answerOf (does (plainOf ds b) c) ≡ refused number
-      = ap (first c) (sym (answers-alike each-alike each-same (plainOf ds b) b (change c ∷ []) (start-good ds b g) (start-agrees ds b g)) ∙ e) in
+      = ap (first c) (sym (answers-alike each-alike each-same (plainOf ds b) b (change c ∷ []) (start-good ds b g) (start-agrees ds b g))
+      ∙ e) in
       let roomy = good-roomy (length (b .space .body) + length bytes) (plainOf ds b) (start-good ds b g) page low in
       let (o, did) = room-accepts (plainOf ds b) (length bytes) more larger-shape (larger-good .desks .named) c roomy enough for
       (was-refused _ _ was) in

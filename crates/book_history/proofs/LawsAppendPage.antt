@@ -29,7 +29,8 @@ use Rattle.book_desks.specs.Counts.{heldCount, counted}
 use Rattle.plain_book.specs.Space.{Space as PlainSpace, Taken as PlainTaken, takeBlock as plainTake}
 use Rattle.plain_book.specs.Key.{written, longer, Page, Place, pages, lastPage, noPage, totalOf, headOf, Placed, longerPage, joins}
 use Rattle.plain_book.specs.Key.{joinedTo, begunAt, beginPage, appendPages, appendPlace, pagesOf, keyIn}
-use Rattle.plain_book.specs.Book.{Book as PlainBook, Outcome as PlainOutcome, keyOf, withKey, deskIn, freedIn, leaveOf, extended, appends as plainAppends}
+use Rattle.plain_book.specs.Book.{Book as PlainBook, Outcome as PlainOutcome, keyOf, withKey, deskIn, freedIn, leaveOf, extended}
+use Rattle.plain_book.specs.Book.{appends as plainAppends}
 use Rattle.plain_book.specs.Owners.{Owner, hand, stack, slabOf, pageOf, pageNo, pageIn, has, places}
 use Rattle.plain_book.specs.Good.{Good, GoodPlain}
 use Rattle.plain_book.proofs.LawsOwners.{some-inj, none-some, kindOf, depthOf, atKey, key-slab, key-page}
@@ -341,7 +342,8 @@ module _ (plain : PlainBook) (b : Book) (g : GoodPlain plain) (a : Agrees plain 
 
   -- The number joins the last page: the spaces agree.
   joined-agrees : (w : Spot) → spotBehind (pageBytes (seen (b .space)) last) n (tail .scan) ≡ some w
-      → AgreesSpace (plain .space) (space (overwrite (b .space .body) last (pageWith (pageBytes (seen (b .space)) last) w total)) (b .space .mark)
+      → AgreesSpace (plain .space) (space (overwrite (b .space .body) last (pageWith (pageBytes (seen (b .space)) last) w total))
+      (b .space .mark)
       (b .space .free))
       (atKey key (joinedTo n ps) (places plain)) none (placedContents plain key (totalWith total) (joinedTo n ps))
   unfolding has
@@ -396,13 +398,15 @@ module _ (plain : PlainBook) (b : Book) (g : GoodPlain plain) (a : Agrees plain 
       → Alike (placing (record { place = joinedTo n ps; space = plain .space; rewritten = 0 })) (appendPage own b key n last tail (some w))
   unfolding appendPage headOf
   joined-alike w spot =
-      append-ends plain b key more (joinedTo n ps) (keyOf key plain .counted) (totalWith total) (Extent last) 0 (plain .space) _ (b .counts) a
+      append-ends plain b key more (joinedTo n ps) (keyOf key plain .counted) (totalWith total) (Extent last) 0 (plain .space) _
+      (b .counts) a
       shape low
       (ap (λ (p : Page). Extent (p .off)) (joined-last n noPage ps one)) (total-is (joinedTo n ps))
       (last-long (plain .space) (b .space) none (pageWith (pageBytes (seen (b .space)) last) w total) (g .space) (a .inside shape .space)
       (joined-reads w spot .0))
       (joined-agrees w spot)
-      (counts-stay plain (b .counts) key known (a .inside shape .counts) (keyIn more (joinedTo n ps) (keyOf key plain .counted)) (plain .space)
+      (counts-stay plain (b .counts) key known (a .inside shape .counts) (keyIn more (joinedTo n ps) (keyOf key plain .counted))
+      (plain .space)
       refl (joined-long n ps ∙ sym (ap (λ (p : Place). pagesOf p) is)))
 
   -- The number begins a page in hand, and the old last page names it: the spaces agree, and the body is as long.
@@ -560,7 +564,8 @@ append-pages plain b key n ps g a is =
     rw (
       is,
       then-yes _ (λ (t : Tail). refuseIf (leb n (lastOf (t .scan))) offeredNotRising
-          (appendPage (deskIn plain key) b key n (lastPage noPage ps .off) t (spotBehind (pageBytes (seen (b .space)) (lastPage noPage ps .off)) n (t .scan))))
+          (appendPage (deskIn plain key) b key n (lastPage noPage ps .off) t
+          (spotBehind (pageBytes (seen (b .space)) (lastPage noPage ps .off)) n (t .scan))))
           (tail-agrees plain b g shape h key ps is),
     )
     (alike-both _ _ _ _ _ (ap (leb n) (chain key ps g is .last))

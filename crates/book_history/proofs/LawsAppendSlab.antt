@@ -31,9 +31,11 @@ use Rattle.book_rules.proofs.LawsRules.{stays-holds, moves-to}
 use Rattle.book_rules.specs.Outcomes.{Appended}
 use Rattle.book_desks.specs.Counts.{heldCount, counted}
 use Rattle.plain_book.specs.Space.{Taken as PlainTaken}
-use Rattle.plain_book.specs.Key.{Kept, written, longer, Page, Place, empty, inline, slab, pages, lastPage, headOf, freedPlace, countedAfter, keyIn}
+use Rattle.plain_book.specs.Key.{Kept, written, longer, Page, Place, empty, inline, slab, pages, lastPage, headOf, freedPlace, countedAfter}
+use Rattle.plain_book.specs.Key.{keyIn}
 use Rattle.plain_book.specs.Key.{onePage, pagesOf, Placed, moved, appendPlace}
-use Rattle.plain_book.specs.Book.{Book as PlainBook, Outcome as PlainOutcome, keyOf, withKey, deskIn, freedIn, leaveOf, extended, appends as plainAppends}
+use Rattle.plain_book.specs.Book.{Book as PlainBook, Outcome as PlainOutcome, keyOf, withKey, deskIn, freedIn, leaveOf, extended}
+use Rattle.plain_book.specs.Book.{appends as plainAppends}
 use Rattle.plain_book.specs.Sound.{Fits}
 use Rattle.plain_book.specs.Owners.{Owner, hand, stack, slabOf, pageOf, slabAt, has, places}
 use Rattle.plain_book.specs.Good.{Good, GoodPlain}
@@ -57,7 +59,8 @@ use Rattle.book_history.proofs.LawsFrame.{block-ends}
 use Rattle.book_history.proofs.LawsStep.{Alike, refused-alike, alike-both, placedContents}
 use Rattle.book_history.proofs.LawsTake.{inHandOf}
 use Rattle.book_history.proofs.LawsDesks.{key-desk, held-same, counts-placed, counts-stay, for-then, slab-for-alike, page-for-alike}
-use Rattle.book_history.proofs.LawsContent.{blocksOf, none-listed, one-listed, slab-agrees, last-written, appendLeaves, plainAppending}
+use Rattle.book_history.proofs.LawsContent.{blocksOf, none-listed, one-listed, slab-agrees, last-written, appendLeaves}
+use Rattle.book_history.proofs.LawsContent.{plainAppending}
 use Rattle.book_history.proofs.LawsContent.{append-begins, append-ends}
 use Rattle.book_history.proofs.LawsHand.{agrees-written, withHand, Filled, filled-whole, fill-long, fill-agrees, payload-long}
 use Rattle.book_history.proofs.LawsHand.{filled-slab}
@@ -66,7 +69,8 @@ use Rattle.book_history.proofs.LawsHand.{placed-one}
 use Rattle.book_history.proofs.LawsDrop.{Given, place-gone, gone-placed}
 
 -- Both books branch by one test, and then the plain one goes on.
-alike-cond-then : (t t' : Bool) (x y : Answer Placed) (go : Placed → Answer (PlainOutcome Appended)) (u v : Answer (Outcome Appended)) → t ≡ t'
+alike-cond-then : (t t' : Bool) (x y : Answer Placed) (go : Placed → Answer (PlainOutcome Appended)) (u v : Answer (Outcome Appended))
+    → t ≡ t'
     → (t ≡ true → Alike (andThen x go) u)
     → (t ≡ false → Alike (andThen y go) v) → Alike (andThen (cond t x y) go) (cond t' u v)
 alike-cond-then true true x y go u v e yes' no' = yes' refl
@@ -95,7 +99,8 @@ module _ (plain : PlainBook) (b : Book) (key n : ℕ) (g : GoodPlain plain) (a :
   -- ---- moving
 
   -- What was taken is filled, and the old place given up.
-  moved-space : (old : Place) (class : ℕ) (t : PlainTaken) (u : TakenFor) (ys : List ℕ) → length ys ≤ slabBytes class → places plain key ≡ old
+  moved-space : (old : Place) (class : ℕ) (t : PlainTaken) (u : TakenFor) (ys : List ℕ) → length ys ≤ slabBytes class
+      → places plain key ≡ old
       → u .off ≡ t .off
       → length (u .space .body) ≡ plain .size → Good (t .space) (places plain) (inHandOf class (t .off))
       → AgreesSpace (t .space) (u .space) (places plain) (inHandOf class (t .off)) (contentsOf plain)
@@ -129,8 +134,10 @@ module _ (plain : PlainBook) (b : Book) (key n : ℕ) (g : GoodPlain plain) (a :
       (omega arith) (omega arith))
 
   -- The counts stay where the key takes nothing.
-  kept-counts : (new : Place) → pagesOf new ≡ pagesOf (places plain key) → AgreesCounts (withKey key (keyIn grown new true) (plain .space) plain) (b .counts)
-  kept-counts new same = counts-stay plain (b .counts) key (key-desk plain key (g .desks)) (h .counts) (keyIn grown new true) (plain .space) refl same
+  kept-counts : (new : Place) → pagesOf new ≡ pagesOf (places plain key)
+      → AgreesCounts (withKey key (keyIn grown new true) (plain .space) plain) (b .counts)
+  kept-counts new same = counts-stay plain (b .counts) key (key-desk plain key (g .desks)) (h .counts) (keyIn grown new true)
+      (plain .space) refl same
 
   -- a taken page as it is filled
   abbrev onlyPage : TakenFor → List ℕ
@@ -173,9 +180,11 @@ module _ (plain : PlainBook) (b : Book) (key n : ℕ) (g : GoodPlain plain) (a :
       let good = good-taken (plain .size) class (plain .space) (places plain) (omega (arith, m .slab)) (leave-refuses plain key 0 _ t took)
       (g .space) in
       let k = moved-space old class t u (slabPayload grown) payload is same long good agrees in
-      append-ends plain b key grown (slab class (t .off) (written grown)) true (totalTold (length grown)) (Slab class (length grown) (u .off))
+      append-ends plain b key grown (slab class (t .off) (written grown)) true (totalTold (length grown))
+      (Slab class (length grown) (u .off))
       (length list) (freedPlace old (t .space))
-      (release (blocksOf old) (filled u (slabPayload grown))) (u .counts) a shape low (ap (Slab class (length grown)) (sym same)) refl (k .size)
+      (release (blocksOf old) (filled u (slabPayload grown))) (u .counts) a shape low (ap (Slab class (length grown)) (sym same)) refl
+      (k .size)
       (placed-slab plain key (totalTold (length grown)) (freedPlace old (t .space)) (release (blocksOf old) (filled u (slabPayload grown)))
       (atKey key empty (places plain)) class (t .off) (written grown)
       (withHand (Filled class (slabPayload grown)) (placedContents plain key 0 empty))
@@ -188,12 +197,14 @@ module _ (plain : PlainBook) (b : Book) (key n : ℕ) (g : GoodPlain plain) (a :
       for-then (λ x y. Alike (andThen x leaves) y) (places plain) (inHandOf pageClass) (contentsOf plain) (plain .size) (deskIn plain key) 1
       (b .counts) _ _ _ _ (λ number. refused-alike)
       (λ t u took same long agrees left.
-      let good = good-taken (plain .size) pageClass (plain .space) (places plain) (omega arith) (leave-refuses plain key 1 _ t took) (g .space) in
+      let good = good-taken (plain .size) pageClass (plain .space) (places plain) (omega arith) (leave-refuses plain key 1 _ t took)
+      (g .space) in
       let (full, reads) = page-reads t u same good (omega (arith, agrees .within, agrees .small)) rises fits in
       let k = moved-space old pageClass t u (onlyPage u) (omega (arith, full)) is same long good agrees in
       append-ends plain b key grown (pages (onePage (t .off) grown)) true (length grown) (Extent (u .off)) (length list)
       (freedPlace old (t .space)) (release (blocksOf old) (filled u (onlyPage u))) (u .counts) a shape low
-      (ap Extent (sym same)) (total-exact (keyIn grown (pages (onePage (t .off) grown)) true) refl (omega (arith, count-least 0 grown))) (k .size)
+      (ap Extent (sym same)) (total-exact (keyIn grown (pages (onePage (t .off) grown)) true) refl (omega (arith, count-least 0 grown)))
+      (k .size)
       (placed-one plain key (length grown) (freedPlace old (t .space)) (release (blocksOf old) (filled u (onlyPage u)))
       (atKey key empty (places plain))
       (record { off = t .off; room = lastPageRoom; part = written grown })
@@ -206,14 +217,17 @@ module _ (plain : PlainBook) (b : Book) (key n : ℕ) (g : GoodPlain plain) (a :
   -- It moves to the class for it, where the bytes hold the list.
   moves-alike : (old : Place) (ns : List ℕ) → ns ≡ list → places plain key ≡ old → lastFrom 0 list < n → streamLen grown ≤ lastPageRoom
       → pagesOf old ≡ 0
-      → Alike (andThen (moved (plain .size) (leaveOf plain key) (movesTo (length grown) (streamLen grown)) (length list) grown old (plain .space))
+      → Alike (andThen (moved (plain .size) (leaveOf plain key) (movesTo (length grown) (streamLen grown)) (length list) grown old
+      (plain .space))
       leaves) (moves (deskIn plain key) b key ns n (blocksOf old))
   unfolding moves
   moves-alike old ns same is above fits none' =
-      subst (λ (l : List ℕ). Alike (andThen (moved (plain .size) (leaveOf plain key) (movesTo (length grown) (streamLen grown)) (length list)
+      subst (λ (l : List ℕ). Alike
+      (andThen (moved (plain .size) (leaveOf plain key) (movesTo (length grown) (streamLen grown)) (length list)
       grown old (plain .space)) leaves) (moves (deskIn plain key) b key l n (blocksOf old)))
       (sym same)
-      (move-alike old (movesTo (length grown) (streamLen grown)) is (rises-snoc (2 ^ 62) list n (g .keys key .rises) above small) fits refl none')
+      (move-alike old (movesTo (length grown) (streamLen grown)) is (rises-snoc (2 ^ 62) list n (g .keys key .rises) above small) fits refl
+      none')
 
   -- ---- a slab
 
@@ -291,15 +305,18 @@ module _ (plain : PlainBook) (b : Book) (key n : ℕ) (g : GoodPlain plain) (a :
       stay-space =
           agrees-written (plain .space) (b .space) (places plain) (atKey key (slab class off (longer n kept)) (places plain)) none none
           (contentsOf plain)
-          (placedContents plain key (totalTold (length grown)) (slab class off (longer n kept))) (slabOf key) y after (g .space) mine after-long to
+          (placedContents plain key (totalTold (length grown)) (slab class off (longer n kept))) (slabOf key) y after
+          (g .space) mine after-long to
           (h .space)
         where
           others : OthersKept key (contentsOf plain) (placedContents plain key (totalTold (length grown)) (slab class off (longer n kept)))
-          others = others-kept plain key (places plain) (contentsOf plain) (meanwhile-first plain key (λ block. Unit {0})) (totalTold (length grown))
+          others = others-kept plain key (places plain) (contentsOf plain) (meanwhile-first plain key (λ block. Unit {0}))
+              (totalTold (length grown))
               (slab class off (longer n kept))
 
           to : (v : Owner) (x : Block) → has (plain .space) (atKey key (slab class off (longer n kept)) (places plain)) none v ≡ some x
-              → ((x ≡ y) × BlockReads (plain .space) (placedContents plain key (totalTold (length grown)) (slab class off (longer n kept))) v after)
+              → ((x ≡ y) × BlockReads (plain .space) (placedContents plain key (totalTold (length grown)) (slab class off (longer n kept)))
+              v after)
               ⊎ ((u : Owner) × (u ≢ slabOf key) × (has (plain .space) (places plain) none u ≡ some x)
               × ((block : List ℕ) → BlockReads (plain .space) (contentsOf plain) u block
               → BlockReads (plain .space) (placedContents plain key (totalTold (length grown)) (slab class off (longer n kept))) v block))
@@ -317,13 +334,15 @@ module _ (plain : PlainBook) (b : Book) (key n : ℕ) (g : GoodPlain plain) (a :
               (key-page key (slab class off (longer n kept)) (places plain) j i x e)
 
     -- The list stays in its slab, or moves out of it, in both books.
-    slab-alike : Alike (andThen (appendPlace (plain .size) (leaveOf plain key) (length list) grown n (slab class off kept) (plain .space)) leaves)
+    slab-alike : Alike (andThen (appendPlace (plain .size) (leaveOf plain key) (length list) grown n (slab class off kept) (plain .space))
+        leaves)
         (appendSlab (deskIn plain key) b key n class off (scanOf kept))
     unfolding appendPlace appendSlab andThen headOf longer
     slab-alike =
         alike-cond-then _ _ _ _ leaves _ _ (ap (λ (m : ℕ). stays class m (longer n kept .bytes)) (sym numbers-more))
         (λ e.
-        append-ends plain b key grown (slab class off (longer n kept)) true (totalTold (length grown)) (Slab class (length (kept .numbers) + 1) off) 0
+        append-ends plain b key grown (slab class off (longer n kept)) true (totalTold (length grown))
+        (Slab class (length (kept .numbers) + 1) off) 0
         (plain .space)
         (space (overwrite (b .space .body) off after) (b .space .mark) (b .space .free)) (b .counts) a shape low
         (ap (λ (m : ℕ). Slab class m off) (sym numbers-more)) refl

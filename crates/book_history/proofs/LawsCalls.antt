@@ -23,7 +23,8 @@ alike-answer (told-alike e h) = ap accepted (sym e)
 alike-answer refused-alike = refl
 
 -- After answers alike the books agree.
-pub alike-books : {T : Type 0} {plain : PlainBook} {book : Book} {a : Answer (PlainOutcome T)} {b : Answer (Outcome T)} → Alike a b → Agrees plain book
+pub alike-books : {T : Type 0} {plain : PlainBook} {book : Book} {a : Answer (PlainOutcome T)} {b : Answer (Outcome T)} → Alike a b
+    → Agrees plain book
     → Agrees (bookAfter plain a) (bookAfter book b)
 unfolding bookAfter
 alike-books (told-alike e h) before = h
@@ -33,7 +34,8 @@ alike-books refused-alike before = before
 
 -- Each change is answered alike by any pair of books that agree, where the bytes are lent the plain book's desks.
 abbrev pub EachAlike : Type 0
-EachAlike = (plain : PlainBook) (b : Book) (c : Change) → GoodPlain plain → Agrees plain b → Alike (plainDoes plain c) (does (plain .desks) b c)
+EachAlike = (plain : PlainBook) (b : Book) (c : Change) → GoodPlain plain → Agrees plain b
+    → Alike (plainDoes plain c) (does (plain .desks) b c)
 
 -- Each enquiry gets the same answer from any pair of books that agree.
 abbrev pub EachSame : Type 0
@@ -64,7 +66,8 @@ module _ (each : EachAlike) where
   books-agree plain b cs g a = agree-lent (plain .desks) plain b cs refl g a
 
   -- And each list of calls is answered alike.
-  alike-lent : EachSame → (ds : List ℕ) (plain : PlainBook) (b : Book) (cs : List Call) → plain .desks ≡ ds → GoodPlain plain → Agrees plain b
+  alike-lent : EachSame → (ds : List ℕ) (plain : PlainBook) (b : Book) (cs : List Call) → plain .desks ≡ ds → GoodPlain plain
+      → Agrees plain b
       → answers ds b cs ≡ plainAnswers plain cs
   unfolding answersTo
   alike-lent same ds plain b [] e g a = refl

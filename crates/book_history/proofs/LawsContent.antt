@@ -25,9 +25,11 @@ use Rattle.book_rules.specs.Outcomes.{appendedTo, Appended}
 use Rattle.book_rules.specs.Offered.{offeredNumber}
 use Rattle.book_limits.specs.Limits.{outOfShape, mostBody, mostCounted, totalTold}
 use Rattle.plain_book.specs.Space.{Space as PlainSpace}
-use Rattle.plain_book.specs.Key.{Kept, written, Page, Place, empty, inline, slab, pages, lastPage, noPage, totalOf, headOf, pagesOf, paddedPages, paddedOf, countedAfter, keyIn}
+use Rattle.plain_book.specs.Key.{Kept, written, Page, Place, empty, inline, slab, pages, lastPage, noPage, totalOf, headOf, pagesOf}
+use Rattle.plain_book.specs.Key.{paddedPages, paddedOf, countedAfter, keyIn}
 use Rattle.plain_book.specs.Key.{Placed, appendPlace}
-use Rattle.plain_book.specs.Book.{Book as PlainBook, Outcome as PlainOutcome, keyOf, withKey, deskIn, leaveOf, extended, appends as plainAppends}
+use Rattle.plain_book.specs.Book.{Book as PlainBook, Outcome as PlainOutcome, keyOf, withKey, deskIn, leaveOf, extended}
+use Rattle.plain_book.specs.Book.{appends as plainAppends}
 use Rattle.plain_book.specs.Book.{reads as plainReads}
 use Rattle.plain_book.specs.Sound.{held, FitsPage, FitPages, RisesFrom, Fits}
 use Rattle.plain_book.specs.Owners.{pageOf, slabOf, slabAt, pageNo, pageIn, has, places}
@@ -88,7 +90,8 @@ link-scans s prev off p stands r rises l =
     sure-yes _ _ stands ∙ then-yes _ _ (r .reads) ∙ sure-yes _ _ (rising-goes-on prev (p .part .numbers) rises l)
 
 -- A last page's header.
-last-header : (s : Space) (off first creates : ℕ) → isBlock pageClass off (s .mark) ≡ true → LastReads first creates (pageBytes (seen s) off)
+last-header : (s : Space) (off first creates : ℕ) → isBlock pageClass off (s .mark) ≡ true
+    → LastReads first creates (pageBytes (seen s) off)
     → lastAt (seen s) off ≡ accepted (record { first = first; creates = creates })
 unfolding lastAt
 last-header s off first creates stands r =
@@ -300,7 +303,8 @@ module _ (plain : PlainBook) (b : Book) (g : GoodPlain plain) (shape : outOfShap
 
   -- The header of a key's last page.
   last-told : (ps : List Page) → keyOf key plain .place ≡ pages ps
-      → lastAt (seen (b .space)) (lastPage noPage ps .off) ≡ accepted (record { first = firstPageOff ps; creates = totalOf (keyOf key plain) })
+      → lastAt (seen (b .space)) (lastPage noPage ps .off)
+      ≡ accepted (record { first = firstPageOff ps; creates = totalOf (keyOf key plain) })
   last-told ps is =
       let one = some-pages ps (chain key ps g is .fit) in
       let k = chain-page ps is (length ps - 1) (lastPage noPage ps .off) (last-page-at (length ps - 1) noPage ps (omega arith)) in

@@ -23,7 +23,8 @@ use Rattle.book_desks.proofs.LawsSums.{term-least}
 use Rattle.book_desks.proofs.LawsDesks.{list-good}
 use Rattle.book_desks.proofs.LawsCounts.{held-at, none-high, limits-counted, freed-counted, held-counted, length-counted}
 use Rattle.plain_book.specs.Space.{Space as PlainSpace, Taken as PlainTaken, stackOf, takeMark as plainTakeMark, takeSlab as plainTakeSlab}
-use Rattle.plain_book.specs.Space.{takeFresh as plainTakeFresh, runAtMark as plainRunAtMark, rounded as plainRounded, takeRun as plainTakeRun, takeFrom}
+use Rattle.plain_book.specs.Space.{takeFresh as plainTakeFresh, runAtMark as plainRunAtMark, rounded as plainRounded}
+use Rattle.plain_book.specs.Space.{takeRun as plainTakeRun, takeFrom}
 use Rattle.plain_book.specs.Space.{takeBlock as plainTake}
 use Rattle.plain_book.specs.Key.{Place, pagesOf, Key}
 use Rattle.plain_book.specs.Book.{Book as PlainBook, keyOf, withKey, deskIn, freedIn, allowed, leaveOf}
@@ -50,7 +51,8 @@ pub key-desk : (plain : PlainBook) (key : ℕ) → GoodDesks plain → deskIn pl
 key-desk plain key g = desk-low (plain .desks) key (list-good (plain .desks) (length (plain .keys)) (g .named) .1)
 
 -- No count of a book with good desks is above the body's pages.
-pub counts-fine : (plain : PlainBook) (counts : List ℕ) → GoodDesks plain → AgreesCounts plain counts → countsHigh (plain .size) counts ≡ false
+pub counts-fine : (plain : PlainBook) (counts : List ℕ) → GoodDesks plain → AgreesCounts plain counts → countsHigh (plain .size) counts
+    ≡ false
 counts-fine plain counts g a =
     none-high (plain .size) counts (let f = a .freed in let b = g .balanced in omega arith)
     (λ d h. subst (λ (xs : List ℕ). deskCount d xs ≤ plain .size / pageSize) (sym (a .held))
@@ -118,9 +120,11 @@ permitted-alike : {A B : Type 0} (P : Answer A → Answer B → Type 0) (l : Lim
     → P (permitted l end desk n held freed mark x) (permitted l end desk n held freed mark y)
 unfolding permitted refuseIf
 permitted-alike P l end desk n held freed mark x y no' both =
-    go (not (eqb n 0) && ltb (deskCount desk (l .ceiling)) (deskCount desk held + n)) (ltb (toBeHad end freed mark) (lacksWith l held desk n))
+    go (not (eqb n 0) && ltb (deskCount desk (l .ceiling)) (deskCount desk held + n))
+    (ltb (toBeHad end freed mark) (lacksWith l held desk n))
   where
-    go : (s t : Bool) → P (cond s (refused pastCeiling) (cond t (refused intoReserves) x)) (cond s (refused pastCeiling) (cond t (refused intoReserves) y))
+    go : (s t : Bool) → P (cond s (refused pastCeiling) (cond t (refused intoReserves) x))
+        (cond s (refused pastCeiling) (cond t (refused intoReserves) y))
     go true t = no' pastCeiling
     go false true = no' intoReserves
     go false false = both
@@ -205,7 +209,8 @@ slab-freed end class s t low e = go (stackOf class s) refl e
 -- ---- slabs, pages and runs for a desk
 
 module _ (plain : PlainBook) (s : Space) (counts : List ℕ) (key : ℕ) (at : ℕ → Place) (c : Contents) (g : Good (plain .space) at none)
-    (d : GoodDesks plain) (a : AgreesCounts plain counts) (size : length (s .body) ≡ plain .size) (h : AgreesSpace (plain .space) s at none c)
+    (d : GoodDesks plain) (a : AgreesCounts plain counts) (size : length (s .body) ≡ plain .size)
+    (h : AgreesSpace (plain .space) s at none c)
   where
     -- the body is whole pages
     whole : length (s .body) % 4096 ≡ 0

@@ -209,7 +209,8 @@ module _ (plain : PlainBook) (b : Book) (key : ℕ) (g : GoodPlain plain) (a : A
 
       enough : ltb (heldCount own (b .counts)) given ≡ false
       enough =
-          le-ltb (heldCount own (b .counts)) given (let e = held-same plain (b .counts) key known (h .counts) in let o = own-held plain key (g .desks) low in omega arith)
+          le-ltb (heldCount own (b .counts)) given (let e = held-same plain (b .counts) key known (h .counts) in let o = own-held plain key
+          (g .desks) low in omega arith)
 
       go : (t : Bool) → cond t (after (b .counts)) (refuseIf (countsHigh (length (b .space .body)) (b .counts)) shapeBad
           (refuseIf (ltb (heldCount own (b .counts)) given) keyUnsound
@@ -219,7 +220,8 @@ module _ (plain : PlainBook) (b : Book) (key : ℕ) (g : GoodPlain plain) (a : A
       go false = refuse-no _ shapeBad _ fine ∙ refuse-no _ keyUnsound _ enough
 
   -- The counts tell of what is given back.
-  back-counts : AgreesCounts (withKey key emptyKey (freedPlace (keyOf key plain .place) (plain .space)) plain) (countsBack own given (b .counts))
+  back-counts : AgreesCounts (withKey key emptyKey (freedPlace (keyOf key plain .place) (plain .space)) plain)
+      (countsBack own given (b .counts))
   back-counts = go (eqb given 0) refl
     where
       more : freedIn (freedPlace (keyOf key plain .place) (plain .space)) ≡ freedIn (plain .space) + given
@@ -251,5 +253,6 @@ drop-step plain b key g a =
     rw (then-yes _ (dropped (deskIn plain key) b key) (content-agrees plain b g shape h key), back-passes plain b key g a low shape h _)
     (told-alike refl
     (agrees-placed plain key [] empty true (freedPlace (places plain key) (plain .space)) low b
-    (release (blocksOf (places plain key)) (b .space)) (countsBack (deskIn plain key) (pagesOf (places plain key)) (b .counts)) a shape (k .size)
+    (release (blocksOf (places plain key)) (b .space)) (countsBack (deskIn plain key) (pagesOf (places plain key)) (b .counts)) a shape
+    (k .size)
     (k .agrees) (back-counts plain b key g a low shape h))))

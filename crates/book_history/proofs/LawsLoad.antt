@@ -42,9 +42,11 @@ use Rattle.book_desks.specs.Desks.{deskCount}
 use Rattle.book_desks.specs.Counts.{heldCount, counted}
 use Rattle.plain_book.specs.Space.{Space as PlainSpace, Taken as PlainTaken, takeBlock as plainTake, rounded as plainRounded}
 use Rattle.plain_book.specs.Space.{takeRun as plainTakeRun, runAtMark as plainRunAtMark}
-use Rattle.plain_book.specs.Key.{Page, Place, empty, inline, slab, pages, written, lastPage, noPage, headOf, Key, emptyKey, pagesOf, Placed, keyIn}
+use Rattle.plain_book.specs.Key.{Page, Place, empty, inline, slab, pages, written, lastPage, noPage, headOf, Key, emptyKey, pagesOf, Placed}
+use Rattle.plain_book.specs.Key.{keyIn}
 use Rattle.plain_book.specs.Key.{runPages, loadInto as plainLoadInto, loadPlace}
-use Rattle.plain_book.specs.Book.{Book as PlainBook, Outcome as PlainOutcome, keyOf, withKey, deskIn, freedIn, leaveOf, inUse, loads as plainLoads}
+use Rattle.plain_book.specs.Book.{Book as PlainBook, Outcome as PlainOutcome, keyOf, withKey, deskIn, freedIn, leaveOf, inUse}
+use Rattle.plain_book.specs.Book.{loads as plainLoads}
 use Rattle.plain_book.specs.Book.{does as plainDoes}
 use Rattle.plain_book.specs.Sound.{Fits, SoundKey}
 use Rattle.plain_book.specs.Owners.{Owner, hand, stack, slabOf, pageOf, Apart, slabAt, pageNo, pageIn, has, places}
@@ -339,7 +341,8 @@ module _ (plain : PlainBook) (b : Book) (key : ℕ) (ns : List ℕ) (g : GoodPla
       (loadInto own b key ns (some class))
   unfolding plainLoadInto loadInto headOf andThen
   load-slab fit class is =
-      for-then (λ x y. Alike (andThen x loadedTo) y) (places plain) (inHandOf class) (anyHand (contentsOf plain)) (plain .size) own 0 (b .counts)
+      for-then (λ x y. Alike (andThen x loadedTo) y) (places plain) (inHandOf class) (anyHand (contentsOf plain)) (plain .size) own 0
+      (b .counts)
       _ _ _ _ (λ number. refused-alike) go
       (slab-for-alike plain (b .space) (b .counts) key (places plain) (contentsOf plain) (g .space) (g .desks) (h .counts) (a .size)
       (h .space) class (let (many, to-7, fits) = loads-to fit (length ns) (streamLen ns) is in to-7))
@@ -403,14 +406,16 @@ module _ (plain : PlainBook) (b : Book) (key : ℕ) (ns : List ℕ) (g : GoodPla
       → Alike (andThen (plainLoadInto (plain .size) (leaveOf plain key) none ns (plain .space)) loadedTo) (loadInto own b key ns none)
   unfolding plainLoadInto loadInto headOf andThen plainRunAtMark has
   load-run some' =
-      for-then (λ x y. Alike (andThen x loadedTo) y) (places plain) (λ off. none) (contentsOf plain) (plain .size) own (length parts) (b .counts)
+      for-then (λ x y. Alike (andThen x loadedTo) y) (places plain) (λ off. none) (contentsOf plain) (plain .size) own (length parts)
+      (b .counts)
       _ _ _ _ (λ number. refused-alike)
       (λ t u took off long agrees left.
       subst
       (λ (t : PlainTaken). u .off ≡ t .off → AgreesSpace (t .space) (u .space) (places plain) none (contentsOf plain)
       → u .counts ≡ counted (freedIn (t .space)) own (heldCount own (b .counts) + length parts) (b .counts)
       → Alike (loadedTo (placedAt t)) (written-at u))
-      (sym (took-mark (plain .size) (length parts * pageSize) (plainRounded (plain .space)) (leave-refuses plain key (length parts) _ t took)))
+      (sym (took-mark (plain .size) (length parts * pageSize) (plainRounded (plain .space))
+      (leave-refuses plain key (length parts) _ t took)))
       (λ off agrees left. placed u off long agrees left) off agrees left)
       (run-for-alike plain (b .space) (b .counts) key (places plain) (contentsOf plain) (g .space) (g .desks) (h .counts) (a .size)
       (h .space) (length parts))
@@ -488,7 +493,8 @@ load-alike fit plain b key [] g a shape h l is rises few = told-alike refl (subs
     same : withKey key emptyKey (plain .space) plain ≡ plain
     same =
         let was : pagesOf (keyOf key plain .place) ≡ 0 = ap (λ (p : Place). pagesOf p) is in
-        let none' : deskCount (deskIn plain key) (plain .held) + 0 - pagesOf (keyOf key plain .place) ≡ deskCount (deskIn plain key) (plain .held)
+        let none' : deskCount (deskIn plain key) (plain .held) + 0 - pagesOf (keyOf key plain .place)
+        ≡ deskCount (deskIn plain key) (plain .held)
         = omega arith in
         let keys : set (plain .keys) key emptyKey ≡ plain .keys
         = ap (set (plain .keys) key) (sym (empty-key (keyOf key plain) (g .keys key) is)) ∙ set-getD (plain .keys) key emptyKey in

@@ -39,7 +39,8 @@ pub data Alike {T : Type 0} : Answer (PlainOutcome T) → Answer (Outcome T) →
   refused-alike : {number : ℕ} → Alike (refused number) (refused number)
 
 -- A test that both books have.
-pub alike-both : {T : Type 0} (t t' : Bool) (number : ℕ) (a : Answer (PlainOutcome T)) (b : Answer (Outcome T)) → t ≡ t' → (t ≡ false → Alike a b)
+pub alike-both : {T : Type 0} (t t' : Bool) (number : ℕ) (a : Answer (PlainOutcome T)) (b : Answer (Outcome T)) → t ≡ t'
+    → (t ≡ false → Alike a b)
     → Alike (refuseIf t number a) (refuseIf t' number b)
 unfolding refuseIf
 alike-both true true number a b e h = refused-alike
@@ -92,7 +93,8 @@ desks-pass plain b key call g a shape =
     let inside = a .inside shape in
     let out : outOfShape (length (b .space .body)) (length (b .heads)) ≡ false = rw (a .size, a .count) shape in
     let bad = mark-good plain b g shape (a .size) inside in
-    let fine : countsHigh (length (b .space .body)) (b .counts) ≡ false = rw (a .size) (counts-fine plain (b .counts) (g .desks) (inside .counts)) in
+    let fine : countsHigh (length (b .space .body)) (b .counts)
+    ≡ false = rw (a .size) (counts-fine plain (b .counts) (g .desks) (inside .counts)) in
     let named : listBad (plain .desks) (length (b .heads)) ≡ false = rw (a .count) (g .desks .named) in
     refuse-no _ _ _ (rw (out, bad, fine) refl) ∙ refuse-no _ _ _ named
 

@@ -22,7 +22,8 @@ use Rattle.scripthash_free.proofs.LawsFree.{pop-none, pop-yes, pop-no}
 use Rattle.book_limits.specs.Limits.{slabsEnd, pageAfter, gapEnd, popEnd, pastSlabs}
 use Rattle.book_limits.proofs.LawsLimits.{gap-end}
 use Rattle.plain_book.specs.Space.{Space as PlainSpace, Taken as PlainTaken, stackOf, freed, freedAll, runAtMark as plainRunAtMark}
-use Rattle.plain_book.specs.Space.{takeMark as plainTakeMark, takeSlab as plainTakeSlab, rounded as plainRounded, takeRun as plainTakeRun, takeFresh as plainTakeFresh}
+use Rattle.plain_book.specs.Space.{takeMark as plainTakeMark, takeSlab as plainTakeSlab, rounded as plainRounded, takeRun as plainTakeRun}
+use Rattle.plain_book.specs.Space.{takeFresh as plainTakeFresh}
 use Rattle.plain_book.specs.Space.{takeFrom, takeBlock as plainTake}
 use Rattle.plain_book.specs.Key.{Place}
 use Rattle.plain_book.specs.Owners.{Owner, hand, stack, slabOf, pageOf, atDepth, has}
@@ -30,7 +31,8 @@ use Rattle.plain_book.specs.Good.{Good}
 use Rattle.plain_book.proofs.LawsOwners.{none-some, kindOf, deep-none, top-is, under-top, withStack, stack-same, stack-other, changed-has}
 use Rattle.plain_book.proofs.LawsOwners.{good-marked}
 use Rattle.plain_book.proofs.LawsTaking.{good-carved-one, freed-stacks}
-use Rattle.book_space.specs.Space.{Space, space, listsOf, Taken, takeMark, takeSlab, rounded, takeRun, takeFresh, takePopped, takeBlock as takes, runAtMark}
+use Rattle.book_space.specs.Space.{Space, space, listsOf, Taken, takeMark, takeSlab, rounded, takeRun, takeFresh, takePopped}
+use Rattle.book_space.specs.Space.{takeBlock as takes, runAtMark}
 use Rattle.book_space.specs.Space.{release}
 use Rattle.book_history.specs.Agrees.{top, under, Contents, BlockReads, Stored, AgreesSpace}
 use Rattle.book_history.proofs.LawsFrame.{stored-same}
@@ -141,11 +143,25 @@ module _ (plain : PlainSpace) (s : Space) (at : ℕ → Place) (c : Contents) (c
       → isBlock class o (min (cond page (s .mark) (min (s .mark) slabsEnd)) (length (s .body))) ≡ true
   pop-end true e low =
       let b = block-stands class o (plain .mark) top-good in
-      stands-block class o _ (record { class-to-8 = b .class-to-8; aligned = b .aligned; begins = b .begins; ends = omega (arith, b .ends, a .mark, a .within) })
+      stands-block class o _
+      (record {
+        class-to-8 = b .class-to-8;
+        aligned = b .aligned;
+        begins = b .begins;
+        ends = omega
+            (arith, b .ends, a .mark, a .within);
+      })
   pop-end false e low =
       let b = block-stands class o (plain .mark) top-good in
       let ends = ltb-false slabsEnd (o + slabBytes class) low in
-      stands-block class o _ (record { class-to-8 = b .class-to-8; aligned = b .aligned; begins = b .begins; ends = omega (arith, b .ends, a .mark, a .within) })
+      stands-block class o _
+      (record {
+        class-to-8 = b .class-to-8;
+        aligned = b .aligned;
+        begins = b .begins;
+        ends = omega
+            (arith, b .ends, a .mark, a .within);
+      })
 
   pop-past : (page : Bool) → eqb class pageClass ≡ page → not page && ltb slabsEnd (o + slabBytes class) ≡ true
       → isBlock class o (min (cond page (s .mark) (min (s .mark) slabsEnd)) (length (s .body))) ≡ false
@@ -178,7 +194,8 @@ module _ (plain : PlainSpace) (s : Space) (at : ℕ → Place) (c : Contents) (c
   unfolding takes takePopped
   take-pops low =
       let at-head : takes class s ≡ accepted (poppedAt (getD (s .free) class 0)) =
-      then-yes _ (λ p. takePopped class s (p .block) (p .heads)) (pop-yes class (popEnd class (s .mark)) (listsOf s) to-8 head-some (head-good low)) in
+      then-yes _ (λ p. takePopped class s (p .block) (p .heads))
+      (pop-yes class (popEnd class (s .mark)) (listsOf s) to-8 head-some (head-good low)) in
       at-head ∙ ap (λ (off : ℕ). accepted (poppedAt off)) head-is
 
 -- ---- at the mark
@@ -296,7 +313,8 @@ slab-agrees : (plain : PlainSpace) (s : Space) (at : ℕ → Place) (c : Content
     → TakenAlike at (λ off. none) c long (plainTakeSlab long bytes plain) (takeSlab bytes s)
 unfolding plainTakeSlab takeSlab refuseIf
 slab-agrees plain s at c long bytes is a =
-    subst (λ (m : ℕ). TakenAlike at (λ off. none) c long (cond (ltb slabsEnd (plain .mark + bytes)) (refused noRoom) (plainTakeMark long bytes plain))
+    subst (λ (m : ℕ). TakenAlike at (λ off. none) c long
+    (cond (ltb slabsEnd (plain .mark + bytes)) (refused noRoom) (plainTakeMark long bytes plain))
     (cond (ltb slabsEnd (m + bytes)) (refused noRoom) (takeMark bytes s))) (sym (a .mark)) (go (ltb slabsEnd (plain .mark + bytes)))
   where
     go : (t : Bool) → TakenAlike at (λ off. none) c long
@@ -381,4 +399,5 @@ take-agrees plain s at c class to-8 g whole a = from-stack (stackOf class plain)
             (takeFrom (length (s .body)) class (o ∷ os) plain) (takes class s)
         go true p = rw (take-past plain s at c class o os to-8 g a e p, p) refused-taken
         go false p =
-            rw (take-pops plain s at c class o os to-8 g a e p, p) (taken-alike refl refl (popped-agrees plain s at c class o os to-8 g a e))
+            rw (take-pops plain s at c class o os to-8 g a e p, p)
+            (taken-alike refl refl (popped-agrees plain s at c class o os to-8 g a e))

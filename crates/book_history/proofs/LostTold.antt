@@ -1,6 +1,6 @@
 -- What the check tells of units that belong to nobody: 0 after any list of calls on a book made fresh, the same after any calls on a good
--- start, and more by the slab of a head word or by the slabs of a free head that was lost. Lost pages are missed by a count, which it tells.
--- Assumes nothing.
+-- start, and more by the slab of a head word or by the slabs of a free head that was lost. Lost pages are missed by a count, which it
+-- tells. Assumes nothing.
 use Prim.Native.Nat.{ℕ, zero, suc, _+_, _/_, _≤_, _<_}
 use mathlib.Core.Bool.{Bool, true, false, cond}
 use mathlib.Core.List.{List, [], _++_}

@@ -1,6 +1,6 @@
--- What desks are promised (FORMAT, Desks), over the bytes, from every good start, and so of every book that was made: a desk below its reserve that
--- needs one page by an append gets it, whatever was called before and by whom; no desk passes its ceiling; and the counts stay true.
--- Assumes nothing.
+-- What desks are promised (FORMAT, Desks), over the bytes, from every good start, and so of every book that was made: a desk below its
+-- reserve that needs one page by an append gets it, whatever was called before and by whom; no desk passes its ceiling; and the counts stay
+-- true. Assumes nothing.
 use Prim.Native.Nat.{ℕ, _^_, _≤_, _<_}
 use mathlib.Core.Bool.{true, false}
 use mathlib.Core.List.{List}
@@ -68,7 +68,8 @@ pub reserve-kept : (ds : List ℕ) (b : Book) → GoodStart ds b → (cs : List 
     → (a : Appended) × (answerOf (does ds (after ds b cs) (append key n)) ≡ accepted a)
 unfolding plainOf
 reserve-kept ds b g cs key n within rises low needs below =
-    reserve-good (plainOf ds b) b cs (start-good ds b g) (start-agrees ds b g) (start-shape ds b (g .blocks)) key n within rises low needs below
+    reserve-good (plainOf ds b) b cs (start-good ds b g) (start-agrees ds b g) (start-shape ds b (g .blocks)) key n within rises low needs
+    below
 
 -- The same of any good start by its bytes alone,
 pub page-had : (ds : List ℕ) (b : Book) (key n : ℕ) → GoodStart ds b → PagePromised ds b key n

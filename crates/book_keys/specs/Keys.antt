@@ -101,7 +101,8 @@ walk (suc k) s last prev off =
     (sure (not (isLastLink (linkOf (pageAt s off))))
     (andThen (walk k s last (lastFrom prev (c .numbers)) (linkOffset (linkOf (pageAt s off)))) (λ rest. accepted (pageThen s off c rest)))))
 
--- The last page's creates tells the length of the list, or 0, which says that it was never counted, or that it is more than creates can tell.
+-- The last page's creates tells the length of the list, or 0, which says that it was never counted, or that it is more than creates can
+-- tell.
 unfoldable pub totalGood : ℕ → ℕ → Bool
 totalGood creates n = eqb creates 0 || eqb creates (totalTold n)
 

@@ -16,7 +16,8 @@ pub rounded-at : (pageAfter 4096 ≡ 4096) × (pageAfter 4112 ≡ 8192) × (page
 rounded-at = (refl, refl, refl)
 
 -- A slab may end at 2^40, and not behind it; a page may.
-pub slabs-at : (pastSlabs 0 (2 ^ 40 - 16) ≡ false) × (pastSlabs 1 (2 ^ 40 - 16) ≡ true) × (pastSlabs 0 (2 ^ 40) ≡ true) × (pastSlabs 8 (2 ^ 40) ≡ false)
+pub slabs-at : (pastSlabs 0 (2 ^ 40 - 16) ≡ false) × (pastSlabs 1 (2 ^ 40 - 16) ≡ true) × (pastSlabs 0 (2 ^ 40) ≡ true)
+    × (pastSlabs 8 (2 ^ 40) ≡ false)
 unfolding pastSlabs
 slabs-at = (refl, refl, refl, refl)
 

@@ -1,9 +1,9 @@
 // A shell for the account book: reads a script from standard input, a call a line, and writes each answer in words. `body BYTES` and then
 // `keys COUNT` make a fresh book, and between them `desk KEY DESK`, `reserve DESK PAGES` and `ceiling DESK PAGES` tell of its desks;
-// `load KEY NUMBER ...`, `load-tight KEY NUMBER ...`, `append KEY NUMBER`, `read KEY` and `drop KEY` are its calls; `places` and `space` show
-// what it holds, and `check` tells whether it is a good start; `help` lists these lines, and `#` begins a comment. A line that can't be read,
-// or comes before there is a book, is reported with its number, and nothing is done for it. The last line of all tells how many lines were
-// refused, and how many not understood.
+// `load KEY NUMBER ...`, `load-tight KEY NUMBER ...`, `append KEY NUMBER`, `read KEY` and `drop KEY` are its calls; `places` and `space`
+// show what it holds, and `check` tells whether it is a good start; `help` lists these lines, and `#` begins a comment. A line that can't
+// be read, or comes before there is a book, is reported with its number, and nothing is done for it. The last line of all tells how many
+// lines were refused, and how many not understood.
 mod calls;
 mod memory;
 

@@ -143,7 +143,8 @@ module _ (desk : ℕ) (s : Space) (counts : List ℕ) where
   unfolding slabFor
   slab-for class e = judged-on (length (s .body)) desk 0 (freedCount counts) counts counts (takeBlock class s) e
 
-  -- A page for a desk is that page: the free head and the count of freed pages agree, a freed page is one less, and the desk holds one more.
+  -- A page for a desk is that page: the free head and the count of freed pages agree, a freed page is one less, and the desk holds one
+  -- more.
   pub page-true : {t : TakenFor} → pageFor desk s counts ≡ accepted t → freedUntrue s counts ≡ false
   unfolding pageFor
   page-true e = passed _ _ _ e .0
@@ -151,7 +152,8 @@ module _ (desk : ℕ) (s : Space) (counts : List ℕ) where
   -- Where they agree, the page is taken and judged.
   pub page-tested : freedUntrue s counts ≡ false → pageFor desk s counts
       ≡ andThen (takeBlock pageClass s)
-      (judgedTake (length (s .body)) desk 1 (freedLeft s counts) counts (counted (freedLeft s counts) desk (heldCount desk counts + 1) counts))
+      (judgedTake (length (s .body)) desk 1 (freedLeft s counts) counts
+      (counted (freedLeft s counts) desk (heldCount desk counts + 1) counts))
   unfolding pageFor
   page-tested e = refuse-no _ _ _ e
 
@@ -216,7 +218,8 @@ module _ (end desk pages : ℕ) (before : List ℕ) (some : 0 < pages) where
             let o = ap refusalOf (back-few {A = List ℕ} accepted e (ltb-true _ _ f)) in let t = g .told in absurd (omega arith)
         go false false e f =
             let h = ltb-false _ _ f in
-            back-given call e h ∙ ap call (sym (g .left ∙ ap (λ (a : Answer (List ℕ)). valueOr (λ c. c) a before) (back-given accepted e h)))
+            back-given call e h ∙ ap call
+            (sym (g .left ∙ ap (λ (a : Answer (List ℕ)). valueOr (λ c. c) a before) (back-given accepted e h)))
 
     pub back-no : number ≢ 0 → givenBack end desk pages before call ≡ refused number
     back-no n = go (countsHigh end before) (ltb (heldCount desk before) pages) refl refl

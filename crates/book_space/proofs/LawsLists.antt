@@ -15,7 +15,8 @@ use Rattle.buffer.specs.Bytes.{part}
 use Rattle.buffer.specs.LittleEndian.{bytesOf}
 use Rattle.buffer.proofs.LawsOverwrite.{part-before, part-after}
 use Rattle.scripthash_layout.specs.Sizes.{pageClass}
-use Rattle.scripthash_free.specs.FreeList.{Lists, Block, Pop, firstFreed, nextOf, isBlock, pushed, pushAll, popFree, headsAfter, Each, Within}
+use Rattle.scripthash_free.specs.FreeList.{Lists, Block, Pop, firstFreed, nextOf, isBlock, pushed, pushAll, popFree, headsAfter, Each}
+use Rattle.scripthash_free.specs.FreeList.{Within}
 use Rattle.scripthash_free.proofs.LawsBlock.{bytes-from-16, block-stands, stands-block}
 use Rattle.scripthash_free.proofs.LawsFreeList.{length-pushed, length-pushed-heads}
 

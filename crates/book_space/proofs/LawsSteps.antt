@@ -12,7 +12,8 @@ use Rattle.scripthash_layout.specs.Sizes.{slabBytes, pageClass}
 use Rattle.scripthash_free.specs.FreeList.{Lists, Pop, isBlock, pushFree, popFree, pushAll, listsAfter, headsAfter}
 use Rattle.scripthash_free.proofs.LawsFree.{after-accepted, heads-accepted, push-yes}
 use Rattle.book_limits.specs.Limits.{slabsEnd, popEnd}
-use Rattle.book_space.specs.Space.{takeSlab, Space, space, listsOf, withLists, Taken, takeMark, takeRun, takeFresh, takePopped, takeBlock}
+use Rattle.book_space.specs.Space.{takeSlab, Space, space, listsOf, withLists, Taken, takeMark, takeRun, takeFresh, takePopped}
+use Rattle.book_space.specs.Space.{takeBlock}
 use Rattle.book_space.specs.Space.{spaceAfter, release}
 use Rattle.book_space.specs.Steps.{Takes}
 

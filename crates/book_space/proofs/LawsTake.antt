@@ -14,13 +14,15 @@ use Rattle.error.proofs.LawsAnswer.{accepted-inj, passed, went-on}
 use Rattle.buffer.specs.Bytes.{part}
 use Rattle.scripthash_layout.specs.Sizes.{slabBytes, pageClass, pageSize}
 use Rattle.scripthash_layout.specs.Head.{payloadStart}
-use Rattle.scripthash_free.specs.FreeList.{Lists, Block, Pop, isBlock, isGap, gapBlocks, carveGap, pushAll, popFree, listsAfter, Each, Within}
+use Rattle.scripthash_free.specs.FreeList.{Lists, Block, Pop, isBlock, isGap, gapBlocks, carveGap, pushAll, popFree, listsAfter, Each}
+use Rattle.scripthash_free.specs.FreeList.{Within}
 use Rattle.scripthash_free.proofs.LawsBlock.{block-stands, stands-block, slab-stands, lies-gap}
 use Rattle.scripthash_free.proofs.LawsFree.{after-accepted, carve-yes}
 use Rattle.scripthash_free.proofs.LawsGap.{gap-filled, adjoin-within, each-map}
 use Rattle.book_limits.specs.Limits.{slabsEnd, pageAfter, gapEnd, popEnd}
 use Rattle.book_limits.proofs.LawsLimits.{GapTo, gap-end, pop-below}
-use Rattle.book_space.specs.Space.{Space, space, listsOf, InShape, Taken, takeMark, takeSlab, rounded, takeRun, takeFresh, takePopped, runAtMark}
+use Rattle.book_space.specs.Space.{Space, space, listsOf, InShape, Taken, takeMark, takeSlab, rounded, takeRun, takeFresh, takePopped}
+use Rattle.book_space.specs.Space.{runAtMark}
 use Rattle.book_space.specs.Space.{takeBlock, release}
 use Rattle.book_space.proofs.LawsLists.{heads-stay, size-stays, outside-stays, stands-further, Popped, popped}
 use Rattle.book_space.proofs.LawsSteps.{mark-yes, mark-no, fresh-page, fresh-slab}
@@ -218,7 +220,8 @@ module _ (class : ℕ) (s : Space) (small : class ≤ pageClass) (i : InShape s)
           rises = omega arith;
           below = λ o n h. refl;
         };
-        stands = stands-further class off (min (popEnd class (s .mark)) (length (s .body))) (s .mark) (omega (arith, pop-below class (s .mark))) (q .block off b);
+        stands = stands-further class off (min (popEnd class (s .mark)) (length (s .body))) (s .mark)
+            (omega (arith, pop-below class (s .mark))) (q .block off b);
       })
 
   -- A block.

@@ -43,7 +43,8 @@ unfoldable pub pageFor : ℕ → Space → List ℕ → Answer TakenFor
 pageFor desk s counts =
     refuseIf (freedUntrue s counts) freeHeadBad
     (andThen (takeBlock pageClass s)
-    (judgedTake (length (s .body)) desk 1 (freedLeft s counts) counts (counted (freedLeft s counts) desk (heldCount desk counts + 1) counts)))
+    (judgedTake (length (s .body)) desk 1 (freedLeft s counts) counts
+    (counted (freedLeft s counts) desk (heldCount desk counts + 1) counts)))
 
 -- A run of so many pages for a desk, as a load takes it.
 unfoldable pub runFor : ℕ → ℕ → Space → List ℕ → Answer TakenFor
@@ -52,8 +53,8 @@ runFor desk pages s counts =
     (judgedTake (length (s .body)) desk pages (freedCount counts) counts
     (counted (freedCount counts) desk (heldCount desk counts + pages) counts))
 
--- Pages that a desk gives back, where there are some: turned back where the counts are above the body's pages, or the desk holds fewer; then
--- the call goes on with the counts as they are then.
+-- Pages that a desk gives back, where there are some: turned back where the counts are above the body's pages, or the desk holds fewer;
+-- then the call goes on with the counts as they are then.
 unfoldable pub givenBack : {A : Type 0} → ℕ → ℕ → ℕ → List ℕ → (List ℕ → Answer A) → Answer A
 givenBack end desk pages counts after =
     cond (eqb pages 0) (after counts)

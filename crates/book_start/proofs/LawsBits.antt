@@ -48,7 +48,8 @@ bitTest w = allBelow 8 (λ j. eqb (getD (bitsOf w) j 0) (w / 2 ^ j % 2))
 
 -- A byte whose bit is 0, with its weight added, has the bit and the others as before; and one whose bit is 1 has it.
 unfoldable setTest : ℕ → Bool
-setTest w = allBelow 8 (λ j. cond (eqb (w / 2 ^ j % 2) 0) (sameList (bitsOf (w + 2 ^ j)) (set (bitsOf w) j 1)) (sameList (bitsOf w) (set (bitsOf w) j 1)))
+setTest w = allBelow 8 (λ j. cond (eqb (w / 2 ^ j % 2) 0) (sameList (bitsOf (w + 2 ^ j)) (set (bitsOf w) j 1))
+    (sameList (bitsOf w) (set (bitsOf w) j 1)))
 
 -- Where its bit is 0, the byte with its weight added is one still.
 unfoldable fitTest : ℕ → Bool
@@ -175,7 +176,8 @@ units-overwrite ws i ys =
     let behind : 8 * (i + length ys) ≡ 8 * i + length (unitsOf ys) = let e = units-long ys in omega arith in
     units-append (take i ws) (ys ++ drop (i + length ys) ws)
     ∙ ap₂ (λ (a b : List ℕ). a ++ b) (units-take i ws)
-    (units-append ys (drop (i + length ys) ws) ∙ ap (λ (l : List ℕ). unitsOf ys ++ l) (units-drop (i + length ys) ws ∙ ap (λ (k : ℕ). drop k (unitsOf ws)) behind))
+    (units-append ys (drop (i + length ys) ws)
+    ∙ ap (λ (l : List ℕ). unitsOf ys ++ l) (units-drop (i + length ys) ws ∙ ap (λ (k : ℕ). drop k (unitsOf ws)) behind))
 
 -- Some bytes of a work list.
 pub units-part : (ws : List ℕ) (i n : ℕ) → unitsOf (part ws i n) ≡ part (unitsOf ws) (8 * i) (8 * n)

@@ -14,7 +14,8 @@ use Rattle.scripthash_layout.specs.Sizes.{pageClass, pageSize}
 use Rattle.book_desks.specs.Desks.{desks, deskCount, total, lacks, listBad}
 use Rattle.book_desks.specs.Counts.{countWords, freedCount, heldCount, heldIn, limitsIn, countsHigh}
 use Rattle.book.specs.Book.{Book}
-use Rattle.book_start.specs.Start.{Verdict, good, keyUnsound, keyShares, freeStrays, freeShares, countsExceed, freedDiffers, heldDiffers}
+use Rattle.book_start.specs.Start.{Verdict, good, keyUnsound, keyShares, freeStrays, freeShares, countsExceed, freedDiffers}
+use Rattle.book_start.specs.Start.{heldDiffers}
 use Rattle.book_start.specs.Start.{heldHigh, reserveHigh, lacksOpen, freedOf, countsBehind}
 use Rattle.book_start.specs.Start.{pagesOfDesk, toBeHadIn, GoodCounts, deskFault, faultOr, judgeDesks, countsVerdict}
 
@@ -25,7 +26,8 @@ pub record GoodDesk (ds : List ℕ) (b : Book) (d : ℕ) : Type 0 where
   pub reserve : deskCount d (limitsIn (b .counts) .reserve) ≤ deskCount d (limitsIn (b .counts) .ceiling)
 
 -- A test with a fault that a good verdict passed.
-passes : (t : Bool) (fault after : Verdict) (n : ℕ) → ((m : ℕ) → fault ≢ good m) → cond t fault after ≡ good n → (t ≡ false) × (after ≡ good n)
+passes : (t : Bool) (fault after : Verdict) (n : ℕ) → ((m : ℕ) → fault ≢ good m) → cond t fault after ≡ good n → (t ≡ false)
+    × (after ≡ good n)
 passes true fault after n bad e = absurd (bad n e)
 passes false fault after n bad e = (refl, e)
 
@@ -60,7 +62,8 @@ module _ (ds : List ℕ) (b : Book) where
   fault-bad : (d : ℕ) (v : Verdict) (n : ℕ) → deskFault ds b d ≡ some v → v ≢ good n
   unfolding deskFault
   fault-bad d v n e is =
-      go (not (eqb (heldCount d (b .counts)) (pagesOfDesk ds b d))) (ltb (deskCount d (limitsIn (b .counts) .ceiling)) (heldCount d (b .counts)))
+      go (not (eqb (heldCount d (b .counts)) (pagesOfDesk ds b d)))
+      (ltb (deskCount d (limitsIn (b .counts) .ceiling)) (heldCount d (b .counts)))
       (ltb (deskCount d (limitsIn (b .counts) .ceiling)) (deskCount d (limitsIn (b .counts) .reserve))) e
     where
       go : (s t u : Bool) → cond s (some (heldDiffers d)) (cond t (some (heldHigh d)) (cond u (some (reserveHigh d)) none)) ≡ some v → ⊥
@@ -83,8 +86,11 @@ module _ (ds : List ℕ) (b : Book) where
   desks-good d zero after n e = (λ i low high. absurd (omega arith), e)
   desks-good d (suc k) after n e =
       let p = fault-passed d (deskFault ds b d) (judgeDesks ds b (d + 1) k after) n refl e in
-      let q = desks-good (d + 1) k after n (p .1) in
-      (λ i low high. ⊎-elim (λ (same : d ≡ i). rw (← same) (fault-none d (p .0))) (λ (above : d < i). q .0 i (omega arith) (omega arith)) (eq-or-lt-of-le low), q .1)
+      let q = desks-good (d + 1) k after n (p .1) in (
+        λ i low high. ⊎-elim (λ (same : d ≡ i). rw (← same) (fault-none d (p .0))) (λ (above : d < i). q .0 i (omega arith) (omega arith))
+            (eq-or-lt-of-le low),
+        q .1,
+      )
 
   -- Good desks are judged by what comes behind them.
   good-desks : (d k : ℕ) (after : Verdict) → ((i : ℕ) → d ≤ i → i < d + k → GoodDesk ds b i) → judgeDesks ds b d k after ≡ after

@@ -16,7 +16,8 @@ use Rattle.scripthash_free.specs.FreeList.{Block, Disjoint, Each, Within}
 use Rattle.scripthash_free.proofs.LawsBlock.{bytes-from-16, block-stands}
 use Rattle.scripthash_free.proofs.LawsGap.{each-map}
 use Rattle.book.specs.Book.{Book}
-use Rattle.book_start.specs.Start.{claimed, claimAll, AllApart, Stands, blocksAt, bytesTaken, followedFrom, heldBy, freedBy, blocksOf, heldOf, listOf}
+use Rattle.book_start.specs.Start.{claimed, claimAll, AllApart, Stands, blocksAt, bytesTaken, followedFrom, heldBy, freedBy, blocksOf}
+use Rattle.book_start.specs.Start.{heldOf, listOf}
 use Rattle.book_start.specs.Start.{GoodBlocks}
 use Rattle.book_start.specs.Covered.{Has, OneHas, lostIn, Covered}
 use Rattle.book_start.proofs.LawsClaims.{claims-first, claim-step}
@@ -247,7 +248,8 @@ whole-units [] = refl
 whole-units (x ∷ xs) = let e = whole-units xs in omega arith
 
 -- All claimed blocks take what those before take and what those take that were claimed behind them.
-pub claimed-bytes : (before xs after : List Block) → claimAll before xs ≡ claimed after → bytesTaken after ≡ bytesTaken before + bytesTaken xs
+pub claimed-bytes : (before xs after : List Block) → claimAll before xs ≡ claimed after
+    → bytesTaken after ≡ bytesTaken before + bytesTaken xs
 unfolding claimAll bytesTaken
 claimed-bytes before [] after e = let same : before ≡ after = cc in rw same (omega arith)
 claimed-bytes before (x ∷ xs) after e =

@@ -184,6 +184,7 @@ unfolding followed
 followed-few zero body off = omega arith
 followed-few (suc k) body off = by-end (eqb off 0) (followed-few k body (nextOf body off))
   where
-    by-end : (t : Bool) → length (followed k body (nextOf body off)) ≤ k → length (cond t [] (off ∷ followed k body (nextOf body off))) ≤ suc k
+    by-end : (t : Bool) → length (followed k body (nextOf body off)) ≤ k
+        → length (cond t [] (off ∷ followed k body (nextOf body off))) ≤ suc k
     by-end true h = omega arith
     by-end false h = omega arith

@@ -19,7 +19,8 @@ use Rattle.book_keys.specs.Keys.{Content, content}
 use Rattle.book.specs.Book.{Book, seen}
 use Rattle.book_start.specs.Start.{blocksAt, bytesTaken, blocksIn, heldBy, followedFrom, freedBy, blocksOf, GoodBlocks, GoodStart}
 use Rattle.book_start.specs.Start.{Verdict, good, keyUnsound, keyShares, freeStrays, freeShares, Claim, claimed, unfit, shared}
-use Rattle.book_start.specs.Start.{claimAll, claimContent, claimFreed, onward, judgeLists, judgeKeys, blocksVerdict, countsBehind, verdictOf, judges}
+use Rattle.book_start.specs.Start.{claimAll, claimContent, claimFreed, onward, judgeLists, judgeKeys, blocksVerdict, countsBehind}
+use Rattle.book_start.specs.Start.{verdictOf, judges}
 use Rattle.book_start.specs.Covered.{lostIn}
 use Rattle.book_start.proofs.LawsClaims.{Claims, Cross, claim-none, claim-both, claims-left, claims-apart, apart-claims}
 use Rattle.book_start.proofs.LawsCovered.{whole-units, claimed-bytes}
@@ -160,7 +161,11 @@ keys-good s key (w ∷ ws) before n e =
     let rest = keys-good s (key + 1) ws (g .0) n (g .2) in
     record {
       sound = keys-more s w ws (one .0) (rest .sound);
-      held = record { after = rest .held .after; is = claim-both before (blocksIn (content (seen s) w)) (heldBy s ws) (one .1) ∙ rest .held .is };
+      held = record {
+        after = rest .held .after;
+        is = claim-both before (blocksIn (content (seen s) w)) (heldBy s ws) (one .1)
+            ∙ rest .held .is;
+      };
       lists = rest .lists;
     }
 
@@ -171,7 +176,8 @@ unfolding judgeKeys heldBy
 good-keys s key [] before sound c = let same : before ≡ c .after = let e = c .is in let n = claim-none before in cc in rw same
 good-keys s key (w ∷ ws) before sound c =
     let one = claims-left before (blocksIn (content (seen s) w)) (heldBy s ws) c in
-    onward-yes (claimContent before (content (seen s) w)) _ _ _ (claimed-content before (content (seen s) w) (sound 0 (omega arith) .1) ∙ one .is)
+    onward-yes (claimContent before (content (seen s) w)) _ _ _ (claimed-content before (content (seen s) w) (sound 0 (omega arith) .1)
+    ∙ one .is)
     ∙ good-keys s (key + 1) ws (one .after) (λ i l. sound (suc i) (omega arith))
     (record { after = c .after; is = sym (claim-both before (blocksIn (content (seen s) w)) (heldBy s ws) (one .is)) ∙ c .is })
 

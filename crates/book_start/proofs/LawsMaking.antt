@@ -51,7 +51,8 @@ module _ (l : Limits) (words : List ℕ) (n : ℕ) (f : Filled l words n) (withi
   -- What stands elsewhere stays.
   elsewhere : (i : ℕ) → i ≢ reserveAt n → i ≢ ceilingAt n → getD next i 0 ≡ getD words i 0
   elsewhere i r c =
-      getD-set-other kept (ceilingAt n) i (deskCount n (l .ceiling)) 0 c ∙ getD-set-other words (reserveAt n) i (deskCount n (l .reserve)) 0 r
+      getD-set-other kept (ceilingAt n) i (deskCount n (l .ceiling)) 0 c
+      ∙ getD-set-other words (reserveAt n) i (deskCount n (l .reserve)) 0 r
 
   at-reserve : getD next (reserveAt n) 0 ≡ deskCount n (l .reserve)
   at-reserve =
@@ -67,7 +68,8 @@ module _ (l : Limits) (words : List ℕ) (n : ℕ) (f : Filled l words n) (withi
   pub filled-next : Filled l next (n + 1)
   filled-next =
       record {
-        long = length-set kept (ceilingAt n) (deskCount n (l .ceiling)) ∙ length-set words (reserveAt n) (deskCount n (l .reserve)) ∙ f .long;
+        long = length-set kept (ceilingAt n) (deskCount n (l .ceiling)) ∙ length-set words (reserveAt n) (deskCount n (l .reserve))
+            ∙ f .long;
         none = λ i h. elsewhere i (λ (e : i ≡ reserveAt n). omega arith) (λ (e : i ≡ ceilingAt n). omega arith) ∙ f .none i h;
         reserve = λ d h.
             ⊎-elim (λ (e : d ≡ n). subst (λ (x : ℕ). getD next (reserveAt x) 0 ≡ deskCount x (l .reserve)) (sym e) at-reserve)

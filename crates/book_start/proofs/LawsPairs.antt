@@ -138,7 +138,8 @@ freed-gathered s class (h ∷ hs) =
     let first : class + 0 ≡ class = omega arith in
     rw first (ap (λ (l : List Block). blocksAt class (followedFrom s h) ++ l)
     (freed-gathered s (class + 1) hs ∙ gather-same (length hs) (λ i. blocksAt (class + 1 + i) (followedFrom s (getD hs i 0)))
-    (λ i. blocksAt (class + suc i) (followedFrom s (getD hs i 0))) (λ i. let same : class + 1 + i ≡ class + suc i = omega arith in rw same)))
+    (λ i. blocksAt (class + suc i) (followedFrom s (getD hs i 0))) (λ i. let same : class + 1 + i
+    ≡ class + suc i = omega arith in rw same)))
 
 module _ (b : Book) (g : GoodBlocks b) where
   held-all : AllApart (gather (length (b .heads)) (heldOf b))
@@ -189,7 +190,8 @@ pages-stand mark [] e = tt
 pages-stand mark (o ∷ os) (p, e) = (p, pages-stand mark os e)
 
 -- The blocks of a sound key's place stand below the mark.
-pub place-stands : (s : Space) (place : ShHeadValue) (c : Content) → contentAt (seen s) place ≡ accepted c → Each (Stands (s .mark)) (c .blocks)
+pub place-stands : (s : Space) (place : ShHeadValue) (c : Content) → contentAt (seen s) place ≡ accepted c
+    → Each (Stands (s .mark)) (c .blocks)
 unfolding Each
 place-stands s Empty c e = let same = accepted-inj (sym (content-empty (seen s)) ∙ e) in rw (← same) tt
 place-stands s (Inline entry used) c e = let same = accepted-inj (sym (content-inline (seen s) entry used) ∙ e) in rw (← same) tt
@@ -199,7 +201,8 @@ place-stands s (Slab class used off) c e = let w = was-slab (seen s) class used 
   tt,
 )
 place-stands s (Extent last) c e =
-    let w = was-pages (seen s) last c e in rw (← w .2) (pages-stand (s .mark) (w .0 .offs) (chain-known (seen s) last (w .0) (w .1) .stands))
+    let w = was-pages (seen s) last c e in rw (← w .2)
+    (pages-stand (s .mark) (w .0 .offs) (chain-known (seen s) last (w .0) (w .1) .stands))
 
 -- The blocks of a sound key stand below the mark.
 pub content-stands : (s : Space) (word : ℕ) (c : Content) → content (seen s) word ≡ accepted c → Each (Stands (s .mark)) (c .blocks)

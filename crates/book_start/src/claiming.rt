@@ -50,7 +50,8 @@ fn claim_slab(body: &[u8], mark: u64, work: &mut [u8], class: u8, used: u16, off
     requires { ⌜ KeyToClaim (now body) mark (unitsOf (now work)) ⌝ }
     ensures { λ r. ⌜ ((units : ℕ) (lent : List ℕ) (claims : List Block) → Marked units mark lent claims (unitsOf (now (work .entry)))
         → ClaimsAs units mark lent claims
-        (claimContent claims (soundly (contentAt (ground (now (body .entry)) mark) (Slab class used off)))) r (unitsOf (now (work .exit)))) ⌝ }
+        (claimContent claims (soundly (contentAt (ground (now (body .entry)) mark) (Slab class used off)))) r (unitsOf (now (work .exit))))
+        ⌝ }
 {
     let end = book_keys::slab_end(body, mark, class, used, off);
     let ScanStream::Scanned { taken: _, last: _ } = end else {
@@ -101,7 +102,8 @@ fn claim_place(body: &[u8], mark: u64, work: &mut [u8], place: ShHeadValue) -> C
 pub fn claim_key(body: &[u8], mark: u64, work: &mut [u8], word: u64) -> Claiming
     requires { ⌜ KeyToClaim (now body) mark (unitsOf (now work)) ⌝ }
     ensures { λ r. ⌜ ((units : ℕ) (lent : List ℕ) (claims : List Block) → Marked units mark lent claims (unitsOf (now (work .entry)))
-        → ClaimsAs units mark lent claims (claimContent claims (content (ground (now (body .entry)) mark) word)) r (unitsOf (now (work .exit)))) ⌝ }
+        → ClaimsAs units mark lent claims (claimContent claims (content (ground (now (body .entry)) mark) word)) r
+        (unitsOf (now (work .exit)))) ⌝ }
 {
     let head = scripthash_layout::unpack8(word);
     let Unpacked::Head(place) = head else {
@@ -113,7 +115,8 @@ pub fn claim_key(body: &[u8], mark: u64, work: &mut [u8], word: u64) -> Claiming
 // Claims the blocks of the free list of a class from its head on, over no more blocks than there is room for below the mark.
 pub fn claim_freed(body: &[u8], mark: u64, work: &mut [u8], class: u8, head: u64) -> Claiming
     requires { ⌜ ListToClaim (now body) mark (unitsOf (now work)) class ⌝ }
-    ensures { λ r. ⌜ ((free : List ℕ) (units : ℕ) (lent : List ℕ) (claims : List Block) → Marked units mark lent claims (unitsOf (now (work .entry)))
+    ensures { λ r. ⌜ ((free : List ℕ) (units : ℕ) (lent : List ℕ) (claims : List Block)
+        → Marked units mark lent claims (unitsOf (now (work .entry)))
         → ClaimsAs units mark lent claims (claimFreed (mark / 16) (space (now (body .entry)) mark free) class claims head) r
         (unitsOf (now (work .exit)))) ⌝ }
 {

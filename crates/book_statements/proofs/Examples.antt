@@ -11,7 +11,8 @@ use Rattle.book_statements.specs.Recorded.{recordedBy, recordedAfter, re
 -- Some calls on keys 0 and 1, and answers that they may get.
 abbrev calls : List Call
 calls =
-    change (append 0 4) ∷ change (drop 0) ∷ change (load Spare 0 (5 ∷ 9 ∷ [])) ∷ change (append 0 3) ∷ change (append 1 7) ∷ change (append 0 12)
+    change (append 0 4) ∷ change (drop 0) ∷ change (load Spare 0 (5 ∷ 9 ∷ [])) ∷ change (append 0 3) ∷ change (append 1 7) ∷
+    change (append 0 12)
     ∷ ask (read 0 3) ∷ []
 
 abbrev told : Answers calls

@@ -132,7 +132,8 @@ pub calls-none : (ws : List ℕ) → 0 < length ws → callAt ws ≡ none → ca
 calls-none ws h e = reads-none callAt call-shrinks ws h e
 
 -- others spell the call that they begin with, and those of the words behind it
-pub calls-some : (ws : List ℕ) (b : Begins SpelledCall) → 0 < length ws → callAt ws ≡ some b → callsOf ws ≡ before (b .first) (callsOf (b .rest))
+pub calls-some : (ws : List ℕ) (b : Begins SpelledCall) → 0 < length ws → callAt ws ≡ some b
+    → callsOf ws ≡ before (b .first) (callsOf (b .rest))
 calls-some ws b h e = reads-some callAt call-shrinks ws b h e
 
 -- fewer than three words begin no call

@@ -1,5 +1,5 @@
-// The calls of lines, each on so much of body and heads as its line says, and with the list of desks that the line lends. A call is given how
-// many heads there are, the key, and an append's number or a read's room; fresh the reserves and ceilings.
+// The calls of lines, each on so much of body and heads as its line says, and with the list of desks that the line lends. A call is given
+// how many heads there are, the key, and an append's number or a read's room; fresh the reserves and ceilings.
 ghost use Prim.Native.Nat.{_≤_};
 ghost use lib.ListN.{length};
 use crate::core_calls;

@@ -48,6 +48,7 @@ pub turned-back : {A : Type 0} (ds : List ℕ) (b : Book) (key : ℕ) (call : �
 turned-back ds b key call told some' = call-off ds b key call (λ z. some' (told ∙ z)) ∙ ap refused (sym told)
 
 -- One that isn't is made for the key's desk.
-pub made-for : {A : Type 0} (ds : List ℕ) (b : Book) (key : ℕ) (call : ℕ → Answer A) {number desk : ℕ} → number ≡ callNumber ds b → number ≡ 0
+pub made-for : {A : Type 0} (ds : List ℕ) (b : Book) (key : ℕ) (call : ℕ → Answer A) {number desk : ℕ} → number ≡ callNumber ds b
+    → number ≡ 0
     → desk ≡ deskOf ds key → withDesks ds b key call ≡ call desk
 made-for ds b key call told none' is = call-on ds b key call (sym told ∙ none') ∙ ap call (sym is)

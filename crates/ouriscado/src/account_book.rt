@@ -42,8 +42,8 @@ use book_rules::SlabFit;
 // nine sizes, and counts; and desks, a byte for each key, the number of its desk, 0 to 15. counts are 49 words: how many pages of 4,096
 // bytes are freed, and then of each of the 16 desks the pages that it holds, its reserve and its ceiling. Of each desk reserve has the
 // pages that are kept for it, and ceiling the most that it gets. A book without desks has bytes and reserves of 0, and ceilings of
-// 2^64 - 1. What heads, mark, free and counts held before doesn't matter. Refuses 1, also where a reserve is above the body's pages, and 39,
-// also where the reserves are, summed, more than the pages to be had, which are all but the first, or singly more than their own
+// 2^64 - 1. What heads, mark, free and counts held before doesn't matter. Refuses 1, also where a reserve is above the body's pages, and
+// 39, also where the reserves are, summed, more than the pages to be had, which are all but the first, or singly more than their own
 // ceilings.
 #[no_mangle]
 pub extern "C" fn ouriscado_book_fresh(

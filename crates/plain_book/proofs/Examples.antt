@@ -17,7 +17,8 @@ use Rattle.book_rules.specs.Outcomes.{Loaded, Appended, bookAfter, appendedTo, 
 use Rattle.book_statements.specs.Calls.{load, append, read, drop, Call, ask, change, done, asked, changed, answersTo}
 use Rattle.plain_book.specs.Space.{freedAll, takeMark, takeSlab, rounded, takeFresh, takeFrom, runAtMark}
 use Rattle.book_rules.specs.Places.{stays, larger, movesTo, loadsTo}
-use Rattle.plain_book.specs.Key.{Key, slab, written, longer, lastPage, headOf, paddedPages, freedPages, freedPlace, moved, joins, beginPage, keptAs, keyIn}
+use Rattle.plain_book.specs.Key.{Key, slab, written, longer, lastPage, headOf, paddedPages, freedPages, freedPlace, moved, joins}
+use Rattle.plain_book.specs.Key.{beginPage, keptAs, keyIn}
 use Rattle.plain_book.specs.Key.{appendPages, appendPlace, runPages, loadInto, loadPlace}
 use Rattle.book_statements.specs.Moves.{Tally, noMoves, withMove, talliedBy, tallied, tallyOf}
 use Rattle.book_rules.specs.Offered.{offeredNumber, offeredList}
@@ -40,8 +41,13 @@ inARow n zero = []
 inARow n (suc k) = n ∷ inARow (n + 1) k
 
 -- 5, 300, 301, 302, 303 to key 0 move at 300 and at 303; 9, 10 to key 1 take the block that was freed.
-pub run-case : answers (freshAlone 8192 2) (change (append 0 5) ∷ change (append 0 300) ∷ change (append 0 301) ∷ change (append 0 302) ∷ change (append 0 303) ∷ change (append 1 9) ∷ change (append 1 10) ∷ [])
-    ≡ changed (at (Inline 5 1) 0) (changed (at (Slab 0 2 4096) 1) (changed (at (Slab 0 3 4096) 0) (changed (at (Slab 0 4 4096) 0) (changed (at (Slab 1 5 4112) 4) (changed (at (Inline 9 1) 0) (changed (at (Slab 0 2 4096) 1) done))))))
+pub run-case : answers (freshAlone 8192 2) (change (append 0 5) ∷ change (append 0 300) ∷ change (append 0 301) ∷ change (append 0 302) ∷
+    change (append 0 303) ∷ change (append 1 9) ∷ change (append 1 10) ∷ [])
+    ≡ changed (at (Inline 5 1) 0)
+    (changed (at (Slab 0 2 4096) 1)
+    (changed (at (Slab 0 3 4096) 0)
+    (changed (at (Slab 0 4 4096) 0)
+    (changed (at (Slab 1 5 4112) 4) (changed (at (Inline 9 1) 0) (changed (at (Slab 0 2 4096) 1) done))))))
 unfolding refuseIf andThen divided shortest ulebLen lastFrom streamLenFrom firstClass classFor classWithSlack takeMark takeSlab pastSlabs
     takeFresh takeFrom headOf freedPlace stays larger movesTo moved written longer appendPlace outOfShape onKey listBad beyondDesks
     allowed permitted lacksWith sumTo offeredNumber appends does bookAfter answered answersTo
@@ -50,15 +56,24 @@ run-case = refl
 -- What is turned back: the shape, a key beyond the heads, a key in use, and numbers that can't be offered.
 pub turned-back : (answers (freshAlone 4096 1) (ask (read 0 0) ∷ [])
     ≡ asked (refused 1) done)
-    × (answers (freshAlone 8192 1) (change (append 1 5) ∷ change (append 0 0) ∷ change (append 0 (2 ^ 63)) ∷ change (append 0 (2 ^ 62)) ∷ change (append 0 5) ∷ change (append 0 5) ∷ change (load Spare 0 []) ∷ ask (read 0 0) ∷ [])
-    ≡ changed (refused 2) (changed (refused 12) (changed (refused 13) (changed (refused 14) (changed (at (Inline 5 1) 0) (changed (refused 32) (changed (refused 3) (asked (refused 34) done))))))))
+    × (answers (freshAlone 8192 1) (change (append 1 5) ∷ change (append 0 0) ∷ change (append 0 (2 ^ 63)) ∷ change (append 0 (2 ^ 62)) ∷
+    change (append 0 5) ∷ change (append 0 5) ∷ change (load Spare 0 []) ∷ ask (read 0 0) ∷ [])
+    ≡ changed (refused 2)
+    (changed (refused 12)
+    (changed (refused 13)
+    (changed (refused 14) (changed (at (Inline 5 1) 0) (changed (refused 32) (changed (refused 3) (asked (refused 34) done))))))))
 unfolding refuseIf andThen headOf written longer appendPlace outOfShape onKey listBad beyondDesks allowed permitted lacksWith sumTo
     offeredNumber appends reads loads asks does bookAfter answered answersTo lastFrom
 turned-back = (refl, refl)
 
--- A list that is loaded tight goes to a slab that has fewer slots than numbers, and moves with the next; a drop frees its block for another key.
-pub loaded-slab : answers (freshAlone 8192 2) (change (load Tight 0 (inARow 1 14)) ∷ change (append 0 15) ∷ ask (read 0 15) ∷ change (drop 0) ∷ ask (read 0 0) ∷ change (load Tight 1 (inARow 1 40)) ∷ [])
-    ≡ changed (loads-in 0) (changed (at (Slab 2 15 4112) 14) (asked (accepted (listing (inARow 1 15) 0 0)) (changed (accepted (droppedOf 15)) (asked (accepted (listing [] 0 0)) (changed (loads-in 0) done)))))
+-- A list that is loaded tight goes to a slab that has fewer slots than numbers, and moves with the next; a drop frees its block for another
+-- key.
+pub loaded-slab : answers (freshAlone 8192 2) (change (load Tight 0 (inARow 1 14)) ∷ change (append 0 15) ∷ ask (read 0 15) ∷
+    change (drop 0) ∷ ask (read 0 0) ∷ change (load Tight 1 (inARow 1 40)) ∷ [])
+    ≡ changed (loads-in 0)
+    (changed (at (Slab 2 15 4112) 14)
+    (asked (accepted (listing (inARow 1 15) 0 0))
+    (changed (accepted (droppedOf 15)) (asked (accepted (listing [] 0 0)) (changed (loads-in 0) done)))))
 unfolding refuseIf andThen divided shortest ulebLen lastFrom streamLenFrom firstClass classFor classWithSlack takeMark takeSlab pastSlabs
     takeFresh takeFrom headOf freedPlace stays larger movesTo loadsTo moved written longer appendPlace loadInto loadPlace outOfShape onKey
     listBad beyondDesks allowed permitted lacksWith sumTo offeredNumber offeredList loads appends reads drops asks does bookAfter answered
@@ -77,7 +92,8 @@ loaded-spare = refl
 
 -- A tight load's class is by bytes: 15 numbers of a byte each need 17, and four of 9 bytes each need 38.
 pub loaded-by-bytes : answers (freshAlone 8192 3)
-    (change (load Tight 0 (inARow 1 15)) ∷ change (load Tight 1 (2 ^ 56 ∷ 2 ^ 57 ∷ 2 ^ 58 ∷ 2 ^ 59 ∷ [])) ∷ change (append 2 5) ∷ change (append 2 6) ∷ [])
+    (change (load Tight 0 (inARow 1 15)) ∷ change (load Tight 1 (2 ^ 56 ∷ 2 ^ 57 ∷ 2 ^ 58 ∷ 2 ^ 59 ∷ [])) ∷ change (append 2 5) ∷
+    change (append 2 6) ∷ [])
     ≡ changed (loads-in 0) (changed (loads-in 0) (changed (at (Inline 5 1) 0) (changed (at (Slab 0 2 4192) 1) done)))
 unfolding refuseIf andThen divided shortest ulebLen lastFrom streamLenFrom firstClass classFor classWithSlack takeMark takeSlab pastSlabs
     takeFresh takeFrom headOf freedPlace stays larger movesTo loadsTo moved written longer appendPlace loadInto loadPlace outOfShape onKey
@@ -86,8 +102,11 @@ unfolding refuseIf andThen divided shortest ulebLen lastFrom streamLenFrom first
 loaded-by-bytes = refl
 
 -- A list of 4,073 goes to a run of two pages, behind the mark rounded up; the body is full then, but the gap before the run was carved.
-pub loaded-run : answers (freshAlone 16384 3) (change (append 0 1) ∷ change (append 0 2) ∷ change (load Spare 1 (inARow 1 4073)) ∷ change (append 1 4074) ∷ change (load Spare 2 (inARow 1 300)) ∷ change (load Spare 2 (inARow 1 256)) ∷ [])
-    ≡ changed (at (Inline 1 1) 0) (changed (at (Slab 0 2 4096) 1) (changed (loads-in 2) (changed (at (Extent 12288) 0) (changed (refused 36) (changed (loads-in 0) done)))))
+pub loaded-run : answers (freshAlone 16384 3) (change (append 0 1) ∷ change (append 0 2) ∷ change (load Spare 1 (inARow 1 4073)) ∷
+    change (append 1 4074) ∷ change (load Spare 2 (inARow 1 300)) ∷ change (load Spare 2 (inARow 1 256)) ∷ [])
+    ≡ changed (at (Inline 1 1) 0)
+    (changed (at (Slab 0 2 4096) 1)
+    (changed (loads-in 2) (changed (at (Extent 12288) 0) (changed (refused 36) (changed (loads-in 0) done)))))
 unfolding refuseIf andThen divided shortest ulebLen lastFrom streamLenFrom firstClass classFor classWithSlack fitting firstPart
     greedyParts replaceLast largestUpTo blockThen carve freedAll takeMark takeSlab pastSlabs rounded runAtMark takeFresh takeFrom lastPage
     headOf freedPages freedPlace stays larger movesTo loadsTo moved joins beginPage appendPages written longer appendPlace runPages
@@ -97,8 +116,12 @@ loaded-run = refl
 
 -- A page of 4,072 bytes is full, so that the next number begins another. A drop frees the first page first, so that the last one is taken
 -- again, here by a list that moves out of its slab.
-pub full-page : answers (freshAlone 16384 2) (change (load Spare 0 (inARow 1 4072)) ∷ change (append 0 4073) ∷ ask (read 0 4073) ∷ change (drop 0) ∷ change (load Spare 1 (inARow 1 256)) ∷ change (append 1 257) ∷ [])
-    ≡ changed (loads-in 1) (changed (at (Extent 8192) 0) (asked (accepted (listing (inARow 1 4073) 2 0)) (changed (accepted (droppedOf 4073)) (changed (loads-in 0) (changed (at (Extent 8192) 256) done)))))
+pub full-page : answers (freshAlone 16384 2) (change (load Spare 0 (inARow 1 4072)) ∷ change (append 0 4073) ∷ ask (read 0 4073) ∷
+    change (drop 0) ∷ change (load Spare 1 (inARow 1 256)) ∷ change (append 1 257) ∷ [])
+    ≡ changed (loads-in 1)
+    (changed (at (Extent 8192) 0)
+    (asked (accepted (listing (inARow 1 4073) 2 0))
+    (changed (accepted (droppedOf 4073)) (changed (loads-in 0) (changed (at (Extent 8192) 256) done)))))
 unfolding refuseIf andThen divided shortest ulebLen lastFrom streamLenFrom firstClass classFor classWithSlack fitting firstPart
     greedyParts replaceLast largestUpTo blockThen carve freedAll takeMark takeSlab pastSlabs rounded runAtMark takeFresh takeFrom lastPage
     headOf paddedPages freedPages freedPlace stays larger movesTo loadsTo moved joins beginPage appendPages written longer appendPlace
@@ -158,7 +181,9 @@ pub padded :
       limits = unlimited;
     })
     (change (append 0 7) ∷ ask (read 0 4) ∷ change (append 0 8) ∷ ask (read 0 4) ∷ [])
-    ≡ changed (at (Slab 0 3 4096) 0) (asked (accepted (listing (5 ∷ 6 ∷ 7 ∷ []) 0 2)) (changed (at (Slab 1 4 4112) 3) (asked (accepted (listing (5 ∷ 6 ∷ 7 ∷ 8 ∷ []) 0 0)) done)))
+    ≡ changed (at (Slab 0 3 4096) 0)
+    (asked (accepted (listing (5 ∷ 6 ∷ 7 ∷ []) 0 2))
+    (changed (at (Slab 1 4 4112) 3) (asked (accepted (listing (5 ∷ 6 ∷ 7 ∷ 8 ∷ []) 0 0)) done)))
 unfolding refuseIf andThen divided shortest ulebLen lastFrom streamLenFrom firstClass classFor classWithSlack takeMark takeSlab pastSlabs
     takeFresh takeFrom headOf freedPlace stays larger movesTo moved written longer appendPlace outOfShape onKey listBad beyondDesks
     allowed permitted lacksWith sumTo offeredNumber appends reads asks does bookAfter answered answersTo

@@ -16,12 +16,14 @@ use Rattle.book_rules.specs.declared.places.SlabFit.{SlabFit}
 use Rattle.book_rules.specs.Outcomes.{bookAfter}
 use Rattle.book_statements.specs.Calls.{Change, load, append, drop, Made, Call}
 use Rattle.plain_book.specs.Space.{Space, Taken, rounded, runAtMark}
-use Rattle.plain_book.specs.Key.{Key, Page, Place, empty, inline, slab, pages, onePage, freedPlace, Placed, written, longer, keyIn, emptyKey}
+use Rattle.plain_book.specs.Key.{Key, Page, Place, empty, inline, slab, pages, onePage, freedPlace, Placed, written, longer, keyIn}
+use Rattle.plain_book.specs.Key.{emptyKey}
 use Rattle.plain_book.specs.Key.{longerPage, joinedTo, runPages}
 use Rattle.plain_book.specs.Book.{Book, fresh, Outcome, keyOf, withKey, extended, does, after, serves}
 use Rattle.plain_book.specs.Owners.{Owner, hand, stack, slabOf, pageOf, atDepth, pageNo, slabAt, pageIn, has, Apart, places}
 use Rattle.plain_book.specs.Good.{Good}
-use Rattle.plain_book.specs.Did.{LoadDid, loaded-none, loaded-one, loaded-slab, loaded-run, AppendDid, began, stayed, moved-slab, moved-page, joined-page, begun-page}
+use Rattle.plain_book.specs.Did.{LoadDid, loaded-none, loaded-one, loaded-slab, loaded-run, AppendDid, began, stayed, moved-slab}
+use Rattle.plain_book.specs.Did.{moved-page, joined-page, begun-page}
 use Rattle.book_rules.proofs.LawsRules.{moves-to, loads-to}
 use Rattle.book_statements.proofs.LawsCalls.{calls-keep}
 use Rattle.book_desks.specs.Desks.{Limits}

@@ -90,7 +90,8 @@ run-length off (p ∷ []) = refl
 run-length off (p ∷ q ∷ ps) = ap suc (run-length (off + pageSize) (q ∷ ps))
 
 -- The pages of a load: those of the cutting, or none.
-load-pages : {fit : SlabFit} (end : ℕ) (s : Space) {ns : List ℕ} {p : Placed} → LoadDid fit end s ns p → pagesOf (p .place) ≤ length (cutting ns)
+load-pages : {fit : SlabFit} (end : ℕ) (s : Space) {ns : List ℕ} {p : Placed} → LoadDid fit end s ns p
+    → pagesOf (p .place) ≤ length (cutting ns)
 load-pages end s loaded-none = omega arith
 load-pages end s loaded-one = omega arith
 load-pages end s (loaded-slab c t two q got) = omega arith

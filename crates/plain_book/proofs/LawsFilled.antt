@@ -23,15 +23,18 @@ use Rattle.book_limits.specs.Limits.{slabsEnd, pageAfter}
 use Rattle.book_rules.proofs.LawsRules.{moves-to, loads-to}
 use Rattle.book_statements.proofs.LawsCalls.{calls-keep}
 use Rattle.book_desks.specs.Desks.{Limits}
-use Rattle.plain_book.specs.Space.{Space, stackOf, freed, freedAll, Taken, takeMark, takeSlab, rounded, takeRun, takeFresh, takeFrom, takeBlock, runAtMark}
-use Rattle.plain_book.specs.Key.{Key, emptyKey, Page, Place, empty, inline, slab, pages, freedPages, freedPlace, Placed, written, keyIn}
+use Rattle.plain_book.specs.Space.{Space, stackOf, freed, freedAll, Taken, takeMark, takeSlab, rounded, takeRun, takeFresh, takeFrom}
+use Rattle.plain_book.specs.Space.{takeBlock, runAtMark}
+use Rattle.plain_book.specs.Key.{Key, emptyKey, Page, Place, empty, inline, slab, pages, freedPages, freedPlace, Placed, written}
+use Rattle.plain_book.specs.Key.{keyIn}
 use Rattle.plain_book.specs.Key.{longerPage, runPages}
 use Rattle.plain_book.specs.Book.{Book, fresh, makes, Outcome, withKey, inUse, does, after, serves}
 use Rattle.plain_book.specs.Owners.{places}
 use Rattle.plain_book.specs.Sound.{Fits}
 use Rattle.plain_book.specs.Good.{GoodPlain}
 use Rattle.plain_book.specs.Filled.{bytesIn, bytesHeld, bytesOnStack, bytesFreed, Fills, Filled, MarkWhole}
-use Rattle.plain_book.specs.Did.{LoadDid, loaded-none, loaded-one, loaded-slab, loaded-run, AppendDid, began, stayed, moved-slab, moved-page, joined-page, begun-page}
+use Rattle.plain_book.specs.Did.{LoadDid, loaded-none, loaded-one, loaded-slab, loaded-run, AppendDid, began, stayed, moved-slab}
+use Rattle.plain_book.specs.Did.{moved-page, joined-page, begun-page}
 use Rattle.plain_book.proofs.LawsHistory.{load-did, append-did, drop-did}
 use Rattle.plain_book.proofs.LawsOwners.{withStack}
 use Rattle.plain_book.proofs.LawsTaking.{took-stack, took-mark, freed-stacks}
@@ -84,7 +87,8 @@ pub full-popped : (s : Space) (others class o : ℕ) (os : List ℕ) → class �
 unfolding bytesOnStack
 full-popped s others class o os c is f =
     let n = f .nine in
-    let e : bytesFreed 0 (set (s .stacks) class os) + bytesOnStack class (stackOf class s) ≡ bytesFreed 0 (s .stacks) + bytesOnStack class os =
+    let e : bytesFreed 0 (set (s .stacks) class os) + bytesOnStack class (stackOf class s)
+    ≡ bytesFreed 0 (s .stacks) + bytesOnStack class os =
     stack-changed 0 class (s .stacks) class os (omega arith) (omega arith) in
     let high : bytesOnStack class (stackOf class s) ≡ slabBytes class + bytesOnStack class os = ap (bytesOnStack class) is in
     let was = f .fills in
@@ -130,7 +134,11 @@ full-rounded s others whole f = go (leb (pageAfter (s .mark)) slabsEnd) refl
     at-page past = ⊎-elim (λ (low : s .mark ≤ slabsEnd). absurd (omega arith)) (λ (paged : s .mark % pageSize ≡ 0). omega arith) whole
 
     go : (low : Bool) → leb (pageAfter (s .mark)) slabsEnd ≡ low
-        → Full (record { mark = pageAfter (s .mark); stacks = freedAll (gapBlocks (s .mark) (cond low (pageAfter (s .mark)) (s .mark))) s .stacks })
+        → Full (record {
+          mark = pageAfter (s .mark);
+          stacks = freedAll (gapBlocks (s .mark) (cond low (pageAfter (s .mark)) (s .mark)))
+              s .stacks;
+        })
         others
     go true e =
         full-carved (gapBlocks (s .mark) (pageAfter (s .mark))) s others (pageAfter (s .mark))
@@ -144,7 +152,8 @@ full-rounded s others whole f = go (leb (pageAfter (s .mark)) slabsEnd) refl
         (gap-filled (s .mark) (s .mark) (omega arith) (omega arith))
         (gap-slabs (s .mark) (s .mark) (s .mark) (omega arith) (record { aligned = a; begins = from; ends = omega arith }))
         f in
-        subst (λ (m : ℕ). Full (record { mark = m; stacks = freedAll (gapBlocks (s .mark) (s .mark)) s .stacks }) others) none-skipped carved
+        subst (λ (m : ℕ). Full (record { mark = m; stacks = freedAll (gapBlocks (s .mark) (s .mark)) s .stacks }) others) none-skipped
+        carved
 
 -- A run of pages is taken.
 pub full-run : (end n : ℕ) (s : Space) (others : ℕ) {t : Taken} → MarkWhole (s .mark) → takeRun end n s ≡ accepted t → Full s others
@@ -155,14 +164,16 @@ full-run end n s others w e f =
     (full-marked (rounded s) others (n * pageSize) (omega arith) (full-rounded s others w f))
 
 -- A block of a class is taken.
-pub full-taken : (end class : ℕ) (s : Space) (others : ℕ) {t : Taken} → MarkWhole (s .mark) → class ≤ 8 → takeBlock end class s ≡ accepted t → Full s others
+pub full-taken : (end class : ℕ) (s : Space) (others : ℕ) {t : Taken} → MarkWhole (s .mark) → class ≤ 8
+    → takeBlock end class s ≡ accepted t → Full s others
     → Full (t .space) (slabBytes class + others)
 unfolding takeFrom takeFresh takeSlab
 full-taken end class s others {t} w c e f = from-stack (stackOf class s) refl e
   where
     fresh-block : (b : Bool) → eqb class pageClass ≡ b → cond b (takeRun end 1 s) (takeSlab end (slabBytes class) s) ≡ accepted t
         → Full (t .space) (slabBytes class + others)
-    fresh-block true q e = subst (λ (k : ℕ). Full (t .space) (slabBytes k + others)) (sym (eqb-true class pageClass q)) (full-run end 1 s others w e f)
+    fresh-block true q e = subst (λ (k : ℕ). Full (t .space) (slabBytes k + others)) (sym (eqb-true class pageClass q))
+        (full-run end 1 s others w e f)
     fresh-block false q e =
         subst (λ (v : Taken). Full (v .space) (slabBytes class + others)) (sym (took-mark end (slabBytes class) s (passed _ _ _ e .1)))
         (full-marked s others (slabBytes class) (omega arith) f)
@@ -325,8 +336,8 @@ call-full lost b (drop key) (accepted o) e g w f =
     rw (ap (λ (x : Outcome _). x .book) is)
     (full-with lost b key emptyKey (freedPlace (places b key) (b .space)) others held (empty-full _ others gone))
 
--- Take any good book whose mark leaves none to be skipped, of which so many bytes belong to nobody, and any list of calls: as many belong to
--- nobody afterwards.
+-- Take any good book whose mark leaves none to be skipped, of which so many bytes belong to nobody, and any list of calls: as many belong
+-- to nobody afterwards.
 pub filled-from : (lost : ℕ) (b : Book) (cs : List Call) → GoodPlain b → MarkWhole (b .space .mark) → Filled lost b
     → Filled lost (after b cs)
 filled-from lost b cs g w f =

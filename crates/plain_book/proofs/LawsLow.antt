@@ -23,10 +23,12 @@ use Rattle.book_rules.proofs.LawsRules.{moves-to, loads-to}
 use Rattle.book_statements.specs.Calls.{Change, load, append, drop, Made, Call}
 use Rattle.book_statements.specs.Moves.{noMoves}
 use Rattle.book_desks.specs.Desks.{Limits}
-use Rattle.plain_book.specs.Space.{Space, stackOf, freed, freedAll, Taken, takeMark, takeSlab, rounded, runAtMark, takeRun, takeFresh, takeFrom, takeBlock}
+use Rattle.plain_book.specs.Space.{Space, stackOf, freed, freedAll, Taken, takeMark, takeSlab, rounded, runAtMark, takeRun, takeFresh}
+use Rattle.plain_book.specs.Space.{takeFrom, takeBlock}
 use Rattle.plain_book.specs.Key.{Page, Place, empty, inline, slab, pages, Key, emptyKey, freedPages, freedPlace, Placed, written}
 use Rattle.plain_book.specs.Book.{Book, fresh, Outcome, keyOf, does, after, answers}
-use Rattle.plain_book.specs.Did.{LoadDid, loaded-none, loaded-one, loaded-slab, loaded-run, AppendDid, began, stayed, moved-slab, moved-page}
+use Rattle.plain_book.specs.Did.{LoadDid, loaded-none, loaded-one, loaded-slab, loaded-run, AppendDid, began, stayed, moved-slab}
+use Rattle.plain_book.specs.Did.{moved-page}
 use Rattle.plain_book.specs.Did.{joined-page, begun-page}
 use Rattle.plain_book.specs.Good.{GoodPlain}
 use Rattle.plain_book.specs.Low.{LowStack, LowPlace, LowSpace, LowSlabs, PastTop}
@@ -100,7 +102,8 @@ low-run : (end n : ℕ) (s : Space) {t : Taken} → s .mark % 16 ≡ 0 → takeR
 unfolding runAtMark
 low-run end n s a e h = subst (λ (v : Taken). LowSpace (v .space)) (sym (took-mark end _ (rounded s) e)) (low-rounded s a h)
 
-low-taken : (end class : ℕ) (s : Space) {t : Taken} → s .mark % 16 ≡ 0 → takeBlock end class s ≡ accepted t → LowSpace s → LowSpace (t .space)
+low-taken : (end class : ℕ) (s : Space) {t : Taken} → s .mark % 16 ≡ 0 → takeBlock end class s ≡ accepted t → LowSpace s
+    → LowSpace (t .space)
 unfolding takeFrom takeFresh takeSlab LowStack
 low-taken end class s {t} a e h = from-stack (stackOf class s) refl e
   where
@@ -162,7 +165,8 @@ append-low-place : (end held : ℕ) (list : List ℕ) (n : ℕ) (s : Space) {old
     → AppendDid end held list n s old p → LowPlace (p .place)
 append-low-place end held list n s l began = tt
 append-low-place end held list n s l (stayed class off kept q) = l
-append-low-place end held list n s l (moved-slab old c t out q got) = let m = moves-to (length list) _ q in taken-low-slab end c s (m .slab) got
+append-low-place end held list n s l (moved-slab old c t out q got) = let m = moves-to (length list) _ q in taken-low-slab end c s
+    (m .slab) got
 append-low-place end held list n s l (moved-page old t out q got) = tt
 append-low-place end held list n s l (joined-page ps q) = tt
 append-low-place end held list n s l (begun-page ps t q got) = tt

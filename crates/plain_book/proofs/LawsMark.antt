@@ -17,11 +17,13 @@ use Rattle.book_rules.specs.declared.places.SlabFit.{SlabFit}
 use Rattle.book_rules.specs.Outcomes.{bookAfter}
 use Rattle.book_statements.specs.Calls.{Change, load, append, drop, Made, Call}
 use Rattle.book_limits.specs.Limits.{slabsEnd, pastSlabs}
-use Rattle.plain_book.specs.Space.{Space, stackOf, Taken, takeMark, takeSlab, rounded, takeFresh, takeFrom, takeBlock, takeRun, runAtMark}
+use Rattle.plain_book.specs.Space.{Space, stackOf, Taken, takeMark, takeSlab, rounded, takeFresh, takeFrom, takeBlock, takeRun}
+use Rattle.plain_book.specs.Space.{runAtMark}
 use Rattle.plain_book.specs.Key.{Page, Place, empty, inline, slab, pages, freedPages, freedPlace, Placed}
 use Rattle.plain_book.specs.Book.{Book, fresh, Outcome, does, after, keyOf, serves}
 use Rattle.plain_book.specs.Filled.{MarkWhole}
-use Rattle.plain_book.specs.Did.{LoadDid, loaded-none, loaded-one, loaded-slab, loaded-run, AppendDid, began, stayed, moved-slab, moved-page, joined-page, begun-page}
+use Rattle.plain_book.specs.Did.{LoadDid, loaded-none, loaded-one, loaded-slab, loaded-run, AppendDid, began, stayed, moved-slab}
+use Rattle.plain_book.specs.Did.{moved-page, joined-page, begun-page}
 use Rattle.book_statements.proofs.LawsCalls.{calls-keep}
 use Rattle.book_desks.specs.Desks.{Limits}
 use Rattle.plain_book.proofs.LawsHistory.{load-did, append-did, drop-did}
@@ -89,7 +91,8 @@ load-within end s {ns} h (loaded-run t two q got) = marked-within end (length (c
 abbrev pub Inside : ℕ → Book → Type 0
 Inside size b = (b .size ≡ size) × (b .space .mark ≤ size)
 
-pub call-inside : (size : ℕ) (b : Book) (c : Change) (a : Answer (Outcome (Made c))) → does b c ≡ a → Inside size b → Inside size (bookAfter b a)
+pub call-inside : (size : ℕ) (b : Book) (c : Change) (a : Answer (Outcome (Made c))) → does b c ≡ a → Inside size b
+    → Inside size (bookAfter b a)
 unfolding does bookAfter
 call-inside size b c (refused number) e h = h
 call-inside size b (load fit key ns) (accepted o) e (s, m) =
@@ -127,7 +130,8 @@ run-whole end n s e =
     let (room, is) = passed _ _ _ e in
     subst (λ (v : Taken). MarkWhole (v .space .mark)) (accepted-inj is) (inr (omega arith))
 
-taken-whole : (end class : ℕ) (s : Space) {t : Taken} → takeBlock end class s ≡ accepted t → MarkWhole (s .mark) → MarkWhole (t .space .mark)
+taken-whole : (end class : ℕ) (s : Space) {t : Taken} → takeBlock end class s ≡ accepted t → MarkWhole (s .mark)
+    → MarkWhole (t .space .mark)
 unfolding takeFrom takeFresh
 taken-whole end class s {t} e h = from-stack (stackOf class s) e
   where

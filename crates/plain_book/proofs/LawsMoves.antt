@@ -18,7 +18,8 @@ use Rattle.plain_book.specs.Key.{Place, empty, inline, slab, pages, Kept
 use Rattle.book_statements.specs.Moves.{Tally, withMove}
 use Rattle.plain_book.specs.Sound.{Shortest}
 use Rattle.plain_book.specs.Ceilings.{mostMoves, mostRewritten}
-use Rattle.plain_book.specs.Did.{LoadDid, loaded-none, loaded-one, loaded-slab, loaded-run, Outgrown, AppendDid, began, stayed, moved-slab, moved-page, joined-page, begun-page}
+use Rattle.plain_book.specs.Did.{LoadDid, loaded-none, loaded-one, loaded-slab, loaded-run, Outgrown, AppendDid, began, stayed}
+use Rattle.plain_book.specs.Did.{moved-slab, moved-page, joined-page, begun-page}
 use Rattle.book_rules.proofs.LawsRules.{slots-mono, slots-twice, stays-holds, Moves, moves-to, loads-to}
 use Rattle.plain_book.proofs.LawsKept.{written-shortest, shortest-longer}
 
@@ -188,7 +189,8 @@ append-spent end held list n s t l same h (joined-page ps q) = rw (counted-none 
 append-spent end held list n s t l same h (begun-page ps x q got) = rw (counted-none t) h
 
 -- A load moves nothing, and its place allows that.
-pub load-spent : {fit : SlabFit} (end : ℕ) (s : Space) {ns : List ℕ} {p : Placed} (t : Tally) → t .moves ≡ 0 → t .rewritten ≡ 0 → LoadDid fit end s ns p
+pub load-spent : {fit : SlabFit} (end : ℕ) (s : Space) {ns : List ℕ} {p : Placed} (t : Tally) → t .moves ≡ 0 → t .rewritten ≡ 0
+    → LoadDid fit end s ns p
     → Spent (length ns) (p .place) t
 load-spent end s t m r loaded-none = (refl, m, r)
 load-spent end s t m r loaded-one = (refl, m, r)

@@ -1,5 +1,5 @@
--- Bodies of at most 2^30 bytes, which was the limit before change request N8: blocks and runs are taken as they were then, and every total is
--- told. Assumes nothing.
+-- Bodies of at most 2^30 bytes, which was the limit before change request N8: blocks and runs are taken as they were then, and every total
+-- is told. Assumes nothing.
 use Prim.Native.Nat.{ℕ, _+_, _*_, _/_, _^_, _≤_, _<_}
 use mathlib.Core.Bool.{Bool, true, false, cond}
 use mathlib.Core.List.{List, [], _∷_}
@@ -15,7 +15,8 @@ use Rattle.scripthash_layout.specs.Sizes.{slabBytes, pageClass, pageSize}
 use Rattle.scripthash_free.specs.FreeList.{gapBlocks}
 use Rattle.scripthash_free.proofs.LawsBlock.{block-stands}
 use Rattle.book_limits.specs.Limits.{slabsEnd, pageAfter, pastSlabs, gapEnd, mostCounted, totalTold}
-use Rattle.plain_book.specs.Space.{Space, stackOf, freedAll, Taken, takeMark, takeSlab, rounded, runAtMark, takeRun, takeFresh, takeFrom}
+use Rattle.plain_book.specs.Space.{Space, stackOf, freedAll, Taken, takeMark, takeSlab, rounded, runAtMark, takeRun, takeFresh}
+use Rattle.plain_book.specs.Space.{takeFrom}
 use Rattle.plain_book.specs.Space.{takeBlock}
 use Rattle.plain_book.specs.Key.{Place, empty, inline, slab, pages}
 use Rattle.plain_book.specs.Book.{Book, keyOf}
@@ -51,7 +52,11 @@ oldFrom end class (o ∷ os) s = accepted (record { off = o; space = record { ma
 old-rounded : (s : Space) → s .mark ≤ oldMost → rounded s ≡ oldRounded s
 unfolding rounded
 old-rounded s low =
-    ap (λ (t : Bool). record { mark = pageAfter (s .mark); stacks = freedAll (gapBlocks (s .mark) (cond t (pageAfter (s .mark)) (s .mark))) s .stacks })
+    ap (λ (t : Bool). record {
+      mark = pageAfter (s .mark);
+      stacks = freedAll (gapBlocks (s .mark) (cond t (pageAfter (s .mark)) (s .mark)))
+          s .stacks;
+    })
     (le-leb (pageAfter (s .mark)) slabsEnd (omega arith))
 
 -- A slab at the mark is refused by the body's end alone.

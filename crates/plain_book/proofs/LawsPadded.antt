@@ -20,9 +20,11 @@ use Rattle.book_desks.specs.Desks.{Limits}
 use Rattle.plain_book.specs.Space.{Space}
 use Rattle.plain_book.specs.Key.{Key, emptyKey, Kept, written, longer, Page, Place, empty, paddedPages, paddedOf, onePage, longerPage}
 use Rattle.plain_book.specs.Key.{Placed, runPages}
-use Rattle.plain_book.specs.Book.{Book, fresh, keyOf, extended, after, answers, asks, does, reads, loads, appends, drops, Outcome, withKey}
+use Rattle.plain_book.specs.Book.{Book, fresh, keyOf, extended, after, answers, asks, does, reads, loads, appends, drops, Outcome}
+use Rattle.plain_book.specs.Book.{withKey}
 use Rattle.plain_book.specs.Sound.{Unpadded}
-use Rattle.plain_book.specs.Did.{LoadDid, loaded-none, loaded-one, loaded-slab, loaded-run, AppendDid, began, stayed, moved-slab, moved-page, joined-page, begun-page}
+use Rattle.plain_book.specs.Did.{LoadDid, loaded-none, loaded-one, loaded-slab, loaded-run, AppendDid, began, stayed, moved-slab}
+use Rattle.plain_book.specs.Did.{moved-page, joined-page, begun-page}
 use Rattle.plain_book.proofs.LawsHistory.{KeptByCalls, kept-call, kept-fresh, fresh-key, load-did, append-did, drop-did, read-did}
 
 -- ---- pages

@@ -167,4 +167,5 @@ pub read-accepted : (size heads key room : ℕ) (a : Answer Listed) (recorded : 
 unfolding AnsweredBy
 read-accepted size heads key room (accepted l) recorded is shape low fits = (l, refl, is)
 read-accepted size heads key room (refused number) recorded by shape low fits =
-    absurd (⊎-elim (λ (is, out). false≢true (sym shape ∙ out)) (λ r. ⊎-elim (λ (is, beyond). omega arith) (λ (is, short). omega arith) r) by)
+    absurd (⊎-elim (λ (is, out). false≢true (sym shape ∙ out)) (λ r. ⊎-elim (λ (is, beyond). omega arith) (λ (is, short). omega arith) r)
+    by)

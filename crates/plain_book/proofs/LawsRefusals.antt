@@ -18,7 +18,8 @@ use Rattle.book_limits.specs.Limits.{outOfShape, pastSlabs}
 use Rattle.book_rules.specs.Places.{stays}
 use Rattle.book_desks.specs.Desks.{Limits, permitted, listBad}
 use Rattle.book_rules.specs.Offered.{offeredNumber, offeredList}
-use Rattle.plain_book.specs.Space.{Space, Taken, stackOf, takeMark, takeSlab, rounded, takeRun, takeFresh, takeFrom, takeBlock, runAtMark}
+use Rattle.plain_book.specs.Space.{Space, Taken, stackOf, takeMark, takeSlab, rounded, takeRun, takeFresh, takeFrom, takeBlock}
+use Rattle.plain_book.specs.Space.{runAtMark}
 use Rattle.plain_book.specs.Key.{Place, empty, inline, slab, pages, moved, joins, beginPage, appendPages, appendPlace, loadInto}
 use Rattle.plain_book.specs.Key.{loadPlace, longer, Leave}
 use Rattle.plain_book.specs.Book.{Book, Outcome, onKey, allowed, deskIn, leaveOf, loads, appends, reads, drops, does, answers, asks}
@@ -126,9 +127,11 @@ module _ (numbers : List ℕ) (named : (m : ℕ) → isOneOf m keyRefusals ≡ t
   number-plain : {A : Type 0} (first : Bool) (prev n : ℕ) (after : Answer A) → Plain after → Plain (offeredNumber first prev n after)
   unfolding offeredNumber isOneOf keyRefusals
   number-plain first prev n after p =
-      by-test _ offeredFirstZero _ refl (by-test _ offeredBit63 _ refl (by-test _ offeredTooLarge _ refl (by-test _ offeredNotRising _ refl p)))
+      by-test _ offeredFirstZero _ refl
+      (by-test _ offeredBit63 _ refl (by-test _ offeredTooLarge _ refl (by-test _ offeredNotRising _ refl p)))
 
-  list-plain : {A : Type 0} (first : Bool) (prev : ℕ) (ns : List ℕ) (after : Answer A) → Plain after → Plain (offeredList first prev ns after)
+  list-plain : {A : Type 0} (first : Bool) (prev : ℕ) (ns : List ℕ) (after : Answer A) → Plain after
+      → Plain (offeredList first prev ns after)
   unfolding offeredList
   list-plain first prev [] after p = p
   list-plain first prev (n ∷ ns) after p = number-plain first prev n _ (list-plain false n ns after p)

@@ -1,5 +1,5 @@
--- Room: a change that is refused with 36 is accepted on the same plain book with a body that goes on far enough behind the mark, where slabs
--- may be taken there. Assumes nothing.
+-- Room: a change that is refused with 36 is accepted on the same plain book with a body that goes on far enough behind the mark, where
+-- slabs may be taken there. Assumes nothing.
 use Prim.Native.Nat.{ℕ, zero, suc, _+_, _*_, _≤_, _<_}
 use mathlib.Core.Bool.{Bool, true, false, cond, not, _&&_}
 use mathlib.Core.List.{List, [], _∷_, _++_}
@@ -307,7 +307,8 @@ pub good-roomy : (end : ℕ) (b : Book) → GoodPlain b → pageAfter (b .space 
 unfolding pastSlabs has
 good-roomy end b g ends low = record { ends = ends; low = low; tops = tops }
   where
-    tops : (class o : ℕ) (os : List ℕ) → stackOf class (b .space) ≡ o ∷ os → not (eqb class pageClass) && ltb slabsEnd (o + slabBytes class) ≡ false
+    tops : (class o : ℕ) (os : List ℕ) → stackOf class (b .space) ≡ o ∷ os
+        → not (eqb class pageClass) && ltb slabsEnd (o + slabBytes class) ≡ false
     tops class o os e =
         let mine = ap (atDepth class (length os)) e ∙ top-is class o os in
         let s = block-stands class o (b .space .mark) (g .space .apart .stands (stack class (length os)) _ mine) in

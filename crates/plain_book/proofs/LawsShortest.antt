@@ -14,7 +14,8 @@ use Rattle.plain_book.specs.Key.{Page, Place, onePage, longerPage}
 use Rattle.plain_book.specs.Key.{Placed, runPages}
 use Rattle.plain_book.specs.Book.{Book, fresh, keyOf, extended, after}
 use Rattle.plain_book.specs.Sound.{ShortestPages, ShortestPlace}
-use Rattle.plain_book.specs.Did.{LoadDid, loaded-none, loaded-one, loaded-slab, loaded-run, AppendDid, began, stayed, moved-slab, moved-page, joined-page, begun-page}
+use Rattle.plain_book.specs.Did.{LoadDid, loaded-none, loaded-one, loaded-slab, loaded-run, AppendDid, began, stayed, moved-slab}
+use Rattle.plain_book.specs.Did.{moved-page, joined-page, begun-page}
 use Rattle.plain_book.proofs.LawsKept.{written-shortest, shortest-longer}
 use Rattle.plain_book.proofs.LawsHistory.{KeptByCalls, kept-calls, kept-fresh}
 

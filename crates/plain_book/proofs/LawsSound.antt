@@ -29,7 +29,8 @@ use Rattle.book_desks.specs.Desks.{Limits}
 use Rattle.plain_book.specs.Book.{Book, fresh, keyOf, extended, after}
 use Rattle.plain_book.proofs.LawsHistory.{fresh-key, KeptByCalls, kept-calls}
 use Rattle.plain_book.specs.Sound.{held, FitPages, Fits, Known, SoundKey}
-use Rattle.plain_book.specs.Did.{LoadDid, loaded-none, loaded-one, loaded-slab, loaded-run, Outgrown, AppendDid, began, stayed, moved-slab, moved-page, begun-page, joined-page}
+use Rattle.plain_book.specs.Did.{LoadDid, loaded-none, loaded-one, loaded-slab, loaded-run, Outgrown, AppendDid, began, stayed}
+use Rattle.plain_book.specs.Did.{moved-slab, moved-page, begun-page, joined-page}
 
 -- ---- a list with one number more
 
@@ -154,7 +155,8 @@ parts-some [] parts e two = absurd (omega arith)
 parts-some (n ∷ ns) parts e two = some-parts n ns parts e
 
 -- a load gives a list a place that it fits
-load-fits : {fit : SlabFit} (end : ℕ) (s : Space) {ns : List ℕ} {p : Placed} → Rising (2 ^ 62) 0 ns → LoadDid fit end s ns p → Fits ns (p .place)
+load-fits : {fit : SlabFit} (end : ℕ) (s : Space) {ns : List ℕ} {p : Placed} → Rising (2 ^ 62) 0 ns → LoadDid fit end s ns p
+    → Fits ns (p .place)
 unfolding Fits written
 load-fits end s r loaded-none = refl
 load-fits end s r loaded-one = refl
@@ -162,8 +164,11 @@ load-fits {fit} end s {ns} r (loaded-slab c t two q got) =
     let (few, class, fits) = loads-to fit (length ns) (streamLen ns) q in
     (refl, written-each ns, class, two, few, fits, taken-low end c s class got)
 load-fits end s {ns} r (loaded-run t two q got) =
-    let ok = pages-allowed ns (rising-words 0 ns (rising-below (2 ^ 62) (2 ^ 63) 0 ns (omega arith) r)) in
-    (run-held (t .off) (cutting ns) ∙ ok .consecutive, run-fits (t .off) (cutting ns) (parts-some ns (cutting ns) (ok .consecutive) two) (ok .fit))
+    let ok = pages-allowed ns (rising-words 0 ns (rising-below (2 ^ 62) (2 ^ 63) 0 ns (omega arith) r)) in (
+      run-held (t .off) (cutting ns) ∙ ok .consecutive,
+      run-fits (t .off) (cutting ns) (parts-some ns (cutting ns) (ok .consecutive) two)
+          (ok .fit),
+    )
 
 -- ---- totals
 

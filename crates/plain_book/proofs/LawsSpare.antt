@@ -17,12 +17,14 @@ use Rattle.book_rules.proofs.LawsRules.{spare-stays}
 use Rattle.plain_book.specs.Space.{Space}
 use Rattle.plain_book.specs.Key.{Place, slab, Kept, written, longer, Key, emptyKey, keyIn, Placed}
 use Rattle.plain_book.specs.Book.{Book, Outcome, keyOf, extended, loads, appends}
-use Rattle.plain_book.specs.Did.{LoadDid, loaded-none, loaded-one, loaded-slab, loaded-run, Outgrown, AppendDid, began, stayed, moved-slab}
+use Rattle.plain_book.specs.Did.{LoadDid, loaded-none, loaded-one, loaded-slab, loaded-run, Outgrown, AppendDid, began, stayed}
+use Rattle.plain_book.specs.Did.{moved-slab}
 use Rattle.plain_book.specs.Did.{moved-page, joined-page, begun-page}
 use Rattle.plain_book.proofs.LawsHistory.{load-did, append-did}
 
 -- A list that can stay in its slab isn't rewritten by an append.
-stays-put : {end held n : ℕ} {list : List ℕ} {s : Space} {old : Place} {p : Placed} (class off : ℕ) (kept : Kept) → old ≡ slab class off kept
+stays-put : {end held n : ℕ} {list : List ℕ} {s : Space} {old : Place} {p : Placed} (class off : ℕ) (kept : Kept)
+    → old ≡ slab class off kept
     → stays class (length list) (longer n kept .bytes) ≡ true
     → AppendDid end held list n s old p → p .rewritten ≡ 0
 stays-put class off kept is fits began = refl
@@ -35,7 +37,8 @@ stays-put class off kept is fits (joined-page ps q) = refl
 stays-put class off kept is fits (begun-page ps t q got) = refl
 
 -- Where a load with a spare slot put a list of two numbers or more for which it has a slab.
-spare-place : {end : ℕ} {s : Space} {ns : List ℕ} {p : Placed} (class : ℕ) → 2 ≤ length ns → loadsTo Spare (length ns) (streamLen ns) ≡ some class
+spare-place : {end : ℕ} {s : Space} {ns : List ℕ} {p : Placed} (class : ℕ) → 2 ≤ length ns → loadsTo Spare (length ns) (streamLen ns)
+    ≡ some class
     → LoadDid Spare end s ns p → (off : ℕ) × (p .place ≡ slab class off (written ns))
 spare-place class two to loaded-none = absurd (omega arith)
 spare-place class two to loaded-one = absurd (omega arith)

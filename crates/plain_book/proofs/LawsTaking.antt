@@ -18,7 +18,8 @@ use Rattle.scripthash_free.proofs.LawsBlock.{stands-block, slab-stands}
 use Rattle.scripthash_free.proofs.LawsGap.{gap-filled, gap-slabs}
 use Rattle.book_limits.specs.Limits.{slabsEnd, pageAfter, pastSlabs, gapEnd}
 use Rattle.book_limits.proofs.LawsLimits.{gap-end}
-use Rattle.plain_book.specs.Space.{Space, stackOf, freed, freedAll, Taken, takeMark, takeSlab, rounded, takeRun, takeFresh, takeFrom, takeBlock, runAtMark}
+use Rattle.plain_book.specs.Space.{Space, stackOf, freed, freedAll, Taken, takeMark, takeSlab, rounded, takeRun, takeFresh, takeFrom}
+use Rattle.plain_book.specs.Space.{takeBlock, runAtMark}
 use Rattle.plain_book.specs.Key.{Place, pages, runPages}
 use Rattle.plain_book.specs.Owners.{Owner, hand, stack, slabOf, pageOf, pageNo, has}
 use Rattle.plain_book.specs.Good.{Good}

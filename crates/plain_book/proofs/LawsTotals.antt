@@ -104,7 +104,8 @@ uncounted-with b own key k space within is f new =
     go false e = f
 
 -- A change that isn't a drop of the key leaves it so.
-uncounted-call : (key : ℕ) (b : Book) (c : Change) (a : Answer (Outcome (Made c))) → does b c ≡ a → SoundKey (keyOf key b) → keyOf key b .counted ≡ false
+uncounted-call : (key : ℕ) (b : Book) (c : Change) (a : Answer (Outcome (Made c))) → does b c ≡ a → SoundKey (keyOf key b)
+    → keyOf key b .counted ≡ false
     → c ≢ drop key
     → keyOf key (bookAfter b a) .counted ≡ false
 unfolding does bookAfter

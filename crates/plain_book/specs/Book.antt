@@ -18,7 +18,8 @@ use Rattle.book_rules.specs.Offered.{offeredNumber, offeredList}
 use Rattle.book_limits.specs.Limits.{outOfShape}
 use Rattle.book_desks.specs.Desks.{desks, Limits, deskCount, permitted, making, listBad, deskOf}
 use Rattle.plain_book.specs.Space.{Space, stackOf}
-use Rattle.plain_book.specs.Key.{Place, empty, inline, slab, pages, Key, emptyKey, headOf, pagesOf, paddedOf, freedPlace, countedAfter, keyIn}
+use Rattle.plain_book.specs.Key.{Place, empty, inline, slab, pages, Key, emptyKey, headOf, pagesOf, paddedOf, freedPlace}
+use Rattle.plain_book.specs.Key.{countedAfter, keyIn}
 use Rattle.plain_book.specs.Key.{Leave, appendPlace, loadPlace}
 
 -- A plain book: the length of the body that it stands for, its keys, and its space; the desk of each key, how many pages each desk holds,

@@ -24,7 +24,8 @@ pub data LoadDid (fit : SlabFit) (end : ℕ) (s : Space) : List ℕ → Placed �
   loaded-slab : {ns : List ℕ} (class : ℕ) (t : Taken) → 2 ≤ length ns → loadsTo fit (length ns) (streamLen ns) ≡ some class
       → takeBlock end class s ≡ accepted t → LoadDid fit end s ns (placed (slab class (t .off) (written ns)) (t .space) 0)
   loaded-run : {ns : List ℕ} (t : Taken) → 2 ≤ length ns → loadsTo fit (length ns) (streamLen ns) ≡ none
-      → takeRun end (length (cutting ns)) s ≡ accepted t → LoadDid fit end s ns (placed (pages (runPages (t .off) (cutting ns))) (t .space) 0)
+      → takeRun end (length (cutting ns)) s ≡ accepted t
+      → LoadDid fit end s ns (placed (pages (runPages (t .off) (cutting ns))) (t .space) 0)
 
 -- A list with one number more can't stay where it stood: in the head word, or in a slab that it outgrew.
 abbrev pub Outgrown : List ℕ → ℕ → Place → Type 0

@@ -31,7 +31,8 @@ pagesTaken (load fit key ns) = length (cutting ns)
 pagesTaken (append key n) = 1
 pagesTaken (drop key) = 0
 
--- How many pages behind the mark, rounded up, are enough for a change: one for an append, and one more than its list is cut into for a load.
+-- How many pages behind the mark, rounded up, are enough for a change: one for an append, and one more than its list is cut into for a
+-- load.
 abbrev pub pagesEnough : Change → ℕ
 pagesEnough (load fit key ns) = 1 + length (cutting ns)
 pagesEnough (append key n) = 1

@@ -31,7 +31,8 @@ module _ (body : List ℕ) (off : ℕ) (ys : List ℕ) (fits : off + length ys �
       clear)
 
   -- A list whose blocks keep clear of the write names the same offsets after it.
-  pub free-list-write : (head : ℕ) (os : List ℕ) → Clear size off (length ys) os → IsFreeList body head os → IsFreeList (overwrite body off ys) head os
+  pub free-list-write : (head : ℕ) (os : List ℕ) → Clear size off (length ys) os → IsFreeList body head os
+      → IsFreeList (overwrite body off ys) head os
   unfolding IsFreeList Clear
   free-list-write head [] c n = n
   free-list-write head (o ∷ os) c n =
@@ -93,7 +94,8 @@ module _ (class off : ℕ) (l : Lists) (above : 0 < off) (fits : off + 8 ≤ len
       free-list-write (l .body) off (bytesOf 8 (firstFreed class l)) fits (slabBytes d) (omega (arith, bytes-from-16 d)) head os c n
 
   -- Its list names it, and then what the list named before.
-  pub free-list-push : (os : List ℕ) → length (l .body) < 256 ^ 8 → Clear (slabBytes class) off 8 os → IsFreeList (l .body) (firstFreed class l) os
+  pub free-list-push : (os : List ℕ) → length (l .body) < 256 ^ 8 → Clear (slabBytes class) off 8 os
+      → IsFreeList (l .body) (firstFreed class l) os
       → IsFreeList (pushed class off l .body) (firstFreed class (pushed class off l)) (off ∷ os)
   unfolding IsFreeList
   free-list-push os small c n =

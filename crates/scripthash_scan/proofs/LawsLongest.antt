@@ -96,7 +96,8 @@ module _ (buf : List ℕ) (from to longest at : ℕ) (l : Longest buf from to lo
   no-thirds m = total-same (behindTwo buf) from at h (λ i p q. rw (l .two m i p (omega arith)))
 
   pub no-fourths : longest ≤ 3
-      → (totalOver (behindThree buf) from ≡ totalOver (behindThree buf) at) × (totalOver (behindFour buf) from ≡ totalOver (behindFour buf) at)
+      → (totalOver (behindThree buf) from ≡ totalOver (behindThree buf) at)
+      × (totalOver (behindFour buf) from ≡ totalOver (behindFour buf) at)
   no-fourths m = (
     total-same (behindThree buf) from at h (λ i p q. rw (l .three m i p (omega arith))),
     total-same (behindFour buf) from at h (λ i p q. rw (l .three m i p (omega arith))),

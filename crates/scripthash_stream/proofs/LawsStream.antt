@@ -15,7 +15,8 @@ use Rattle.error.proofs.LawsAnswer.{passed}
 use Rattle.compact.specs.Uleb128.{Reading, readUleb, ulebLen, shortest}
 use Rattle.compact.proofs.LawsLength.{length-shortest, len-at-most}
 use Rattle.compact.proofs.LawsRead.{read-shortest}
-use Rattle.scripthash_stream.specs.Stream.{Rising, lastFrom, streamFrom, streamLenFrom, judged, nextNumber, storedNumber, Scan, scanFrom}
+use Rattle.scripthash_stream.specs.Stream.{Rising, lastFrom, streamFrom, streamLenFrom, judged, nextNumber, storedNumber, Scan}
+use Rattle.scripthash_stream.specs.Stream.{scanFrom}
 use Rattle.scripthash_stream.proofs.LawsScan.{stored-sum, next-is, scan-cons}
 
 -- ---- lists

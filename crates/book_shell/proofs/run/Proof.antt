@@ -6,11 +6,14 @@ use Rattle.book_shell.proofs.run.Statement.{statement}
 use Rattle.book_shell.proofs.run.Tie as tie
 
 abbrev Inv-loop : tie.InvT-loop
-Inv-loop text₀ list₀ body₀ heads₀ mark₀ free₀ counts₀ desks₀ reserve₀ ceiling₀ at₀ book₀ turns₀ text list body heads mark free counts desks reserve ceiling at book turns =
-    (length text ≡ length text₀) × (length list ≡ length list₀) × (length body ≡ length body₀) × (length heads ≡ length heads₀) × (length desks ≡ length desks₀)
+Inv-loop text₀ list₀ body₀ heads₀ mark₀ free₀ counts₀ desks₀ reserve₀ ceiling₀ at₀ book₀ turns₀ text list body heads mark free counts desks
+    reserve ceiling at book turns =
+    (length text ≡ length text₀) × (length list ≡ length list₀) × (length body ≡ length body₀) × (length heads ≡ length heads₀)
+    × (length desks ≡ length desks₀)
 
 abbrev μ-loop : tie.MeasureT-loop
-μ-loop text₀ list₀ body₀ heads₀ mark₀ free₀ counts₀ desks₀ reserve₀ ceiling₀ at₀ book₀ turns₀ text list body heads mark free counts desks reserve ceiling at book turns = turns
+μ-loop text₀ list₀ body₀ heads₀ mark₀ free₀ counts₀ desks₀ reserve₀ ceiling₀ at₀ book₀ turns₀ text list body heads mark free counts desks
+    reserve ceiling at book turns = turns
 
 begin-requires : tie.Need-begin-requires Inv-loop μ-loop
 begin-requires c κs = search needs

@@ -45,7 +45,8 @@ module _ (c : tie.Start) where
   bytes = omega (arith, stream-at-most 0 list (pre .rises), pre .few)
 
   -- so it is placed where the lent list is
-  same : {to : Option ℕ} → movesTo (length list) (streamLen list) ≡ to → placed lent (movesTo (length lent) (streamLen lent)) ≡ placed list to
+  same : {to : Option ℕ} → movesTo (length list) (streamLen list) ≡ to → placed lent (movesTo (length lent) (streamLen lent))
+      ≡ placed list to
   same e = ap (λ (l : List ℕ). placed l (movesTo (length l) (streamLen l))) (sym (part-to-end lent 0)) ∙ ap (placed list) e
 
 -- the class that was chosen is the one that the list moves to

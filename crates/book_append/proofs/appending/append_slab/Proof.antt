@@ -16,7 +16,8 @@ use Rattle.book_keys.proofs.LawsBlocks.{slab-size}
 use Rattle.book_keys.proofs.LawsSlab.{SoundSlab, slab-sound}
 use Rattle.book.specs.Book.{Book, seen}
 use Rattle.book.specs.Answers.{bookOf}
-use Rattle.book_append.proofs.LawsAppend.{SlabTold, slab-told, slab-untold, does-as, does-none, slab-unsound, slab-low, slab-stays, slab-leaves}
+use Rattle.book_append.proofs.LawsAppend.{SlabTold, slab-told, slab-untold, does-as, does-none, slab-unsound, slab-low, slab-stays}
+use Rattle.book_append.proofs.LawsAppend.{slab-leaves}
 use Rattle.book_append.proofs.appending.append_slab.Statement.{statement}
 use Rattle.book_append.proofs.appending.append_slab.Tie as tie
 

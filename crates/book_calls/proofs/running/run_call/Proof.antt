@@ -159,7 +159,8 @@ returns-3 c =
 run-drop-requires : tie.Need-run-drop-requires
 run-drop-requires c κs =
     let drops = c .before .before .before .before .before .before in
-    here-drop-room (at-drop drops .pre) (known (drops .before .before .before) false (drops .before .before .if1 .left)) (drops .before .if2 .left) (drops .if3 .left)
+    here-drop-room (at-drop drops .pre) (known (drops .before .before .before) false (drops .before .before .if1 .left))
+    (drops .before .if2 .left) (drops .if3 .left)
 
 same-length-10 : tie.Need-same-length-10
 same-length-10 c = search needs
@@ -175,7 +176,8 @@ returns-4 c =
     let done = c .before .before .before .before .before .before in
     let drops = done .before .before .before .before .before .before .before in
     let h = at-drop drops .pre in
-    let is = here-drop h (known (drops .before .before .before) false (drops .before .before .if1 .left)) (drops .before .if2 .left) (drops .if3 .left) in
+    let is = here-drop h (known (drops .before .before .before) false (drops .before .before .if1 .left)) (drops .before .if2 .left)
+    (drops .if3 .left) in
     λ b e. re-done (here-is h b e ∙ is) (done .run-drop .ensures)
 
 pub run-call-spec : {M : Type 1} → statement M

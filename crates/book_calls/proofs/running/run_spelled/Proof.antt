@@ -40,7 +40,8 @@ module _ (k : tie.After-known-told Inv-loop μ-loop) where
   words = start .args .calls .now
 
   abbrev first : Book
-  first = bookOf (start .args .body .now) (start .args .heads .now) (start .args .mark .now) (start .args .free .now) (start .args .counts .now)
+  first = bookOf (start .args .body .now) (start .args .heads .now) (start .args .mark .now) (start .args .free .now)
+      (start .args .counts .now)
 
   abbrev out : List ℕ
   out = loc .loop .out

@@ -59,16 +59,19 @@ sub-if3 : tie.Need-sub-if3
 sub-if3 c = search needs
 
 returns-2 : tie.Need-returns-2
-returns-2 c = let s = start (c .before .before) in next-load-short (calls s) (at s) (omega arith) (known (c .before .before) true (c .before .if2 .taken)) (c .if3 .taken)
+returns-2 c = let s = start (c .before .before) in next-load-short (calls s) (at s) (omega arith)
+    (known (c .before .before) true (c .before .if2 .taken)) (c .if3 .taken)
 
 add-t14 : tie.Need-add-t14
 add-t14 c = search needs
 
 returns-3 : tie.Need-returns-3
-returns-3 c = let s = start (c .before .before) in next-load (calls s) (at s) (omega arith) (known (c .before .before) true (c .before .if2 .taken)) (c .if3 .left)
+returns-3 c = let s = start (c .before .before) in next-load (calls s) (at s) (omega arith)
+    (known (c .before .before) true (c .before .if2 .taken)) (c .if3 .left)
 
 returns-4 : tie.Need-returns-4
-returns-4 c = let s = start (c .before .before) in next-other (calls s) (at s) (omega arith) (known (c .before .before) false (c .before .if2 .left)) (c .if4 .taken)
+returns-4 c = let s = start (c .before .before) in next-other (calls s) (at s) (omega arith)
+    (known (c .before .before) false (c .before .if2 .left)) (c .if4 .taken)
 
 returns-5 : tie.Need-returns-5
 returns-5 c =
@@ -83,7 +86,8 @@ returns-6 c =
 returns-7 : tie.Need-returns-7
 returns-7 c =
     let s = start (c .before .before .before) in
-    next-plain (calls s) (at s) (omega arith) (known (c .before .before .before) false (c .before .before .if2 .left)) (c .before .if4 .left) (c .if5 .left)
+    next-plain (calls s) (at s) (omega arith) (known (c .before .before .before) false (c .before .before .if2 .left))
+    (c .before .if4 .left) (c .if5 .left)
 
 pub next-call-spec : {M : Type 1} → statement M
 next-call-spec =

@@ -1,4 +1,5 @@
--- `sum_of_lacks` meets its contract: without reserves nothing is lacking; else, so far it has the lacks of the desks passed. Assumes nothing.
+-- `sum_of_lacks` meets its contract: without reserves nothing is lacking; else, so far it has the lacks of the desks passed. Assumes
+-- nothing.
 use Prim.Native.Nat.{ℕ, _-_, _*_, _≤_, _^_}
 use mathlib.Core.List.{List}
 use mathlib.Core.Path.{_≡_, sym, ap, _∙_}
@@ -68,7 +69,11 @@ without-requires c κs = search needs
 add-sum : tie.Need-add-sum Inv-loop μ-loop
 add-sum c =
     let l = c .before .before .before .before .loop in
-    omega (arith, start (c .before .before .before .before .before) .pre (l .d) (c .before .before .before .loop-test .taken), c .without .ensures)
+    omega (
+      arith,
+      start (c .before .before .before .before .before) .pre (l .d) (c .before .before .before .loop-test .taken),
+      c .without .ensures,
+    )
 
 add-d : tie.Need-add-d Inv-loop μ-loop
 add-d c = search needs

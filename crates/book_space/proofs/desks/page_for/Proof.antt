@@ -16,7 +16,8 @@ use Rattle.book_space.specs.Answers.{peekAnswer}
 use Rattle.book_space.specs.Steps.{markAfter, judgedNumber}
 use Rattle.book_space.proofs.LawsSteps.{refused-as}
 use Rattle.book_space.proofs.LawsPeek.{block-within}
-use Rattle.book_space.proofs.LawsDesks.{page-tested, freed-less, judged-low, peek-refused, judge-refused, take-judged, takes-for-same, refused-for}
+use Rattle.book_space.proofs.LawsDesks.{page-tested, freed-less, judged-low, peek-refused, judge-refused, take-judged}
+use Rattle.book_space.proofs.LawsDesks.{takes-for-same, refused-for}
 use borrow.Author.Needs.{needs}
 use Rattle.book_space.proofs.desks.page_for.Statement.{statement}
 use Rattle.book_space.proofs.desks.page_for.Tie as tie
@@ -158,7 +159,12 @@ add-put-counts c =
     let start = first j in
     let low = judged-low (length (before start .body)) (desk start) 1 (left start) (counts start) (later start) (end (known j))
     (judgement j) (c .before .before .if2 .left) in
-    omega (arith, counts-low (length (before start .body)) (counts start) low .held (desk start) (start .pre .known), start .pre .shape .most)
+    omega (
+      arith,
+      counts-low (length (before start .body)) (counts start) low .held (desk start)
+          (start .pre .known),
+      start .pre .shape .most,
+    )
 
 put-counts-requires : tie.Need-put-counts-requires
 put-counts-requires c κs = search needs

@@ -63,7 +63,8 @@ returns c =
     let t = told .before .before in
     let a = start t .args in
     let answer : takeBlock (class t) (before t) ≡ takeRun 1 (before t)
-    = fresh told ∙ ap (λ (k : ℕ). takeFresh k (before t)) (c .before .before .before .before .before .before .if1 .taken) ∙ fresh-page (before t) in
+    = fresh told ∙ ap (λ (k : ℕ). takeFresh k (before t)) (c .before .before .before .before .before .before .if1 .taken)
+    ∙ fresh-page (before t) in
     takes-same (sym answer) (takes-with (takeRun 1) (a .body .now) (a .mark .now) (unpopped told) (c .before .before .take-run .ensures))
 
 take-slab-requires : tie.Need-take-slab-requires
@@ -92,7 +93,8 @@ returns-3 c =
     let a = start t .args in
     let answer : takeBlock (class t) (before t) ≡ takeSlab (slabBytes (class t)) (before t)
     = fresh told ∙ fresh-slab (class t) (before t) (c .before .before .before .before .if1 .left) in
-    takes-same (sym answer) (takes-with (takeSlab (slabBytes (class t))) (a .body .now) (a .mark .now) (unpopped told) (c .take-slab .ensures))
+    takes-same (sym answer) (takes-with (takeSlab (slabBytes (class t))) (a .body .now) (a .mark .now) (unpopped told)
+    (c .take-slab .ensures))
 
 same-length-4 : tie.Need-same-length-4
 same-length-4 c = search needs
@@ -102,7 +104,8 @@ returns-4 c =
     let t = c .before .before .before in
     let a = start t .args in
     let told = sym (rw (end-is t) at (t .pop-lent .ensures .0)) ∙ ap popAnswer (c .before .popped2 .given .1) in
-    let same = left-refused (class t) (popEnd (class t) (before t .mark)) (listsOf (before t)) told (rw (end-is t) at (t .pop-lent .ensures .1)) in
+    let same = left-refused (class t) (popEnd (class t) (before t .mark)) (listsOf (before t)) told
+    (rw (end-is t) at (t .pop-lent .ensures .1)) in
     let took = takes-no (before t) _ (told-refused (class t) (before t) told) in
     record { told = took .told; left = ap (space (a .body .now) (a .mark .now)) same ∙ took .left }
 

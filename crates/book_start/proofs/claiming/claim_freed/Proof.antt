@@ -151,7 +151,8 @@ module _ (c : tie.After-get-u64 Inv-loop μ-loop) where
   goes : (free : List ℕ) (units : ℕ) (lent : List ℕ) (claims : List Block)
       → Marked units (at here .args .mark) lent claims (unitsOf (at here .args .work .now))
       → FreedGo units lent claims (claimFreed (at here .args .mark / 16) (s here free) (at here .args .class) claims (at here .args .head))
-      (s here free) (at here .args .class) (c .get-u64 .result) (left here - 1) (unitsOf (c .before .before .before .before .claim-block .last .0))
+      (s here free) (at here .args .class) (c .get-u64 .result) (left here - 1)
+      (unitsOf (c .before .before .before .before .claim-block .last .0))
       (taken here + size here)
   goes free units lent claims m =
       let b = c .before .before .before .before .claim-block in

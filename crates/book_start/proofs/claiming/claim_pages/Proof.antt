@@ -134,7 +134,8 @@ mul-t12 c =
     let t = c .before .before .before .before in
     let a = t .args in
     let w = t .pre .shown in
-    let few = pages-few (w .units) (w .lent) (w .claims) _ (ground (a .body .now) (a .mark)) (a .pages) (l .off) (l .left) (unitsOf (l .work))
+    let few = pages-few (w .units) (w .lent) (w .claims) _ (ground (a .body .now) (a .mark)) (a .pages) (l .off) (l .left)
+    (unitsOf (l .work))
     (l .inv .goes (t .pre .offs) (t .pre .left) (w .units) (w .lent) (w .claims) (w .shows)) (omega arith) in
     omega arith
 

@@ -69,7 +69,12 @@ claim-block-requires : tie.Need-claim-block-requires
 claim-block-requires c κs =
     let d = c .before in
     let k = sound d .class-to-7 in
-    record { mark = at d .args .mark; stands = sound d .stands; long = shown-long (at d .args .mark) (unitsOf (at d .args .work .now)) (at d .pre .shown) }
+    record {
+      mark = at d .args .mark;
+      stands = sound d .stands;
+      long = shown-long (at d .args .mark) (unitsOf (at d .args .work .now))
+          (at d .pre .shown);
+    }
 
 same-length : tie.Need-same-length
 same-length c = search needs

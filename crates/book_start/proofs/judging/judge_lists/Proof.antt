@@ -21,7 +21,8 @@ record JudgingLists (s : Space) (work₀ : List ℕ) (unclaimed : ℕ) (work : L
   -- The next list isn't beyond the last.
   to-end : class ≤ length (s .free)
   -- The lists that are left, judged behind what the work list shows, give what all of them give.
-  goes : (units : ℕ) (lent : List ℕ) (claims : List Block) → Marked units (s .mark) lent claims (unitsOf work₀) → Leaves (s .mark) claims unclaimed
+  goes : (units : ℕ) (lent : List ℕ) (claims : List Block) → Marked units (s .mark) lent claims (unitsOf work₀)
+      → Leaves (s .mark) claims unclaimed
       → ListsGo units lent (judgeLists s 0 (s .free) claims) s class (unitsOf work) lost
 
 abbrev Inv-loop : tie.InvT-loop

@@ -17,7 +17,8 @@ claim-page-requires c κs =
     let t = c .before .before .before in
     let s = block-stands (t .args .class) (t .args .off) (t .pre .mark) (t .pre .stands) in
     let is = c .before .if1 .taken in
-    let ends : t .args .off + slabBytes (t .args .class) ≤ 16 * length (unitsOf (t .args .work .now)) = omega (arith, s .ends, t .pre .long) in
+    let ends : t .args .off + slabBytes (t .args .class) ≤ 16 * length (unitsOf (t .args .work .now)) = omega
+    (arith, s .ends, t .pre .long) in
     record { paged = rw is at (s .aligned); inside = rw is at ends }
 
 same-length : tie.Need-same-length
@@ -26,7 +27,8 @@ same-length c = search needs
 returns : tie.Need-returns
 returns c =
     let t = c .before .before .before .before .before .before in
-    subst (λ (k : ℕ). BlockClaimed k (t .args .off) (unitsOf (t .args .work .now)) (c .before .before .claim-page .result) (unitsOf (c .before .before .claim-page .last .0)))
+    subst (λ (k : ℕ). BlockClaimed k (t .args .off) (unitsOf (t .args .work .now)) (c .before .before .claim-page .result)
+    (unitsOf (c .before .before .claim-page .last .0)))
     (sym (c .before .before .before .before .if1 .taken)) (c .before .before .claim-page .ensures)
 
 claim-units-requires : tie.Need-claim-units-requires

@@ -17,7 +17,8 @@ use Rattle.book_start.proofs.units.claim_page.Statement.{statement}
 use Rattle.book_start.proofs.units.claim_page.Tie as tie
 
 -- Whether its units are free is told by its bytes.
-page-free : (off : ℕ) (work : List ℕ) → 8 * (off / 128) ≡ off / 16 → allFree (part work (off / 128) 32) ≡ unitsFree (block pageClass off) (unitsOf work)
+page-free : (off : ℕ) (work : List ℕ) → 8 * (off / 128) ≡ off / 16 → allFree (part work (off / 128) 32)
+    ≡ unitsFree (block pageClass off) (unitsOf work)
 unfolding unitsFree
 page-free off work at =
     sym (bytes-free (part work (off / 128) 32)) ∙ ap allFree (units-part work (off / 128) 32 ∙ ap (λ (u : ℕ). part (unitsOf work) u 256) at)

@@ -52,7 +52,8 @@ returns c =
     let l = c .before .before .before .loop in
     let start = c .before .before .before .before in
     let known = unit-is (start .args .work .now) (l .i) (omega arith) (omega (arith, c .before .shared-slice-known .given (l .i / 8))) in
-    sym (free-taken _ (l .i) _ (omega arith) (let n = units-long (start .args .work .now) in omega arith) (λ z. c .if1 .taken (sym known ∙ z))) ∙ l .inv .gives
+    sym (free-taken _ (l .i) _ (omega arith) (let n = units-long (start .args .work .now) in omega arith)
+    (λ z. c .if1 .taken (sym known ∙ z))) ∙ l .inv .gives
 
 add-i : tie.Need-add-i Inv-loop μ-loop
 add-i c = omega arith
@@ -67,7 +68,8 @@ loop-again c =
     let known = unit-is (start .args .work .now) (l .i) (omega arith) (omega (arith, c .before .shared-slice-known .given (l .i / 8))) in
     record {
       to-end = omega arith;
-      gives = free-turn _ (l .i) _ (omega arith) (let n = units-long (start .args .work .now) in omega arith) (known ∙ c .if1 .left) ∙ l .inv .gives;
+      gives = free-turn _ (l .i) _ (omega arith) (let n = units-long (start .args .work .now) in omega arith) (known ∙ c .if1 .left)
+          ∙ l .inv .gives;
     }
 
 returns-2 : tie.Need-returns-2 Inv-loop μ-loop

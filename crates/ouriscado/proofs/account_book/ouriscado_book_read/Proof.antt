@@ -41,10 +41,12 @@ returns c =
     let j = c .before .before .before .before .before in
     let some' = c .before .before .before .before .if1 .taken in
     let h = c .put-listed .ensures in (
-      λ free. rw (turned-back (lent j) (b j free) (start j .args .key) (call j free) (j .judge-call .ensures (start j .args .heads .now) free refl) some')
+      λ free. rw (turned-back (lent j) (b j free) (start j .args .key) (call j free)
+          (j .judge-call .ensures (start j .args .heads .now) free refl) some')
           (h .0),
       (
-        λ free. rw (turned-back (lent j) (b j free) (start j .args .key) (call j free) (j .judge-call .ensures (start j .args .heads .now) free refl)
+        λ free. rw (turned-back (lent j) (b j free) (start j .args .key) (call j free)
+            (j .judge-call .ensures (start j .args .heads .now) free refl)
             some') refl,
         (
           λ free. rw (turned-back (lent j) (b j free) (start j .args .key) (call j free)

@@ -63,7 +63,8 @@ module _ (c : tie.After-put-listed) (free counts : List ℕ) where
   got = from bytes words
 
   same : from (take (length bytes - 0) (drop 0 bytes)) (take (length words - 0) (drop 0 words)) ≡ got
-  same = ap (λ (bs : List ℕ). from bs (take (length words - 0) (drop 0 words))) (part-to-end bytes 0) ∙ ap (from bytes) (part-to-end words 0)
+  same = ap (λ (bs : List ℕ). from bs (take (length words - 0) (drop 0 words))) (part-to-end bytes 0)
+      ∙ ap (from bytes) (part-to-end words 0)
 
   answer : readAnswer (reading .read .result) ≡ answered countedOf got
   answer = reading .read .ensures .0 free counts ∙ ap (answered countedOf) same
@@ -72,7 +73,8 @@ module _ (c : tie.After-put-listed) (free counts : List ℕ) where
   number = c .put-listed .ensures .0 ∙ ap refusalOf answer ∙ number-answered countedOf got
 
   -- a number of those that the answer counts
-  counted : (of : Counted → ℕ) {told : ℕ} → told ≡ valueOr of (readAnswer (reading .read .result)) 0 → told ≡ valueOr (λ (l : Listed). of (countedOf l)) got 0
+  counted : (of : Counted → ℕ) {told : ℕ} → told ≡ valueOr of (readAnswer (reading .read .result)) 0
+      → told ≡ valueOr (λ (l : Listed). of (countedOf l)) got 0
   counted of told = told ∙ value-same of _ answer ∙ value-answered of countedOf 0 got
 
 returns : tie.Need-returns

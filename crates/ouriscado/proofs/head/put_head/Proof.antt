@@ -28,8 +28,13 @@ place-of-requires c κs = search needs
 
 returns : tie.Need-returns
 returns c =
-    let no = ap unpackAnswer (c .before .got .given .1) in
-    (number-refused no, (value-refused kindOut _ no, (value-refused classOut _ no, (value-refused usedOut _ no, value-refused placeOut _ no))))
+    let no = ap unpackAnswer (c .before .got .given .1) in (
+      number-refused no,
+      (
+        value-refused kindOut _ no,
+        (value-refused classOut _ no, (value-refused usedOut _ no, value-refused placeOut _ no)),
+      ),
+    )
 
 returns-2 : tie.Need-returns-2
 returns-2 c =

@@ -129,7 +129,11 @@ returns-2 c =
 add-t7 : tie.Need-add-t7
 add-t7 c =
     let d = c .before .before .before .before .before in
-    omega (arith, read d (c .before .got .given .0 .0) (c .before .got .given .0 .1 .0) (ap streamReadAnswer (c .before .got .given .1)) .within)
+    omega (
+      arith,
+      read d (c .before .got .given .0 .0) (c .before .got .given .0 .1 .0)
+          (ap streamReadAnswer (c .before .got .given .1)) .within,
+    )
 
 same-length-2 : tie.Need-same-length-2
 same-length-2 c = search needs

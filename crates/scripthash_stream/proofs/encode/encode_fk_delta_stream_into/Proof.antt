@@ -9,7 +9,8 @@ use Rattle.error.specs.Refusal.{accepted, refused}
 use Rattle.error.proofs.LawsAnswer.{accepted-inj}
 use Rattle.scripthash_stream.specs.Stream.{Rising, streamLen, judged, encodeStream}
 use Rattle.scripthash_stream.specs.Answers.{bytesAnswer}
-use Rattle.scripthash_stream.proofs.LawsEncode.{judged-accepted, encode-refused, encode-fits, encode-short, after-encode-no, after-encode-yes}
+use Rattle.scripthash_stream.proofs.LawsEncode.{judged-accepted, encode-refused, encode-fits, encode-short, after-encode-no}
+use Rattle.scripthash_stream.proofs.LawsEncode.{after-encode-yes}
 use Rattle.scripthash_stream.proofs.encode.encode_fk_delta_stream_into.Statement.{statement}
 use Rattle.scripthash_stream.proofs.encode.encode_fk_delta_stream_into.Tie as tie
 

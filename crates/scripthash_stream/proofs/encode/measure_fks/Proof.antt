@@ -13,7 +13,8 @@ use Rattle.compact.proofs.LawsLength.{len-at-most}
 use Rattle.scripthash_stream.specs.Stream.{Rising, streamLen, judged}
 use Rattle.scripthash_stream.specs.Answers.{bytesAnswer}
 use Rattle.scripthash_stream.proofs.LawsStream.{front}
-use Rattle.scripthash_stream.proofs.LawsEncode.{measuredFrom, measured-start, measured-end, measured-more, measured-refused, judged-accepted}
+use Rattle.scripthash_stream.proofs.LawsEncode.{measuredFrom, measured-start, measured-end, measured-more, measured-refused}
+use Rattle.scripthash_stream.proofs.LawsEncode.{judged-accepted}
 use Rattle.scripthash_stream.proofs.encode.measure_fks.Statement.{statement}
 use Rattle.scripthash_stream.proofs.encode.measure_fks.Tie as tie
 
