@@ -185,3 +185,8 @@ pastCeiling = 40
 -- A take would leave fewer pages than the desks still lack of their reserves.
 abbrev pub intoReserves : ℕ
 intoReserves = 41
+
+-- The list of freed pages can't be searched: a page leaves 4,096 to the mark, is unaligned or stands twice, or they aren't as many as
+-- counted.
+abbrev pub freeListBad : ℕ
+freeListBad = 42

@@ -83,3 +83,6 @@ pub const DESKS_BAD: Refusal = 39;
 pub const PAST_CEILING: Refusal = 40;
 // A take would leave fewer pages than the desks still lack of their reserves.
 pub const INTO_RESERVES: Refusal = 41;
+// The list of freed pages can't be searched: a page leaves 4,096 to the mark, is unaligned or stands twice, or they aren't as many as
+// counted.
+pub const FREE_LIST_BAD: Refusal = 42;

@@ -1,0 +1,10 @@
+pub mod LawsRuns
+pub mod LawsFlags
+pub mod LawsSought
+pub mod LawsWalk
+pub mod LawsMark
+pub mod LawsSparse
+pub mod LawsOverlaid
+pub mod LawsLinks
+pub mod LawsStack
+pub mod LawsTaken

@@ -1,0 +1,73 @@
+-- What the search and the taking out promise step by step: no answer of a public function is defined here.
+use Prim.Native.Nat.{ℕ, _+_, _*_, _/_, _%_, _^_, _<_, _≤_}
+use mathlib.Core.Bool.{true, false, _||_}
+use mathlib.Core.List.{List}
+use mathlib.Core.Path.{_≡_}
+use lib.Bits.{bitOr}
+use lib.Dec.{eqb}
+use lib.ListN.{length, getD, set}
+use Rattle.scripthash_layout.specs.Sizes.{pageSize}
+use Rattle.free_runs.specs.Runs.{isIn, inRun, leftOf}
+use Rattle.free_runs.specs.PageList.{walked, pagesEnd}
+
+-- ---- flags
+
+-- The flag at an index: a bit of a word.
+unfoldable pub flag : List ℕ → ℕ → ℕ
+flag words i = getD words (i / 64) 0 / 2 ^ (i % 64) % 2
+
+-- Words with a flag set.
+unfoldable pub setFlag : List ℕ → ℕ → List ℕ
+setFlag words i = set words (i / 64) (bitOr (getD words (i / 64) 0) (2 ^ (i % 64)))
+
+-- 4,096 words without a flag.
+pub record Unset (words : List ℕ) : Type 0 where
+  pub long : length words ≡ 4096
+  pub none : (i : ℕ) → i < 4096 → getD words i 0 ≡ 0
+
+-- The flags of so many pages from one on tell which of them stand in a list.
+pub record Flags (words : List ℕ) (from pages : ℕ) (os : List ℕ) : Type 0 where
+  pub tells : (i : ℕ) → i < pages → eqb (flag words i) 1 ≡ isIn ((from + i) * pageSize) os
+
+-- A page is flagged if it lies in the window from a page on, and the other flags stay; no page between the window's end and the next one
+-- told is it.
+pub record FlagsOne (from page next : ℕ) (before after : List ℕ) (told : ℕ) : Type 0 where
+  pub flags : (i : ℕ) → i < 262144 → eqb (flag after i) 1 ≡ eqb page (from + i) || eqb (flag before i) 1
+  pub long : length after ≡ length before
+  pub limit : told ≤ next
+  pub passed : (p : ℕ) → from + 262144 ≤ p → p < told → p ≡ page → ⊥
+
+-- The pages of a list in the window from a page on are flagged, and no page stands in it from the window's end up to the next one told,
+-- which is at most the mark's.
+pub record Marks (mark : ℕ) (os : List ℕ) (from : ℕ) (before after : List ℕ) (next : ℕ) : Type 0 where
+  pub flags : (i : ℕ) → i < 262144 → eqb (flag after i) 1 ≡ eqb (flag before i) 1 || isIn ((from + i) * pageSize) os
+  pub limit : next ≤ mark / pageSize
+  pub none-between : (p : ℕ) → from + 262144 ≤ p → p < next → isIn (p * pageSize) os ≡ false
+
+-- ---- the search
+
+-- The search for a stretch has come to the page `end`, with `start` the first page from which one can still begin: all pages from it on
+-- are freed, up to the end or so many, and no stretch begins below it.
+pub record Sought (n end start : ℕ) (os : List ℕ) : Type 0 where
+  pub at : start ≤ end
+  pub all : (i : ℕ) → i < n → start + i < end → isIn ((start + i) * pageSize) os ≡ true
+  pub least : (p : ℕ) → ((i : ℕ) → i < n → isIn ((p + i) * pageSize) os ≡ true) → start ≤ p
+
+-- A window was looked at, from a page to an end: the search has come to the end, and no page stands in the list from there up to the next
+-- one told.
+pub record Looks (mark : ℕ) (os : List ℕ) (from end start pages first next : ℕ) : Type 0 where
+  pub sought : Sought pages from start os → Sought pages end first os
+  pub more : from < end
+  pub inside : end ≤ mark / pageSize
+  pub limit : next ≤ mark / pageSize
+  pub none-between : (p : ℕ) → end ≤ p → p < next → isIn (p * pageSize) os ≡ false
+
+-- ---- taking out
+
+-- From a place of a free list on, the pages of a run were passed over, up to another place.
+pub record PassedOver (mark : ℕ) (body : List ℕ) (from end at left to rest : ℕ) : Type 0 where
+  pub ends : pagesEnd mark rest body to ≡ true
+  pub fewer : rest ≤ left
+  pub same : leftOf from end (walked rest body to) ≡ leftOf from end (walked left body at)
+  pub stays : 0 < rest → inRun from end to ≡ false
+  pub among : (x : ℕ) → isIn x (walked left body at) ≡ false → isIn x (walked rest body to) ≡ false
