@@ -12,10 +12,11 @@ use Rattle.scripthash_stream.specs.Stream.{lastFrom, streamLenFrom}
 use Rattle.scripthash_slabs.specs.Class.{firstClass, classFor, classWithSlack}
 use Rattle.scripthash_cutting.specs.Cutting.{fitting, firstPart, greedyParts, replaceLast}
 use Rattle.scripthash_free.specs.FreeList.{largestUpTo, blockThen, carve}
+use Rattle.free_runs.specs.Runs.{isIn, stretch, lesser, leastOf, leftOf}
 use Rattle.book_rules.specs.declared.places.SlabFit.the-variants.{Spare, Tight}
 use Rattle.book_rules.specs.Outcomes.{Loaded, Appended, bookAfter, appendedTo, droppedOf, listing, loadedIn}
 use Rattle.book_statements.specs.Calls.{load, append, read, drop, Call, ask, change, done, asked, changed, answersTo}
-use Rattle.plain_book.specs.Space.{freedAll, takeMark, takeSlab, rounded, takeFresh, takeFrom, runAtMark}
+use Rattle.plain_book.specs.Space.{freedAll, takeMark, takeSlab, rounded, takeFresh, takeFrom, runAtMark, takeFound}
 use Rattle.book_rules.specs.Places.{stays, larger, movesTo, loadsTo}
 use Rattle.plain_book.specs.Key.{Key, slab, written, longer, lastPage, headOf, paddedPages, freedPages, freedPlace, moved, joins}
 use Rattle.plain_book.specs.Key.{beginPage, keptAs, keyIn}
@@ -108,7 +109,8 @@ pub loaded-run : answers (freshAlone 16384 3) (change (append 0 1) ∷ change (a
     (changed (at (Slab 0 2 4096) 1)
     (changed (loads-in 2) (changed (at (Extent 12288) 0) (changed (refused 36) (changed (loads-in 0) done)))))
 unfolding refuseIf andThen divided shortest ulebLen lastFrom streamLenFrom firstClass classFor classWithSlack fitting firstPart
-    greedyParts replaceLast largestUpTo blockThen carve freedAll takeMark takeSlab pastSlabs rounded runAtMark takeFresh takeFrom lastPage
+    greedyParts replaceLast largestUpTo blockThen carve freedAll takeMark takeSlab pastSlabs rounded runAtMark takeFound isIn stretch lesser
+    leastOf leftOf takeFresh takeFrom lastPage
     headOf freedPages freedPlace stays larger movesTo loadsTo moved joins beginPage appendPages written longer appendPlace runPages
     loadInto loadPlace outOfShape onKey listBad beyondDesks allowed permitted lacksWith sumTo offeredNumber offeredList loads appends
     reads drops asks does bookAfter answered answersTo inARow
@@ -123,11 +125,45 @@ pub full-page : answers (freshAlone 16384 2) (change (load Spare 0 (inARow 1 407
     (asked (accepted (listing (inARow 1 4073) 2 0))
     (changed (accepted (droppedOf 4073)) (changed (loads-in 0) (changed (at (Extent 8192) 256) done)))))
 unfolding refuseIf andThen divided shortest ulebLen lastFrom streamLenFrom firstClass classFor classWithSlack fitting firstPart
-    greedyParts replaceLast largestUpTo blockThen carve freedAll takeMark takeSlab pastSlabs rounded runAtMark takeFresh takeFrom lastPage
+    greedyParts replaceLast largestUpTo blockThen carve freedAll takeMark takeSlab pastSlabs rounded runAtMark takeFound isIn stretch lesser
+    leastOf leftOf takeFresh takeFrom lastPage
     headOf paddedPages freedPages freedPlace stays larger movesTo loadsTo moved joins beginPage appendPages written longer appendPlace
     runPages loadInto loadPlace outOfShape onKey listBad beyondDesks allowed permitted lacksWith sumTo offeredNumber offeredList loads
     appends reads drops asks does bookAfter answered answersTo inARow
 full-page = refl
+
+-- Pages 1 to 6 are of a key each; of these 1, 2, 3 and 5, 6 are freed, and page 7 was never taken. A load of two pages takes 1 and 2, the
+-- lowest, and not 5 and 6, which are just two; the next takes 5 and 6, and a third is refused. A list that moves takes 3.
+pub freed-run : answers (freshAlone 32768 7)
+    (change (load Spare 0 (inARow 1 257)) ∷ change (load Spare 1 (inARow 1 257)) ∷ change (load Spare 2 (inARow 1 257))
+    ∷ change (load Spare 3 (inARow 1 257)) ∷ change (load Spare 4 (inARow 1 257)) ∷ change (load Spare 5 (inARow 1 257))
+    ∷ change (drop 1) ∷ change (drop 4) ∷ change (drop 0) ∷ change (drop 5) ∷ change (drop 2)
+    ∷ change (load Spare 0 (inARow 1 4073)) ∷ change (append 0 4074) ∷ change (load Spare 1 (inARow 1 4073)) ∷ change (append 1 4074)
+    ∷ change (load Spare 2 (inARow 1 4073)) ∷ change (load Tight 2 (inARow 1 256)) ∷ change (append 2 257) ∷ [])
+    ≡ changed (loads-in 1) (changed (loads-in 1) (changed (loads-in 1) (changed (loads-in 1) (changed (loads-in 1) (changed (loads-in 1)
+    (changed (accepted (droppedOf 257)) (changed (accepted (droppedOf 257)) (changed (accepted (droppedOf 257))
+    (changed (accepted (droppedOf 257)) (changed (accepted (droppedOf 257)) (changed (loads-in 2) (changed (at (Extent 8192) 0)
+    (changed (loads-in 2) (changed (at (Extent 24576) 0) (changed (refused 36) (changed (loads-in 0)
+    (changed (at (Extent 12288) 256) done)))))))))))))))))
+unfolding refuseIf andThen divided shortest ulebLen lastFrom streamLenFrom firstClass classFor classWithSlack fitting firstPart
+    greedyParts replaceLast largestUpTo blockThen carve freedAll takeMark takeSlab pastSlabs rounded runAtMark takeFound isIn stretch lesser
+    leastOf leftOf takeFresh takeFrom lastPage headOf freedPages freedPlace stays larger movesTo loadsTo moved joins beginPage appendPages
+    written longer appendPlace runPages loadInto loadPlace outOfShape onKey listBad beyondDesks allowed permitted lacksWith sumTo
+    offeredNumber offeredList loads appends reads drops asks does bookAfter answered answersTo inARow
+freed-run = refl
+
+-- Page 2 is freed, and page 3 lies behind the mark: they are side by side, but no run for a load of two pages. A load of one takes page 2.
+pub freed-not-joined : answers (freshAlone 16384 3)
+    (change (load Spare 0 (inARow 1 257)) ∷ change (load Spare 1 (inARow 1 257)) ∷ change (drop 1) ∷ change (load Spare 1 (inARow 1 4073))
+    ∷ change (load Spare 2 (inARow 1 257)) ∷ change (append 2 258) ∷ [])
+    ≡ changed (loads-in 1) (changed (loads-in 1) (changed (accepted (droppedOf 257)) (changed (refused 36) (changed (loads-in 1)
+    (changed (at (Extent 8192) 0) done)))))
+unfolding refuseIf andThen divided shortest ulebLen lastFrom streamLenFrom firstClass classFor classWithSlack fitting firstPart
+    greedyParts replaceLast largestUpTo blockThen carve freedAll takeMark takeSlab pastSlabs rounded runAtMark takeFound isIn stretch lesser
+    leastOf leftOf takeFresh takeFrom lastPage headOf freedPages freedPlace stays larger movesTo loadsTo moved joins beginPage appendPages
+    written longer appendPlace runPages loadInto loadPlace outOfShape onKey listBad beyondDesks allowed permitted lacksWith sumTo
+    offeredNumber offeredList loads appends reads drops asks does bookAfter answered answersTo inARow
+freed-not-joined = refl
 
 -- k numbers from n on, each larger by a step than the one before, appended to key 0.
 unfoldable pub appendSteps : ℕ → ℕ → ℕ → List Call
@@ -143,7 +179,8 @@ tallyAfter cs = tallyOf 0 (answers (freshAlone 65536 1) cs) noMoves
 pub records-reached : tallyAfter (change (load Tight 0 (inARow 1 6)) ∷ (appendSteps 7 1 122 ++ appendSteps (128 + 2 ^ 42) (2 ^ 42) 129))
     ≡ record { moves = 8; rewritten = 765 }
 unfolding refuseIf andThen divided shortest ulebLen lastFrom streamLenFrom firstClass classFor classWithSlack fitting firstPart
-    greedyParts replaceLast largestUpTo blockThen carve freedAll takeMark takeSlab pastSlabs rounded runAtMark takeFresh takeFrom lastPage
+    greedyParts replaceLast largestUpTo blockThen carve freedAll takeMark takeSlab pastSlabs rounded runAtMark takeFound isIn stretch lesser
+    leastOf leftOf takeFresh takeFrom lastPage
     headOf freedPages freedPlace stays larger movesTo loadsTo moved joins beginPage appendPages written longer appendPlace runPages
     loadInto loadPlace outOfShape onKey listBad beyondDesks allowed permitted lacksWith sumTo offeredNumber offeredList loads appends
     reads drops asks does bookAfter answered answersTo inARow appendSteps withMove talliedBy tallied tallyOf tallyAfter
@@ -152,7 +189,8 @@ records-reached = refl
 -- The ceiling of 9 moves is reached: 1 to 146 are appended, and 111 more in steps of 2^50.
 pub moves-reached : tallyAfter (appendSteps 1 1 146 ++ appendSteps (146 + 2 ^ 50) (2 ^ 50) 111) ≡ record { moves = 9; rewritten = 764 }
 unfolding refuseIf andThen divided shortest ulebLen lastFrom streamLenFrom firstClass classFor classWithSlack fitting firstPart
-    greedyParts replaceLast largestUpTo blockThen carve freedAll takeMark takeSlab pastSlabs rounded runAtMark takeFresh takeFrom lastPage
+    greedyParts replaceLast largestUpTo blockThen carve freedAll takeMark takeSlab pastSlabs rounded runAtMark takeFound isIn stretch lesser
+    leastOf leftOf takeFresh takeFrom lastPage
     headOf freedPages freedPlace stays larger movesTo loadsTo moved joins beginPage appendPages written longer appendPlace runPages
     loadInto loadPlace outOfShape onKey listBad beyondDesks allowed permitted lacksWith sumTo offeredNumber offeredList loads appends
     reads drops asks does bookAfter answered answersTo inARow appendSteps withMove talliedBy tallied tallyOf tallyAfter
@@ -162,7 +200,8 @@ moves-reached = refl
 pub spare-reached : tallyAfter (change (load Spare 0 (inARow 1 2)) ∷ (appendSteps 3 1 144 ++ appendSteps (146 + 2 ^ 50) (2 ^ 50) 111))
     ≡ record { moves = 8; rewritten = 763 }
 unfolding refuseIf andThen divided shortest ulebLen lastFrom streamLenFrom firstClass classFor classWithSlack fitting firstPart
-    greedyParts replaceLast largestUpTo blockThen carve freedAll takeMark takeSlab pastSlabs rounded runAtMark takeFresh takeFrom lastPage
+    greedyParts replaceLast largestUpTo blockThen carve freedAll takeMark takeSlab pastSlabs rounded runAtMark takeFound isIn stretch lesser
+    leastOf leftOf takeFresh takeFrom lastPage
     headOf freedPages freedPlace stays larger movesTo loadsTo moved joins beginPage appendPages written longer appendPlace runPages
     loadInto loadPlace outOfShape onKey listBad beyondDesks allowed permitted lacksWith sumTo offeredNumber offeredList loads appends
     reads drops asks does bookAfter answered answersTo inARow appendSteps withMove talliedBy tallied tallyOf tallyAfter
@@ -213,7 +252,8 @@ pub desks-share : answers (fresh (0 ∷ 0 ∷ 1 ∷ 1 ∷ []) 16384 4 (twoDesks 
     ≡ changed (loads-in 1) (changed (loads-in 1) (changed (refused 40) (changed (at (Inline 1 1) 0) (changed (refused 41)
     (changed (loads-in 1) (changed (refused 36) (changed (accepted (droppedOf 300)) (changed (at (Extent 8192) 0) done))))))))
 unfolding refuseIf andThen divided shortest ulebLen lastFrom streamLenFrom firstClass classFor classWithSlack fitting firstPart
-    greedyParts replaceLast largestUpTo blockThen carve freedAll takeMark takeSlab pastSlabs rounded runAtMark takeFresh takeFrom lastPage
+    greedyParts replaceLast largestUpTo blockThen carve freedAll takeMark takeSlab pastSlabs rounded runAtMark takeFound isIn stretch lesser
+    leastOf leftOf takeFresh takeFrom lastPage
     headOf freedPages freedPlace stays larger movesTo loadsTo moved joins beginPage appendPages written longer appendPlace runPages
     loadInto loadPlace outOfShape onKey listBad beyondDesks allowed permitted lacksWith sumTo offeredNumber offeredList loads appends
     drops does bookAfter answered answersTo inARow

@@ -11,13 +11,14 @@ use Rattle.scripthash_stream.specs.Stream.{lastFrom, streamLenFrom}
 use Rattle.scripthash_slabs.specs.Class.{firstClass, classFor, classWithSlack}
 use Rattle.scripthash_cutting.specs.Cutting.{replaceLast}
 use Rattle.scripthash_free.specs.FreeList.{largestUpTo, blockThen, carve}
+use Rattle.free_runs.specs.Runs.{isIn, stretch, lesser, leastOf, leftOf}
 use Rattle.book_rules.specs.declared.places.SlabFit.{SlabFit}
 use Rattle.book_rules.specs.declared.places.SlabFit.the-variants.{Spare, Tight}
 use Rattle.book_rules.specs.Offered.{offeredNumber, offeredList}
 use Rattle.book_rules.specs.Places.{stays, larger, movesTo, loadsTo}
 use Rattle.book_limits.specs.Limits.{outOfShape, pastSlabs}
 use Rattle.book_desks.specs.Desks.{making, Limits, sumTo, above, reserveHigh, beyondDesks, listBad, lacksWith, permitted}
-use Rattle.plain_book.specs.Space.{freedAll, takeMark, takeSlab, rounded, runAtMark, takeFresh, takeFrom}
+use Rattle.plain_book.specs.Space.{freedAll, takeMark, takeSlab, rounded, runAtMark, takeFound, takeFresh, takeFrom}
 use Rattle.plain_book.specs.Key.{Key, emptyKey, inline, pages, keyIn, keptAs, written, longer, lastPage, joins, freedPlace}
 use Rattle.plain_book.specs.Key.{moved, beginPage, appendPages, appendPlace, loadInto, loadPlace}
 use Rattle.plain_book.specs.Book.{Book, makes, onKey, allowed, loads, appends}
@@ -63,7 +64,8 @@ made size l = refusalOf (makes (0 ∷ []) size 1 l)
 -- What an append to the key answers.
 pub appended : Book → ℕ → ℕ
 unfolding appends onKey outOfShape listBad beyondDesks offeredNumber appendPlace appendPages beginPage moved allowed permitted lacksWith
-    sumTo refuseIf andThen stays larger movesTo takeFrom takeFresh takeSlab pastSlabs runAtMark takeMark rounded freedAll freedPlace written
+    sumTo refuseIf andThen stays larger movesTo takeFrom takeFresh takeSlab pastSlabs runAtMark takeFound isIn stretch lesser leastOf leftOf
+    takeMark rounded freedAll freedPlace written
     longer joins lastPage streamLenFrom lastFrom divided shortest ulebLen firstClass classFor classWithSlack largestUpTo blockThen carve
     replaceLast
 appended b n = refusalOf (appends b 0 n)

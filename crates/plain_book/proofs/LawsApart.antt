@@ -75,40 +75,45 @@ module _ (f g : Owner → Option Block) where
         λ v w x y n e e'. p .apart v w x y n (to v x e) (to w y e');
   }
 
-  -- Blocks side by side begin at the mark, which then passes them, each with an owner of its own.
-  pub apart-run : (mark higher count size class : ℕ) (name : ℕ → Owner) → slabBytes class ≡ size → mark ≤ higher
-      → ((i : ℕ) → i < count → isBlock class (mark + i * size) higher ≡ true)
+  -- Blocks side by side that share no byte with anybody's, each with an owner of its own.
+  pub apart-run : (mark off count size class : ℕ) (name : ℕ → Owner) → slabBytes class ≡ size
+      → ((i : ℕ) → i < count → isBlock class (off + i * size) mark ≡ true)
+      → ((w : Owner) (x : Block) → f w ≡ some x → (x .off + slabBytes (x .class) ≤ off) ⊎ (off + count * size ≤ x .off))
       → ((w : Owner) (x : Block) → g w ≡ some x
-      → ((i : ℕ) × (w ≡ name i) × (x ≡ record { class = class; off = mark + i * size }) × (i < count)) ⊎ (f w ≡ some x))
-      → Apart mark f → Apart higher g
-  apart-run mark higher count size class name sized h stands to p =
+      → ((i : ℕ) × (w ≡ name i) × (x ≡ record { class = class; off = off + i * size }) × (i < count)) ⊎ (f w ≡ some x))
+      → Apart mark f → Apart mark g
+  apart-run mark off count size class name sized stands clear to p =
       record {
         stands = λ w x e.
-            ⊎-elim (λ (i, q, is, l). subst (λ (z : Block). isBlock (z .class) (z .off) higher ≡ true) (sym is) (stands i l))
-            (λ q. raised mark higher x h (p .stands w x q))
+            ⊎-elim (λ (i, q, is, l). subst (λ (z : Block). isBlock (z .class) (z .off) mark ≡ true) (sym is) (stands i l))
+            (λ q. p .stands w x q)
             (to w x e);
         apart = λ v w x y n e e'.
             ⊎-elim
             (λ (i, q, is, l).
-            ⊎-elim (λ (j, q', is', l'). side i j x y is is' (λ z. n (q ∙ ap name z ∙ sym q'))) (λ q'. turned y x (before w y x i q' is))
+            ⊎-elim (λ (j, q', is', l'). side i j x y is is' (λ z. n (q ∙ ap name z ∙ sym q'))) (λ q'. turned y x (beside w y x i q' is l))
             (to w y e'))
             (λ q.
-            ⊎-elim (λ (j, q', is', l'). before v x y j q is') (λ q'. p .apart v w x y n q q') (to w y e'))
+            ⊎-elim (λ (j, q', is', l'). beside v x y j q is' l') (λ q'. p .apart v w x y n q q') (to w y e'))
             (to v x e);
       }
     where
-      before : (w : Owner) (y x : Block) (i : ℕ) → f w ≡ some y → x ≡ record { class = class; off = mark + i * size } → Disjoint y x
-      before w y x i e is =
-          let s = block-stands (y .class) (y .off) mark (p .stands w y e) in
-          let place : x .off ≡ mark + i * size = ap (λ (z : Block). z .off) is in
-          let t = s .ends in
-          inl (omega arith)
+      beside : (w : Owner) (y x : Block) (i : ℕ) → f w ≡ some y → x ≡ record { class = class; off = off + i * size } → i < count
+          → Disjoint y x
+      beside w y x i e is l =
+          let place : x .off ≡ off + i * size = ap (λ (z : Block). z .off) is in
+          let bytes : slabBytes (x .class) ≡ size = ap (λ (z : Block). slabBytes (z .class)) is ∙ sized in
+          let m : suc i * size ≤ count * size = mul-le-mul-right size l in
+          let d = suc-mul i size in
+          ⊎-elim (λ (before : y .off + slabBytes (y .class) ≤ off). inl (omega arith))
+          (λ (behind : off + count * size ≤ y .off). inr (omega arith))
+          (clear w y e)
 
-      side : (i j : ℕ) (x y : Block) → x ≡ record { class = class; off = mark + i * size }
-          → y ≡ record { class = class; off = mark + j * size } → i ≢ j → Disjoint x y
+      side : (i j : ℕ) (x y : Block) → x ≡ record { class = class; off = off + i * size }
+          → y ≡ record { class = class; off = off + j * size } → i ≢ j → Disjoint x y
       side i j x y is is' n =
-          let px : x .off ≡ mark + i * size = ap (λ (z : Block). z .off) is in
-          let py : y .off ≡ mark + j * size = ap (λ (z : Block). z .off) is' in
+          let px : x .off ≡ off + i * size = ap (λ (z : Block). z .off) is in
+          let py : y .off ≡ off + j * size = ap (λ (z : Block). z .off) is' in
           let cx : slabBytes (x .class) ≡ size = ap (λ (z : Block). slabBytes (z .class)) is ∙ sized in
           let cy : slabBytes (y .class) ≡ size = ap (λ (z : Block). slabBytes (z .class)) is' ∙ sized in
           ⊎-elim

@@ -1,24 +1,24 @@
 -- After any list of calls on a fresh plain book the blocks of its keys and stacks stand apart, below the mark. Assumes nothing.
-use Prim.Native.Nat.{ℕ, zero, suc, _*_, _<_}
+use Prim.Native.Nat.{ℕ, zero, suc, _<_}
 use mathlib.Core.Bool.{Bool, true, false, cond}
 use mathlib.Core.List.{List, [], _∷_}
 use mathlib.Core.Option.{none, some}
-use mathlib.Core.Path.{_≡_, refl, sym, ap, subst, _∙_}
+use mathlib.Core.Path.{_≡_, refl, sym, ap, _∙_}
 use native.Mathlib.Omega.{arith}
 use lib.Dec.{eqb}
 use lib.ListN.{length}
 use Rattle.error.specs.Refusal.{Answer, accepted, refused}
-use Rattle.scripthash_layout.specs.Sizes.{pageClass, pageSize}
+use Rattle.scripthash_layout.specs.Sizes.{pageClass}
 use Rattle.scripthash_stream.specs.Stream.{streamLen}
 use Rattle.scripthash_cutting.specs.Cutting.{cutting, replaceLast}
 use Rattle.scripthash_free.specs.FreeList.{Block}
 use Rattle.book_rules.specs.declared.places.SlabFit.{SlabFit}
 use Rattle.book_rules.specs.Outcomes.{bookAfter}
 use Rattle.book_statements.specs.Calls.{Change, load, append, drop, Made, Call}
-use Rattle.plain_book.specs.Space.{Space, Taken, rounded, runAtMark}
+use Rattle.plain_book.specs.Space.{Space}
 use Rattle.plain_book.specs.Key.{Key, Page, Place, empty, inline, slab, pages, onePage, freedPlace, Placed, written, longer, keyIn}
 use Rattle.plain_book.specs.Key.{emptyKey}
-use Rattle.plain_book.specs.Key.{longerPage, joinedTo, runPages}
+use Rattle.plain_book.specs.Key.{longerPage, joinedTo}
 use Rattle.plain_book.specs.Book.{Book, fresh, Outcome, keyOf, withKey, extended, does, after, serves}
 use Rattle.plain_book.specs.Owners.{Owner, hand, stack, slabOf, pageOf, atDepth, pageNo, slabAt, pageIn, has, Apart, places}
 use Rattle.plain_book.specs.Good.{Good}
@@ -29,7 +29,8 @@ use Rattle.book_statements.proofs.LawsCalls.{calls-keep}
 use Rattle.book_desks.specs.Desks.{Limits}
 use Rattle.plain_book.proofs.LawsHistory.{all-same, load-did, append-did, drop-did, fresh-key, key-with}
 use Rattle.plain_book.proofs.LawsOwners.{none-some, atKey, good-slab, good-page, good-fewer, good-twice, good-kept, good-freed-place}
-use Rattle.plain_book.proofs.LawsTaking.{InHand, good-rounded, took-mark, rounded-mark, good-taken, good-run}
+use Rattle.plain_book.proofs.LawsTaking.{InHand, good-taken, good-run-clear}
+use Rattle.plain_book.proofs.LawsRunFreed.{run-clear, cutting-some}
 
 -- What an append or a load of a key leaves is good.
 abbrev pub Leaves : (ℕ → Place) → ℕ → Placed → Type 0
@@ -79,16 +80,14 @@ module _ (end : ℕ) (s : Space) (at : ℕ → Place) (key : ℕ) (g : Good s at
       good-page (t .space) at key (t .off) ps (n ∷ []) (λ i x z. ap (pageIn i) is ∙ z) (good-taken end pageClass s at (omega arith) got g)
 
   load-good : {fit : SlabFit} {ns : List ℕ} {p : Placed} → LoadDid fit end s ns p → Leaves at key p
-  unfolding runAtMark
   load-good loaded-none = good-kept s at none key empty (λ x h. absurd (none-some h)) (λ i x h. absurd (none-some h)) g
   load-good loaded-one = good-kept s at none key inline (λ x h. absurd (none-some h)) (λ i x h. absurd (none-some h)) g
   load-good {fit} {ns} (loaded-slab c t two q got) =
       let (few, class, fits) = loads-to fit (length ns) (streamLen ns) q in
       good-slab (t .space) at key c (t .off) (written ns) (good-taken end c s at (omega arith) got g)
   load-good {fit} {ns} (loaded-run t two q got) =
-      let is = took-mark end (length (cutting ns) * pageSize) (rounded s) got in
-      subst (λ (v : Taken). Good (v .space) (atKey key (pages (runPages (v .off) (cutting ns))) at) none) (sym is)
-      (good-run (rounded s) at key (cutting ns) (rounded-mark s) (good-rounded s at none g))
+      let (good, clear) = run-clear end (length (cutting ns)) s at (cutting-some ns (omega arith)) got g in
+      good-run-clear (t .space) at key (t .off) (cutting ns) good clear
 
 -- ---- books
 

@@ -185,7 +185,7 @@ module _ (b : Book) (key : ℕ) (good : GoodPlain b) (within : key < length (b .
       (subst
       (λ (old : ℕ). Step (b .limits) (b .size) (deskIn b key) (b .held) (b .space) old (pagesOf (p .place)) (p .space))
       (sym (unused (keyOf key b .place) free))
-      (load-steps (b .limits) (b .size) (deskIn b key) (b .held) (b .space) (good .space .nine) fit ns e))
+      (load-steps (b .limits) (b .size) (deskIn b key) (b .held) (b .space) (good .space .nine) fit ns _ (good .space) e))
     where
       unused : (place : Place) → inUse place ≡ false → pagesOf place ≡ 0
       unused empty q = refl

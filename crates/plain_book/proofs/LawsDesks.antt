@@ -1,8 +1,9 @@
 -- Pages and desks: what takes and what is given back do to the pages to be had, and which takes an accepted change was allowed. Assumes
 -- nothing.
-use Prim.Native.Nat.{ℕ, zero, suc, _+_, _-_, _*_, _/_, _≤_}
+use Prim.Native.Nat.{ℕ, zero, suc, _+_, _-_, _*_, _/_, _≤_, _<_}
 use mathlib.Core.Bool.{Bool, true, false, cond}
 use mathlib.Core.List.{List, [], _∷_}
+use mathlib.Core.Logic.{⊎-elim}
 use mathlib.Core.Option.{Option, none, some}
 use mathlib.Core.Path.{_≡_, refl, sym, ap, subst, _∙_}
 use native.Mathlib.Omega.{arith}
@@ -17,6 +18,7 @@ use Rattle.scripthash_stream.specs.Stream.{streamLen}
 use Rattle.scripthash_cutting.specs.Cutting.{cutting, replaceLast}
 use Rattle.scripthash_free.specs.FreeList.{Block, relocClass, blockThen, carve}
 use Rattle.scripthash_free.proofs.LawsBlock.{largest-some}
+use Rattle.free_runs.specs.Runs.{lowest, withoutRun}
 use Rattle.book_limits.specs.Limits.{pageAfter, gapEnd}
 use Rattle.book_rules.specs.declared.places.SlabFit.{SlabFit}
 use Rattle.book_rules.specs.Places.{stays, movesTo, loadsTo}
@@ -24,14 +26,17 @@ use Rattle.book_rules.proofs.LawsRules.{moves-to, loads-to}
 use Rattle.book_desks.specs.Desks.{Limits, toBeHad}
 use Rattle.book_desks.proofs.LawsDesks.{Within, Covers, permits}
 use Rattle.plain_book.specs.Space.{Space, stackOf, freed, freedAll, Taken, takeMark, rounded, runAtMark, takeRun, takeSlab, takeFresh}
-use Rattle.plain_book.specs.Space.{takeFrom, takeBlock}
+use Rattle.plain_book.specs.Space.{takeFrom, takeBlock, runFreed}
 use Rattle.plain_book.specs.Key.{Page, Place, empty, inline, slab, pages, pagesOf, freedPages, freedPlace}
 use Rattle.plain_book.specs.Key.{longer, longerPage}
 use Rattle.plain_book.specs.Key.{onePage, joins, joinedTo, runPages, Placed, placed, moved, beginPage, appendPages}
 use Rattle.plain_book.specs.Key.{appendPlace, loadInto, loadPlace}
 use Rattle.plain_book.specs.Book.{freedIn, allowed}
 use Rattle.plain_book.specs.Sound.{Fits}
-use Rattle.plain_book.proofs.LawsTaking.{took-stack}
+use Rattle.plain_book.specs.Good.{Good}
+use Rattle.plain_book.proofs.LawsOwners.{stack-same}
+use Rattle.plain_book.proofs.LawsTaking.{took-stack, took-run}
+use Rattle.plain_book.proofs.LawsRunFreed.{run-count, cutting-some}
 
 -- Pages to be had in a space, in a body of so many bytes.
 abbrev pub hadIn : ℕ → Space → ℕ
@@ -103,15 +108,35 @@ pub rounded-at : (s : Space) → rounded s .mark ≡ pageAfter (s .mark)
 unfolding rounded
 rounded-at s = refl
 
--- A run leaves so many pages less to be had.
-pub run-taken : (end k : ℕ) (s : Space) {t : Taken} → takeRun end k s ≡ accepted t → k + hadIn end (t .space) ≤ hadIn end s
+-- A run at the mark leaves so many pages less to be had.
+pub mark-run-taken : (end k : ℕ) (s : Space) {t : Taken} → runAtMark end k s ≡ accepted t → k + hadIn end (t .space) ≤ hadIn end s
 unfolding runAtMark takeMark
-run-taken end k s e =
+mark-run-taken end k s e =
     let (room, is) = passed _ _ _ e in
     let fits : rounded s .mark + k * pageSize ≤ end = ltb-false _ _ room in
     let f = rounded-freed s in
     let m = rounded-at s in
     subst (λ (x : Taken). k + hadIn end (x .space) ≤ hadIn end s) (accepted-inj is) (omega arith)
+
+-- So does one out of the freed pages, just as many.
+pub freed-run-taken : (end k off : ℕ) (s : Space) (at : ℕ → Place) → 0 < k → Good s at none → lowest k (stackOf pageClass s) ≡ some off
+    → k + hadIn end (runFreed off k s .space) ≡ hadIn end s
+freed-run-taken end k off s at some-pages g found =
+    let n = g .nine in
+    let left : freedIn (runFreed off k s .space) ≡ length (withoutRun off k (stackOf pageClass s)) =
+    ap length (stack-same s pageClass (withoutRun off k (stackOf pageClass s)) (omega arith)) in
+    let many = run-count k off s at some-pages g found in
+    omega arith
+
+-- So does the run of a load.
+pub run-taken : (end k : ℕ) (s : Space) (at : ℕ → Place) {t : Taken} → 0 < k → Good s at none → takeRun end k s ≡ accepted t
+    → k + hadIn end (t .space) ≤ hadIn end s
+run-taken end k s at some-pages g e =
+    ⊎-elim (λ (q, at-mark). mark-run-taken end k s at-mark)
+    (λ (off, q, is).
+    let same = freed-run-taken end k off s at some-pages g q in
+    subst (λ (x : Taken). k + hadIn end (x .space) ≤ hadIn end s) (sym is) (omega arith))
+    (took-run end k s e)
 
 -- A block at the mark that is no page leaves no page more.
 mark-taken : (end bytes : ℕ) (s : Space) {t : Taken} → takeMark end bytes s ≡ accepted t → hadIn end (t .space) ≤ hadIn end s
@@ -127,7 +152,7 @@ unfolding takeFrom takeFresh
 page-taken end s {t} nine e = go (stackOf pageClass s) refl e
   where
     go : (os : List ℕ) → stackOf pageClass s ≡ os → takeFrom end pageClass os s ≡ accepted t → 1 + hadIn end (t .space) ≤ hadIn end s
-    go [] q e = run-taken end 1 s e
+    go [] q e = mark-run-taken end 1 s e
     go (o ∷ os) q e =
         let is = took-stack end pageClass o os s e in
         let left : freedIn (record { mark = s .mark; stacks = set (s .stacks) pageClass os }) ≡ length os =
@@ -280,12 +305,13 @@ module _ (l : Limits) (end desk : ℕ) (held : List ℕ) where
             (takes 1 (length-append ps (onePage (t .off) (n ∷ []))) a (page-taken end s nine took))
 
     -- An accepted load is one from an empty place.
-    pub load-steps : (fit : SlabFit) (ns : List ℕ) {p : Placed} → loadPlace fit end (allowed l end desk held) ns s ≡ accepted p
-        → Step s 0 (pagesOf (p .place)) (p .space)
+    pub load-steps : (fit : SlabFit) (ns : List ℕ) (at : ℕ → Place) {p : Placed} → Good s at none
+        → loadPlace fit end (allowed l end desk held) ns s ≡ accepted p → Step s 0 (pagesOf (p .place)) (p .space)
     unfolding loadPlace loadInto
-    load-steps fit [] e = subst (λ (x : Placed). Step s 0 (pagesOf (x .place)) (x .space)) (accepted-inj e) (stays-put s 0 0 refl)
-    load-steps fit (n ∷ []) e = subst (λ (x : Placed). Step s 0 (pagesOf (x .place)) (x .space)) (accepted-inj e) (stays-put s 0 0 refl)
-    load-steps fit (n ∷ m ∷ ns) {p} e = go (loadsTo fit (length (n ∷ m ∷ ns)) (streamLen (n ∷ m ∷ ns))) refl e
+    load-steps fit [] at g e = subst (λ (x : Placed). Step s 0 (pagesOf (x .place)) (x .space)) (accepted-inj e) (stays-put s 0 0 refl)
+    load-steps fit (n ∷ []) at g e =
+        subst (λ (x : Placed). Step s 0 (pagesOf (x .place)) (x .space)) (accepted-inj e) (stays-put s 0 0 refl)
+    load-steps fit (n ∷ m ∷ ns) at {p} g e = go (loadsTo fit (length (n ∷ m ∷ ns)) (streamLen (n ∷ m ∷ ns))) refl e
       where
         go : (o : Option ℕ) → loadsTo fit (length (n ∷ m ∷ ns)) (streamLen (n ∷ m ∷ ns)) ≡ o
             → loadInto end (allowed l end desk held) o (n ∷ m ∷ ns) s ≡ accepted p → Step s 0 (pagesOf (p .place)) (p .space)
@@ -299,7 +325,8 @@ module _ (l : Limits) (end desk : ℕ) (held : List ℕ) where
             let (took, a) = allows _ _ got in
             let many = run-many (t .off) (cutting (n ∷ m ∷ ns)) in
             subst (λ (x : Placed). Step s 0 (pagesOf (x .place)) (x .space)) (accepted-inj is)
-            (takes (length (cutting (n ∷ m ∷ ns))) (omega arith) a (run-taken end _ s took))
+            (takes (length (cutting (n ∷ m ∷ ns))) (omega arith) a
+            (run-taken end _ s at (cutting-some (n ∷ m ∷ ns) (omega arith)) g took))
 
     -- A drop is one to an empty place.
     pub drop-steps : (old : Place) (was : List ℕ) → Fits was old → Step s (pagesOf old) 0 (freedPlace old s)

@@ -4,6 +4,7 @@ use Prim.Native.Nat.{ℕ, zero, suc, _+_, _-_, _*_, _%_, _≤_, _<_}
 use mathlib.Core.Bool.{Bool, true, false, cond, false≢true}
 use mathlib.Core.List.{List, [], _∷_, _++_}
 use mathlib.Core.Logic.{inl, ⊎-elim}
+use mathlib.Core.Option.{none, some}
 use mathlib.Core.Path.{_≡_, refl, sym, ap, subst, _∙_}
 use native.Mathlib.Omega.{arith}
 use lib.Dec.{eqb, leb}
@@ -16,6 +17,7 @@ use Rattle.scripthash_stream.specs.Stream.{streamLen}
 use Rattle.scripthash_cutting.specs.Cutting.{cutting, replaceLast}
 use Rattle.scripthash_free.specs.FreeList.{Block, Adjoin, Each, IsSlab, gapBlocks}
 use Rattle.scripthash_free.proofs.LawsGap.{gap-filled, gap-slabs}
+use Rattle.free_runs.specs.Runs.{lowest, withoutRun}
 use Rattle.book_rules.specs.declared.places.SlabFit.{SlabFit}
 use Rattle.book_rules.specs.Outcomes.{bookAfter}
 use Rattle.book_statements.specs.Calls.{Change, load, append, drop, Made, Call}
@@ -23,21 +25,22 @@ use Rattle.book_limits.specs.Limits.{slabsEnd, pageAfter}
 use Rattle.book_rules.proofs.LawsRules.{moves-to, loads-to}
 use Rattle.book_statements.proofs.LawsCalls.{calls-keep}
 use Rattle.book_desks.specs.Desks.{Limits}
-use Rattle.plain_book.specs.Space.{Space, stackOf, freed, freedAll, Taken, takeMark, takeSlab, rounded, takeRun, takeFresh, takeFrom}
-use Rattle.plain_book.specs.Space.{takeBlock, runAtMark}
+use Rattle.plain_book.specs.Space.{Space, stackOf, freed, freedAll, Taken, takeSlab, rounded, takeRun, takeFresh, takeFrom}
+use Rattle.plain_book.specs.Space.{takeBlock, runAtMark, runFreed}
 use Rattle.plain_book.specs.Key.{Key, emptyKey, Page, Place, empty, inline, slab, pages, freedPages, freedPlace, Placed, written}
 use Rattle.plain_book.specs.Key.{keyIn}
 use Rattle.plain_book.specs.Key.{longerPage, runPages}
 use Rattle.plain_book.specs.Book.{Book, fresh, makes, Outcome, withKey, inUse, does, after, serves}
 use Rattle.plain_book.specs.Owners.{places}
 use Rattle.plain_book.specs.Sound.{Fits}
-use Rattle.plain_book.specs.Good.{GoodPlain}
+use Rattle.plain_book.specs.Good.{Good, GoodPlain}
 use Rattle.plain_book.specs.Filled.{bytesIn, bytesHeld, bytesOnStack, bytesFreed, Fills, Filled, MarkWhole}
 use Rattle.plain_book.specs.Did.{LoadDid, loaded-none, loaded-one, loaded-slab, loaded-run, AppendDid, began, stayed, moved-slab}
 use Rattle.plain_book.specs.Did.{moved-page, joined-page, begun-page}
 use Rattle.plain_book.proofs.LawsHistory.{load-did, append-did, drop-did}
 use Rattle.plain_book.proofs.LawsOwners.{withStack}
-use Rattle.plain_book.proofs.LawsTaking.{took-stack, took-mark, freed-stacks}
+use Rattle.plain_book.proofs.LawsTaking.{took-stack, took-mark, took-run, freed-stacks}
+use Rattle.plain_book.proofs.LawsRunFreed.{run-count, cutting-some}
 use Rattle.plain_book.proofs.LawsGood.{fresh-good, call-good}
 use Rattle.plain_book.proofs.LawsMark.{call-whole}
 
@@ -155,13 +158,44 @@ full-rounded s others whole f = go (leb (pageAfter (s .mark)) slabsEnd) refl
         subst (λ (m : ℕ). Full (record { mark = m; stacks = freedAll (gapBlocks (s .mark) (s .mark)) s .stacks }) others) none-skipped
         carved
 
--- A run of pages is taken.
-pub full-run : (end n : ℕ) (s : Space) (others : ℕ) {t : Taken} → MarkWhole (s .mark) → takeRun end n s ≡ accepted t → Full s others
-    → Full (t .space) (n * pageSize + others)
+-- A run of pages is taken at the mark.
+pub full-run-marked : (end n : ℕ) (s : Space) (others : ℕ) {t : Taken} → MarkWhole (s .mark) → runAtMark end n s ≡ accepted t
+    → Full s others → Full (t .space) (n * pageSize + others)
 unfolding runAtMark
-full-run end n s others w e f =
+full-run-marked end n s others w e f =
     subst (λ (v : Taken). Full (v .space) (n * pageSize + others)) (sym (took-mark end (n * pageSize) (rounded s) e))
     (full-marked (rounded s) others (n * pageSize) (omega arith) (full-rounded s others w f))
+
+-- The bytes of freed pages.
+pages-bytes : (os : List ℕ) → bytesOnStack pageClass os ≡ length os * pageSize
+unfolding bytesOnStack
+pages-bytes [] = refl
+pages-bytes (o ∷ os) = let e = pages-bytes os in omega arith
+
+-- A run of pages is taken out of the freed ones.
+pub full-run-freed : (n off : ℕ) (s : Space) (at : ℕ → Place) (others : ℕ) → 0 < n → Good s at none
+    → lowest n (stackOf pageClass s) ≡ some off → Full s others → Full (runFreed off n s .space) (n * pageSize + others)
+full-run-freed n off s at others some-pages g found f =
+    let nine = f .nine in
+    let e : bytesFreed 0 (set (s .stacks) pageClass (withoutRun off n (stackOf pageClass s))) + bytesOnStack pageClass (stackOf pageClass s)
+    ≡ bytesFreed 0 (s .stacks) + bytesOnStack pageClass (withoutRun off n (stackOf pageClass s))
+    = stack-changed 0 pageClass (s .stacks) pageClass (withoutRun off n (stackOf pageClass s)) (omega arith) (omega arith) in
+    let many = run-count n off s at some-pages g found in
+    let before = pages-bytes (stackOf pageClass s) in
+    let after = pages-bytes (withoutRun off n (stackOf pageClass s)) in
+    let was = f .fills in
+    let done : 4096 + (bytesFreed 0 (set (s .stacks) pageClass (withoutRun off n (stackOf pageClass s))) + (n * pageSize + others))
+    ≡ s .mark = omega arith in
+    record { nine = length-set (s .stacks) pageClass _ ∙ f .nine; aligned = f .aligned; fills = done }
+
+-- The run of a load is taken.
+pub full-run : (end n : ℕ) (s : Space) (at : ℕ → Place) (others : ℕ) {t : Taken} → 0 < n → Good s at none → MarkWhole (s .mark)
+    → takeRun end n s ≡ accepted t → Full s others → Full (t .space) (n * pageSize + others)
+full-run end n s at others some-pages g w e f =
+    ⊎-elim (λ (q, at-mark). full-run-marked end n s others w at-mark f)
+    (λ (off, q, is).
+    subst (λ (v : Taken). Full (v .space) (n * pageSize + others)) (sym is) (full-run-freed n off s at others some-pages g q f))
+    (took-run end n s e)
 
 -- A block of a class is taken.
 pub full-taken : (end class : ℕ) (s : Space) (others : ℕ) {t : Taken} → MarkWhole (s .mark) → class ≤ 8
@@ -170,10 +204,10 @@ pub full-taken : (end class : ℕ) (s : Space) (others : ℕ) {t : Taken} → Ma
 unfolding takeFrom takeFresh takeSlab
 full-taken end class s others {t} w c e f = from-stack (stackOf class s) refl e
   where
-    fresh-block : (b : Bool) → eqb class pageClass ≡ b → cond b (takeRun end 1 s) (takeSlab end (slabBytes class) s) ≡ accepted t
+    fresh-block : (b : Bool) → eqb class pageClass ≡ b → cond b (runAtMark end 1 s) (takeSlab end (slabBytes class) s) ≡ accepted t
         → Full (t .space) (slabBytes class + others)
-    fresh-block true q e = subst (λ (k : ℕ). Full (t .space) (slabBytes k + others)) (sym (eqb-true class pageClass q))
-        (full-run end 1 s others w e f)
+    fresh-block true q e =
+        subst (λ (k : ℕ). Full (t .space) (slabBytes k + others)) (sym (eqb-true class pageClass q)) (full-run-marked end 1 s others w e f)
     fresh-block false q e =
         subst (λ (v : Taken). Full (v .space) (slabBytes class + others)) (sym (took-mark end (slabBytes class) s (passed _ _ _ e .1)))
         (full-marked s others (slabBytes class) (omega arith) f)
@@ -255,16 +289,16 @@ full-append end held list n s others w c (begun-page ps t q got) f =
     let many = behind-many ps (record { off = t .off; room = 4072; part = written (n ∷ []) }) in
     same-full (t .space) (omega arith) h
 
-full-load : {fit : SlabFit} (end : ℕ) (s : Space) (others : ℕ) {ns : List ℕ} {p : Placed} → MarkWhole (s .mark)
-    → LoadDid fit end s ns p → Full s others → Leaves others p
+full-load : {fit : SlabFit} (end : ℕ) (s : Space) (at : ℕ → Place) (others : ℕ) {ns : List ℕ} {p : Placed} → Good s at none
+    → MarkWhole (s .mark) → LoadDid fit end s ns p → Full s others → Leaves others p
 unfolding bytesIn
-full-load end s others w loaded-none f = same-full s (omega arith) f
-full-load end s others w loaded-one f = same-full s (omega arith) f
-full-load {fit} end s others {ns} w (loaded-slab c t two q got) f =
+full-load end s at others g w loaded-none f = same-full s (omega arith) f
+full-load end s at others g w loaded-one f = same-full s (omega arith) f
+full-load {fit} end s at others {ns} g w (loaded-slab c t two q got) f =
     let (few, class, fits) = loads-to fit (length ns) (streamLen ns) q in full-taken end c s others w (omega arith) got f
-full-load end s others {ns} w (loaded-run t two q got) f =
+full-load end s at others {ns} g w (loaded-run t two q got) f =
     same-full (t .space) (ap (λ (k : ℕ). k * pageSize + others) (sym (run-many (t .off) (cutting ns))))
-    (full-run end (length (cutting ns)) s others w got f)
+    (full-run end (length (cutting ns)) s at others (cutting-some ns (omega arith)) g w got f)
 
 -- ---- books
 
@@ -322,7 +356,7 @@ call-full lost b (load fit key ns) (accepted o) e g w f =
     let unused = unused-none (places b key) free in
     rw (ap (λ (x : Outcome _). x .book) is)
     (full-with lost b key (keyIn ns (p .place) true) (p .space) others held
-    (full-load (b .size) (b .space) others w got (same-full (b .space) (omega arith) rest)))
+    (full-load (b .size) (b .space) (places b) others (g .space) w got (same-full (b .space) (omega arith) rest)))
 call-full lost b (append key n) (accepted o) e g w f =
     let (p, within, rises, low, got, is) = append-did b key n e in
     let (others, rest, held) = others-of lost b key within f in

@@ -17,6 +17,7 @@ use Rattle.scripthash_free.proofs.LawsBlock.{bytes-from-16}
 use Rattle.scripthash_free.proofs.LawsGap.{gap-filled, adjoin-within, each-map}
 use Rattle.book_limits.specs.Limits.{outOfShape, slabsEnd, pageAfter, pastSlabs, gapEnd}
 use Rattle.book_limits.proofs.LawsLimits.{gap-end}
+use Rattle.free_runs.specs.Runs.{withoutRun}
 use Rattle.book_rules.specs.declared.places.SlabFit.{SlabFit}
 use Rattle.book_rules.specs.Outcomes.{bookAfter}
 use Rattle.book_rules.proofs.LawsRules.{moves-to, loads-to}
@@ -34,7 +35,7 @@ use Rattle.plain_book.specs.Good.{GoodPlain}
 use Rattle.plain_book.specs.Low.{LowStack, LowPlace, LowSpace, LowSlabs, PastTop}
 use Rattle.plain_book.specs.Refusals.{keyRefusals, lowRefusals, isOneOf, RefusedBy, EachRefusedBy}
 use Rattle.plain_book.proofs.LawsHistory.{load-did, append-did, drop-did, fresh-key, KeptByCalls, kept-call, all-same}
-use Rattle.plain_book.proofs.LawsTaking.{took-stack, took-mark}
+use Rattle.plain_book.proofs.LawsTaking.{took-stack, took-mark, took-run}
 use Rattle.plain_book.proofs.LawsSlabs.{taken-ends}
 use Rattle.plain_book.proofs.LawsGood.{shape-kept, call-good}
 use Rattle.plain_book.proofs.LawsRefusals.{ForCause, from-plain, change-by, enquiry-by, each-by, or-right, low-named, no-cause}
@@ -98,17 +99,32 @@ low-rounded s a h = low-all (gapBlocks (s .mark) (gapEnd (s .mark))) s (gap-low 
 
 -- ---- takes
 
-low-run : (end n : ℕ) (s : Space) {t : Taken} → s .mark % 16 ≡ 0 → takeRun end n s ≡ accepted t → LowSpace s → LowSpace (t .space)
+low-run-marked : (end n : ℕ) (s : Space) {t : Taken} → s .mark % 16 ≡ 0 → runAtMark end n s ≡ accepted t → LowSpace s
+    → LowSpace (t .space)
 unfolding runAtMark
-low-run end n s a e h = subst (λ (v : Taken). LowSpace (v .space)) (sym (took-mark end _ (rounded s) e)) (low-rounded s a h)
+low-run-marked end n s a e h = subst (λ (v : Taken). LowSpace (v .space)) (sym (took-mark end _ (rounded s) e)) (low-rounded s a h)
+
+-- Freed pages are no slabs.
+pages-low : (os : List ℕ) → LowStack pageClass os
+unfolding LowStack
+pages-low [] = tt
+pages-low (o ∷ os) = (page-low o, pages-low os)
+
+low-run : (end n : ℕ) (s : Space) {t : Taken} → s .mark % 16 ≡ 0 → takeRun end n s ≡ accepted t → LowSpace s → LowSpace (t .space)
+low-run end n s a e h =
+    ⊎-elim (λ (q, at-mark). low-run-marked end n s a at-mark h)
+    (λ (off, q, is).
+    subst (λ (v : Taken). LowSpace (v .space)) (sym is)
+    (low-stack s pageClass (withoutRun off n (stackOf pageClass s)) (s .mark) (pages-low _) h))
+    (took-run end n s e)
 
 low-taken : (end class : ℕ) (s : Space) {t : Taken} → s .mark % 16 ≡ 0 → takeBlock end class s ≡ accepted t → LowSpace s
     → LowSpace (t .space)
 unfolding takeFrom takeFresh takeSlab LowStack
 low-taken end class s {t} a e h = from-stack (stackOf class s) refl e
   where
-    fresh-block : (b : Bool) → cond b (takeRun end 1 s) (takeSlab end (slabBytes class) s) ≡ accepted t → LowSpace (t .space)
-    fresh-block true e = low-run end 1 s a e h
+    fresh-block : (b : Bool) → cond b (runAtMark end 1 s) (takeSlab end (slabBytes class) s) ≡ accepted t → LowSpace (t .space)
+    fresh-block true e = low-run-marked end 1 s a e h
     fresh-block false e =
         subst (λ (v : Taken). LowSpace (v .space)) (sym (took-mark end (slabBytes class) s (passed _ _ _ e .1))) h
 

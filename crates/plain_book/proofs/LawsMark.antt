@@ -3,8 +3,8 @@
 use Prim.Native.Nat.{ℕ, _+_, _*_, _%_, _≤_}
 use mathlib.Core.Bool.{Bool, true, false, cond}
 use mathlib.Core.List.{List, [], _∷_}
-use mathlib.Core.Logic.{inl, inr}
-use mathlib.Core.Path.{_≡_, refl, ap, subst}
+use mathlib.Core.Logic.{inl, inr, ⊎-elim}
+use mathlib.Core.Path.{_≡_, refl, sym, ap, subst}
 use native.Mathlib.Omega.{arith}
 use lib.Dec.{eqb}
 use lib.ListN.{length}
@@ -27,6 +27,7 @@ use Rattle.plain_book.specs.Did.{moved-page, joined-page, begun-page}
 use Rattle.book_statements.proofs.LawsCalls.{calls-keep}
 use Rattle.book_desks.specs.Desks.{Limits}
 use Rattle.plain_book.proofs.LawsHistory.{load-did, append-did, drop-did}
+use Rattle.plain_book.proofs.LawsTaking.{took-run}
 
 -- Freeing leaves the mark.
 pages-mark : (ps : List Page) (s : Space) → freedPages ps s .mark ≡ s .mark
@@ -67,6 +68,14 @@ taken-within end class s {t} e h = from-stack (stackOf class s) e
     from-stack (o ∷ os) e = subst (λ (v : Taken). v .space .mark ≤ end) (accepted-inj (passed (pastSlabs class o) _ _ e .1)) h
     from-stack [] e = fresh-block (eqb class pageClass) e
 
+-- And after a run.
+run-within : (end n : ℕ) (s : Space) {t : Taken} → takeRun end n s ≡ accepted t → s .mark ≤ end → t .space .mark ≤ end
+unfolding runAtMark
+run-within end n s e h =
+    ⊎-elim (λ (q, at-mark). marked-within end (n * pageSize) (rounded s) at-mark)
+    (λ (off, q, is). subst (λ (v : Taken). v .space .mark ≤ end) (sym is) h)
+    (took-run end n s e)
+
 -- The mark that an append or a load leaves.
 abbrev Within : ℕ → Placed → Type 0
 Within end p = p .space .mark ≤ end
@@ -81,11 +90,10 @@ append-within end held list n s h (joined-page ps q) = h
 append-within end held list n s h (begun-page ps t q got) = taken-within end pageClass s got h
 
 load-within : {fit : SlabFit} (end : ℕ) (s : Space) {ns : List ℕ} {p : Placed} → s .mark ≤ end → LoadDid fit end s ns p → Within end p
-unfolding runAtMark
 load-within end s h loaded-none = h
 load-within end s h loaded-one = h
 load-within end s h (loaded-slab c t two q got) = taken-within end c s got h
-load-within end s {ns} h (loaded-run t two q got) = marked-within end (length (cutting ns) * pageSize) (rounded s) got
+load-within end s {ns} h (loaded-run t two q got) = run-within end (length (cutting ns)) s got h
 
 -- A call leaves the body's length, and the mark within it.
 abbrev pub Inside : ℕ → Book → Type 0
@@ -124,19 +132,26 @@ slab-whole end bytes s e =
     let (room, is) = passed _ _ _ e1 in
     subst (λ (v : Taken). MarkWhole (v .space .mark)) (accepted-inj is) (inl (ltb-false slabsEnd (s .mark + bytes) low))
 
-run-whole : (end n : ℕ) (s : Space) {t : Taken} → takeRun end n s ≡ accepted t → MarkWhole (t .space .mark)
+mark-run-whole : (end n : ℕ) (s : Space) {t : Taken} → runAtMark end n s ≡ accepted t → MarkWhole (t .space .mark)
 unfolding runAtMark takeMark rounded
-run-whole end n s e =
+mark-run-whole end n s e =
     let (room, is) = passed _ _ _ e in
     subst (λ (v : Taken). MarkWhole (v .space .mark)) (accepted-inj is) (inr (omega arith))
+
+-- A run out of the freed pages leaves the mark where it was.
+run-whole : (end n : ℕ) (s : Space) {t : Taken} → takeRun end n s ≡ accepted t → MarkWhole (s .mark) → MarkWhole (t .space .mark)
+run-whole end n s e h =
+    ⊎-elim (λ (q, at-mark). mark-run-whole end n s at-mark)
+    (λ (off, q, is). subst (λ (v : Taken). MarkWhole (v .space .mark)) (sym is) h)
+    (took-run end n s e)
 
 taken-whole : (end class : ℕ) (s : Space) {t : Taken} → takeBlock end class s ≡ accepted t → MarkWhole (s .mark)
     → MarkWhole (t .space .mark)
 unfolding takeFrom takeFresh
 taken-whole end class s {t} e h = from-stack (stackOf class s) e
   where
-    fresh-block : (b : Bool) → cond b (takeRun end 1 s) (takeSlab end (slabBytes class) s) ≡ accepted t → MarkWhole (t .space .mark)
-    fresh-block true e = run-whole end 1 s e
+    fresh-block : (b : Bool) → cond b (runAtMark end 1 s) (takeSlab end (slabBytes class) s) ≡ accepted t → MarkWhole (t .space .mark)
+    fresh-block true e = mark-run-whole end 1 s e
     fresh-block false e = slab-whole end (slabBytes class) s e
 
     from-stack : (os : List ℕ) → takeFrom end class os s ≡ accepted t → MarkWhole (t .space .mark)
@@ -157,7 +172,7 @@ load-whole : {fit : SlabFit} (end : ℕ) (s : Space) {ns : List ℕ} {p : Placed
 load-whole end s h loaded-none = h
 load-whole end s h loaded-one = h
 load-whole end s h (loaded-slab c t two q got) = taken-whole end c s got h
-load-whole end s {ns} h (loaded-run t two q got) = run-whole end (length (cutting ns)) s got
+load-whole end s {ns} h (loaded-run t two q got) = run-whole end (length (cutting ns)) s got h
 
 -- A call that skips no bytes leaves the mark so.
 pub call-whole : (b : Book) (c : Change) (a : Answer (Outcome (Made c))) → does b c ≡ a → MarkWhole (b .space .mark)

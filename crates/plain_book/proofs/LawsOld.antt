@@ -1,9 +1,9 @@
--- Bodies of at most 2^30 bytes, which was the limit before change request N8: blocks and runs are taken as they were then, and every total
--- is told. Assumes nothing.
+-- Bodies of at most 2^30 bytes, which was the limit before change request N8: blocks are taken as they were then, runs out of freed pages
+-- or else as they were then, and every total is told. Assumes nothing.
 use Prim.Native.Nat.{ℕ, _+_, _*_, _/_, _^_, _≤_, _<_}
 use mathlib.Core.Bool.{Bool, true, false, cond}
 use mathlib.Core.List.{List, [], _∷_}
-use mathlib.Core.Option.{none}
+use mathlib.Core.Option.{Option, none, some}
 use mathlib.Core.Path.{_≡_, refl, sym, ap, _∙_}
 use native.Mathlib.Omega.{arith}
 use lib.Dec.{ltb, leb, eqb}
@@ -14,10 +14,11 @@ use Rattle.error.proofs.LawsAnswer.{refuse-yes, refuse-no}
 use Rattle.scripthash_layout.specs.Sizes.{slabBytes, pageClass, pageSize}
 use Rattle.scripthash_free.specs.FreeList.{gapBlocks}
 use Rattle.scripthash_free.proofs.LawsBlock.{block-stands}
+use Rattle.free_runs.specs.Runs.{lowest}
 use Rattle.book_limits.specs.Limits.{slabsEnd, pageAfter, pastSlabs, gapEnd, mostCounted, totalTold}
 use Rattle.plain_book.specs.Space.{Space, stackOf, freedAll, Taken, takeMark, takeSlab, rounded, runAtMark, takeRun, takeFresh}
 use Rattle.plain_book.specs.Space.{takeFrom}
-use Rattle.plain_book.specs.Space.{takeBlock}
+use Rattle.plain_book.specs.Space.{takeBlock, runFreed, takeFound}
 use Rattle.plain_book.specs.Key.{Place, empty, inline, slab, pages}
 use Rattle.plain_book.specs.Book.{Book, keyOf}
 use Rattle.plain_book.specs.Sound.{Fits}
@@ -38,12 +39,21 @@ abbrev pub oldRounded : Space → Space
 oldRounded s = record { mark = pageAfter (s .mark); stacks = freedAll (gapBlocks (s .mark) (pageAfter (s .mark))) s .stacks }
 
 -- A run at the mark.
+abbrev pub oldAtMark : ℕ → ℕ → Space → Answer Taken
+oldAtMark end n s = takeMark end (n * pageSize) (oldRounded s)
+
+-- A run taken where a search of the freed pages led (change request N11), or else at the mark.
+abbrev pub oldFound : ℕ → ℕ → Space → Option ℕ → Answer Taken
+oldFound end n s none = oldAtMark end n s
+oldFound end n s (some off) = accepted (runFreed off n s)
+
+-- The run of a load.
 abbrev pub oldRun : ℕ → ℕ → Space → Answer Taken
-oldRun end n s = takeMark end (n * pageSize) (oldRounded s)
+oldRun end n s = oldFound end n s (lowest n (stackOf pageClass s))
 
 -- A block: the top of its stack, or else bytes from the mark on.
 abbrev pub oldFrom : ℕ → ℕ → List ℕ → Space → Answer Taken
-oldFrom end class [] s = cond (eqb class pageClass) (oldRun end 1 s) (takeMark end (slabBytes class) s)
+oldFrom end class [] s = cond (eqb class pageClass) (oldAtMark end 1 s) (takeMark end (slabBytes class) s)
 oldFrom end class (o ∷ os) s = accepted (record { off = o; space = record { mark = s .mark; stacks = set (s .stacks) class os } })
 
 -- ---- nothing else is taken
@@ -70,10 +80,19 @@ old-slab end bytes s low = go (ltb slabsEnd (s .mark + bytes)) refl
         refuse-yes true noRoom _ refl ∙ sym (refuse-yes _ noRoom _ (lt-ltb end (s .mark + bytes) (omega arith)))
     go false e = refuse-no false noRoom _ refl
 
--- A run.
-pub old-run : (end n : ℕ) (s : Space) → s .mark ≤ oldMost → takeRun end n s ≡ oldRun end n s
+-- A run at the mark.
+pub old-at-mark : (end n : ℕ) (s : Space) → s .mark ≤ oldMost → runAtMark end n s ≡ oldAtMark end n s
 unfolding runAtMark
-old-run end n s low = ap (takeMark end (n * pageSize)) (old-rounded s low)
+old-at-mark end n s low = ap (takeMark end (n * pageSize)) (old-rounded s low)
+
+-- The run of a load.
+pub old-run : (end n : ℕ) (s : Space) → s .mark ≤ oldMost → takeRun end n s ≡ oldRun end n s
+unfolding takeFound
+old-run end n s low = go (lowest n (stackOf pageClass s))
+  where
+    go : (found : Option ℕ) → takeFound end n s found ≡ oldFound end n s found
+    go none = old-at-mark end n s low
+    go (some off) = refl
 
 -- A block of a good book.
 pub old-block : (b : Book) (class : ℕ) → GoodPlain b → b .size ≤ oldMost → b .space .mark ≤ oldMost
@@ -84,9 +103,9 @@ old-block b class g size mark = go (stackOf class (b .space)) refl
     go : (os : List ℕ) → stackOf class (b .space) ≡ os → takeFrom (b .size) class os (b .space) ≡ oldFrom (b .size) class os (b .space)
     go [] e = fresh-block (eqb class pageClass)
       where
-        fresh-block : (t : Bool) → cond t (takeRun (b .size) 1 (b .space)) (takeSlab (b .size) (slabBytes class) (b .space))
-            ≡ cond t (oldRun (b .size) 1 (b .space)) (takeMark (b .size) (slabBytes class) (b .space))
-        fresh-block true = old-run (b .size) 1 (b .space) mark
+        fresh-block : (t : Bool) → cond t (runAtMark (b .size) 1 (b .space)) (takeSlab (b .size) (slabBytes class) (b .space))
+            ≡ cond t (oldAtMark (b .size) 1 (b .space)) (takeMark (b .size) (slabBytes class) (b .space))
+        fresh-block true = old-at-mark (b .size) 1 (b .space) mark
         fresh-block false = old-slab (b .size) (slabBytes class) (b .space) size
     go (o ∷ os) e =
         let mine = ap (atDepth class (length os)) e ∙ top-is class o os in

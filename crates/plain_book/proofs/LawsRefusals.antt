@@ -19,7 +19,7 @@ use Rattle.book_rules.specs.Places.{stays}
 use Rattle.book_desks.specs.Desks.{Limits, permitted, listBad}
 use Rattle.book_rules.specs.Offered.{offeredNumber, offeredList}
 use Rattle.plain_book.specs.Space.{Space, Taken, stackOf, takeMark, takeSlab, rounded, takeRun, takeFresh, takeFrom, takeBlock}
-use Rattle.plain_book.specs.Space.{runAtMark}
+use Rattle.plain_book.specs.Space.{runAtMark, takeFound}
 use Rattle.plain_book.specs.Key.{Place, empty, inline, slab, pages, moved, joins, beginPage, appendPages, appendPlace, loadInto}
 use Rattle.plain_book.specs.Key.{loadPlace, longer, Leave}
 use Rattle.plain_book.specs.Book.{Book, Outcome, onKey, allowed, deskIn, leaveOf, loads, appends, reads, drops, does, answers, asks}
@@ -68,9 +68,17 @@ module _ (numbers : List ℕ) (named : (m : ℕ) → isOneOf m keyRefusals ≡ t
   unfolding takeSlab isOneOf keyRefusals
   slab-plain end bytes s = by-test _ noRoom _ refl (mark-plain end bytes s)
 
-  run-plain : (end k : ℕ) (s : Space) → Plain (takeRun end k s)
+  mark-run-plain : (end k : ℕ) (s : Space) → Plain (runAtMark end k s)
   unfolding runAtMark
-  run-plain end k s = mark-plain end _ (rounded s)
+  mark-run-plain end k s = mark-plain end _ (rounded s)
+
+  found-plain : (end k : ℕ) (s : Space) (found : Option ℕ) → Plain (takeFound end k s found)
+  unfolding takeFound
+  found-plain end k s none = mark-run-plain end k s
+  found-plain end k s (some off) = value _
+
+  run-plain : (end k : ℕ) (s : Space) → Plain (takeRun end k s)
+  run-plain end k s = found-plain end k s _
 
   -- A block, by what the top of a stack is refused with.
   pub from-plain : (end class : ℕ) (os : List ℕ) (s : Space)
@@ -78,7 +86,7 @@ module _ (numbers : List ℕ) (named : (m : ℕ) → isOneOf m keyRefusals ≡ t
       → Plain (takeFrom end class os s)
   unfolding takeFrom takeFresh refuseIf RefusedBy
   from-plain end class [] s top =
-      by-choice (eqb class pageClass) (takeRun end 1 s) (takeSlab end (slabBytes class) s) (run-plain end 1 s)
+      by-choice (eqb class pageClass) (runAtMark end 1 s) (takeSlab end (slabBytes class) s) (mark-run-plain end 1 s)
       (slab-plain end (slabBytes class) s)
   from-plain end class (o ∷ os) s top = go (pastSlabs class o) refl
     where

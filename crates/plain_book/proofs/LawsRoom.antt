@@ -17,6 +17,7 @@ use Rattle.scripthash_layout.proofs.LawsSizes.{size-mono}
 use Rattle.scripthash_stream.specs.Stream.{streamLen}
 use Rattle.scripthash_cutting.specs.Cutting.{cutting}
 use Rattle.scripthash_free.proofs.LawsBlock.{block-stands}
+use Rattle.free_runs.specs.Runs.{lowest}
 use Rattle.book_rules.specs.declared.places.SlabFit.{SlabFit}
 use Rattle.book_statements.specs.Calls.{Change, load, append, drop}
 use Rattle.book_limits.specs.Limits.{slabsEnd, outOfShape, pageAfter, pastSlabs}
@@ -28,7 +29,7 @@ use Rattle.book_desks.specs.Desks.{desks, Limits, deskCount, sumTo, lacks, lack
 use Rattle.book_desks.proofs.LawsSums.{sum-least, sum-same}
 use Rattle.book_desks.proofs.LawsDesks.{list-good}
 use Rattle.plain_book.specs.Space.{Space, Taken, stackOf, takeMark, takeSlab, rounded, takeRun, takeFresh, takeFrom, takeBlock}
-use Rattle.plain_book.specs.Space.{runAtMark}
+use Rattle.plain_book.specs.Space.{runAtMark, runFreed, takeFound}
 use Rattle.plain_book.specs.Key.{Place, empty, inline, slab, pages, moved, joins, beginPage, appendPages, appendPlace}
 use Rattle.plain_book.specs.Key.{Key, emptyKey, pagesOf, loadInto, loadPlace, longer, Leave}
 use Rattle.plain_book.specs.Book.{Book, onKey, keyOf, allowed, deskIn, leaveOf, loads, appends, drops, does}
@@ -56,9 +57,20 @@ abbrev Takes : Space → ℕ → Answer Taken → Type 0
 Takes s n a = (t : Taken) × (a ≡ accepted t) × (t .space .mark ≤ pageAfter (s .mark) + n * pageSize)
 
 -- Blocks and runs.
-run-takes : (end k : ℕ) (s : Space) → pageAfter (s .mark) + k * pageSize ≤ end → Takes s k (takeRun end k s)
+mark-run-takes : (end k : ℕ) (s : Space) → pageAfter (s .mark) + k * pageSize ≤ end → Takes s k (runAtMark end k s)
 unfolding runAtMark rounded takeMark
-run-takes end k s h = (_, refuse-no _ _ _ (le-ltb end (pageAfter (s .mark) + k * pageSize) h), omega arith)
+mark-run-takes end k s h = (_, refuse-no _ _ _ (le-ltb end (pageAfter (s .mark) + k * pageSize) h), omega arith)
+
+-- A run out of the freed pages needs no room at the mark, and leaves it.
+found-takes : (end k : ℕ) (s : Space) (found : Option ℕ) → (found ≡ none → pageAfter (s .mark) + k * pageSize ≤ end)
+    → Takes s k (takeFound end k s found)
+unfolding takeFound
+found-takes end k s none h = mark-run-takes end k s (h refl)
+found-takes end k s (some off) h = (runFreed off k s, refl, omega arith)
+
+run-takes : (end k : ℕ) (s : Space) → (lowest k (stackOf pageClass s) ≡ none → pageAfter (s .mark) + k * pageSize ≤ end)
+    → Takes s k (takeRun end k s)
+run-takes end k s h = found-takes end k s (lowest k (stackOf pageClass s)) h
 
 slab-takes : (end bytes : ℕ) (s : Space) → bytes ≤ pageSize → s .mark + bytes ≤ slabsEnd → s .mark + bytes ≤ end
     → Takes s 1 (takeSlab end bytes s)
@@ -79,8 +91,8 @@ block-takes end class s c r = go (stackOf class s) refl
     big : slabBytes class ≤ 4096
     big = size-mono 4 {c = class} {d = 8} c
 
-    choose : (page : Bool) → Takes s 1 (cond page (takeRun end 1 s) (takeSlab end (slabBytes class) s))
-    choose true = run-takes end 1 s (omega (arith, r .ends))
+    choose : (page : Bool) → Takes s 1 (cond page (runAtMark end 1 s) (takeSlab end (slabBytes class) s))
+    choose true = mark-run-takes end 1 s (omega (arith, r .ends))
     choose false = slab-takes end (slabBytes class) s big (omega (arith, big, r .low)) (omega (arith, big, r .ends))
 
     go : (os : List ℕ) → stackOf class s ≡ os → Takes s 1 (takeFrom end class os s)
@@ -156,7 +168,7 @@ load-accepts fit end leave (n ∷ m ∷ ns) s lets r h = go (loadsTo fit (length
         let (t, is, near) = block-takes end c s (omega arith) r in
         then-accepts _ _ (lets 0 _ (omega arith) (t, is, omega arith))
     go none q =
-        let (t, is, near) = run-takes end (length (cutting (n ∷ m ∷ ns))) s (omega arith) in
+        let (t, is, near) = run-takes end (length (cutting (n ∷ m ∷ ns))) s (λ none-freed. omega arith) in
         then-accepts _ _ (lets (length (cutting (n ∷ m ∷ ns))) _ (omega arith) (t, is, omega arith))
 
 -- ---- what is refused for want of room

@@ -16,12 +16,13 @@ use Rattle.scripthash_layout.specs.Sizes.{slabBytes, pageClass, pageSize}
 use Rattle.scripthash_free.specs.FreeList.{Block, isBlock, Adjoin, Each, IsSlab, gapBlocks}
 use Rattle.scripthash_free.proofs.LawsBlock.{stands-block, slab-stands}
 use Rattle.scripthash_free.proofs.LawsGap.{gap-filled, gap-slabs}
+use Rattle.free_runs.specs.Runs.{lowest}
 use Rattle.book_limits.specs.Limits.{slabsEnd, pageAfter, pastSlabs, gapEnd}
 use Rattle.book_limits.proofs.LawsLimits.{gap-end}
-use Rattle.plain_book.specs.Space.{Space, stackOf, freed, freedAll, Taken, takeMark, takeSlab, rounded, takeRun, takeFresh, takeFrom}
-use Rattle.plain_book.specs.Space.{takeBlock, runAtMark}
+use Rattle.plain_book.specs.Space.{Space, stackOf, freed, freedAll, Taken, takeMark, takeSlab, rounded, takeFresh, takeFrom}
+use Rattle.plain_book.specs.Space.{takeBlock, runAtMark, runFreed, takeFound, takeRun}
 use Rattle.plain_book.specs.Key.{Place, pages, runPages}
-use Rattle.plain_book.specs.Owners.{Owner, hand, stack, slabOf, pageOf, pageNo, has}
+use Rattle.plain_book.specs.Owners.{Owner, hand, stack, slabOf, pageOf, pageNo, has, RunClear}
 use Rattle.plain_book.specs.Good.{Good}
 use Rattle.plain_book.proofs.LawsApart.{apart-raised, apart-added, apart-run}
 use Rattle.plain_book.proofs.LawsOwners.{some-inj, none-some, below-top, withStack, changed-has, bytes-aligned, good-popped}
@@ -84,7 +85,7 @@ good-carved (b ∷ bs) s at held end (is, a) (b7, e) g =
     all
 
 -- The mark rises, with no block on a list.
-good-raised : (s : Space) (at : ℕ → Place) (held : Option Block) (m : ℕ) → s .mark ≤ m → m % 16 ≡ 0 → Good s at held
+pub good-raised : (s : Space) (at : ℕ → Place) (held : Option Block) (m : ℕ) → s .mark ≤ m → m % 16 ≡ 0 → Good s at held
     → Good (record { mark = m; stacks = s .stacks }) at held
 unfolding has
 good-raised s at held m up a g =
@@ -130,6 +131,19 @@ pub took-mark : (end bytes : ℕ) (s : Space) {t : Taken} → takeMark end bytes
 unfolding takeMark
 took-mark end bytes s e = sym (accepted-inj (passed _ _ _ e .1))
 
+-- What the run of a load gave: a run at the mark, or, where a stretch was found, that one.
+pub took-run : (end n : ℕ) (s : Space) {t : Taken} → takeRun end n s ≡ accepted t
+    → ((lowest n (stackOf pageClass s) ≡ none) × (runAtMark end n s ≡ accepted t))
+    ⊎ ((off : ℕ) × (lowest n (stackOf pageClass s) ≡ some off) × (t ≡ runFreed off n s))
+unfolding takeFound
+took-run end n s {t} e = go (lowest n (stackOf pageClass s)) refl e
+  where
+    go : (found : Option ℕ) → lowest n (stackOf pageClass s) ≡ found → takeFound end n s found ≡ accepted t
+        → ((lowest n (stackOf pageClass s) ≡ none) × (runAtMark end n s ≡ accepted t))
+        ⊎ ((off : ℕ) × (lowest n (stackOf pageClass s) ≡ some off) × (t ≡ runFreed off n s))
+    go none q e = inl (q, e)
+    go (some off) q e = inr (off, q, sym (accepted-inj e))
+
 -- What is in hand after a take.
 abbrev pub InHand : (ℕ → Place) → ℕ → Taken → Type 0
 InHand at class t = Good (t .space) at (some (record { class = class; off = t .off }))
@@ -140,7 +154,7 @@ unfolding rounded
 rounded-mark s = omega arith
 
 -- A page from the mark, and a slab.
-pub good-fresh-page : (end : ℕ) (s : Space) (at : ℕ → Place) {t : Taken} → takeRun end 1 s ≡ accepted t → Good s at none
+pub good-fresh-page : (end : ℕ) (s : Space) (at : ℕ → Place) {t : Taken} → runAtMark end 1 s ≡ accepted t → Good s at none
     → InHand at pageClass t
 unfolding runAtMark
 good-fresh-page end s at e g =
@@ -165,7 +179,7 @@ pub good-taken : (end class : ℕ) (s : Space) (at : ℕ → Place) {t : Taken} 
 unfolding takeFrom takeFresh takeSlab
 good-taken end class s at {t} c e g = from-stack (stackOf class s) refl e
   where
-    fresh : (b : Bool) → eqb class pageClass ≡ b → cond b (takeRun end 1 s) (takeSlab end (slabBytes class) s) ≡ accepted t
+    fresh : (b : Bool) → eqb class pageClass ≡ b → cond b (runAtMark end 1 s) (takeSlab end (slabBytes class) s) ≡ accepted t
         → InHand at class t
     fresh true q e = subst (λ (k : ℕ). InHand at k t) (sym (eqb-true class pageClass q)) (good-fresh-page end s at e g)
     fresh false q e = let n = eqb-false class pageClass q in good-fresh-slab end class s at (slab-class class c n) (passed _ _ _ e .1) g
@@ -187,30 +201,28 @@ run-at (suc i) off (p ∷ q ∷ ps) x e =
     let (is, l) = run-at i (off + pageSize) (q ∷ ps) x e in
     (is ∙ ap (λ (o : ℕ). record { class = pageClass; off = o }) (omega arith), omega arith)
 
-pub good-run : (s : Space) (at : ℕ → Place) (key : ℕ) (parts : List (List ℕ)) → s .mark % 4096 ≡ 0 → Good s at none
-    → Good (record { mark = s .mark + length parts * pageSize; stacks = s .stacks }) (atKey key (pages (runPages (s .mark) parts)) at) none
+-- A run that is nobody's becomes a key's pages.
+pub good-run-clear : (s : Space) (at : ℕ → Place) (key off : ℕ) (parts : List (List ℕ)) → Good s at none
+    → RunClear (s .mark) off (length parts) (has s at none) → Good s (atKey key (pages (runPages off parts)) at) none
 unfolding has
-good-run s at key parts a g =
+good-run-clear s at key off parts g r =
     record {
       nine = g .nine;
-      aligned = omega arith;
-      from = omega (arith, g .from);
-      apart = apart-run _ _ (s .mark) (s .mark + length parts * pageSize) (length parts) pageSize pageClass (pageOf key) refl (omega arith)
-          (λ i l. page-stands (s .mark + i * pageSize) (s .mark + length parts * pageSize) (omega arith) (omega (arith, g .from))
-          (omega arith)) to (g .apart);
+      aligned = g .aligned;
+      from = g .from;
+      apart = apart-run _ _ (s .mark) off (length parts) pageSize pageClass (pageOf key) refl
+          (λ i l. page-stands (off + i * pageSize) (s .mark) (omega (arith, r .aligned)) (omega (arith, r .from)) (omega (arith, r .below)))
+          (r .clear) to (g .apart);
     }
   where
-    to : (w : Owner) (x : Block)
-        → has (record { mark = s .mark + length parts * pageSize; stacks = s .stacks }) (atKey key (pages (runPages (s .mark) parts)) at)
-        none w ≡ some x
-        → ((i : ℕ) × (w ≡ pageOf key i) × (x ≡ record { class = pageClass; off = s .mark + i * pageSize }) × (i < length parts))
+    to : (w : Owner) (x : Block) → has s (atKey key (pages (runPages off parts)) at) none w ≡ some x
+        → ((i : ℕ) × (w ≡ pageOf key i) × (x ≡ record { class = pageClass; off = off + i * pageSize }) × (i < length parts))
         ⊎ (has s at none w ≡ some x)
     to hand x e = inr e
     to (stack c d) x e = inr e
-    to (slabOf j) x e = ⊎-elim (λ (is, f). absurd (none-some f)) (λ (n, f). inr f)
-        (key-slab key (pages (runPages (s .mark) parts)) at j x e)
+    to (slabOf j) x e = ⊎-elim (λ (is, f). absurd (none-some f)) (λ (n, f). inr f) (key-slab key (pages (runPages off parts)) at j x e)
     to (pageOf j i) x e =
         ⊎-elim
-        (λ (is, f). let (block, l) = run-at i (s .mark) parts x f in inl (i, ap (λ (k : ℕ). pageOf k i) is, block, l))
+        (λ (is, f). let (block, l) = run-at i off parts x f in inl (i, ap (λ (k : ℕ). pageOf k i) is, block, l))
         (λ (n, f). inr f)
-        (key-page key (pages (runPages (s .mark) parts)) at j i x e)
+        (key-page key (pages (runPages off parts)) at j i x e)

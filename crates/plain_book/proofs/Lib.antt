@@ -13,6 +13,7 @@ pub mod LawsSpare
 pub mod LawsApart
 pub mod LawsOwners
 pub mod LawsTaking
+pub mod LawsRunFreed
 pub mod LawsBlocks
 pub mod LawsMark
 pub mod LawsDesks

@@ -1,13 +1,13 @@
 -- Who has which block of the body: freed blocks, slabs and pages share no byte.
-use Prim.Native.Nat.{ℕ, zero, suc}
+use Prim.Native.Nat.{ℕ, zero, suc, _+_, _*_, _%_, _≤_}
 use mathlib.Core.Bool.{true, cond}
 use mathlib.Core.List.{List, [], _∷_}
-use mathlib.Core.Logic.{_≢_}
+use mathlib.Core.Logic.{_⊎_, _≢_}
 use mathlib.Core.Option.{Option, none, some}
 use mathlib.Core.Path.{_≡_}
 use lib.Dec.{eqb}
 use lib.ListN.{length}
-use Rattle.scripthash_layout.specs.Sizes.{pageClass}
+use Rattle.scripthash_layout.specs.Sizes.{slabBytes, pageClass, pageSize}
 use Rattle.scripthash_free.specs.FreeList.{Block, Disjoint, isBlock}
 use Rattle.plain_book.specs.Space.{Space, stackOf}
 use Rattle.plain_book.specs.Key.{Page, Place, empty, inline, slab, pages}
@@ -57,6 +57,13 @@ has s at held (pageOf key i) = pageIn i (at key)
 pub record Apart (mark : ℕ) (f : Owner → Option Block) : Type 0 where
   pub stands : (w : Owner) (x : Block) → f w ≡ some x → isBlock (x .class) (x .off) mark ≡ true
   pub apart : (v w : Owner) (x y : Block) → v ≢ w → f v ≡ some x → f w ≡ some y → Disjoint x y
+
+-- A run of pages stands below the mark, and no byte of it is anybody's.
+pub record RunClear (mark off pages : ℕ) (f : Owner → Option Block) : Type 0 where
+  pub aligned : off % pageSize ≡ 0
+  pub from : pageSize ≤ off
+  pub below : off + pages * pageSize ≤ mark
+  pub clear : (w : Owner) (x : Block) → f w ≡ some x → (x .off + slabBytes (x .class) ≤ off) ⊎ (off + pages * pageSize ≤ x .off)
 
 -- The keys' places in a book.
 abbrev pub places : Book → ℕ → Place

@@ -3,11 +3,13 @@
 use Prim.Native.Nat.{ℕ, _+_, _*_}
 use mathlib.Core.Bool.{cond}
 use mathlib.Core.List.{List, [], _∷_}
+use mathlib.Core.Option.{Option, none, some}
 use lib.Dec.{ltb, eqb}
 use lib.ListN.{getD, set}
 use Rattle.error.specs.Refusal.{Answer, accepted, refuseIf, freeHeadBad, noRoom}
 use Rattle.scripthash_layout.specs.Sizes.{slabBytes, pageClass, pageSize}
 use Rattle.scripthash_free.specs.FreeList.{Block, gapBlocks}
+use Rattle.free_runs.specs.Runs.{lowest, withoutRun}
 use Rattle.book_limits.specs.Limits.{slabsEnd, pageAfter, pastSlabs, gapEnd}
 
 -- The mark, and the freed blocks' offsets of classes 0 to 8, the last freed first.
@@ -47,9 +49,19 @@ rounded s = record { mark = pageAfter (s .mark); stacks = freedAll (gapBlocks (s
 unfoldable pub runAtMark : ℕ → ℕ → Space → Answer Taken
 runAtMark end pages s = takeMark end (pages * pageSize) (rounded s)
 
--- The run of a load: always at the mark.
+-- A run of pages taken out of the freed ones: those left keep their order.
+abbrev pub runFreed : ℕ → ℕ → Space → Taken
+runFreed off pages s =
+    record { off = off; space = record { mark = s .mark; stacks = set (s .stacks) pageClass (withoutRun off pages (stackOf pageClass s)) } }
+
+-- A run of pages taken where a search of the freed ones led, or else at the mark.
+unfoldable pub takeFound : ℕ → ℕ → Space → Option ℕ → Answer Taken
+takeFound end pages s none = runAtMark end pages s
+takeFound end pages s (some off) = accepted (runFreed off pages s)
+
+-- The run of a load: the lowest stretch of so many freed pages, or else at the mark.
 abbrev pub takeRun : ℕ → ℕ → Space → Answer Taken
-takeRun end pages s = runAtMark end pages s
+takeRun end pages s = takeFound end pages s (lowest pages (stackOf pageClass s))
 
 -- A slab of so many bytes taken at the mark: refused where it would pass the end of slabs, or the body's.
 unfoldable pub takeSlab : ℕ → ℕ → Space → Answer Taken
