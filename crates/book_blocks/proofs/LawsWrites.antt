@@ -29,7 +29,7 @@ use Rattle.scripthash_fields.specs.Fields.{afterSet}
 use Rattle.scripthash_fields.proofs.LawsPage.{length-setField, length-delta, length-extent}
 use Rattle.scripthash_fields.proofs.LawsFields.{stream-off-extent}
 use Rattle.scripthash_cutting.specs.Cutting.{pageRoom, lastPageRoom, cutting, rangeOf, rangesFrom, chunkRanges, afterChunkRanges, joined}
-use Rattle.scripthash_cutting.specs.Cutting.{Fit}
+use Rattle.scripthash_cutting.specs.Cutting.{Fit, AllowedCutting}
 use Rattle.scripthash_cutting.proofs.LawsPages.{pages-allowed}
 use Rattle.scripthash_cutting.proofs.LawsRising.{rising-words, rising-left, rising-right}
 use Rattle.scripthash_pages.specs.Pack.{packPage, packExtent}
@@ -273,12 +273,20 @@ unfolding joined
 some-parts [] h = h
 some-parts (p ∷ ps) h = omega arith
 
+-- rising numbers are cut into parts that are allowed, and some numbers into some parts
+rising-cuts : (fks : List ℕ) → Rising (2 ^ 62) 0 fks → AllowedCutting fks (cutting fks)
+rising-cuts fks rises = pages-allowed fks (rising-words 0 fks (rising-below (2 ^ 62) (2 ^ 63) 0 fks (omega arith) rises))
+
+pub parts-some : (fks : List ℕ) → Rising (2 ^ 62) 0 fks → 0 < length fks → 0 < length (cutting fks)
+parts-some fks rises some-fks =
+    some-parts (cutting fks) (omega (arith, some-fks, ap length (rising-cuts fks rises .consecutive)))
+
 -- a run begins with all parts of its list, of which there are some
 pub run-start : (size start : ℕ) (fks : List ℕ) (ranges : List (List ℕ)) (count : ℕ) → Run size start fks ranges count
     → (0 < count) × RunLeft fks (take count ranges) 0 0 (cutting fks)
 run-start size start fks ranges count r =
-    let allowed = pages-allowed fks (rising-words 0 fks (rising-below (2 ^ 62) (2 ^ 63) 0 fks (omega arith) (r .rises))) in (
-      omega (arith, r .parts, r .some-fks, some-parts (cutting fks) (omega (arith, r .some-fks, ap length (allowed .consecutive)))),
+    let allowed = rising-cuts fks (r .rises) in (
+      omega (arith, r .parts, parts-some fks (r .rises) (r .some-fks)),
       record { rises = r .rises; numbers = allowed .consecutive; fit = allowed .fit; ranges-are = r .ranges-are },
     )
 

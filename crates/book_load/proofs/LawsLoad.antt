@@ -3,7 +3,7 @@ use Prim.Native.Nat.{ℕ, _^_, _≤_, _<_}
 use mathlib.Core.Bool.{Bool, true, false, not}
 use mathlib.Core.List.{List, [], _∷_}
 use mathlib.Core.Option.{none, some}
-use mathlib.Core.Path.{_≡_, refl, sym, ap, subst, _∙_}
+use mathlib.Core.Path.{_≡_, refl, sym, ap, _∙_}
 use native.Mathlib.Omega.{arith}
 use borrow.Author.Tests.{le-ltb, lt-ltb, eq-eqb, ne-eqb}
 use lib.Dec.{leb, ltb, eqb}
@@ -25,11 +25,11 @@ use Rattle.book_rules.specs.Places.{loadsTo}
 use Rattle.book_rules.proofs.LawsOffered.{rising-all}
 use Rattle.book_blocks.specs.Blocks.{writeRun}
 use Rattle.book_blocks.specs.Steps.{Run}
+use Rattle.book_blocks.proofs.LawsWrites.{parts-some}
 use Rattle.book_desks.specs.Desks.{desks}
 use Rattle.book_space.specs.Space.{Space, space, InShape, shapeBroken}
 use Rattle.book_space.specs.Desks.{TakenFor, slabFor, runFor}
-use Rattle.book_space.proofs.LawsTake.{run-ran}
-use Rattle.book_space.proofs.LawsDesks.{run-for}
+use Rattle.book_space.proofs.LawsDesks.{run-for-lies}
 use Rattle.book.specs.Book.{Book, Outcome, wordOf, filled}
 use Rattle.book_load.specs.Loads.{loading, lastOfRun, loadInto, loadAt, loads}
 use Rattle.book.specs.Steps.{Placed, placesInto, Does}
@@ -119,24 +119,25 @@ module _ (desk : ℕ) (b : Book) (key : ℕ) (ns : List ℕ) (count : ℕ) (part
   unfolding loadInto
   run-loaded t e body is = rw (is, parts) (then-yes (runFor desk (length (cutting ns)) (b .space) (b .counts)) _ (rw parts at e))
 
+-- A list that was cut has parts.
+pub count-some : (fks : List ℕ) (ranges : List (List ℕ)) (count : ℕ) → Parts fks ranges count → 0 < count
+count-some fks ranges count p = omega (arith, p .parts, parts-some fks (p .judged .rises) (p .some-fks))
+
 -- A run that a desk took for the parts of a list can be written.
 pub run-lies : (desk : ℕ) (s : Space) (counts : List ℕ) (t : TakenFor) (fks : List ℕ) (ranges : List (List ℕ)) (count : ℕ) → InShape s
     → Parts fks ranges count → runFor desk count s counts ≡ accepted t → Run (length (t .space .body)) (t .off) fks ranges count
 run-lies desk s counts t fks ranges count i p e =
-    let (u, is, o, same, c) = run-for desk s counts count e in
-    let r = run-ran count s i is in
-    let shape = subst InShape (sym same) (r .kept .shape) in
-    let mark = ap (λ (x : Space). x .mark) same in
+    let r = run-for-lies desk s counts count i (count-some fks ranges count p) e in
     record {
       rises = p .judged .rises;
       some-fks = p .some-fks;
       few = p .judged .few;
       parts = p .parts;
       ranges-are = p .ranges-are;
-      aligned = omega (arith, o, r .begins);
-      some = omega (arith, o, r .begins, i .begins);
-      inside = omega (arith, o, mark, r .ends, shape .within);
-      small = shape .most;
+      aligned = r .aligned;
+      some = omega (arith, r .begins);
+      inside = omega (arith, r .ends, r .shape .within);
+      small = r .shape .most;
     }
 
 -- ---- a list by its length

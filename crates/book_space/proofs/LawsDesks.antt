@@ -4,6 +4,7 @@ use Prim.Native.Nat.{ℕ, _+_, _-_, _≤_, _<_}
 use mathlib.Core.Bool.{Bool, true, false, cond}
 use mathlib.Core.List.{List}
 use mathlib.Core.Logic.{_≢_}
+use mathlib.Core.Option.{Option}
 use mathlib.Core.Path.{_≡_, refl, sym, ap, _∙_}
 use native.Mathlib.Omega.{arith}
 use borrow.Author.Tests.{ltb-true, ltb-false, lt-ltb, le-ltb, ne-eqb}
@@ -16,10 +17,12 @@ use Rattle.scripthash_layout.specs.Sizes.{pageClass}
 use Rattle.book_desks.specs.Desks.{permissionNumber}
 use Rattle.book_desks.specs.Counts.{freedCount, heldCount, heldIn, limitsIn, countsHigh, counted}
 use Rattle.book_desks.proofs.LawsDesks.{Within, Covers, permits, permission-given, permission-not}
-use Rattle.book_space.specs.Space.{Space, Taken, takeRun, takeBlock}
-use Rattle.book_space.specs.Desks.{TakenFor, judgedTake, slabFor, freedUntrue, freedLeft, pageFor, runFor, givenBack}
+use Rattle.book_space.specs.Space.{Space, InShape, Taken, takeBlock, searched, takeFound}
+use Rattle.book_space.specs.Desks.{TakenFor, judgedTake, slabFor, freedUntrue, freedLeft, pageFor, freedBut, runFound, runFor}
+use Rattle.book_space.specs.Desks.{givenBack}
 use Rattle.book_space.specs.Steps.{Takes, markAfter, judgedNumber, spaceFor, countsFor, TakesFor, GivesBack}
 use Rattle.book_space.proofs.LawsSteps.{after-taken}
+use Rattle.book_space.proofs.LawsFreed.{RunLies, found-lies}
 
 -- What a desk's take gives that is such a take, with some counts.
 abbrev pub takenFor : Taken → List ℕ → TakenFor
@@ -28,6 +31,14 @@ takenFor t counts = record { off = t .off; space = t .space; counts = counts }
 -- A desk's take is one of an answer, and leaves some counts.
 abbrev pub TookFor : Answer Taken → List ℕ → TakenFor → Type 0
 TookFor a counts t = (u : Taken) × (a ≡ accepted u) × (t .off ≡ u .off) × (t .space ≡ u .space) × (t .counts ≡ counts)
+
+-- What a desk's take is of the space.
+abbrev pub taken : TakenFor → Taken
+taken t = record { off = t .off; space = t .space }
+
+-- A desk's take that was accepted is that take, and leaves those counts.
+pub took-is : {a : Answer Taken} {counts : List ℕ} {t : TakenFor} → TookFor a counts t → (a ≡ accepted (taken t)) × (t .counts ≡ counts)
+took-is {a} {counts} {t} (u, is, off, space, left) = (is ∙ ap accepted (λ i. record { off = sym off i; space = sym space i }), left)
 
 -- ---- the judgement
 
@@ -164,13 +175,36 @@ module _ (desk : ℕ) (s : Space) (counts : List ℕ) where
       judged-on (length (s .body)) desk 1 (freedLeft s counts) counts (counted (freedLeft s counts) desk (heldCount desk counts + 1) counts)
       (takeBlock pageClass s) (passed _ _ _ e .1)
 
-  -- A run for a desk is that run, and the desk holds its pages more.
-  pub run-for : (pages : ℕ) {t : TakenFor} → runFor desk pages s counts ≡ accepted t
-      → TookFor (takeRun pages s) (counted (freedCount counts) desk (heldCount desk counts + pages) counts) t
+  -- Where the freed pages are searched, the run is taken where that led, and else it is refused.
+  pub run-searched : (pages : ℕ) {found : Option ℕ} → searched pages (freedCount counts) s ≡ accepted found
+      → runFor desk pages s counts ≡ runFound desk pages s counts found
   unfolding runFor
+  run-searched pages e = then-yes (searched pages (freedCount counts) s) _ e
+
+  pub run-unsearched : (pages : ℕ) {m : ℕ} → searched pages (freedCount counts) s ≡ refused m → runFor desk pages s counts ≡ refused m
+  unfolding runFor
+  run-unsearched pages e = then-no (searched pages (freedCount counts) s) _ e
+
+  -- A run for a desk is the run where a search of the freed pages led, which are fewer then, and the desk holds its pages more.
+  pub run-for : (pages : ℕ) {t : TakenFor} → runFor desk pages s counts ≡ accepted t
+      → (found : Option ℕ) × (searched pages (freedCount counts) s ≡ accepted found)
+      × (takeFound pages (freedCount counts) s found ≡ accepted (taken t))
+      × (t .counts ≡ counted (freedBut pages found counts) desk (heldCount desk counts + pages) counts)
+  unfolding runFor runFound
   run-for pages e =
-      judged-on (length (s .body)) desk pages (freedCount counts) counts
-      (counted (freedCount counts) desk (heldCount desk counts + pages) counts) (takeRun pages s) e
+      let (found, is, run) = went-on (searched pages (freedCount counts) s) _ e in
+      let (took, left) =
+      took-is
+      (judged-on (length (s .body)) desk pages (freedBut pages found counts) counts
+      (counted (freedBut pages found counts) desk (heldCount desk counts + pages) counts)
+      (takeFound pages (freedCount counts) s found) run) in
+      (found, is, took, left)
+
+  -- It keeps the space in shape, and lies below the mark.
+  pub run-for-lies : (pages : ℕ) {t : TakenFor} → InShape s → 0 < pages → runFor desk pages s counts ≡ accepted t
+      → RunLies pages s (taken t)
+  run-for-lies pages i some-pages e =
+      let (found, is, took, c) = run-for pages e in found-lies pages (freedCount counts) s found i some-pages is took
 
 -- No more pages are freed once one is taken.
 pub freed-less : (s : Space) (counts : List ℕ) → freedLeft s counts ≤ freedCount counts
@@ -232,16 +266,6 @@ module _ (end desk pages : ℕ) (before : List ℕ) (some : 0 < pages) where
             back-few call e h ∙ ap refused (sym (g .told ∙ ap refusalOf (back-few {A = List ℕ} accepted e h)))
         go false false e f =
             absurd (n (g .told ∙ ap refusalOf (back-given {A = List ℕ} accepted e (ltb-false _ _ f))))
-
--- ---- for those who ask what an accepted take was
-
--- What a desk's take is of the space.
-abbrev pub taken : TakenFor → Taken
-taken t = record { off = t .off; space = t .space }
-
--- A desk's take that was accepted is that take, and leaves those counts.
-pub took-is : {a : Answer Taken} {counts : List ℕ} {t : TakenFor} → TookFor a counts t → (a ≡ accepted (taken t)) × (t .counts ≡ counts)
-took-is {a} {counts} {t} (u, is, off, space, left) = (is ∙ ap accepted (λ i. record { off = sym off i; space = sym space i }), left)
 
 -- ---- pages given back
 

@@ -14,7 +14,7 @@ use Rattle.scripthash_free.specs.FreeList.{Pop, firstFreed, isBlock, popFree, c
 use Rattle.scripthash_free.proofs.LawsFree.{pop-none, pop-yes, pop-no}
 use Rattle.book_limits.specs.Limits.{slabsEnd, pageAfter, gapEnd, popEnd}
 use Rattle.book_limits.proofs.LawsLimits.{pop-below}
-use Rattle.book_space.specs.Space.{Space, listsOf, InShape, takeMark, takeSlab, takeRun, takeFresh, takeBlock}
+use Rattle.book_space.specs.Space.{Space, listsOf, InShape, takeMark, takeSlab, runAtMark, takeFresh, takeBlock}
 use Rattle.book_space.specs.Steps.{markAfter, markAfterRun, markAfterSlab}
 use Rattle.book_space.proofs.LawsSteps.{told-block, told-none, told-refused, fresh-page, fresh-slab}
 use Rattle.book_space.proofs.LawsTake.{run-yes, run-no, run-ran, take-took}
@@ -35,7 +35,7 @@ slab-marked bytes s =
 
 -- The mark after a run at it.
 pub run-marked : (pages : ℕ) (s : Space) → InShape s
-    → answered markAfter (takeRun pages s) ≡ markAfterRun (length (s .body)) (s .mark) pages
+    → answered markAfter (runAtMark pages s) ≡ markAfterRun (length (s .body)) (s .mark) pages
 unfolding markAfterRun
 run-marked pages s i = go (ltb (length (s .body)) end) refl
   where
@@ -43,17 +43,17 @@ run-marked pages s i = go (ltb (length (s .body)) end) refl
     end = pageAfter (s .mark) + pages * pageSize
 
     go : (t : Bool) → ltb (length (s .body)) end ≡ t
-        → answered markAfter (takeRun pages s) ≡ refuseIf (ltb (length (s .body)) end) noRoom (accepted end)
+        → answered markAfter (runAtMark pages s) ≡ refuseIf (ltb (length (s .body)) end) noRoom (accepted end)
     go true e = answered-no markAfter _ (run-no pages s i (ltb-true _ _ e)) ∙ sym (refuse-yes _ _ _ e)
     go false e =
         let l = listsAfter (carveGap (s .mark) (gapEnd (s .mark)) (listsOf s)) (listsOf s) in
         answered-yes markAfter _ (run-yes pages s i l refl (ltb-false _ _ e)) ∙ sym (refuse-no _ _ _ e)
 
 -- It is within the body.
-pub run-within : (pages : ℕ) (s : Space) {mark : ℕ} → InShape s → answered markAfter (takeRun pages s) ≡ accepted mark
+pub run-within : (pages : ℕ) (s : Space) {mark : ℕ} → InShape s → answered markAfter (runAtMark pages s) ≡ accepted mark
     → mark ≤ length (s .body)
 run-within pages s i e =
-    let (u, is, m) = was-accepted markAfter (takeRun pages s) e in
+    let (u, is, m) = was-accepted markAfter (runAtMark pages s) e in
     let k = run-ran pages s i is .kept in
     omega (arith, m, k .shape .within, k .size)
 

@@ -12,9 +12,8 @@ use Rattle.scripthash_layout.specs.Sizes.{slabBytes, pageClass}
 use Rattle.scripthash_free.specs.FreeList.{Lists, Pop, isBlock, pushFree, popFree, pushAll, listsAfter, headsAfter}
 use Rattle.scripthash_free.proofs.LawsFree.{after-accepted, heads-accepted, push-yes}
 use Rattle.book_limits.specs.Limits.{slabsEnd, popEnd}
-use Rattle.book_space.specs.Space.{takeSlab, Space, space, listsOf, withLists, Taken, takeMark, takeRun, takeFresh, takePopped}
-use Rattle.book_space.specs.Space.{takeBlock}
-use Rattle.book_space.specs.Space.{spaceAfter, release}
+use Rattle.book_space.specs.Space.{Space, space, listsOf, withLists, Taken, takeMark, takeSlab, runAtMark, takeFresh, takePopped}
+use Rattle.book_space.specs.Space.{takeBlock, spaceAfter, release}
 use Rattle.book_space.specs.Steps.{Takes}
 
 -- An answer that is a refusal refuses by the number that is asked of it.
@@ -61,7 +60,7 @@ unfolding takeMark
 mark-no bytes s h = refuse-yes _ _ _ (lt-ltb (length (s .body)) (s .mark + bytes) h)
 
 -- A fresh page is a run of one.
-pub fresh-page : (s : Space) → takeFresh pageClass s ≡ takeRun 1 s
+pub fresh-page : (s : Space) → takeFresh pageClass s ≡ runAtMark 1 s
 unfolding takeFresh
 fresh-page s = refl
 

@@ -21,9 +21,8 @@ use Rattle.scripthash_free.proofs.LawsFree.{after-accepted, carve-yes}
 use Rattle.scripthash_free.proofs.LawsGap.{gap-filled, adjoin-within, each-map}
 use Rattle.book_limits.specs.Limits.{slabsEnd, pageAfter, gapEnd, popEnd}
 use Rattle.book_limits.proofs.LawsLimits.{GapTo, gap-end, pop-below}
-use Rattle.book_space.specs.Space.{Space, space, listsOf, InShape, Taken, takeMark, takeSlab, rounded, takeRun, takeFresh, takePopped}
-use Rattle.book_space.specs.Space.{runAtMark}
-use Rattle.book_space.specs.Space.{takeBlock, release}
+use Rattle.book_space.specs.Space.{Space, space, listsOf, InShape, Taken, takeMark, takeSlab, rounded, runAtMark, takeFresh}
+use Rattle.book_space.specs.Space.{takePopped, takeBlock, release}
 use Rattle.book_space.proofs.LawsLists.{heads-stay, size-stays, outside-stays, stands-further, Popped, popped}
 use Rattle.book_space.proofs.LawsSteps.{mark-yes, mark-no, fresh-page, fresh-slab}
 
@@ -47,7 +46,7 @@ kept-on j k = record {
 }
 
 -- A space as long as one in shape is, with a mark that is aligned, no lower, and within the body, is in shape.
-shape-stays : (s t : Space) → InShape s → length (t .body) ≡ length (s .body) → t .mark % 16 ≡ 0 → s .mark ≤ t .mark
+pub shape-stays : (s t : Space) → InShape s → length (t .body) ≡ length (s .body) → t .mark % 16 ≡ 0 → s .mark ≤ t .mark
     → t .mark ≤ length (t .body) → InShape t
 shape-stays s t i size aligned rises within = record {
   paged = rw size (i .paged);
@@ -106,7 +105,7 @@ module _ (pages : ℕ) (s : Space) (i : InShape s) where
   -- One that fits is taken, with the free lists after carving the gap.
   pub run-yes : (l : Lists) → l ≡ listsAfter (carveGap (s .mark) (gapEnd (s .mark)) (listsOf s)) (listsOf s)
       → pageAfter (s .mark) + pages * pageSize ≤ length (s .body)
-      → takeRun pages s ≡ accepted
+      → runAtMark pages s ≡ accepted
       (record { off = pageAfter (s .mark); space = space (l .body) (pageAfter (s .mark) + pages * pageSize) (l .heads) })
   unfolding runAtMark rounded
   run-yes l e h =
@@ -115,7 +114,7 @@ module _ (pages : ℕ) (s : Space) (i : InShape s) where
       rw carved (mark-yes (pages * pageSize) (rounded s) (omega (arith, r .size)))
 
   -- One that would pass the body's end is refused.
-  pub run-no : length (s .body) < pageAfter (s .mark) + pages * pageSize → takeRun pages s ≡ refused noRoom
+  pub run-no : length (s .body) < pageAfter (s .mark) + pages * pageSize → runAtMark pages s ≡ refused noRoom
   unfolding runAtMark rounded
   run-no h = let r = rounded-kept s i in mark-no (pages * pageSize) (rounded s) (omega (arith, r .size))
 
@@ -152,7 +151,7 @@ page-stands off end aligned begins ends =
     stands-block pageClass off end (record { class-to-8 = omega arith; aligned = aligned; begins = begins; ends = ends })
 
 -- A run that is taken from a space in shape promises that.
-pub run-ran : (pages : ℕ) (s : Space) {t : Taken} → InShape s → takeRun pages s ≡ accepted t → Ran pages s t
+pub run-ran : (pages : ℕ) (s : Space) {t : Taken} → InShape s → runAtMark pages s ≡ accepted t → Ran pages s t
 unfolding runAtMark
 run-ran pages s {t} i e =
     let r = rounded-kept s i in
@@ -188,7 +187,7 @@ module _ (class : ℕ) (s : Space) (small : class ≤ pageClass) (i : InShape s)
       }
 
   -- A fresh page.
-  page-took : {t : Taken} → class ≡ pageClass → takeRun 1 s ≡ accepted t → Took class s t
+  page-took : {t : Taken} → class ≡ pageClass → runAtMark 1 s ≡ accepted t → Took class s t
   page-took {t} z e =
       let r = run-ran 1 s i e in
       let here : t .off + 0 * pageSize ≡ t .off = omega arith in

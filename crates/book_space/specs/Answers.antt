@@ -6,7 +6,7 @@ use Rattle.book_space.specs.declared.take.TakeBlock.the-variants.{At, Re
 use Rattle.book_space.specs.declared.desks.Peek.{Peek}
 use Rattle.book_space.specs.declared.desks.Peek.the-variants.{Mark, Refused as NotTaken}
 
--- The answer of `take_block` and of `take_run`: where the block or run begins, or a refusal.
+-- The answer of `take_block` and of `run_at_mark`: where the block or run begins, or a refusal.
 abbrev pub takeAnswer : TakeBlock → Answer ℕ
 takeAnswer (At off) = accepted off
 takeAnswer (Refused number) = refused number

@@ -2,13 +2,14 @@
 use Prim.Native.Nat.{ℕ, _+_, _-_}
 use mathlib.Core.Bool.{Bool, cond, not}
 use mathlib.Core.List.{List}
+use mathlib.Core.Option.{Option, none, some}
 use lib.Dec.{ltb, eqb}
 use lib.ListN.{length, getD}
 use Rattle.error.specs.Refusal.{Answer, accepted, refuseIf, andThen, shapeBad, keyUnsound, freeHeadBad}
 use Rattle.scripthash_layout.specs.Sizes.{pageClass}
 use Rattle.book_desks.specs.Desks.{permitted}
 use Rattle.book_desks.specs.Counts.{freedCount, heldCount, heldIn, limitsIn, countsHigh, counted}
-use Rattle.book_space.specs.Space.{Space, Taken, takeBlock, takeRun}
+use Rattle.book_space.specs.Space.{Space, Taken, takeBlock, searched, takeFound}
 
 -- What a desk's take gives: where the block or run begins, and the space and the counts afterwards.
 pub record TakenFor : Type 0 where
@@ -46,12 +47,21 @@ pageFor desk s counts =
     (judgedTake (length (s .body)) desk 1 (freedLeft s counts) counts
     (counted (freedLeft s counts) desk (heldCount desk counts + 1) counts)))
 
--- A run of so many pages for a desk, as a load takes it.
+-- The freed pages once a run is taken: as many fewer as it has where a search of them led to it.
+abbrev pub freedBut : ℕ → Option ℕ → List ℕ → ℕ
+freedBut pages none counts = freedCount counts
+freedBut pages (some off) counts = freedCount counts - pages
+
+-- A run of so many pages for a desk, taken where a search of the freed ones led.
+unfoldable pub runFound : ℕ → ℕ → Space → List ℕ → Option ℕ → Answer TakenFor
+runFound desk pages s counts found =
+    andThen (takeFound pages (freedCount counts) s found)
+    (judgedTake (length (s .body)) desk pages (freedBut pages found counts) counts
+    (counted (freedBut pages found counts) desk (heldCount desk counts + pages) counts))
+
+-- A run of so many pages for a desk, as a load takes it: the lowest stretch of freed pages, or else at the mark.
 unfoldable pub runFor : ℕ → ℕ → Space → List ℕ → Answer TakenFor
-runFor desk pages s counts =
-    andThen (takeRun pages s)
-    (judgedTake (length (s .body)) desk pages (freedCount counts) counts
-    (counted (freedCount counts) desk (heldCount desk counts + pages) counts))
+runFor desk pages s counts = andThen (searched pages (freedCount counts) s) (runFound desk pages s counts)
 
 -- Pages that a desk gives back, where there are some: turned back where the counts are above the body's pages, or the desk holds fewer;
 -- then the call goes on with the counts as they are then.

@@ -6,11 +6,13 @@ use mathlib.Core.List.{List}
 use mathlib.Core.Option.{Option, none, some}
 use mathlib.Core.Path.{_≡_}
 use lib.Dec.{ltb, eqb}
-use lib.ListN.{length}
+use lib.ListN.{length, getD, set}
 use Rattle.error.specs.Refusal.{Answer, accepted, refused, refuseIf, andThen, noRoom}
 use Rattle.scripthash_layout.specs.Sizes.{slabBytes, pageClass, pageSize}
 use Rattle.scripthash_layout.specs.Head.{payloadStart}
 use Rattle.scripthash_free.specs.FreeList.{Lists, lists, Block, pushAll, gapBlocks, popFree}
+use Rattle.free_runs.specs.Runs.{withoutRun}
+use Rattle.free_runs.specs.PageList.{walked, runSought, topOf, relinked}
 use Rattle.book_limits.specs.Limits.{leastBody, mostBody, slabsEnd, outOfShape, pageAfter, gapEnd, popEnd}
 
 -- The body's bytes, the mark, and the nine free heads.
@@ -70,9 +72,24 @@ rounded s =
 unfoldable pub runAtMark : ℕ → Space → Answer Taken
 runAtMark pages s = takeMark (pages * pageSize) (rounded s)
 
--- The run of a load: always at the mark.
-abbrev pub takeRun : ℕ → Space → Answer Taken
-takeRun pages s = runAtMark pages s
+-- The search of the freed pages, so many by their count, for a run.
+abbrev pub searched : ℕ → ℕ → Space → Answer (Option ℕ)
+searched pages freed s = runSought (s .mark) freed (s .body) (getD (s .free) pageClass 0) pages
+
+-- The freed pages, so many by their count, that are left without a run.
+abbrev pub leftWithout : ℕ → ℕ → ℕ → Space → List ℕ
+leftWithout off pages freed s = withoutRun off pages (walked freed (s .body) (getD (s .free) pageClass 0))
+
+-- A run of pages taken out of the freed ones: those left keep their order.
+abbrev pub runFreed : ℕ → ℕ → ℕ → Space → Taken
+runFreed off pages freed s =
+    let left = leftWithout off pages freed s in
+    record { off = off; space = space (relinked left (s .body)) (s .mark) (set (s .free) pageClass (topOf left)) }
+
+-- A run of pages taken where a search of the freed ones led, or else at the mark.
+unfoldable pub takeFound : ℕ → ℕ → Space → Option ℕ → Answer Taken
+takeFound pages freed s none = runAtMark pages s
+takeFound pages freed s (some off) = accepted (runFreed off pages freed s)
 
 -- A slab of so many bytes taken at the mark: refused where it would pass the end of slabs, or the body's.
 unfoldable pub takeSlab : ℕ → Space → Answer Taken

@@ -2,6 +2,7 @@
 use Prim.Native.Nat.{ℕ, _+_, _*_, _≤_, _<_}
 use mathlib.Core.Bool.{cond}
 use mathlib.Core.List.{List}
+use mathlib.Core.Option.{some}
 use mathlib.Core.Path.{_≡_}
 use lib.Dec.{ltb}
 use Rattle.error.specs.Refusal.{Answer, accepted, refused, refuseIf, answered, refusalOf, valueOr, shapeBad, noRoom}
@@ -9,7 +10,7 @@ use Rattle.scripthash_layout.specs.Sizes.{pageSize}
 use Rattle.book_limits.specs.Limits.{mostBody, slabsEnd, pageAfter}
 use Rattle.book_desks.specs.Desks.{desks, permissionNumber}
 use Rattle.book_desks.specs.Counts.{freedCount, heldIn, limitsIn, countsHigh}
-use Rattle.book_space.specs.Space.{Space, InShape, Taken, spaceAfter}
+use Rattle.book_space.specs.Space.{Space, InShape, Taken, searched, spaceAfter}
 use Rattle.book_space.specs.Desks.{TakenFor, givenBack}
 
 -- What a take asks for: a space in shape, and a class, or a count of pages, that is at most so much.
@@ -60,6 +61,20 @@ pub record ToTakeFor (s : Space) (desk size most : ℕ) : Type 0 where
   pub shape : InShape s
   pub known : desk < desks
   pub low : size ≤ most
+
+-- What a desk's run asks for: the desk is one, and the run has some pages, at most 65,535.
+pub record ToTakeRun (s : Space) (desk pages : ℕ) : Type 0 where
+  pub shape : InShape s
+  pub known : desk < desks
+  pub low : pages ≤ 65535
+  pub some-pages : 0 < pages
+
+-- What a desk's run out of the freed pages asks for: a search of them found it.
+pub record ToTakeFreed (s : Space) (counts : List ℕ) (desk pages off : ℕ) : Type 0 where
+  pub shape : InShape s
+  pub known : desk < desks
+  pub some-pages : 0 < pages
+  pub found : searched pages (freedCount counts) s ≡ accepted (some off)
 
 -- The space after a desk's take, or as it was where the take is refused.
 unfoldable pub spaceFor : Space → Answer TakenFor → Space

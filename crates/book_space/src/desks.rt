@@ -1,5 +1,6 @@
 // Blocks that a desk takes and gives back: each take is looked at ahead and judged by the counts, so that a refused one writes nothing.
 ghost use mathlib.Core.Bool.{cond, not};
+ghost use mathlib.Core.Option.{none, some};
 ghost use mathlib.Core.Path.{_≡_};
 ghost use Prim.Native.Nat.{_-_, _≤_, _<_};
 ghost use lib.Dec.{eqb};
@@ -9,20 +10,24 @@ ghost use Rattle.book_limits.specs.Limits.{mostBody};
 ghost use Rattle.book_desks.specs.Desks.{desks};
 ghost use Rattle.book_desks.specs.Counts.{counted};
 ghost use Rattle.book_space.specs.Space.{space, takeBlock};
-ghost use Rattle.book_space.specs.Desks.{slabFor, pageFor, runFor};
+ghost use Rattle.book_space.specs.Desks.{slabFor, pageFor, runFound, runFor};
 ghost use Rattle.book_space.specs.Answers.{takeAnswer, peekAnswer};
 ghost use Rattle.book_space.specs.Steps.{ToTake, markAfter, markAfterRun, markAfterSlab, judgedNumber, Judgeable, ToTakeFor};
 ghost use Rattle.book_space.specs.Steps.{TakesFor};
-ghost use Rattle.book_space.specs.Steps.{ToGiveBack, GivesBack};
+ghost use Rattle.book_space.specs.Steps.{ToTakeRun, ToTakeFreed, ToGiveBack, GivesBack};
 use crate::take::SLABS_END;
 use crate::take::TakeBlock;
 use crate::take::pop_end;
+use crate::take::run_at_mark;
 use crate::take::take_block;
-use crate::take::take_run;
 use book_desks::HELD;
 use error::Refusal;
+use free_runs::FoundRun;
 use scripthash_layout::SH_PAGE_BYTES;
 use scripthash_layout::SH_PAGE_SLAB_CLASS;
+
+// The free head of pages.
+const PAGES: usize = SH_PAGE_SLAB_CLASS as usize;
 
 // What a look ahead at a take answers: where the mark would stand after it, or the refusal.
 enum Peek {
@@ -173,7 +178,7 @@ pub fn page_for(
         (space (now (body .entry)) (now (mark .entry)) (now (free .entry))) (now (counts .entry))
         (space (now (body .exit)) (now (mark .exit)) (now (free .exit))) (now (counts .exit)) (takeAnswer r) ⌝ }
 {
-    let head = free[8];
+    let head = free[PAGES];
     let freed = counts[0];
     if freed_untrue(head, freed) {
         return TakeBlock::Refused(error::FREE_HEAD_BAD);
@@ -193,8 +198,8 @@ pub fn page_for(
     take_block(body, mark, free, SH_PAGE_SLAB_CLASS)
 }
 
-// Takes a run of pages for a desk, as a load does, and counts them.
-pub fn run_for(
+// Takes a run of pages at the mark for a desk, and counts them.
+fn run_at_mark_for(
     body: &mut [u8],
     mark: &mut u64,
     free: &mut [u64; 9],
@@ -204,7 +209,7 @@ pub fn run_for(
 ) -> TakeBlock
     requires { ⌜ ToTakeFor (space (now body) (now mark) (now free)) desk pages 65535 ⌝ }
     ensures { λ r. ⌜ TakesFor
-        (runFor desk pages (space (now (body .entry)) (now (mark .entry)) (now (free .entry))) (now (counts .entry)))
+        (runFound desk pages (space (now (body .entry)) (now (mark .entry)) (now (free .entry))) (now (counts .entry)) none)
         (space (now (body .entry)) (now (mark .entry)) (now (free .entry))) (now (counts .entry))
         (space (now (body .exit)) (now (mark .exit)) (now (free .exit))) (now (counts .exit)) (takeAnswer r) ⌝ }
 {
@@ -220,7 +225,62 @@ pub fn run_for(
     }
     let held = counts[HELD + desk as usize];
     put_counts(counts, freed, desk, held + pages);
-    take_run(body, mark, free, pages)
+    run_at_mark(body, mark, free, pages)
+}
+
+// Takes a run of pages for a desk out of the freed ones, where a search of them found it, and counts them: the mark stays.
+fn run_freed_for(
+    body: &mut [u8],
+    mark: u64,
+    free: &mut [u64; 9],
+    counts: &mut [u64; 49],
+    desk: u64,
+    pages: u64,
+    off: u64,
+) -> TakeBlock
+    requires { ⌜ ToTakeFreed (space (now body) mark (now free)) (now counts) desk pages off ⌝ }
+    ensures { λ r. ⌜ TakesFor
+        (runFound desk pages (space (now (body .entry)) mark (now (free .entry))) (now (counts .entry)) (some off))
+        (space (now (body .entry)) mark (now (free .entry))) (now (counts .entry))
+        (space (now (body .exit)) mark (now (free .exit))) (now (counts .exit)) (takeAnswer r) ⌝ }
+{
+    let freed = counts[0];
+    let left = freed - pages;
+    let number = judge_take(counts, body.len() as u64, desk, pages, left, mark);
+    if number != 0 {
+        return TakeBlock::Refused(number);
+    }
+    let held = counts[HELD + desk as usize];
+    put_counts(counts, left, desk, held + pages);
+    let head = free[PAGES];
+    let top = free_runs::unlink(body, mark, head, freed, off, off + pages * SH_PAGE_BYTES);
+    free[PAGES] = top;
+    TakeBlock::At(off)
+}
+
+// Takes a run of pages for a desk, as a load does, and counts them: the lowest stretch of freed pages, or else a run at the mark.
+pub fn run_for(
+    body: &mut [u8],
+    mark: &mut u64,
+    free: &mut [u64; 9],
+    counts: &mut [u64; 49],
+    desk: u64,
+    pages: u64,
+) -> TakeBlock
+    requires { ⌜ ToTakeRun (space (now body) (now mark) (now free)) desk pages ⌝ }
+    ensures { λ r. ⌜ TakesFor
+        (runFor desk pages (space (now (body .entry)) (now (mark .entry)) (now (free .entry))) (now (counts .entry)))
+        (space (now (body .entry)) (now (mark .entry)) (now (free .entry))) (now (counts .entry))
+        (space (now (body .exit)) (now (mark .exit)) (now (free .exit))) (now (counts .exit)) (takeAnswer r) ⌝ }
+{
+    let low = *mark;
+    let head = free[PAGES];
+    let found = free_runs::seek_run(body, low, head, counts[0], pages);
+    match found {
+        FoundRun::At(off) => run_freed_for(body, low, free, counts, desk, pages, off),
+        FoundRun::Nothing => run_at_mark_for(body, mark, free, counts, desk, pages),
+        FoundRun::Strays => TakeBlock::Refused(error::FREE_LIST_BAD),
+    }
 }
 
 // Gives back some pages of a desk, by the counts alone: 1 where the counts are above the pages of a body, 31 where the desk holds fewer,

@@ -12,5 +12,5 @@ pub use release::release_block;
 pub use shape::out_of_shape;
 pub use shape::shape_broken;
 pub use take::TakeBlock;
+pub use take::run_at_mark;
 pub use take::take_block;
-pub use take::take_run;

@@ -1,9 +1,9 @@
-// Taking a block of a class, or a run of pages: a freed block, or else bytes from the mark on.
+// Taking a block of a class, a freed one or else bytes from the mark on; and a run of pages at the mark.
 ghost use mathlib.Core.Path.{_≡_};
 ghost use Rattle.error.specs.Refusal.{refusalOf};
 ghost use Rattle.scripthash_layout.specs.Sizes.{maxSlabClass, pageClass, slabBytes};
 ghost use Rattle.book_limits.specs.Limits.{pageAfter, gapEnd, popEnd};
-ghost use Rattle.book_space.specs.Space.{space, takeSlab, takeRun, takeBlock};
+ghost use Rattle.book_space.specs.Space.{space, takeSlab, runAtMark, takeBlock};
 ghost use Rattle.book_space.specs.Answers.{takeAnswer};
 ghost use Rattle.book_space.specs.Steps.{ToTake, Takes};
 use error::Refusal;
@@ -58,9 +58,9 @@ pub fn pop_end(class: u8, mark: u64) -> u64
 
 // Takes a run of pages at the mark, rounded up to a page; the blocks of the gap are pushed onto their free lists. Nothing is written
 // where the run would pass the body's end.
-pub fn take_run(body: &mut [u8], mark: &mut u64, free: &mut [u64; 9], pages: u64) -> TakeBlock
+pub fn run_at_mark(body: &mut [u8], mark: &mut u64, free: &mut [u64; 9], pages: u64) -> TakeBlock
     requires { ⌜ ToTake (space (now body) (now mark) (now free)) pages 65535 ⌝ }
-    ensures { λ r. ⌜ Takes (takeRun pages (space (now (body .entry)) (now (mark .entry)) (now (free .entry))))
+    ensures { λ r. ⌜ Takes (runAtMark pages (space (now (body .entry)) (now (mark .entry)) (now (free .entry))))
         (space (now (body .entry)) (now (mark .entry)) (now (free .entry)))
         (space (now (body .exit)) (now (mark .exit)) (now (free .exit))) (takeAnswer r) ⌝ }
 {
@@ -108,7 +108,7 @@ pub fn take_block(body: &mut [u8], mark: &mut u64, free: &mut [u64; 9], class: u
         PopFree::Block(off) => TakeBlock::At(off),
         PopFree::Nothing => {
             if class == SH_PAGE_SLAB_CLASS {
-                return take_run(body, mark, free, 1);
+                return run_at_mark(body, mark, free, 1);
             }
             take_slab(body, mark, free, class)
         }

@@ -1,5 +1,5 @@
 -- `load_parts` meets its contract: what taking the run tells decides. Assumes nothing.
-use Prim.Native.Nat.{ℕ, _≤_}
+use Prim.Native.Nat.{ℕ}
 use mathlib.Core.List.{List}
 use mathlib.Core.Option.{none}
 use mathlib.Core.Path.{_≡_, refl, sym, ap}
@@ -8,7 +8,6 @@ use borrow.Author.Needs.{needs}
 use lib.ListN.{length}
 use Rattle.error.specs.Refusal.{Answer, accepted}
 use Rattle.book_blocks.specs.Steps.{Run}
-use Rattle.book_blocks.proofs.LawsWrites.{run-start}
 use Rattle.book_space.specs.Space.{Space, space}
 use Rattle.book_space.specs.Desks.{TakenFor, runFor}
 use Rattle.book_space.specs.Answers.{takeAnswer}
@@ -18,7 +17,7 @@ use Rattle.book_load.specs.Loads.{loadInto}
 use Rattle.book.specs.Answers.{bookOf}
 use Rattle.book.proofs.LawsKey.{does-same}
 use Rattle.book.proofs.LawsPlace.{took-at, took-none}
-use Rattle.book_load.proofs.LawsLoad.{ends-still, parts-few, run-loaded, run-not-loaded, run-lies}
+use Rattle.book_load.proofs.LawsLoad.{ends-still, parts-few, count-some, run-loaded, run-not-loaded, run-lies}
 use Rattle.book_load.proofs.loading.load_parts.Statement.{statement}
 use Rattle.book_load.proofs.loading.load_parts.Tie as tie
 
@@ -73,9 +72,6 @@ module _ (k : tie.After-known-told) where
       let pre = start taking .pre in
       run-lies (desk taking) (b .space) (b .counts) taken (list taking) (ranges taking) (count taking) (pre .to-load .shape) (pre .cut) took
 
-  some-pages : 1 ≤ count taking
-  some-pages = run-start (length (taken .space .body)) (taken .off) (list taking) (ranges taking) (count taking) lies .0
-
 run-for-requires : tie.Need-run-for-requires
 run-for-requires c κs =
     let start = c .before .before .before .before .before .before .before in
@@ -84,6 +80,7 @@ run-for-requires c κs =
       shape = pre .to-load .shape;
       known = pre .to-load .known;
       low = omega (arith, pre .cut .parts, parts-few (start .args .fks .now) (pre .cut .judged));
+      some-pages = count-some (start .args .fks .now) (start .args .ranges .now) (start .args .count) (pre .cut);
     }
 
 enum-known-answer : tie.Need-enum-known-answer
@@ -113,7 +110,8 @@ put-run-requires : tie.Need-put-run-requires
 put-run-requires c κs = lies (c .before)
 
 sub-last-page : tie.Need-sub-last-page
-sub-last-page c = some-pages (c .before .before .before .before)
+sub-last-page c =
+    let t = taking (c .before .before .before .before) in count-some (list t) (ranges t) (count t) (start t .pre .cut)
 
 mul-last-page : tie.Need-mul-last-page
 mul-last-page c = let run = lies (c .before .before .before .before) in omega (arith, run .inside, run .small)

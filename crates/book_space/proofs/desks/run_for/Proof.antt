@@ -1,27 +1,19 @@
--- `run_for` meets its contract: the look ahead, and then the judgement decide. Assumes nothing.
-use Prim.Native.Nat.{ℕ, _+_}
+-- `run_for` meets its contract: what the search of the freed pages told decides. Assumes nothing.
+use Prim.Native.Nat.{ℕ}
 use mathlib.Core.List.{List}
 use mathlib.Core.Path.{_≡_, sym, ap, _∙_}
-use native.Mathlib.Omega.{arith}
-use lib.ListN.{length}
-use Rattle.error.specs.Refusal.{accepted, answered}
-use Rattle.book_desks.specs.Counts.{freedCount, heldCount, counted}
-use Rattle.book_desks.proofs.LawsCounts.{counts-low}
-use Rattle.book_space.specs.Space.{Space, space, takeRun}
-use Rattle.book_space.specs.Desks.{runFor}
-use Rattle.book_space.specs.Answers.{peekAnswer}
-use Rattle.book_space.specs.Steps.{markAfter}
-use Rattle.book_space.proofs.LawsSteps.{refused-as}
-use Rattle.book_space.proofs.LawsPeek.{run-marked, run-within}
-use Rattle.book_space.proofs.LawsDesks.{judged-low, peek-refused, judge-refused, take-judged, refused-for}
+use Rattle.free_runs.specs.Answers.{foundAnswer}
+use Rattle.book_desks.specs.Counts.{freedCount}
+use Rattle.book_space.specs.Space.{Space, space, searched}
+use Rattle.book_space.proofs.LawsDesks.{run-searched, run-unsearched, takes-for-same, refused-for}
 use borrow.Author.Needs.{needs}
 use Rattle.book_space.proofs.desks.run_for.Statement.{statement}
 use Rattle.book_space.proofs.desks.run_for.Tie as tie
 
--- the arguments
-module _ (t : tie.After-peek-run) where
+-- the arguments, and what the search told
+module _ (t : tie.After-seek-run) where
   abbrev start : tie.Start
-  start = t .before .before .before
+  start = t .before .before .before .before .before .before
 
   abbrev pages : ℕ
   pages = start .args .pages
@@ -32,128 +24,91 @@ module _ (t : tie.After-peek-run) where
   abbrev counts : List ℕ
   counts = start .args .counts .now
 
-  abbrev later : List ℕ
-  later = counted (freedCount counts) desk (heldCount desk counts + pages) counts
-
   abbrev before : Space
   before = space (start .args .body .now) (start .args .mark .now) (start .args .free .now)
 
-  looks : peekAnswer (t .peek-run .result) ≡ answered markAfter (takeRun pages before)
-  looks = t .peek-run .ensures ∙ sym (run-marked pages before (start .pre .shape))
+  told : searched pages (freedCount counts) before ≡ foundAnswer (t .seek-run .result)
+  told = sym (t .seek-run .ensures)
 
--- the take would be accepted, and leave a mark
-module _ (k : tie.After-known-told) where
-  abbrev looked : tie.After-peek-run
-  looked = k .before .before .before
+element-copy-out-head : tie.Need-element-copy-out-head
+element-copy-out-head c = search needs
 
-  abbrev end : ℕ
-  end = k .before .ahead .given .0 .0
+element-copy-out-seek-run : tie.Need-element-copy-out-seek-run
+element-copy-out-seek-run c = search needs
 
-  ahead : answered markAfter (takeRun (pages looked) (before looked)) ≡ accepted end
-  ahead = sym (looks looked) ∙ ap peekAnswer (k .before .ahead .given .1)
+seek-run-requires : tie.Need-seek-run-requires
+seek-run-requires c κs = search needs
 
-peek-run-requires : tie.Need-peek-run-requires
-peek-run-requires c κs = search needs
+enum-known-found : tie.Need-enum-known-found
+enum-known-found c = search needs
 
-enum-known-ahead : tie.Need-enum-known-ahead
-enum-known-ahead c = search needs
+run-freed-for-requires : tie.Need-run-freed-for-requires
+run-freed-for-requires c κs =
+    let a = c .before .before .before .before in
+    let t = a .before .before in
+    let pre = start t .pre in
+    record {
+      shape = pre .shape;
+      known = pre .known;
+      some-pages = pre .some-pages;
+      found = told t ∙ ap foundAnswer (a .found .given .1);
+    }
 
 enum-told : tie.Need-enum-told
 enum-told c = search needs
 
-refusal-requires : tie.Need-refusal-requires
-refusal-requires c κs = search needs
+run-at-mark-for-requires : tie.Need-run-at-mark-for-requires
+run-at-mark-for-requires c κs = search needs
 
-returns : tie.Need-returns
-unfolding runFor
-returns c =
-    let t = c .before .before .before in
-    let is = refused-as _ _ (ap peekAnswer (c .before .enum-told .given .1)) (c .refusal .ensures) in
-    refused-for (before t) (counts t)
-    (peek-refused (length (before t .body)) (desk t) (pages t) (freedCount (counts t)) (counts t) (later t) (takeRun (pages t) (before t))
-    (sym (looks t) ∙ is))
-
-element-copy-out-freed : tie.Need-element-copy-out-freed
-element-copy-out-freed c = search needs
-
-judge-take-requires : tie.Need-judge-take-requires
-judge-take-requires c κs =
-    let k = c .before .before in
-    let pre = start (looked k) .pre in
-    record {
-      known = pre .known;
-      body = pre .shape .most;
-      asked = omega (arith, pre .low);
-      left = omega arith;
-      within = run-within (pages (looked k)) (before (looked k)) (pre .shape) (ahead k);
-    }
-
-returns-2 : tie.Need-returns-2
-unfolding runFor
-returns-2 c =
-    let k = c .before .before .before .before in
-    let t = looked k in
-    refused-for (before t) (counts t)
-    (judge-refused (length (before t .body)) (desk t) (pages t) (freedCount (counts t)) (counts t) (later t) (takeRun (pages t) (before t))
-    (ahead k) (c .before .judge-take .ensures) (c .if1 .taken))
-
-add-held : tie.Need-add-held
-add-held c = search needs
-
-mul-held : tie.Need-mul-held
-mul-held c = search needs
-
-element-copy-out-held : tie.Need-element-copy-out-held
-element-copy-out-held c = search needs
-
-add-put-counts : tie.Need-add-put-counts
-add-put-counts c =
-    let j = c .before .before in
-    let k = j .before .before .before .before in
-    let t = looked k in
-    let pre = start t .pre in
-    let low = judged-low (length (before t .body)) (desk t) (pages t) (freedCount (counts t)) (counts t) (later t) (end k)
-    (j .before .judge-take .ensures) (j .if1 .left) in
-    omega (arith, counts-low (length (before t .body)) (counts t) low .held (desk t) (pre .known), pre .low, pre .shape .most)
-
-put-counts-requires : tie.Need-put-counts-requires
-put-counts-requires c κs = search needs
-
-take-run-requires : tie.Need-take-run-requires
-take-run-requires c κs = search needs
+enum-told-2 : tie.Need-enum-told-2
+enum-told-2 c = search needs
 
 same-length : tie.Need-same-length
 same-length c = search needs
 
+returns : tie.Need-returns
+returns c =
+    let r = c .before .before in
+    let a = r .before .before .before .before .before in
+    let t = a .before .before in
+    takes-for-same (run-searched (desk t) (before t) (counts t) (pages t) (told t ∙ ap foundAnswer (a .found .given .1)))
+    (r .run-freed-for .ensures)
+
+same-length-2 : tie.Need-same-length-2
+same-length-2 c = search needs
+
+returns-2 : tie.Need-returns-2
+returns-2 c =
+    let r = c .before .before in
+    let a = r .before .before .before .before .before in
+    let t = a .before .before in
+    takes-for-same (run-searched (desk t) (before t) (counts t) (pages t) (told t ∙ ap foundAnswer (a .enum-told .given .1)))
+    (r .run-at-mark-for .ensures)
+
+same-length-3 : tie.Need-same-length-3
+same-length-3 c = search needs
+
 returns-3 : tie.Need-returns-3
-unfolding runFor
 returns-3 c =
-    let j = c .before .before .before .before .before .before .before .before .before in
-    let k = j .before .before .before .before in
-    let t = looked k in
-    let take = c .before .before in
-    let done = take-judged (length (before t .body)) (desk t) (pages t) (freedCount (counts t)) (counts t) (later t)
-    (takeRun (pages t) (before t))
-    (ahead k) (j .before .judge-take .ensures) (j .if1 .left) (take .take-run .ensures) in
-    record { told = done .told; left = done .left; counts = take .before .before .before .before .put-counts .ensures ∙ done .counts }
+    let t = c .before .before in
+    refused-for (before t) (counts t)
+    (run-unsearched (desk t) (before t) (counts t) (pages t) (told t ∙ ap foundAnswer (c .enum-told2 .given .1)))
 
 pub run-for-spec : {M : Type 1} → statement M
 run-for-spec =
     tie.close
     (tie.spec
-    peek-run-requires
-    enum-known-ahead
+    element-copy-out-head
+    element-copy-out-seek-run
+    seek-run-requires
+    enum-known-found
+    run-freed-for-requires
     enum-told
-    refusal-requires
-    returns
-    element-copy-out-freed
-    judge-take-requires
-    returns-2
-    add-held
-    mul-held
-    element-copy-out-held
-    add-put-counts
-    put-counts-requires
-    take-run-requires
+    run-at-mark-for-requires
+    enum-told-2
     same-length
+    returns
+    same-length-2
+    returns-2
+    same-length-3
     returns-3)

@@ -4,7 +4,7 @@ use mathlib.Core.Path.{_≡_, sym, ap, _∙_}
 use Rattle.scripthash_layout.specs.Sizes.{slabBytes}
 use Rattle.scripthash_free.specs.Answers.{popAnswer}
 use Rattle.book_limits.specs.Limits.{popEnd}
-use Rattle.book_space.specs.Space.{Space, space, listsOf, takeSlab, takeRun, takeFresh, takeBlock}
+use Rattle.book_space.specs.Space.{Space, space, listsOf, takeSlab, runAtMark, takeFresh, takeBlock}
 use Rattle.book_space.proofs.LawsLists.{left-none, left-refused}
 use Rattle.book_space.proofs.LawsSteps.{takes-same, takes-yes, takes-no, fresh-page, fresh-slab, told-block, told-none}
 use Rattle.book_space.proofs.LawsSteps.{told-refused, takes-with}
@@ -51,8 +51,8 @@ enum-known-popped c = search needs
 enum-told : tie.Need-enum-told
 enum-told c = search needs
 
-take-run-requires : tie.Need-take-run-requires
-take-run-requires c κs = search needs
+run-at-mark-requires : tie.Need-run-at-mark-requires
+run-at-mark-requires c κs = search needs
 
 same-length : tie.Need-same-length
 same-length c = search needs
@@ -62,10 +62,11 @@ returns c =
     let told = c .before .before .before .before .before .before .before in
     let t = told .before .before in
     let a = start t .args in
-    let answer : takeBlock (class t) (before t) ≡ takeRun 1 (before t)
+    let answer : takeBlock (class t) (before t) ≡ runAtMark 1 (before t)
     = fresh told ∙ ap (λ (k : ℕ). takeFresh k (before t)) (c .before .before .before .before .before .before .if1 .taken)
     ∙ fresh-page (before t) in
-    takes-same (sym answer) (takes-with (takeRun 1) (a .body .now) (a .mark .now) (unpopped told) (c .before .before .take-run .ensures))
+    takes-same (sym answer)
+    (takes-with (runAtMark 1) (a .body .now) (a .mark .now) (unpopped told) (c .before .before .run-at-mark .ensures))
 
 take-slab-requires : tie.Need-take-slab-requires
 take-slab-requires c κs = search needs
@@ -117,7 +118,7 @@ take-block-spec =
     pop-lent-requires
     enum-known-popped
     enum-told
-    take-run-requires
+    run-at-mark-requires
     same-length
     returns
     take-slab-requires

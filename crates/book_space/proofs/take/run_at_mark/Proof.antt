@@ -1,11 +1,11 @@
--- `take_run` meets its contract: the run's end against the body's decides, and the gap can be carved. Assumes nothing.
+-- `run_at_mark` meets its contract: the run's end against the body's decides, and the gap can be carved. Assumes nothing.
 use Rattle.scripthash_free.specs.FreeList.{lists}
 use Rattle.book_space.specs.Space.{Space, space}
 use Rattle.book_space.proofs.LawsSteps.{takes-yes, takes-no}
 use Rattle.book_space.proofs.LawsTake.{run-yes, run-no}
 use borrow.Author.Needs.{needs}
-use Rattle.book_space.proofs.take.take_run.Statement.{statement}
-use Rattle.book_space.proofs.take.take_run.Tie as tie
+use Rattle.book_space.proofs.take.run_at_mark.Statement.{statement}
+use Rattle.book_space.proofs.take.run_at_mark.Tie as tie
 
 -- the space before
 module _ (t : tie.Start) where
@@ -52,8 +52,8 @@ returns-2 c =
     let answer = run-yes (start .args .pages) (before start) (start .pre .shape) l carved (t .if1 .left) in
     takes-yes (before start) _ answer
 
-pub take-run-spec : {M : Type 1} → statement M
-take-run-spec =
+pub run-at-mark-spec : {M : Type 1} → statement M
+run-at-mark-spec =
     tie.close
     (tie.spec
     sub-from
