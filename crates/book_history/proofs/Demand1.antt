@@ -1,6 +1,6 @@
--- Demand 1, of the book: on any book, a damaged one too, lent any list of desks, after an accepted change only what the change may write
--- differs. That a refused call leaves everything as it was stands in the contract of each export (`ouriscado/src/account_book.rt`, `kept`);
--- here it is said of the definitions, where it holds by what a refusal is. Assumes nothing.
+-- Demand 1, of the book: on any book over bytes, a damaged one too, lent any list of desks, after an accepted change only what the change
+-- may write differs. That a refused call leaves everything as it was stands in the contract of each export
+-- (`ouriscado/src/account_book.rt`, `kept`); here it is said of the definitions, where it holds by what a refusal is. Assumes nothing.
 use Prim.Native.Nat.{ℕ, _+_, _-_, _^_, _<_}
 use mathlib.Core.Bool.{true}
 use mathlib.Core.List.{List}
@@ -8,6 +8,7 @@ use mathlib.Core.Option.{some}
 use mathlib.Core.Path.{_≡_}
 use lib.ListN.{length}
 use Rattle.error.specs.Refusal.{accepted, refused}
+use Rattle.buffer.specs.LittleEndian.{AreBytes}
 use Rattle.compact.specs.Uleb128.{ulebLen}
 use Rattle.scripthash_layout.specs.Head.{slabWord, unpackHead}
 use Rattle.scripthash_layout.specs.declared.head.ShHeadValue.the-variants.{Slab, Extent}
@@ -24,11 +25,12 @@ use Rattle.book_history.specs.Writes.{Changes}
 use Rattle.book_history.proofs.LawsWrites.{list-refused, refused-nothing, accepted-only}
 use Rattle.book_history.proofs.LawsWritesWords.{slab-word, page-words}
 
--- The body, the head words, the state and the counts, for every change; an enquiry leaves them by what it is.
+-- The body, which is bytes as every lent one is, the head words, the state and the counts, for every change; an enquiry leaves them by what
+-- it is.
 pub demand-1 : (ds : List ℕ) (b : Book) (c : Change)
     → ((number : ℕ) → does ds b c ≡ refused number → bookAfter b (does ds b c) ≡ b)
-    × ((o : Outcome (Made c)) → does ds b c ≡ accepted o → Changes ds b (o .book) c)
-demand-1 ds b c = (λ number e. refused-nothing ds b c e, λ o e. accepted-only ds b c e)
+    × ((o : Outcome (Made c)) → AreBytes (b .space .body) → does ds b c ≡ accepted o → Changes ds b (o .book) c)
+demand-1 ds b c = (λ number e. refused-nothing ds b c e, λ o bytes e. accepted-only ds b c bytes e)
 
 -- The lent list of a read that is refused.
 pub demand-1-list : (ds : List ℕ) (b : Book) (key : ℕ) (out : List ℕ) (number : ℕ) → asks ds b (read key (length out)) ≡ refused number

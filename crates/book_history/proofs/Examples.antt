@@ -1,12 +1,13 @@
 -- Small histories on a book over bytes, with the run case (FORMAT, Worked examples): each answer is computed. Assumes nothing.
 use Prim.Native.Nat.{ℕ, zero, suc, _+_, _*_, _^_}
-use mathlib.Core.List.{List, [], _∷_}
+use mathlib.Core.List.{List, [], _∷_, _++_}
 use mathlib.Core.Path.{_≡_, refl}
 use lib.ListN.{length, replicate}
 use Rattle.scripthash_layout.specs.declared.head.ShHeadValue.{ShHeadValue}
 use Rattle.scripthash_layout.specs.declared.head.ShHeadValue.the-variants.{Inline, Slab, Extent}
 use Rattle.error.specs.Refusal.{Answer, accepted, refused, refuseIf, andThen, answered}
 use Rattle.buffer.specs.Bytes.{part, overwrite}
+use Rattle.buffer.specs.LittleEndian.{bytesOf}
 use Rattle.compact.specs.Uleb128.{isForm, value, formAt, overflows, readForm, readUleb, divided, ulebLen, shortest, padded as isPadded}
 use Rattle.scripthash_layout.specs.Head.{slabWord, packHead, unpackHead}
 use Rattle.scripthash_stream.specs.Stream.{lastFrom, streamFrom, streamLenFrom, storedNumber, nextNumber, scanFrom, paddedIn, decodeStream}
@@ -16,18 +17,21 @@ use Rattle.scripthash_cutting.specs.Cutting.{fitting, firstPart, greedyParts, r
 use Rattle.scripthash_fields.specs.Page.{field, setField, createsFieldOf, nextOff, deltaHeader, extentHeader, pageOf}
 use Rattle.scripthash_pages.specs.Entries.{streamPlace, pageScan, pagePadded, spotBehind, oneMore, withAppended}
 use Rattle.scripthash_free.specs.FreeList.{isBlock, pushed, popFree, largestUpTo, blockThen, carve, pushAll}
-use Rattle.book_rules.specs.declared.places.SlabFit.the-variants.{Spare}
+use Rattle.book_rules.specs.declared.places.SlabFit.the-variants.{Spare, Tight}
 use Rattle.book_rules.specs.Outcomes.{Loaded, Appended, Listed, bookAfter, appendedTo, droppedOf, listing, loadedIn}
 use Rattle.book_statements.specs.Calls.{load, append, read, drop, Call, ask, change, Serves, Answers, done, asked, changed, answersTo}
 use Rattle.book_statements.specs.Calls.{afterCalls}
 use Rattle.book_rules.specs.Offered.{offeredNumber, offeredList}
+use Rattle.free_runs.specs.Runs.{isIn, stretch, lesser, leastOf, leftOf}
+use Rattle.free_runs.specs.PageList.{walked, pagesEnd, runSought, relinked}
 use Rattle.book_limits.specs.Limits.{outOfShape, popEnd}
 use Rattle.book_rules.specs.Places.{stays, larger, movesTo, loadsTo}
 use Rattle.book_desks.specs.Desks.{Limits, beyondDesks, listBad, sumTo, lacksWith, above, permitted}
 use Rattle.book_desks.specs.Counts.{listed, heldIn, limitsIn, freshCounts, countsHigh, counted}
 use Rattle.plain_book.specs.Book.{unlimited}
-use Rattle.book_space.specs.Space.{markBad, shapeBroken, takeMark, takeSlab, rounded, takeFresh, takePopped, takeBlock, release, runAtMark}
-use Rattle.book_space.specs.Desks.{judgedTake, slabFor, freedUntrue, pageFor, runFor, givenBack}
+use Rattle.book_space.specs.Space.{markBad, shapeBroken, takeMark, takeSlab, rounded, takeFresh, takePopped, takeBlock, release}
+use Rattle.book_space.specs.Space.{runAtMark, takeFound}
+use Rattle.book_space.specs.Desks.{judgedTake, slabFor, freedUntrue, pageFor, runFound, runFor, givenBack}
 use Rattle.book_keys.specs.Keys.{soundly, sure, goOn, slabScan, linkScan, goodExtent, lastAt, pageThen, walk, totalGood, chainAt}
 use Rattle.book_keys.specs.Keys.{pageBlocks}
 use Rattle.book_keys.specs.Keys.{contentAt, content, tailAt}
@@ -55,7 +59,8 @@ unfolding refuseIf andThen answered part overwrite isForm value formAt overflows
     movesInto moves slabWith appendSlab totalWith pageWith pageBefore growChain appendPage appendAt appends writeRun loadInto loadAt loads
     reads dropped drops asks does beyondDesks listBad sumTo lacksWith above permitted listed heldIn limitsIn freshCounts countsHigh
     judgedTake slabFor
-    freedUntrue pageFor runFor givenBack byDesk withDesks
+    freedUntrue pageFor runFor runFound takeFound runSought walked pagesEnd isIn stretch lesser leastOf leftOf relinked
+    givenBack byDesk withDesks
 computed k b cs = answersTo k b cs
 
 -- Those of our book, where all keys are of one desk.
@@ -158,6 +163,43 @@ pub damaged : (runs (book (bodyOf 8192) (slabWord 0 2 4096 ∷ []) 4112 (replica
     ≡ asked (refused 1) done)
 unfolding computed
 damaged = (refl, refl, refl, refl)
+
+-- A book of one key and two pages, the second of which is the first freed one; so many are freed by the counts, and it names an offset.
+abbrev namingFreed : ℕ → ℕ → Book
+namingFreed next freed =
+    book (overwrite (bodyOf 12288) 4096 (bytesOf 8 next)) (0 ∷ []) 8192 (replicate 8 0 ++ (4096 ∷ []))
+    (counted freed 0 0 (freshCounts unlimited))
+
+-- A load of a page takes it where it is the only one. Where the list doesn't end after as many pages as are freed by the counts, or names
+-- what is no page below the mark, the load is refused with 42.
+pub strayed : (runs (namingFreed 0 1) (change (load Spare 0 (inARow 1 257)) ∷ change (append 0 258) ∷ [])
+    ≡ changed (loads-in 1) (changed (at (Extent 4096) 0) done))
+    × (runs (namingFreed 0 0) (change (load Spare 0 (inARow 1 257)) ∷ []) ≡ changed (refused 42) done)
+    × (runs (namingFreed 0 2) (change (load Spare 0 (inARow 1 257)) ∷ []) ≡ changed (refused 42) done)
+    × (runs (namingFreed 8192 2) (change (load Spare 0 (inARow 1 257)) ∷ []) ≡ changed (refused 42) done)
+    × (runs (namingFreed 4096 2) (change (load Spare 0 (inARow 1 257)) ∷ []) ≡ changed (refused 42) done)
+unfolding computed inARow
+strayed = (refl, refl, refl, refl, refl)
+
+-- Pages 1 to 6 are of a key each, and five are freed, so that the list of freed pages is 4, 5, 1, 3, 6 from the top.
+abbrev pub freedFive : List Call
+freedFive =
+    change (load Spare 0 (inARow 1 257)) ∷ change (load Spare 1 (inARow 1 257)) ∷ change (load Spare 2 (inARow 1 257))
+    ∷ change (load Spare 3 (inARow 1 257)) ∷ change (load Spare 4 (inARow 1 257)) ∷ change (load Spare 5 (inARow 1 257)) ∷ change (drop 5)
+    ∷ change (drop 2) ∷ change (drop 0) ∷ change (drop 4) ∷ change (drop 3) ∷ []
+
+-- A load of two pages then takes 3 and 4, the lowest two side by side; a list that moves takes 5, the first of those left, and a load of
+-- one page takes 1, the lowest.
+pub freed-run : runs (alone (bodyOf 32768) 6)
+    (freedFive ++ (change (load Spare 0 (inARow 1 4073)) ∷ change (append 0 4074) ∷ change (load Tight 2 (inARow 1 256))
+    ∷ change (append 2 257) ∷ change (load Spare 3 (inARow 1 257)) ∷ change (append 3 258) ∷ ask (read 1 257) ∷ []))
+    ≡ changed (loads-in 1) (changed (loads-in 1) (changed (loads-in 1) (changed (loads-in 1) (changed (loads-in 1) (changed (loads-in 1)
+    (changed (accepted (droppedOf 257)) (changed (accepted (droppedOf 257)) (changed (accepted (droppedOf 257))
+    (changed (accepted (droppedOf 257)) (changed (accepted (droppedOf 257)) (changed (loads-in 2) (changed (at (Extent 16384) 0)
+    (changed (loads-in 0) (changed (at (Extent 20480) 256) (changed (loads-in 1) (changed (at (Extent 4096) 0)
+    (asked (lists-as (inARow 1 257) 1 0) done)))))))))))))))))
+unfolding computed inARow
+freed-run = refl
 
 -- A body whose second page is a key's last, with a total, and that key's head word.
 abbrev pub pageBook : ℕ → List ℕ → Book

@@ -17,13 +17,16 @@ use Rattle.book_rules.specs.declared.places.SlabFit.the-variants.{Spare}
 use Rattle.book_rules.specs.Outcomes.{bookAfter}
 use Rattle.book_statements.specs.Calls.{Change, load, append, drop, Call, change, afterCalls}
 use Rattle.book_rules.specs.Offered.{offeredNumber, offeredList}
+use Rattle.free_runs.specs.Runs.{isIn, stretch, lesser, leastOf, leftOf, topGoes, losing}
+use Rattle.free_runs.specs.PageList.{walked, pagesEnd, runSought, relinked}
 use Rattle.book_limits.specs.Limits.{outOfShape, popEnd}
 use Rattle.book_rules.specs.Places.{stays, larger, movesTo, loadsTo}
 use Rattle.book_desks.specs.Desks.{beyondDesks, listBad, sumTo, lacksWith, above, permitted}
 use Rattle.book_desks.specs.Counts.{listed, heldIn, limitsIn, freshCounts, countsHigh}
 use Rattle.plain_book.specs.Book.{unlimited}
-use Rattle.book_space.specs.Space.{markBad, shapeBroken, takeMark, takeSlab, rounded, takeFresh, takePopped, takeBlock, release, runAtMark}
-use Rattle.book_space.specs.Desks.{judgedTake, slabFor, freedUntrue, pageFor, runFor, givenBack}
+use Rattle.book_space.specs.Space.{markBad, shapeBroken, takeMark, takeSlab, rounded, takeFresh, takePopped, takeBlock, release}
+use Rattle.book_space.specs.Space.{runAtMark, takeFound}
+use Rattle.book_space.specs.Desks.{judgedTake, slabFor, freedUntrue, pageFor, runFound, runFor, givenBack}
 use Rattle.book_keys.specs.Keys.{soundly, sure, goOn, slabScan, linkScan, goodExtent, lastAt, pageThen, walk, totalGood, chainAt}
 use Rattle.book_keys.specs.Keys.{pageBlocks, contentAt, content, tailAt}
 use Rattle.book.specs.Book.{Book, fresh, headWord, byDesk, withDesks}
@@ -34,9 +37,10 @@ use Rattle.book_drop.specs.Drops.{dropped, drops}
 use Rattle.book_history.specs.Calls.{after, does}
 use mathlib.Core.Bool.{Bool, true, false}
 use Rattle.book_history.specs.Writes.{Region, region, CallWrites, both, freeingAll, takingPages, taking, filling, writing, moving}
-use Rattle.book_history.specs.Writes.{growingSlab, growingPage, appendWrites, loadWrites, pageCounts, movingCounts}
-use Rattle.book_history.specs.Writes.{slabCounts, chainCounts, appendCounts, loadCounts, dropCounts, writes}
-use Rattle.book_history.proofs.Examples.{inARow, bodyOf}
+use Rattle.book_history.specs.Writes.{growingSlab, growingPage, appendWrites, linksOf, takingFreed, fillingRun, loadWrites}
+use Rattle.book_history.specs.Writes.{pageCounts}
+use Rattle.book_history.specs.Writes.{movingCounts, slabCounts, chainCounts, appendCounts, runCounts, loadCounts, dropCounts, writes}
+use Rattle.book_history.proofs.Examples.{inARow, bodyOf, freedFive}
 
 -- What a call names after others.
 unfoldable pub writesAfter : List ℕ → Book → List Call → Change → CallWrites
@@ -49,10 +53,10 @@ unfolding refuseIf andThen answered part overwrite isForm value formAt overflows
     release soundly sure goOn slabScan linkScan goodExtent lastAt pageThen walk totalGood chainAt pageBlocks contentAt content tailAt
     headWord byDesk withDesks
     beyondDesks listBad sumTo lacksWith above permitted listed heldIn limitsIn freshCounts countsHigh judgedTake slabFor freedUntrue pageFor
-    runFor givenBack
+    runFor runFound takeFound runSought walked pagesEnd isIn stretch lesser leastOf leftOf topGoes losing relinked givenBack
     movesInto moves slabWith appendSlab totalWith pageWith pageBefore growChain appendPage appendAt appends writeRun loadInto loadAt loads
-    dropped drops does both freeingAll takingPages taking filling writing moving growingSlab growingPage appendWrites loadWrites
-    pageCounts movingCounts slabCounts chainCounts appendCounts loadCounts dropCounts writes
+    dropped drops does both freeingAll takingPages taking filling writing moving growingSlab growingPage appendWrites linksOf takingFreed
+    fillingRun loadWrites pageCounts movingCounts slabCounts chainCounts appendCounts runCounts loadCounts dropCounts writes
 writesAfter ds b cs c = writes ds (after ds b cs) c
 
 -- What may be written.
@@ -109,3 +113,10 @@ pub gap-writes :
     (region 7 1 ∷ region 6 1 ∷ region 5 1 ∷ region 4 1 ∷ region 3 1 ∷ region 2 1 ∷ region 1 1 ∷ region 0 1 ∷ []) true (region 4 1 ∷ [])
 unfolding writesAfter inARow
 gap-writes = refl
+
+-- Of the freed pages 4, 5, 1, 3, 6 a load of two takes 3 and 4: page 1 named 3, and names 6 then; the others left keep their links.
+pub freed-writes :
+    writesAfter (0 ∷ 0 ∷ 0 ∷ 0 ∷ 0 ∷ 0 ∷ []) (fresh (bodyOf 32768) 6 unlimited) freedFive (load Spare 0 (inARow 1 4073))
+    ≡ writesOf (region 4096 8 ∷ region 12288 8192 ∷ []) (region 0 1 ∷ []) (region 8 1 ∷ []) false (region 0 1 ∷ region 1 1 ∷ [])
+unfolding writesAfter inARow
+freed-writes = refl

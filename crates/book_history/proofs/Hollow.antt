@@ -15,7 +15,7 @@ use Rattle.plain_book.specs.Book.{fresh as plainFresh, unlimited, makes}
 use Rattle.book_history.specs.Calls.{serves}
 use Rattle.book_history.specs.PlainOf.{Sixteen}
 use Rattle.book_history.specs.Hollow.{Hollow, always, emptyAnswer, readsEmpty, writesNothing, appendsNothing, writesFirst, firstOnly}
-use Rattle.book_history.specs.Hollow.{pageMore, rewrittenMore, invents, loadsAs, oneRule}
+use Rattle.book_history.specs.Hollow.{pageMore, rewrittenMore, invents, loadsAs, oneRule, loadsBehind, freedUnused}
 use Rattle.book_history.specs.Hollow.{noReserves, noCeilings, ignores, oneDesk, keepsCount, dropsUncounted}
 use Rattle.book_history.proofs.Demand3.{demand-3}
 use Rattle.book_history.proofs.Examples.{computed, bodyOf, inARow}
@@ -114,15 +114,20 @@ unfolding computed loadsAs figureAt madeFigure saidFigure
 always-spare =
     differs (oneRule Spare) (change (load Tight 0 (1 ∷ 2 ∷ 3 ∷ 4 ∷ [])) ∷ change (append 0 5) ∷ []) 1 0 4 refl refl (λ e. omega arith)
 
+-- A load of 300 numbers, which takes a page.
+abbrev onePage : Call
+onePage = change (load Spare 0 (inARow 1 300))
+
+-- A book whose loads take no freed page: the only page is taken again once it was given back.
+pub freed-unused : Hollow freedUnused
+unfolding computed loadsBehind figureAt madeFigure inARow
+freed-unused = differs freedUnused (onePage ∷ change (drop 0) ∷ onePage ∷ []) 2 36 1 refl refl (λ e. omega arith)
+
 -- ---- desks
 
 -- Ceilings of the first desk and of the others, with a reserve of the second.
 abbrev limitsOf : ℕ → ℕ → ℕ → Limits
 limitsOf own others kept = record { reserve = 0 ∷ kept ∷ replicate 14 0; ceiling = own ∷ replicate 15 others }
-
--- A load of 300 numbers, which takes a page.
-abbrev onePage : Call
-onePage = change (load Spare 0 (inARow 1 300))
 
 -- It is enough that one figure differs with these limits.
 differs-at : (k : List ℕ → Serves Book) (d own kept size : ℕ)

@@ -1,41 +1,44 @@
 -- Desks in both books: the counts in words stay those of the plain book, and takes for a desk are alike. Assumes nothing.
 use Prim.Native.Nat.{ℕ, zero, suc, _+_, _-_, _/_, _%_, _≤_, _<_}
-use mathlib.Core.Bool.{Bool, true, false, cond, not, _&&_, true≢false}
+use mathlib.Core.Bool.{Bool, true, false, cond, not, _&&_}
 use mathlib.Core.List.{List, [], _∷_}
-use mathlib.Core.Logic.{_≢_}
 use mathlib.Core.Option.{Option, none, some}
 use mathlib.Core.Path.{_≡_, refl, sym, ap, subst, _∙_}
 use native.Mathlib.Nat.{add-zero}
 use native.Mathlib.Omega.{arith}
 use lib.Dec.{ltb, leb, eqb}
-use lib.ListN.{length, getD, set, length-set}
+use lib.ListN.{length, getD, set}
 use lib.Seq.{getD-set-same, getD-set-other, set-getD}
 use borrow.Author.Tests.{eq-eqb, ne-eqb, leb-false}
 use Rattle.error.specs.Refusal.{Answer, accepted, refused, refuseIf, andThen, shapeBad, freeHeadBad, pastCeiling, intoReserves}
-use Rattle.error.proofs.LawsAnswer.{refuse-no, then-yes, neither, accepted-inj, passed}
+use Rattle.error.proofs.LawsAnswer.{refuse-no, neither, accepted-inj, passed}
 use Rattle.scripthash_layout.specs.Sizes.{slabBytes, maxSlabClass, pageClass, pageSize}
 use Rattle.scripthash_free.specs.FreeList.{Block}
 use Rattle.scripthash_free.proofs.LawsBlock.{block-stands}
-use Rattle.book_limits.specs.Limits.{pageAfter}
-use Rattle.book_desks.specs.Desks.{desks, Limits, deskCount, total, toBeHad, lacksWith, permitted, beyondDesks, listBad, deskOf}
-use Rattle.book_desks.specs.Counts.{freedCount, heldCount, heldAt, heldIn, limitsIn, countsHigh, counted}
+use Rattle.free_runs.specs.Runs.{lowest, withoutRun}
+use Rattle.free_runs.specs.PageList.{topOf}
+use Rattle.book_desks.specs.Desks.{desks, Limits, deskCount, toBeHad, lacksWith, permitted, beyondDesks, deskOf}
+use Rattle.book_desks.specs.Counts.{freedCount, heldCount, heldAt, countsHigh, counted}
 use Rattle.book_desks.proofs.LawsSums.{term-least}
 use Rattle.book_desks.proofs.LawsDesks.{list-good}
 use Rattle.book_desks.proofs.LawsCounts.{held-at, none-high, limits-counted, freed-counted, held-counted, length-counted}
 use Rattle.plain_book.specs.Space.{Space as PlainSpace, Taken as PlainTaken, stackOf, takeMark as plainTakeMark, takeSlab as plainTakeSlab}
-use Rattle.plain_book.specs.Space.{takeFresh as plainTakeFresh, runAtMark as plainRunAtMark, rounded as plainRounded}
-use Rattle.plain_book.specs.Space.{takeRun as plainTakeRun, takeFrom}
-use Rattle.plain_book.specs.Space.{takeBlock as plainTake}
+use Rattle.plain_book.specs.Space.{takeFresh as plainTakeFresh, runAtMark as plainRunAtMark, takeFound as plainTakeFound}
+use Rattle.plain_book.specs.Space.{takeRun as plainTakeRun, takeFrom, takeBlock as plainTake}
 use Rattle.plain_book.specs.Key.{Place, pagesOf, Key}
 use Rattle.plain_book.specs.Book.{Book as PlainBook, keyOf, withKey, deskIn, freedIn, allowed, leaveOf}
 use Rattle.plain_book.specs.Good.{Good, GoodDesks}
 use Rattle.plain_book.proofs.LawsTaking.{took-stack}
 use Rattle.plain_book.proofs.LawsDesks.{rounded-freed}
-use Rattle.book_space.specs.Space.{Space, Taken, takeBlock as takes, takeRun}
-use Rattle.book_space.specs.Desks.{TakenFor, judgedTake, slabFor, freedUntrue, freedLeft, pageFor, runFor}
-use Rattle.book_history.specs.Agrees.{top, Contents, AgreesSpace, AgreesCounts}
+use Rattle.plain_book.proofs.LawsRunFreed.{run-count}
+use Rattle.book_space.specs.Space.{Space, Taken, searched, takeFound}
+use Rattle.book_space.specs.Desks.{TakenFor, judgedTake, slabFor, freedUntrue, freedLeft, pageFor, freedBut, runFound, runFor}
+use Rattle.book_space.proofs.LawsDesks.{run-searched}
+use Rattle.book_history.specs.Agrees.{Contents, AgreesSpace, AgreesCounts}
 use Rattle.book_history.proofs.LawsPush.{top-stands}
-use Rattle.book_history.proofs.LawsTake.{anyHand, TakenAlike, taken-alike, refused-taken, inHandOf, run-agrees, take-agrees}
+use Rattle.book_history.proofs.LawsTake.{anyHand, TakenAlike, taken-alike, refused-taken, inHandOf, take-agrees}
+use Rattle.book_history.proofs.LawsFreeLists.{freed-sought}
+use Rattle.book_history.proofs.LawsUnlinked.{found-agrees}
 
 -- ---- counts
 
@@ -165,10 +168,10 @@ module _ (plain : PlainBook) (counts : List ℕ) (key : ℕ) (g : GoodDesks plai
 
 -- ---- how many pages are freed then
 
--- A run leaves them.
-pub run-freed : (end k : ℕ) (s : PlainSpace) (t : PlainTaken) → plainTakeRun end k s ≡ accepted t → freedIn (t .space) ≡ freedIn s
+-- A run at the mark leaves them.
+pub mark-run-freed : (end k : ℕ) (s : PlainSpace) (t : PlainTaken) → plainRunAtMark end k s ≡ accepted t → freedIn (t .space) ≡ freedIn s
 unfolding plainRunAtMark plainTakeMark
-run-freed end k s t e =
+mark-run-freed end k s t e =
     let (room, is) = passed _ _ _ e in
     subst (λ (x : PlainTaken). freedIn (x .space) ≡ freedIn s) (accepted-inj is) (rounded-freed s)
 
@@ -179,7 +182,7 @@ unfolding takeFrom plainTakeFresh
 page-freed end s t nine e = go (stackOf pageClass s) refl e
   where
     go : (os : List ℕ) → stackOf pageClass s ≡ os → takeFrom end pageClass os s ≡ accepted t → freedIn (t .space) ≡ freedIn s - 1
-    go [] q e = let same = run-freed end 1 s t e in let none' : freedIn s ≡ 0 = ap length q in omega arith
+    go [] q e = let same = mark-run-freed end 1 s t e in let none' : freedIn s ≡ 0 = ap length q in omega arith
     go (o ∷ os) q e =
         let is = took-stack end pageClass o os s e in
         let left : freedIn (t .space) ≡ length os
@@ -233,29 +236,54 @@ module _ (plain : PlainBook) (s : Space) (counts : List ℕ) (key : ℕ) (at : �
         (λ t e. a .freed ∙ sym (slab-freed (plain .size) class (plain .space) t low e)) nothing-more
         (rw size at (take-agrees (plain .space) s at c class (omega arith) g whole h)))
 
-    -- A run for the key's desk.
-    pub run-for-alike : (n : ℕ) → ForAlike at (λ off. none) c (plain .size) (deskIn plain key) n counts
-        (leaveOf plain key n (plainTakeRun (plain .size) n (plain .space))) (runFor (deskIn plain key) n s counts)
-    unfolding runFor
-    run-for-alike n =
+    -- The freed pages once a run is taken: as many fewer as it has where the search led to it.
+    found-freed : (n : ℕ) → 0 < n → (found : Option ℕ) → lowest n (stackOf pageClass (plain .space)) ≡ found → (t : PlainTaken)
+        → plainTakeFound (plain .size) n (plain .space) found ≡ accepted t → freedBut n found counts ≡ freedIn (t .space)
+    unfolding plainTakeFound
+    found-freed n some' none q t e = a .freed ∙ sym (mark-run-freed (plain .size) n (plain .space) t e)
+    found-freed n some' (some off) q t e =
+        let left : freedIn (t .space) ≡ length (withoutRun off n (stackOf pageClass (plain .space)))
+        = ap (λ (x : PlainTaken). freedIn (x .space)) (sym (accepted-inj e))
+        ∙ ap length (getD-set-same (plain .space .stacks) pageClass _ [] (omega (arith, g .nine))) in
+        let many = run-count n off (plain .space) at some' g q in
+        let freed = a .freed in
+        omega arith
+
+    -- A run for the key's desk, where the search led.
+    found-alike : (n : ℕ) → 0 < n → (found : Option ℕ) → lowest n (stackOf pageClass (plain .space)) ≡ found
+        → ForAlike at (λ off. none) c (plain .size) (deskIn plain key) n counts
+        (leaveOf plain key n (plainTakeFound (plain .size) n (plain .space) found)) (runFound (deskIn plain key) n s counts found)
+    unfolding runFound
+    found-alike n some' found q =
         rw size
-        (judged-alike plain counts key d a at (λ off. none) c (plain .size) n (freedCount counts) _ _ _
-        (λ t e. a .freed ∙ sym (run-freed (plain .size) n (plain .space) t e)) refl
-        (rw size at (run-agrees (plain .space) s at c n g whole h)))
+        (judged-alike plain counts key d a at (λ off. none) c (plain .size) n (freedBut n found counts) _ _ _
+        (found-freed n some' found q) refl
+        (subst
+        (λ (k : ℕ).
+        TakenAlike at (λ off. none) c (plain .size) (plainTakeFound (plain .size) n (plain .space) found) (takeFound n k s found))
+        (sym (a .freed)) (rw size at (found-agrees (plain .space) s at c n g whole h found))))
+
+    -- A run for the key's desk: the search over the bytes leads where the rule does.
+    pub run-for-alike : (n : ℕ) → 0 < n → ForAlike at (λ off. none) c (plain .size) (deskIn plain key) n counts
+        (leaveOf plain key n (plainTakeRun (plain .size) n (plain .space))) (runFor (deskIn plain key) n s counts)
+    run-for-alike n some' =
+        let sought : searched n (freedCount counts) s ≡ accepted (lowest n (stackOf pageClass (plain .space)))
+        = ap (λ (k : ℕ). searched n k s) (a .freed) ∙ freed-sought (plain .space) s at c g h n in
+        rw (run-searched (deskIn plain key) s counts n sought) (found-alike n some' (lowest n (stackOf pageClass (plain .space))) refl)
 
     -- The free head of pages is 0 exactly where none is freed.
     head-told : (os : List ℕ) → stackOf pageClass (plain .space) ≡ os
         → (freedUntrue s counts ≡ false) × (freedLeft s counts ≡ freedIn (plain .space) - 1)
     unfolding freedUntrue
     head-told [] q =
-        let head : getD (s .free) pageClass 0 ≡ 0 = h .tops pageClass ∙ ap top q in
+        let head : getD (s .free) pageClass 0 ≡ 0 = h .tops pageClass ∙ ap topOf q in
         let none' : freedCount counts ≡ 0 = a .freed ∙ ap length q in
         let z : freedIn (plain .space) ≡ 0 = ap length q in (
           rw (eq-eqb (getD (s .free) pageClass 0) 0 head, eq-eqb (freedCount counts) 0 none') refl,
           rw (eq-eqb (getD (s .free) pageClass 0) 0 head) (omega arith),
         )
     head-told (o ∷ os) q =
-        let head : getD (s .free) pageClass 0 ≡ o = h .tops pageClass ∙ ap top q in
+        let head : getD (s .free) pageClass 0 ≡ o = h .tops pageClass ∙ ap topOf q in
         let stands = block-stands pageClass o (plain .space .mark) (top-stands (plain .space) at none pageClass o os g q) .begins in
         let some' : freedCount counts ≡ length os + 1 = a .freed ∙ ap length q ∙ omega arith in
         let is : eqb (getD (s .free) pageClass 0) 0 ≡ false = ne-eqb _ 0 (λ (e : getD (s .free) pageClass 0 ≡ 0). omega arith) in

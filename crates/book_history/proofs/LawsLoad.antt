@@ -2,10 +2,9 @@
 use Prim.Native.Nat.{ℕ, zero, suc, _+_, _-_, _*_, _%_, _^_, _≤_, _<_}
 use mathlib.Core.Bool.{Bool, true, false, not, true≢false}
 use mathlib.Core.List.{List, [], _∷_}
-use mathlib.Core.Logic.{⊎-elim, _≢_}
+use mathlib.Core.Logic.{_⊎_, ⊎-elim, _≢_}
 use mathlib.Core.Option.{Option, none, some}
 use mathlib.Core.Path.{_≡_, refl, sym, ap, subst, _∙_}
-use native.Mathlib.Nat.{le-refl}
 use native.Mathlib.Omega.{arith}
 use lib.Dec.{ltb, eqb}
 use lib.ListN.{length, set, length-append}
@@ -16,7 +15,7 @@ use Rattle.error.proofs.LawsAnswer.{accepted-inj}
 use Rattle.buffer.specs.Bytes.{part, overwrite}
 use Rattle.buffer.specs.LittleEndian.{bytesOf}
 use Rattle.buffer.proofs.LawsBytes.{length-overwrite}
-use Rattle.buffer.proofs.LawsOverwrite.{part-before}
+use Rattle.buffer.proofs.LawsOverwrite.{part-before, part-after}
 use Rattle.buffer.proofs.LawsLittleEndian.{length-bytesOf}
 use Rattle.scripthash_layout.specs.Sizes.{slabBytes, pageClass, pageSize}
 use Rattle.scripthash_layout.specs.Head.{unpackHead}
@@ -36,12 +35,10 @@ use Rattle.book_rules.specs.Outcomes.{loadedIn, Loaded}
 use Rattle.book_rules.specs.Offered.{offeredNumber, offeredList}
 use Rattle.book_limits.specs.Limits.{outOfShape, mostBody, mostCounted, totalTold}
 use Rattle.book_rules.specs.Places.{loadsTo}
-use Rattle.book_limits.proofs.LawsLimits.{in-shape}
 use Rattle.book_rules.proofs.LawsRules.{loads-to}
 use Rattle.book_desks.specs.Desks.{deskCount}
 use Rattle.book_desks.specs.Counts.{heldCount, counted}
-use Rattle.plain_book.specs.Space.{Space as PlainSpace, Taken as PlainTaken, takeBlock as plainTake, rounded as plainRounded}
-use Rattle.plain_book.specs.Space.{takeRun as plainTakeRun, runAtMark as plainRunAtMark}
+use Rattle.plain_book.specs.Space.{Space as PlainSpace, Taken as PlainTaken, takeBlock as plainTake}
 use Rattle.plain_book.specs.Key.{Page, Place, empty, inline, slab, pages, written, lastPage, noPage, headOf, Key, emptyKey, pagesOf, Placed}
 use Rattle.plain_book.specs.Key.{keyIn}
 use Rattle.plain_book.specs.Key.{runPages, loadInto as plainLoadInto, loadPlace}
@@ -49,14 +46,14 @@ use Rattle.plain_book.specs.Book.{Book as PlainBook, Outcome as PlainOutcome, k
 use Rattle.plain_book.specs.Book.{loads as plainLoads}
 use Rattle.plain_book.specs.Book.{does as plainDoes}
 use Rattle.plain_book.specs.Sound.{Fits, SoundKey}
-use Rattle.plain_book.specs.Owners.{Owner, hand, stack, slabOf, pageOf, Apart, slabAt, pageNo, pageIn, has, places}
-use Rattle.plain_book.specs.Good.{Good, GoodPlain}
-use Rattle.plain_book.proofs.LawsApart.{apart-fewer}
+use Rattle.plain_book.specs.Owners.{Owner, hand, stack, slabOf, pageOf, RunClear, slabAt, pageNo, pageIn, has, places}
+use Rattle.plain_book.specs.Good.{GoodPlain}
 use Rattle.plain_book.proofs.LawsOwners.{some-inj, none-some, atKey, key-slab, key-page}
 use Rattle.plain_book.proofs.LawsCeilings.{run-length}
 use Rattle.plain_book.proofs.LawsSound.{some-parts}
 use Rattle.plain_book.proofs.LawsHistory.{leave-refuses}
-use Rattle.plain_book.proofs.LawsTaking.{good-taken, good-rounded, rounded-mark, took-mark}
+use Rattle.plain_book.proofs.LawsTaking.{good-taken}
+use Rattle.plain_book.proofs.LawsRunFreed.{run-clear}
 use Rattle.book_space.specs.Space.{Space, space}
 use Rattle.book_space.specs.Desks.{TakenFor}
 use Rattle.book_keys.specs.Keys.{goodExtent}
@@ -68,7 +65,7 @@ use Rattle.book_load.specs.Loads.{loading, lastOfRun, loadInto, loadAt, loads}
 use Rattle.book_history.specs.Calls.{does}
 use Rattle.book_history.specs.Agrees.{SlabReads, PageReads, LastReads, NextReads, ChainReads, firstPageOff, SlabIn, PageIn, Contents}
 use Rattle.book_history.specs.Agrees.{BlockReads, contentsOf, AgreesSpace, AgreesCounts, AgreesInside, Agrees}
-use Rattle.book_history.proofs.LawsFrame.{blockOf, block-ends, block-written}
+use Rattle.book_history.proofs.LawsFrame.{blockOf, block-written}
 use Rattle.book_history.proofs.LawsWords.{empty-told}
 use Rattle.book_history.proofs.LawsStep.{Alike, told-alike, refused-alike, alike-both, alike-on-key, placedContents, agrees-placed}
 use Rattle.book_history.proofs.LawsContent.{head-agrees}
@@ -79,16 +76,18 @@ use Rattle.book_history.proofs.LawsDesks.{key-desk, held-same, counts-p
 
 -- ---- a run of pages is written
 
--- What a run's pages are: the body stays as long as it was, what is before the run stays, and each page reads as it should.
+-- What a run's pages are: the body stays as long as it was, what is before and behind the run stays, and each page reads as it should.
 record RunWritten (body after : List ℕ) (off first creates : ℕ) (ps : List Page) : Type 0 where
   long : length after ≡ length body
   before : (p n : ℕ) → p + n ≤ off → part after p n ≡ part body p n
+  behind : (p n : ℕ) → off + length ps * pageSize ≤ p → part after p n ≡ part body p n
   reads : (i : ℕ) (x : Block) → pageNo i ps ≡ some x → ChainReads first creates i ps (blockOf after x)
 
 -- No page is written.
 run-none : (body : List ℕ) (off first creates : ℕ) → RunWritten body body off first creates []
 unfolding pageNo
-run-none body off first creates = record { long = refl; before = λ p n l. refl; reads = λ i x e. absurd (none-some e) }
+run-none body off first creates =
+    record { long = refl; before = λ p n l. refl; behind = λ p n l. refl; reads = λ i x e. absurd (none-some e) }
 
 -- A page is written, and then those behind it.
 run-more : (body page after : List ℕ) (off first creates : ℕ) (p : Page) (qs : List Page) → p .off ≡ off → length page ≡ slabBytes pageClass
@@ -100,6 +99,7 @@ run-more body page after off first creates p qs is size fits r w =
     record {
       long = w .long ∙ length-overwrite body off page (rw size fits);
       before = λ q n l. w .before q n (omega arith) ∙ part-before body off page (rw size fits) q n l;
+      behind = λ q n l. w .behind q n (omega arith) ∙ part-after body off page (rw size fits) q n (rw size (omega arith));
       reads = reads;
     }
   where
@@ -191,12 +191,12 @@ run-first off (p ∷ q ∷ ps) l = refl
 
 -- ---- spaces that agree
 
--- Something is written where nobody has a block yet.
-written-beyond : (plain : PlainSpace) (s : Space) (at : ℕ → Place) (held : Option Block) (c : Contents) (mark : ℕ) (after : List ℕ)
-    → Apart mark (has plain at held)
-    → length after ≡ length (s .body) → ((p n : ℕ) → p + n ≤ mark → part after p n ≡ part (s .body) p n) → AgreesSpace plain s at held c
+-- Something is written where no byte is anybody's.
+written-clear : (plain : PlainSpace) (s : Space) (at : ℕ → Place) (held : Option Block) (c : Contents) (mark off count : ℕ) (after : List ℕ)
+    → RunClear mark off count (has plain at held) → length after ≡ length (s .body)
+    → ((p n : ℕ) → (p + n ≤ off) ⊎ (off + count * pageSize ≤ p) → part after p n ≡ part (s .body) p n) → AgreesSpace plain s at held c
     → AgreesSpace plain (space after (s .mark) (s .free)) at held c
-written-beyond plain s at held c mark after apart long before a =
+written-clear plain s at held c mark off count after clear long same a =
     record {
       mark = a .mark;
       nine = a .nine;
@@ -204,8 +204,7 @@ written-beyond plain s at held c mark after apart long before a =
       within = rw long (a .within);
       small = rw long (a .small);
       stored = λ w x e.
-          subst (BlockReads plain c w) (sym (before (x .off) (slabBytes (x .class)) (block-ends x mark (apart .stands w x e))))
-          (a .stored w x e);
+          subst (BlockReads plain c w) (sym (same (x .off) (slabBytes (x .class)) (clear .clear w x e))) (a .stored w x e);
     }
 
 -- A key gets a place whose blocks, which nobody has, read as they should.
@@ -376,58 +375,52 @@ module _ (plain : PlainBook) (b : Book) (key : ℕ) (ns : List ℕ) (g : GoodPla
           (told-alike refl (agrees-placed plain key ns (slab class (t .off) (written ns)) true (t .space) l b _ (u .counts) a shape
           (bytes ∙ long ∙ sym (a .size)) placed (load-counts (slab class (t .off) (written ns)) (t .space) 0 (u .counts) refl left)))
 
-  -- a run is written beyond all blocks, and becomes the key's pages
+  -- a run is written where no byte is anybody's, and becomes the key's pages
   run-placed : (inside : PlainSpace) (s : Space) (start : ℕ) (parts : List (List ℕ)) → 0 < length parts → joined parts ≡ ns
-      → Fit lastPageRoom pageRoom parts
-      → start % 4096 ≡ 0 → 4096 ≤ start → start + length parts * pageSize ≤ inside .mark → Apart start (has inside (places plain) none)
+      → Fit lastPageRoom pageRoom parts → RunClear (inside .mark) start (length parts) (has inside (places plain) none)
       → AgreesSpace inside s (places plain) none (contentsOf plain)
       → (length (writeRun start (length parts) (length ns) (s .body) start parts) ≡ length (s .body))
       × AgreesSpace inside (space (writeRun start (length parts) (length ns) (s .body) start parts) (s .mark) (s .free))
       (atKey key (pages (runPages start parts)) (places plain)) none
       (placedContents plain key (length ns) (pages (runPages start parts)))
-  run-placed inside s start parts some' same fit aligned from below apart agrees =
+  run-placed inside s start parts some' same fit clear agrees =
       let in-body = agrees .within in
       let small = agrees .small in
+      let below = clear .below in
       let w =
-      run-written start (length parts) (length ns) aligned from (omega arith) some' (omega arith) (omega arith) parts (s .body)
-      start aligned (omega arith) small
-      (rising-below (2 ^ 62) (2 ^ 63) 0 (joined parts) (omega arith) (rw same rises)) fit in (
+      run-written start (length parts) (length ns) (clear .aligned) (clear .from) (omega arith) some' (omega arith) (omega arith) parts
+      (s .body) start (clear .aligned) (omega arith) small
+      (rising-below (2 ^ 62) (2 ^ 63) 0 (joined parts) (omega arith) (rw same rises)) fit in
+      let many = run-length start parts in (
         w .long,
         placed-stored plain key (length ns) (pages (runPages start parts)) inside _ (contentsOf plain)
             (meanwhile-first plain key (λ block. Unit {0})) (λ x e. absurd (none-some e))
             (λ i x e. subst (λ (first : ℕ). ChainReads first (length ns) i (runPages start parts)
             (blockOf (writeRun start (length parts) (length ns) (s .body) start parts) x))
             (sym (run-first start parts some')) (w .reads i x e))
-            (written-beyond inside s (places plain) none (contentsOf plain) start _ apart (w .long) (w .before) agrees),
+            (written-clear inside s (places plain) none (contentsOf plain) (inside .mark) start (length parts) _ clear (w .long)
+            (λ p n. ⊎-elim (λ (l : p + n ≤ start). w .before p n l)
+            (λ (l : start + length parts * pageSize ≤ p). w .behind p n (rw many l))) agrees),
       )
 
   -- a run is taken and written
   load-run : 0 < length (cutting ns)
       → Alike (andThen (plainLoadInto (plain .size) (leaveOf plain key) none ns (plain .space)) loadedTo) (loadInto own b key ns none)
-  unfolding plainLoadInto loadInto headOf andThen plainRunAtMark has
+  unfolding plainLoadInto loadInto headOf andThen
   load-run some' =
       for-then (λ x y. Alike (andThen x loadedTo) y) (places plain) (λ off. none) (contentsOf plain) (plain .size) own (length parts)
       (b .counts)
       _ _ _ _ (λ number. refused-alike)
       (λ t u took off long agrees left.
-      subst
-      (λ (t : PlainTaken). u .off ≡ t .off → AgreesSpace (t .space) (u .space) (places plain) none (contentsOf plain)
-      → u .counts ≡ counted (freedIn (t .space)) own (heldCount own (b .counts) + length parts) (b .counts)
-      → Alike (loadedTo (placedAt t)) (written-at u))
-      (sym (took-mark (plain .size) (length parts * pageSize) (plainRounded (plain .space))
-      (leave-refuses plain key (length parts) _ t took)))
-      (λ off agrees left. placed u off long agrees left) off agrees left)
+      placed t u
+      (run-clear (plain .size) (length parts) (plain .space) (places plain) some'
+      (leave-refuses plain key (length parts) _ t took) (g .space) .1)
+      off long agrees left)
       (run-for-alike plain (b .space) (b .counts) key (places plain) (contentsOf plain) (g .space) (g .desks) (h .counts) (a .size)
-      (h .space) (length parts))
+      (h .space) (length parts) some')
     where
       parts : List (List ℕ)
       parts = cutting ns
-
-      start : ℕ
-      start = plainRounded (plain .space) .mark
-
-      beyond : PlainSpace
-      beyond = record { mark = start + length parts * pageSize; stacks = plainRounded (plain .space) .stacks }
 
       placedAt : PlainTaken → Placed
       placedAt t = record { place = pages (runPages (t .off) parts); space = t .space; rewritten = 0 }
@@ -438,40 +431,26 @@ module _ (plain : PlainBook) (b : Book) (key : ℕ) (ns : List ℕ) (g : GoodPla
           (space (writeRun (u .off) (length parts) (length ns) (u .space .body) (u .off) parts) (u .space .mark) (u .space .free))
           (u .counts) b)
 
-      good : Good (plainRounded (plain .space)) (places plain) none
-      good = good-rounded (plain .space) (places plain) none (g .space)
-
-      apart : Apart start (has beyond (places plain) none)
-      apart = apart-fewer (has (plainRounded (plain .space)) (places plain) none) (has beyond (places plain) none) start to (good .apart)
-        where
-          to : (w : Owner) (x : Block) → has beyond (places plain) none w ≡ some x
-              → has (plainRounded (plain .space)) (places plain) none w ≡ some x
-          to hand x e = e
-          to (stack k d) x e = e
-          to (slabOf j) x e = e
-          to (pageOf j i) x e = e
-
-      placed : (u : TakenFor) → u .off ≡ start → length (u .space .body) ≡ plain .size
-          → AgreesSpace beyond (u .space) (places plain) none (contentsOf plain)
-          → u .counts ≡ counted (freedIn beyond) own (heldCount own (b .counts) + length parts) (b .counts)
-          → Alike (loadedTo (placedAt (record { off = start; space = beyond }))) (written-at u)
-      placed u off long agrees left =
+      placed : (t : PlainTaken) (u : TakenFor) → RunClear (t .space .mark) (t .off) (length parts) (has (t .space) (places plain) none)
+          → u .off ≡ t .off → length (u .space .body) ≡ plain .size
+          → AgreesSpace (t .space) (u .space) (places plain) none (contentsOf plain)
+          → u .counts ≡ counted (freedIn (t .space)) own (heldCount own (b .counts) + length parts) (b .counts)
+          → Alike (loadedTo (placedAt t)) (written-at u)
+      placed t u clear off long agrees left =
           let ok = cut-allowed ns rises in
           let exact : totalTold (length ns) ≡ length ns = rw (le-leb (length ns) mostCounted (omega arith)) refl in
-          let (bytes, run) =
-          run-placed beyond (u .space) start parts some' (ok .consecutive) (ok .fit) (rounded-mark (plain .space)) (good .from)
-          (le-refl (beyond .mark)) apart agrees in
-          subst (λ (o : ℕ). Alike (loadedTo (placedAt (record { off = start; space = beyond })))
-          (written-at (record { off = o; space = u .space; counts = u .counts }))) (sym off)
+          let (bytes, run) = run-placed (t .space) (u .space) (t .off) parts some' (ok .consecutive) (ok .fit) clear agrees in
+          subst (λ (o : ℕ). Alike (loadedTo (placedAt t)) (written-at (record { off = o; space = u .space; counts = u .counts }))) (sym off)
           (subst
-          (λ (last : ℕ). Alike (loadedTo (placedAt (record { off = start; space = beyond })))
+          (λ (last : ℕ). Alike (loadedTo (placedAt t))
           (accepted (loading key (Extent last) (length parts)
-          (space (writeRun start (length parts) (length ns) (u .space .body) start parts) (u .space .mark) (u .space .free))
+          (space (writeRun (t .off) (length parts) (length ns) (u .space .body) (t .off) parts) (u .space .mark) (u .space .free))
           (u .counts) b)))
-          (run-last start noPage parts some')
-          (told-alike (ap (λ (n : ℕ). loadedIn n) (run-length start parts))
-          (agrees-placed plain key ns (pages (runPages start parts)) true beyond l b _ (u .counts) a shape (bytes ∙ long ∙ sym (a .size))
-          (rw exact run) (load-counts (pages (runPages start parts)) beyond (length parts) (u .counts) (run-length start parts) left))))
+          (run-last (t .off) noPage parts some')
+          (told-alike (ap (λ (n : ℕ). loadedIn n) (run-length (t .off) parts))
+          (agrees-placed plain key ns (pages (runPages (t .off) parts)) true (t .space) l b _ (u .counts) a shape
+          (bytes ∙ long ∙ sym (a .size)) (rw exact run)
+          (load-counts (pages (runPages (t .off) parts)) (t .space) (length parts) (u .counts) (run-length (t .off) parts) left))))
 
 -- ---- a load
 

@@ -19,19 +19,20 @@ use Rattle.buffer.proofs.LawsLittleEndian.{length-bytesOf, littleEndian-bytesOf
 use Rattle.scripthash_layout.specs.Sizes.{slabBytes}
 use Rattle.scripthash_free.specs.FreeList.{Block, isBlock, pushed, pushAll}
 use Rattle.scripthash_free.proofs.LawsBlock.{bytes-from-16, block-stands}
+use Rattle.free_runs.specs.PageList.{topOf}
 use Rattle.plain_book.specs.Space.{Space as PlainSpace, stackOf, freed}
 use Rattle.plain_book.specs.Key.{Place}
 use Rattle.plain_book.specs.Owners.{Owner, hand, stack, slabOf, pageOf, atDepth, has}
 use Rattle.plain_book.specs.Good.{Good}
 use Rattle.plain_book.proofs.LawsOwners.{kindOf, top-is, below-top, withStack, stack-same, stack-other, changed-has}
 use Rattle.book_space.specs.Space.{Space, space, release}
-use Rattle.book_history.specs.Agrees.{top, under, Contents, BlockReads, Stored, AgreesSpace}
+use Rattle.book_history.specs.Agrees.{under, Contents, BlockReads, Stored, AgreesSpace}
 use Rattle.book_history.proofs.LawsFrame.{blockOf, block-ends, stored-written}
 
 -- ---- a stack
 
 -- What the new top of a stack names.
-pub under-pushed : (o : ℕ) (os : List ℕ) → under (length os) (o ∷ os) ≡ top os
+pub under-pushed : (o : ℕ) (os : List ℕ) → under (length os) (o ∷ os) ≡ topOf os
 unfolding under
 under-pushed o os = rw (eq-eqb (length os) (length os) refl)
 
@@ -50,28 +51,28 @@ top-stands plain at held class o os g e =
 
 -- The top of a stack of a good space lies below the mark; 0 for none does too.
 pub top-low : (plain : PlainSpace) (at : ℕ → Place) (held : Option Block) (class : ℕ) → Good plain at held
-    → top (stackOf class plain) ≤ plain .mark
+    → topOf (stackOf class plain) ≤ plain .mark
 top-low plain at held class g = go (stackOf class plain) refl
   where
-    go : (os : List ℕ) → stackOf class plain ≡ os → top os ≤ plain .mark
+    go : (os : List ℕ) → stackOf class plain ≡ os → topOf os ≤ plain .mark
     go [] e = omega arith
     go (o ∷ os) e = omega (arith, block-stands class o (plain .mark) (top-stands plain at held class o os g e) .ends)
 
 -- A free head for each top, after the stack and the free head of one class changed.
 pub tops-changed : (plain : PlainSpace) (free : List ℕ) (class head : ℕ) (os : List ℕ) → class < length (plain .stacks)
-    → class < length free → head ≡ top os
-    → ((k : ℕ) → getD free k 0 ≡ top (stackOf k plain)) → (k : ℕ) → getD (set free class head) k 0
-    ≡ top (stackOf k (withStack class os plain))
+    → class < length free → head ≡ topOf os
+    → ((k : ℕ) → getD free k 0 ≡ topOf (stackOf k plain)) → (k : ℕ) → getD (set free class head) k 0
+    ≡ topOf (stackOf k (withStack class os plain))
 tops-changed plain free class head os in-stacks in-heads is tops k = go (eqb k class) refl
   where
-    go : (t : Bool) → eqb k class ≡ t → getD (set free class head) k 0 ≡ top (stackOf k (withStack class os plain))
+    go : (t : Bool) → eqb k class ≡ t → getD (set free class head) k 0 ≡ topOf (stackOf k (withStack class os plain))
     go true e =
         let here = eqb-true k class e in
         ap (λ (j : ℕ). getD (set free class head) j 0) here ∙ getD-set-same free class head 0 in-heads ∙ is
-        ∙ sym (ap (λ (j : ℕ). top (stackOf j (withStack class os plain))) here ∙ ap top (stack-same plain class os in-stacks))
+        ∙ sym (ap (λ (j : ℕ). topOf (stackOf j (withStack class os plain))) here ∙ ap topOf (stack-same plain class os in-stacks))
     go false e =
         let n = eqb-false k class e in
-        getD-set-other free class k head 0 n ∙ tops k ∙ sym (ap top (stack-other plain class os in-stacks k n))
+        getD-set-other free class k head 0 n ∙ tops k ∙ sym (ap topOf (stack-other plain class os in-stacks k n))
 
 -- ---- a block's first bytes are written
 
@@ -152,7 +153,7 @@ module _ (plain : PlainSpace) (s : Space) (at at' : ℕ → Place) (held held' :
   block = overwrite (part (s .body) off (slabBytes class)) 0 link
 
   -- it names the top so far
-  names : littleEndian (part block 0 8) ≡ top (stackOf class plain)
+  names : littleEndian (part block 0 8) ≡ topOf (stackOf class plain)
   names =
       let long : length (part (s .body) off (slabBytes class)) ≡ slabBytes class = length-part (s .body) off (slabBytes class) block-fits in
       let eight : length link ≡ 8 = length-bytesOf 8 (getD (s .free) class 0) in

@@ -8,7 +8,7 @@ use mathlib.Core.Path.{_≡_, refl, sym, ap, ap₂, _∙_}
 use native.Mathlib.Omega.{arith}
 use lib.Dec.{eqb}
 use lib.ListN.{length, getD, List·getD-eq-default}
-use borrow.Author.Tests.{eqb-true, eqb-false, eq-eqb, ne-eqb}
+use borrow.Author.Tests.{eqb-true, eqb-false}
 use Rattle.error.specs.Refusal.{accepted, andThen}
 use Rattle.error.proofs.LawsAnswer.{neither}
 use Rattle.buffer.specs.Bytes.{part}
@@ -17,7 +17,7 @@ use Rattle.buffer.proofs.LawsOrder.{lt-or-ge}
 use Rattle.scripthash_layout.specs.Sizes.{slabBytes, pageClass}
 use Rattle.scripthash_layout.specs.Head.{unpackHead}
 use Rattle.scripthash_layout.specs.declared.head.ShHeadValue.{ShHeadValue}
-use Rattle.scripthash_free.specs.FreeList.{Disjoint, Block, nextOf, IsFreeList}
+use Rattle.scripthash_free.specs.FreeList.{Disjoint, Block, IsFreeList}
 use Rattle.scripthash_free.proofs.LawsBlock.{bytes-from-16}
 use Rattle.book_limits.specs.Limits.{outOfShape}
 use Rattle.plain_book.specs.Space.{stackOf}
@@ -36,9 +36,10 @@ use Rattle.book_start.specs.Start.{Stands, blocksAt, blocksIn, followedFrom, fr
 use Rattle.book_start.proofs.LawsClaims.{disjoint-sym}
 use Rattle.book_start.proofs.LawsFreed.{followed-end}
 use Rattle.book_start.proofs.LawsPairs.{each-in, cross-in, key-apart, keys-apart, list-apart, lists-apart, key-list-apart}
-use Rattle.book_history.specs.Agrees.{top, under, BlockReads, contentsOf, AgreesSpace, AgreesCounts, Agrees}
+use Rattle.book_history.specs.Agrees.{under, BlockReads, contentsOf, AgreesSpace, AgreesCounts, Agrees}
 use Rattle.book_history.specs.PlainOf.{placeFrom, countedFrom, listFrom, keyFrom, keysFrom, stacksFrom, plainOf, startList}
 use Rattle.book_history.proofs.LawsTake.{part-start}
+use Rattle.book_history.proofs.LawsFreeLists.{free-list-top, free-list-under}
 use Rattle.book_history.proofs.LawsWords.{stored-told}
 use Rattle.book_history.proofs.LawsStartApart.{blockNo, no-in, two-apart}
 use Rattle.book_history.proofs.LawsStartPages.{BlockAs}
@@ -82,24 +83,6 @@ module _ (s : Space) where
   stacks-many (h ∷ hs) = ap suc (stacks-many hs)
 
 -- ---- free lists
-
--- A free list begins at the top of what it names.
-free-list-top : (body : List ℕ) (head : ℕ) (os : List ℕ) → IsFreeList body head os → head ≡ top os
-unfolding IsFreeList
-free-list-top body head [] n = n
-free-list-top body head (o ∷ os) n = n .0
-
--- Each block that it names tells the offset under it.
-free-list-under : (body : List ℕ) (head class d : ℕ) (os : List ℕ) (x : Block) → IsFreeList body head os → atDepth class d os ≡ some x
-    → nextOf body (x .off) ≡ under d os
-unfolding IsFreeList atDepth under
-free-list-under body head class d [] x n e = absurd (none-some e)
-free-list-under body head class d (o ∷ os) x (is, some', within, rest) e =
-    ⊎-elim
-    (λ (deep, block).
-    rw (eq-eqb d (length os) deep) (ap (λ (y : Block). nextOf body (y .off)) block ∙ free-list-top body (nextOf body o) os rest))
-    (λ (other, there). rw (ne-eqb d (length os) other) (free-list-under body (nextOf body o) class d os x rest there))
-    (below-top class d o os x e)
 
 -- The block at a depth, by its index from the top.
 depth-block : (class d : ℕ) (os : List ℕ) (x : Block) → atDepth class d os ≡ some x

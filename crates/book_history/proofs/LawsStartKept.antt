@@ -37,7 +37,7 @@ use Rattle.book_history.specs.Agrees.{contentsOf, Agrees}
 use Rattle.book_history.specs.PlainOf.{plainOf}
 use Rattle.book_history.proofs.LawsStep.{mark-good}
 use Rattle.book_history.proofs.LawsContent.{offsOf, blocksOf, content-agrees}
-use Rattle.book_history.proofs.LawsStanding.{free-list-is}
+use Rattle.book_history.proofs.LawsFreeLists.{free-list-is}
 use Rattle.book_history.proofs.LawsCalls.{books-agree}
 use Rattle.book_history.proofs.LawsEach.{each-alike}
 use Rattle.book_history.proofs.LawsStartApart.{blockNo}

@@ -19,22 +19,21 @@ use Rattle.scripthash_free.specs.FreeList.{Block, isBlock, Adjoin, Each, IsSlab
 use Rattle.scripthash_free.proofs.LawsBlock.{bytes-from-16, block-stands, stands-block, no-block, slab-stands}
 use Rattle.scripthash_free.proofs.LawsGap.{gap-filled, gap-slabs, adjoin-rises}
 use Rattle.scripthash_free.proofs.LawsFree.{pop-none, pop-yes, pop-no}
+use Rattle.free_runs.specs.PageList.{topOf}
 use Rattle.book_limits.specs.Limits.{slabsEnd, pageAfter, gapEnd, popEnd, pastSlabs}
 use Rattle.book_limits.proofs.LawsLimits.{gap-end}
 use Rattle.plain_book.specs.Space.{Space as PlainSpace, Taken as PlainTaken, stackOf, freed, freedAll, runAtMark as plainRunAtMark}
-use Rattle.plain_book.specs.Space.{takeMark as plainTakeMark, takeSlab as plainTakeSlab, rounded as plainRounded, takeRun as plainTakeRun}
-use Rattle.plain_book.specs.Space.{takeFresh as plainTakeFresh}
-use Rattle.plain_book.specs.Space.{takeFrom, takeBlock as plainTake}
+use Rattle.plain_book.specs.Space.{takeMark as plainTakeMark, takeSlab as plainTakeSlab, rounded as plainRounded}
+use Rattle.plain_book.specs.Space.{takeFresh as plainTakeFresh, takeFrom, takeBlock as plainTake}
 use Rattle.plain_book.specs.Key.{Place}
 use Rattle.plain_book.specs.Owners.{Owner, hand, stack, slabOf, pageOf, atDepth, has}
 use Rattle.plain_book.specs.Good.{Good}
 use Rattle.plain_book.proofs.LawsOwners.{none-some, kindOf, deep-none, top-is, under-top, withStack, stack-same, stack-other, changed-has}
 use Rattle.plain_book.proofs.LawsOwners.{good-marked}
 use Rattle.plain_book.proofs.LawsTaking.{good-carved-one, freed-stacks}
-use Rattle.book_space.specs.Space.{Space, space, listsOf, Taken, takeMark, takeSlab, rounded, takeRun, takeFresh, takePopped}
-use Rattle.book_space.specs.Space.{takeBlock as takes, runAtMark}
-use Rattle.book_space.specs.Space.{release}
-use Rattle.book_history.specs.Agrees.{top, under, Contents, BlockReads, Stored, AgreesSpace}
+use Rattle.book_space.specs.Space.{Space, space, listsOf, Taken, takeMark, takeSlab, rounded, takeFresh, takePopped, takeBlock as takes}
+use Rattle.book_space.specs.Space.{runAtMark, release}
+use Rattle.book_history.specs.Agrees.{under, Contents, BlockReads, Stored, AgreesSpace}
 use Rattle.book_history.proofs.LawsFrame.{stored-same}
 use Rattle.book_history.proofs.LawsPush.{FromOther, under-pushed, under-kept, top-stands, tops-changed, release-long, push-agrees}
 
@@ -81,7 +80,7 @@ module _ (plain : PlainSpace) (s : Space) (at : ℕ → Place) (c : Contents) (c
   in-stacks = omega (arith, g .nine)
 
   -- the freed block names the next
-  next-is : nextOf (s .body) o ≡ top os
+  next-is : nextOf (s .body) o ≡ topOf os
   unfolding has
   next-is =
       let reads = a .stored (stack class (length os)) (record { class = class; off = o })
@@ -133,7 +132,7 @@ module _ (plain : PlainSpace) (s : Space) (at : ℕ → Place) (c : Contents) (c
 
   -- the free head is the top, which a take pops
   head-is : getD (s .free) class 0 ≡ o
-  head-is = a .tops class ∙ ap top is
+  head-is = a .tops class ∙ ap topOf is
 
   -- it stands below the mark, and where it doesn't end past the end of slabs, below the end of what is popped
   top-good : isBlock class o (plain .mark) ≡ true
@@ -365,13 +364,13 @@ rounded-agrees plain s at c g whole a =
 
 -- ---- takes
 
--- A run of pages is taken: nothing is in hand, and the mark has passed it.
-pub run-agrees : (plain : PlainSpace) (s : Space) (at : ℕ → Place) (c : Contents) (pages : ℕ) → Good plain at none
+-- A run of pages is taken at the mark: nothing is in hand, and the mark has passed it.
+pub mark-run-agrees : (plain : PlainSpace) (s : Space) (at : ℕ → Place) (c : Contents) (pages : ℕ) → Good plain at none
     → length (s .body) % 4096 ≡ 0
-    → AgreesSpace plain s at none c → TakenAlike at (λ off. none) c (length (s .body)) (plainTakeRun (length (s .body)) pages plain)
-    (takeRun pages s)
+    → AgreesSpace plain s at none c → TakenAlike at (λ off. none) c (length (s .body)) (plainRunAtMark (length (s .body)) pages plain)
+    (runAtMark pages s)
 unfolding plainRunAtMark runAtMark
-run-agrees plain s at c pages g whole a =
+mark-run-agrees plain s at c pages g whole a =
     let (all, long) = rounded-agrees plain s at c g whole a in
     mark-agrees (plainRounded plain) (rounded s) at c (length (s .body)) (pages * pageSize) long all
 
@@ -384,15 +383,15 @@ unfolding takes takeFrom takePopped plainTakeFresh takeFresh refuseIf
 take-agrees plain s at c class to-8 g whole a = from-stack (stackOf class plain) refl
   where
     fresh : (t : Bool) → TakenAlike at (inHandOf class) (anyHand c) (length (s .body))
-        (cond t (plainTakeRun (length (s .body)) 1 plain) (plainTakeSlab (length (s .body)) (slabBytes class) plain))
-        (cond t (takeRun 1 s) (takeSlab (slabBytes class) s))
-    fresh true = hand-alike at c class (length (s .body)) _ _ (run-agrees plain s at c 1 g whole a)
+        (cond t (plainRunAtMark (length (s .body)) 1 plain) (plainTakeSlab (length (s .body)) (slabBytes class) plain))
+        (cond t (runAtMark 1 s) (takeSlab (slabBytes class) s))
+    fresh true = hand-alike at c class (length (s .body)) _ _ (mark-run-agrees plain s at c 1 g whole a)
     fresh false = hand-alike at c class (length (s .body)) _ _ (slab-agrees plain s at c (length (s .body)) (slabBytes class) refl a)
 
     from-stack : (os : List ℕ) → stackOf class plain ≡ os
         → TakenAlike at (inHandOf class) (anyHand c) (length (s .body)) (takeFrom (length (s .body)) class os plain) (takes class s)
     from-stack [] e = rw (then-yes _ (λ p. takePopped class s (p .block) (p .heads))
-        (pop-none class (popEnd class (s .mark)) (listsOf s) to-8 (a .tops class ∙ ap top e))) (fresh (eqb class pageClass))
+        (pop-none class (popEnd class (s .mark)) (listsOf s) to-8 (a .tops class ∙ ap topOf e))) (fresh (eqb class pageClass))
     from-stack (o ∷ os) e = go (pastSlabs class o) refl
       where
         go : (t : Bool) → pastSlabs class o ≡ t → TakenAlike at (inHandOf class) (anyHand c) (length (s .body))

@@ -11,6 +11,7 @@ use borrow.Author.Tests.{ltb-false}
 use lib.ListN.{length, length-replicate}
 use Rattle.error.specs.Refusal.{Answer, accepted, refused}
 use Rattle.error.proofs.LawsAnswer.{accepted-inj, passed, went-on}
+use Rattle.buffer.specs.LittleEndian.{AreBytes}
 use Rattle.buffer.proofs.LawsOrder.{lt-or-ge}
 use Rattle.scripthash_layout.specs.Sizes.{pageClass}
 use Rattle.scripthash_layout.specs.declared.head.ShHeadValue.{ShHeadValue}
@@ -127,12 +128,13 @@ pub refused-nothing : (ds : List ℕ) (b : Book) (c : Change) {number : ℕ} →
 unfolding bookAfter
 refused-nothing ds b c e = rw e
 
--- An accepted change writes what it may only.
-pub accepted-only : (ds : List ℕ) (b : Book) (c : Change) {o : Outcome (Made c)} → does ds b c ≡ accepted o → Changes ds b (o .book) c
+-- An accepted change of a body of bytes writes what it may only.
+pub accepted-only : (ds : List ℕ) (b : Book) (c : Change) {o : Outcome (Made c)} → AreBytes (b .space .body) → does ds b c ≡ accepted o
+    → Changes ds b (o .book) c
 unfolding does writes
-accepted-only ds b (load fit key ns) e = load-only fit ds b key ns (with-desks ds b key _ e)
-accepted-only ds b (append key n) e = append-only ds b key n (with-desks ds b key _ e)
-accepted-only ds b (drop key) e = drop-only ds b key (with-desks ds b key _ e)
+accepted-only ds b (load fit key ns) bytes e = load-only fit ds b key ns bytes (with-desks ds b key _ e)
+accepted-only ds b (append key n) bytes e = append-only ds b key n (with-desks ds b key _ e)
+accepted-only ds b (drop key) bytes e = drop-only ds b key (with-desks ds b key _ e)
 
 -- What an answer leaves.
 after-answer : (ds : List ℕ) (b : Book) (c : Change) (a : Answer (Outcome (Made c)))
@@ -142,8 +144,8 @@ after-answer ds b c (accepted o) f = f o refl
 after-answer ds b c (refused number) f = differs-not (writes ds b c) b
 
 -- So after any change the book differs from the one before only in what the change may write.
-pub call-only : (ds : List ℕ) (b : Book) (c : Change) → Changes ds b (bookAfter b (does ds b c)) c
-call-only ds b c = after-answer ds b c (does ds b c) (λ o e. accepted-only ds b c e)
+pub call-only : (ds : List ℕ) (b : Book) (c : Change) → AreBytes (b .space .body) → Changes ds b (bookAfter b (does ds b c)) c
+call-only ds b c bytes = after-answer ds b c (does ds b c) (λ o e. accepted-only ds b c bytes e)
 
 -- A key other than another is outside of its head word.
 outside-key : (k key : ℕ) → k ≢ key → (k < key) ⊎ (key + 1 ≤ k)
@@ -161,5 +163,6 @@ words-named ds b (append key n) k other = (outside-key k key other, tt)
 words-named ds b (drop key) k other = (outside-key k key other, tt)
 
 -- So after any change each head word but its key's is as before.
-pub other-words : (ds : List ℕ) (b : Book) (c : Change) (k : ℕ) → k ≢ keyOfChange c → wordOf k (bookAfter b (does ds b c)) ≡ wordOf k b
-other-words ds b c k other = call-only ds b c .heads .same k (words-named ds b c k other)
+pub other-words : (ds : List ℕ) (b : Book) (c : Change) (k : ℕ) → AreBytes (b .space .body) → k ≢ keyOfChange c
+    → wordOf k (bookAfter b (does ds b c)) ≡ wordOf k b
+other-words ds b c k bytes other = call-only ds b c bytes .heads .same k (words-named ds b c k other)

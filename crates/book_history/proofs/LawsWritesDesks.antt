@@ -3,6 +3,7 @@
 use Prim.Native.Nat.{ℕ, _-_, _<_}
 use mathlib.Core.Bool.{Bool, true, false, cond}
 use mathlib.Core.List.{List, []}
+use mathlib.Core.Option.{Option, none, some}
 use mathlib.Core.Path.{_≡_}
 use borrow.Author.Tests.{leb-false}
 use lib.Dec.{eqb}
@@ -14,11 +15,11 @@ use Rattle.scripthash_layout.specs.Sizes.{pageClass}
 use Rattle.book_desks.specs.Desks.{deskOf}
 use Rattle.book_desks.specs.Counts.{heldAt, freedCount, counted}
 use Rattle.book_space.specs.Space.{Space, InShape}
-use Rattle.book_space.specs.Desks.{TakenFor, slabFor, pageFor, runFor}
+use Rattle.book_space.specs.Desks.{TakenFor, slabFor, pageFor, freedBut}
 use Rattle.book_space.proofs.LawsShape.{shape-holds}
-use Rattle.book_space.proofs.LawsDesks.{took-is, slab-for, page-for, run-for, countsBack}
+use Rattle.book_space.proofs.LawsDesks.{took-is, slab-for, page-for, countsBack}
 use Rattle.book.specs.Book.{Book, byDesk, withDesks}
-use Rattle.book_history.specs.Writes.{Only, deskWord, pageWords, pageCounts, dropCounts}
+use Rattle.book_history.specs.Writes.{Only, deskWord, pageWords, pageCounts, runCounts, dropCounts}
 use Rattle.book_history.proofs.LawsOnly.{only-same, only-then, only-set}
 
 -- ---- counts
@@ -46,10 +47,12 @@ module _ (desk : ℕ) (counts : List ℕ) where
       by-head true held = only-held held
       by-head false held = only-both _ held
 
-  -- A run changes the desk's.
-  pub run-counts : (pages : ℕ) (s : Space) {t : TakenFor} → runFor desk pages s counts ≡ accepted t
-      → Only (deskWord desk) counts (t .counts)
-  run-counts pages s e = rw (took-is (run-for desk s counts pages e) .1) (only-held _)
+  -- A run changes the desk's, and that of freed pages where a search of them led to it.
+  pub run-counts : (pages held : ℕ) (found : Option ℕ)
+      → Only (runCounts desk found) counts (counted (freedBut pages found counts) desk held counts)
+  unfolding runCounts
+  run-counts pages held none = only-held held
+  run-counts pages held (some off) = only-both (freedCount counts - pages) held
 
   -- Pages given back, where there are some, change both.
   pub back-counts : (pages : ℕ) → Only (dropCounts desk pages) counts (countsBack desk pages counts)

@@ -21,7 +21,7 @@ use Rattle.scripthash_free.proofs.LawsGap.{each-map, gap-filled, adjoin-within}
 use Rattle.scripthash_free.proofs.LawsFreeList.{length-pushed}
 use Rattle.scripthash_cutting.specs.Cutting.{pageRoom, lastPageRoom, Fit}
 use Rattle.book_limits.specs.Limits.{pageAfter, gapEnd}
-use Rattle.book_space.specs.Space.{Space, space, listsOf, InShape, Taken, takeMark, rounded, takeRun, takeFresh, takePopped, takeBlock}
+use Rattle.book_space.specs.Space.{Space, space, listsOf, InShape, Taken, takeMark, rounded, takeFresh, takePopped, takeBlock}
 use Rattle.book_space.specs.Space.{runAtMark, takeSlab, release}
 use Rattle.book_space.specs.Desks.{TakenFor}
 use Rattle.book_space.proofs.LawsDesks.{taken}
@@ -143,8 +143,8 @@ wrote-mark bytes s e =
     subst (λ (t : Taken). Wrote theMark s (t .space)) (accepted-inj (passed _ _ _ e .1))
     (wrote-rises (s .body) (s .free) (s .mark) (s .mark + bytes) (omega arith))
 
--- A run of pages taken: the blocks of the gap are freed, then the mark rises.
-pub wrote-run : (pages : ℕ) (s : Space) {t : Taken} → InShape s → takeRun pages s ≡ accepted t → Wrote (takingPages s) s (t .space)
+-- A run of pages taken at the mark: the blocks of the gap are freed, then the mark rises.
+pub wrote-run : (pages : ℕ) (s : Space) {t : Taken} → InShape s → runAtMark pages s ≡ accepted t → Wrote (takingPages s) s (t .space)
 unfolding runAtMark takeMark rounded takingPages
 wrote-run pages s i e =
     let to = gapEnd (s .mark) in
@@ -162,7 +162,7 @@ wrote-run pages s i e =
 -- A block of a class 0 to 8, taken from a space in shape.
 module _ (class : ℕ) (s : Space) (small : class ≤ pageClass) (i : InShape s) where
   -- A fresh one.
-  fresh-wrote : (page : Bool) {t : Taken} → cond page (takeRun 1 s) (takeSlab (slabBytes class) s) ≡ accepted t
+  fresh-wrote : (page : Bool) {t : Taken} → cond page (runAtMark 1 s) (takeSlab (slabBytes class) s) ≡ accepted t
       → Wrote (cond page (takingPages s) theMark) s (t .space)
   unfolding takeSlab
   fresh-wrote true e = wrote-run 1 s i e

@@ -4,6 +4,8 @@ pub mod LawsFrame
 pub mod LawsStep
 pub mod LawsPush
 pub mod LawsTake
+pub mod LawsFreeLists
+pub mod LawsUnlinked
 pub mod LawsDesks
 pub mod LawsContent
 pub mod LawsHand
@@ -31,6 +33,7 @@ pub mod Totals
 pub mod LawsOnly
 pub mod LawsWritesDesks
 pub mod LawsWritesSpace
+pub mod LawsWritesFreed
 pub mod LawsWritesLoad
 pub mod LawsWritesBlocks
 pub mod LawsWritesAppend

@@ -17,6 +17,7 @@ use Rattle.scripthash_slabs.specs.Slab.{slabUsed, slabPadded, decodeSlab}
 use Rattle.scripthash_fields.specs.Page.{linkOf, createsFieldOf, namesExtent, streamCap, isLastLink, linkOffset}
 use Rattle.scripthash_pages.specs.Entries.{pageScan, pagePadded}
 use Rattle.scripthash_free.specs.FreeList.{Block}
+use Rattle.free_runs.specs.PageList.{topOf}
 use Rattle.book_limits.specs.Limits.{outOfShape, mostBody}
 use Rattle.book_desks.specs.Counts.{countWords, freedCount, heldIn, limitsIn}
 use Rattle.plain_book.specs.Space.{Space as PlainSpace, stackOf}
@@ -29,15 +30,10 @@ use Rattle.book.specs.Book.{Book, wordOf, headWord}
 
 -- ---- what blocks read as
 
--- The top of a stack of offsets, 0 where it is empty.
-abbrev pub top : List ℕ → ℕ
-top [] = 0
-top (o ∷ os) = o
-
 -- The offset under the one at a depth of a stack, counted from the bottom; 0 under the lowest.
 unfoldable pub under : ℕ → List ℕ → ℕ
 under depth [] = 0
-under depth (o ∷ os) = cond (eqb depth (length os)) (top os) (under depth os)
+under depth (o ∷ os) = cond (eqb depth (length os)) (topOf os) (under depth os)
 
 -- What scanning a kept stream gives.
 abbrev pub scanOf : Kept → Scan
@@ -120,7 +116,7 @@ pub record AgreesSpace (plain : PlainSpace) (s : Space) (at : ℕ → Place) (he
   -- There is a free head for each of the classes 0 to 8.
   pub nine : length (s .free) ≡ 9
   -- Each free head is the top of its stack.
-  pub tops : (class : ℕ) → getD (s .free) class 0 ≡ top (stackOf class plain)
+  pub tops : (class : ℕ) → getD (s .free) class 0 ≡ topOf (stackOf class plain)
   -- The mark is within the body.
   pub within : plain .mark ≤ length (s .body)
   -- An offset in the body fits the eight bytes of a link.

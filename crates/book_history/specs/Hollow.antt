@@ -8,12 +8,14 @@ use mathlib.Core.Path.{_≡_}
 use lib.Dec.{eqb}
 use lib.ListN.{length, take, set, replicate}
 use Rattle.error.specs.Refusal.{Answer, accepted, refused, answered}
+use Rattle.scripthash_layout.specs.Sizes.{pageClass}
 use Rattle.book_rules.specs.declared.places.SlabFit.{SlabFit}
 use Rattle.book_rules.specs.Outcomes.{loadedIn, appendedTo, listing, retold}
 use Rattle.book_statements.specs.Calls.{Enquiry, read, Change, load, append, drop, Call, Said, Made, Serves, answersTo}
 use Rattle.book_desks.specs.Desks.{desks, Limits, deskOf}
 use Rattle.book_desks.specs.Counts.{heldAt, heldCount, limitsIn}
 use Rattle.plain_book.specs.Book.{fresh as plainFresh, unlimited, makes, answers as plainAnswers}
+use Rattle.book_space.specs.Space.{space}
 use Rattle.book.specs.Book.{Book, Outcome, fresh, wordOf}
 use Rattle.book_history.specs.Calls.{asks, does}
 use Rattle.book_history.specs.PlainOf.{Sixteen}
@@ -86,6 +88,22 @@ loadsAs fit ds b (drop key) = does ds b (drop key)
 -- One with a single rule for loads.
 abbrev pub oneRule : SlabFit → List ℕ → Serves Book
 oneRule fit ds = record { asks = asks ds; does = loadsAs fit ds }
+
+-- A book with no page freed.
+abbrev pub noneFreed : Book → Book
+noneFreed b =
+    let s = b .space in
+    record { heads = b .heads; space = space (s .body) (s .mark) (set (s .free) pageClass 0); counts = set (b .counts) 0 0 }
+
+-- What changes do whose loads take no freed page.
+unfoldable pub loadsBehind : List ℕ → Book → (c : Change) → Answer (Outcome (Made c))
+loadsBehind ds b (load fit key ns) = does ds (noneFreed b) (load fit key ns)
+loadsBehind ds b (append key n) = does ds b (append key n)
+loadsBehind ds b (drop key) = does ds b (drop key)
+
+-- One whose loads take no freed page.
+abbrev pub freedUnused : List ℕ → Serves Book
+freedUnused ds = record { asks = asks ds; does = loadsBehind ds }
 
 -- ---- desks
 

@@ -8,3 +8,4 @@ pub mod Grown
 pub mod Hollow
 pub mod Core
 pub mod Reserve
+pub mod NeverRefused

@@ -18,12 +18,14 @@ use Rattle.scripthash_stream.specs.Stream.{Scan, streamLen}
 use Rattle.scripthash_cutting.specs.Cutting.{cutting}
 use Rattle.scripthash_pages.specs.Entries.{lastOf, Spot, spotBehind}
 use Rattle.scripthash_free.specs.FreeList.{Block, gapBlocks}
+use Rattle.free_runs.specs.Runs.{losing}
+use Rattle.free_runs.specs.PageList.{walked}
 use Rattle.book_statements.specs.Calls.{Change, load, append, drop}
 use Rattle.book_rules.specs.Places.{payloadLen, stays, movesTo, loadsTo}
 use Rattle.book_limits.specs.Limits.{pageAfter, gapEnd}
 use Rattle.book_desks.specs.Desks.{deskOf}
-use Rattle.book_desks.specs.Counts.{heldAt}
-use Rattle.book_space.specs.Space.{Space, takeBlock}
+use Rattle.book_desks.specs.Counts.{heldAt, freedCount}
+use Rattle.book_space.specs.Space.{Space, takeBlock, searched}
 use Rattle.book_keys.specs.Keys.{pageAt, slabScan, tailAt, content}
 use Rattle.book.specs.Book.{Book, wordOf, seen}
 
@@ -131,10 +133,26 @@ appendWrites n s (Extent last) =
 
 -- ---- a load
 
--- A load of two numbers or more: the payload of a taken slab of a class, or else the pages of a taken run.
-unfoldable pub loadWrites : List ℕ → Option ℕ → Space → SpaceWrites
-loadWrites list (some class) s = filling class (payloadLen (streamLen list)) s
-loadWrites list none s = both (takingPages s) (bytesAt (pageAfter (s .mark)) (length (cutting list) * pageSize))
+-- The links of freed pages: the first 8 bytes of each.
+unfoldable pub linksOf : List ℕ → SpaceWrites
+linksOf [] = nothing
+linksOf (o ∷ os) = both (bytesAt o 8) (linksOf os)
+
+-- A run taken out of the freed pages: the links of those left whose successor goes, and the free head of pages.
+unfoldable pub takingFreed : ℕ → ℕ → ℕ → Space → SpaceWrites
+takingFreed off pages freed s =
+    both (linksOf (losing off (off + pages * pageSize) (walked freed (s .body) (getD (s .free) pageClass 0)))) (freeHead pageClass)
+
+-- A run taken where a search of the freed pages led, or else at the mark, and its pages filled.
+unfoldable pub fillingRun : ℕ → ℕ → Space → Option ℕ → SpaceWrites
+fillingRun pages freed s none = both (takingPages s) (bytesAt (pageAfter (s .mark)) (pages * pageSize))
+fillingRun pages freed s (some off) = both (takingFreed off pages freed s) (bytesAt off (pages * pageSize))
+
+-- A load of two numbers or more, where so many pages are freed: the payload of a taken slab of a class, or else the pages of a taken run.
+unfoldable pub loadWrites : List ℕ → Option ℕ → ℕ → Space → SpaceWrites
+loadWrites list (some class) freed s = filling class (payloadLen (streamLen list)) s
+loadWrites list none freed s =
+    let pages = length (cutting list) in valueOr (fillingRun pages freed s) (searched pages freed s) nothing
 
 -- ---- counts
 
@@ -176,10 +194,15 @@ appendCounts desk n s (Slab class used off) = valueOr (λ c. slabCounts desk n c
 appendCounts desk n s (Extent last) =
     valueOr (λ t. chainCounts desk (spotBehind (pageAt (seen s) last) n (t .scan)) s) (tailAt (seen s) last) []
 
--- The counts that a load of two numbers or more by a desk may write: the desk's, where the list goes into pages.
-unfoldable pub loadCounts : ℕ → Option ℕ → List Region
-loadCounts desk (some class) = []
-loadCounts desk none = deskWord desk
+-- A run by a desk: the desk's count, and where a search of the freed pages led to it the count of freed pages.
+unfoldable pub runCounts : ℕ → Option ℕ → List Region
+runCounts desk none = deskWord desk
+runCounts desk (some off) = pageWords desk
+
+-- The counts that a load of two numbers or more by a desk may write, where so many pages are freed: those of a run, if it takes one.
+unfoldable pub loadCounts : ℕ → List ℕ → Option ℕ → ℕ → Space → List Region
+loadCounts desk list (some class) freed s = []
+loadCounts desk list none freed s = valueOr (runCounts desk) (searched (length (cutting list)) freed s) []
 
 -- The counts that a drop by a desk may write: those of pages, where the key holds some.
 unfoldable pub dropCounts : ℕ → ℕ → List Region
@@ -204,7 +227,8 @@ writes ds b (load fit key (n ∷ [])) = wordAnd key nothing []
 writes ds b (load fit key (n ∷ m ∷ ns)) =
     let list = n ∷ m ∷ ns in
     let to = loadsTo fit (length list) (streamLen list) in
-    wordAnd key (loadWrites list to (b .space)) (loadCounts (deskOf ds key) to)
+    let freed = freedCount (b .counts) in
+    wordAnd key (loadWrites list to freed (b .space)) (loadCounts (deskOf ds key) list to freed (b .space))
 writes ds b (append key n) =
     wordAnd key (valueOr (appendWrites n (b .space)) (unpackHead (wordOf key b)) nothing)
     (valueOr (appendCounts (deskOf ds key) n (b .space)) (unpackHead (wordOf key b)) [])
