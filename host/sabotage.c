@@ -19,6 +19,46 @@ static bool padded_by_five(const uint8_t *buf, size_t len, size_t n) {
     return false;
 }
 
+/* A freed list before a call: its pages from the top, none where it can't be followed. */
+struct freed {
+    uint64_t pages[4096], sorted[4096], mark, count;
+};
+
+static uint64_t link_of(const uint8_t *body, uint64_t at) {
+    uint64_t next;
+    memcpy(&next, body + at, 8);
+    return next;
+}
+
+static void set_link(uint8_t *body, uint64_t at, uint64_t next) { memcpy(body + at, &next, 8); }
+
+/* The freed pages of a book, in the order of their list and rising. */
+static void freed_before(struct freed *f, const uint8_t *body, size_t n, uint64_t mark, uint64_t head) {
+    f->mark = mark, f->count = 0;
+    for (uint64_t at = head; at != 0; at = link_of(body, at)) {
+        if (at % 4096 != 0 || mark > n || at >= mark || mark - at < 4096 || f->count == 4096) {
+            f->count = 0;
+            return;
+        }
+        f->pages[f->count++] = at;
+    }
+    for (uint64_t i = 0; i < f->count; i++) {
+        uint64_t j = i, page = f->pages[i];
+        for (; j > 0 && f->sorted[j - 1] > page; j--) f->sorted[j] = f->sorted[j - 1];
+        f->sorted[j] = page;
+    }
+}
+
+/* How many freed pages stand side by side from the one at a place of the rising ones on. */
+static uint64_t stretch_at(const struct freed *f, uint64_t i) {
+    uint64_t j = i;
+    while (j + 1 < f->count && f->sorted[j + 1] == f->sorted[j] + 4096) j++;
+    return j - i + 1;
+}
+
+/* Has a key's run of so many pages begin elsewhere, as its word tells. */
+static void run_at(uint64_t *word, uint64_t off, uint64_t run) { *word = UINT64_C(3) << 62 | (off + (run - 1) * 4096); }
+
 #if SABOTAGE == 1
 /* 1 uleb128_len: numbers from 2^63 on have nine bytes */
 size_t real_ouriscado_uleb128_len(uint64_t n);
@@ -559,6 +599,167 @@ uint32_t ouriscado_book_check(const uint8_t *body, size_t n, const uint64_t *hea
     if (*ground > 6 && *ground < 10)
         for (uint64_t key = keys; key-- > 0;)
             if (desks[key] == *which) *which = key;
+    return number;
+}
+
+#elif SABOTAGE == 58
+/* 58 book: a run takes the stretch of freed pages that fits best */
+uint32_t real_ouriscado_book_load(uint8_t *body, size_t n, uint64_t *heads, size_t keys, uint64_t *mark, uint64_t *free, uint64_t *counts, const uint8_t *desks, size_t d, uint64_t key, const uint64_t *fks, size_t len, uint64_t *pages);
+uint32_t ouriscado_book_load(uint8_t *body, size_t n, uint64_t *heads, size_t keys, uint64_t *mark, uint64_t *free, uint64_t *counts, const uint8_t *desks, size_t d, uint64_t key, const uint64_t *fks, size_t len, uint64_t *pages) {
+    static struct freed f;
+    uint64_t was = counts[0];
+    freed_before(&f, body, n, *mark, free[8]);
+    uint32_t number = real_ouriscado_book_load(body, n, heads, keys, mark, free, counts, desks, d, key, fks, len, pages);
+    bool out = number == 0 && *pages > 0 && counts[0] < was;
+    uint64_t best = 0, least = UINT64_MAX;
+    for (uint64_t i = 0; out && i < f.count; i += stretch_at(&f, i)) {
+        uint64_t long_ = stretch_at(&f, i);
+        if (long_ >= *pages && long_ < least) best = f.sorted[i], least = long_;
+    }
+    if (out) run_at(&heads[key], best, *pages);
+    return number;
+}
+
+#elif SABOTAGE == 59
+/* 59 book: a run takes the highest freed pages */
+uint32_t real_ouriscado_core_load_tight(uint8_t *body, size_t n, uint64_t *heads, size_t keys, uint64_t *mark, uint64_t *free, uint64_t *counts, uint64_t desk, uint64_t key, const uint64_t *fks, size_t len, uint64_t *pages);
+uint32_t ouriscado_core_load_tight(uint8_t *body, size_t n, uint64_t *heads, size_t keys, uint64_t *mark, uint64_t *free, uint64_t *counts, uint64_t desk, uint64_t key, const uint64_t *fks, size_t len, uint64_t *pages) {
+    static struct freed f;
+    uint64_t was = counts[0];
+    freed_before(&f, body, n, *mark, free[8]);
+    uint32_t number = real_ouriscado_core_load_tight(body, n, heads, keys, mark, free, counts, desk, key, fks, len, pages);
+    bool out = number == 0 && *pages > 0 && counts[0] < was;
+    uint64_t high = 0;
+    for (uint64_t i = 0; out && i < f.count; i++)
+        if (stretch_at(&f, i) >= *pages) high = f.sorted[i];
+    if (out) run_at(&heads[key], high, *pages);
+    return number;
+}
+
+#elif SABOTAGE == 60
+/* 60 book: a run of one page is popped */
+uint32_t real_ouriscado_core_load(uint8_t *body, size_t n, uint64_t *heads, size_t keys, uint64_t *mark, uint64_t *free, uint64_t *counts, uint64_t desk, uint64_t key, const uint64_t *fks, size_t len, uint64_t *pages);
+uint32_t ouriscado_core_load(uint8_t *body, size_t n, uint64_t *heads, size_t keys, uint64_t *mark, uint64_t *free, uint64_t *counts, uint64_t desk, uint64_t key, const uint64_t *fks, size_t len, uint64_t *pages) {
+    static struct freed f;
+    uint64_t was = counts[0];
+    freed_before(&f, body, n, *mark, free[8]);
+    uint32_t number = real_ouriscado_core_load(body, n, heads, keys, mark, free, counts, desk, key, fks, len, pages);
+    bool out = number == 0 && *pages > 0 && counts[0] < was;
+    if (out && *pages == 1) run_at(&heads[key], f.pages[0], 1);
+    return number;
+}
+
+#elif SABOTAGE == 61
+/* 61 book: the freed pages that are left are turned round */
+uint32_t real_ouriscado_book_load_tight(uint8_t *body, size_t n, uint64_t *heads, size_t keys, uint64_t *mark, uint64_t *free, uint64_t *counts, const uint8_t *desks, size_t d, uint64_t key, const uint64_t *fks, size_t len, uint64_t *pages);
+uint32_t ouriscado_book_load_tight(uint8_t *body, size_t n, uint64_t *heads, size_t keys, uint64_t *mark, uint64_t *free, uint64_t *counts, const uint8_t *desks, size_t d, uint64_t key, const uint64_t *fks, size_t len, uint64_t *pages) {
+    static struct freed f;
+    uint64_t was = counts[0];
+    freed_before(&f, body, n, *mark, free[8]);
+    uint32_t number = real_ouriscado_book_load_tight(body, n, heads, keys, mark, free, counts, desks, d, key, fks, len, pages);
+    bool out = number == 0 && *pages > 0 && counts[0] < was;
+    uint64_t last = out ? heads[key] & ~(UINT64_C(3) << 62) : 0, top = 0;
+    for (uint64_t i = 0; out && i < f.count; i++)
+        if (f.pages[i] > last || f.pages[i] + *pages * 4096 <= last) set_link(body, f.pages[i], top), top = f.pages[i];
+    if (out) free[8] = top;
+    return number;
+}
+
+#elif SABOTAGE == 62
+/* 62 book: a run that freed pages serve with one past the mark isn't refused */
+uint32_t real_ouriscado_book_load(uint8_t *body, size_t n, uint64_t *heads, size_t keys, uint64_t *mark, uint64_t *free, uint64_t *counts, const uint8_t *desks, size_t d, uint64_t key, const uint64_t *fks, size_t len, uint64_t *pages);
+uint32_t ouriscado_book_load(uint8_t *body, size_t n, uint64_t *heads, size_t keys, uint64_t *mark, uint64_t *free, uint64_t *counts, const uint8_t *desks, size_t d, uint64_t key, const uint64_t *fks, size_t len, uint64_t *pages) {
+    static struct freed f;
+    freed_before(&f, body, n, *mark, free[8]);
+    uint32_t number = real_ouriscado_book_load(body, n, heads, keys, mark, free, counts, desks, d, key, fks, len, pages);
+    bool adjoins = f.count > 0 && f.sorted[f.count - 1] + 4096 == *mark;
+    if (number == 36 && adjoins && len > 256 && *mark + 4096 <= n) number = 0;
+    return number;
+}
+
+#elif SABOTAGE == 63
+/* 63 book: the mark is rounded though freed pages serve */
+uint32_t real_ouriscado_core_load(uint8_t *body, size_t n, uint64_t *heads, size_t keys, uint64_t *mark, uint64_t *free, uint64_t *counts, uint64_t desk, uint64_t key, const uint64_t *fks, size_t len, uint64_t *pages);
+uint32_t ouriscado_core_load(uint8_t *body, size_t n, uint64_t *heads, size_t keys, uint64_t *mark, uint64_t *free, uint64_t *counts, uint64_t desk, uint64_t key, const uint64_t *fks, size_t len, uint64_t *pages) {
+    static struct freed f;
+    uint64_t was = counts[0];
+    freed_before(&f, body, n, *mark, free[8]);
+    uint32_t number = real_ouriscado_core_load(body, n, heads, keys, mark, free, counts, desk, key, fks, len, pages);
+    bool out = number == 0 && *pages > 0 && counts[0] < was;
+    if (out) *mark = (*mark + 4095) / 4096 * 4096;
+    return number;
+}
+
+#elif SABOTAGE == 64
+/* 64 book: 36 comes before a list of freed pages that can't be searched */
+uint32_t real_ouriscado_core_load_tight(uint8_t *body, size_t n, uint64_t *heads, size_t keys, uint64_t *mark, uint64_t *free, uint64_t *counts, uint64_t desk, uint64_t key, const uint64_t *fks, size_t len, uint64_t *pages);
+uint32_t ouriscado_core_load_tight(uint8_t *body, size_t n, uint64_t *heads, size_t keys, uint64_t *mark, uint64_t *free, uint64_t *counts, uint64_t desk, uint64_t key, const uint64_t *fks, size_t len, uint64_t *pages) {
+    uint32_t number = real_ouriscado_core_load_tight(body, n, heads, keys, mark, free, counts, desk, key, fks, len, pages);
+    if (number == 42 && (*mark + 4095) / 4096 * 4096 == n) number = 36;
+    return number;
+}
+
+#elif SABOTAGE == 65
+/* 65 book: a run out of freed pages leaves their count */
+uint32_t real_ouriscado_book_load_tight(uint8_t *body, size_t n, uint64_t *heads, size_t keys, uint64_t *mark, uint64_t *free, uint64_t *counts, const uint8_t *desks, size_t d, uint64_t key, const uint64_t *fks, size_t len, uint64_t *pages);
+uint32_t ouriscado_book_load_tight(uint8_t *body, size_t n, uint64_t *heads, size_t keys, uint64_t *mark, uint64_t *free, uint64_t *counts, const uint8_t *desks, size_t d, uint64_t key, const uint64_t *fks, size_t len, uint64_t *pages) {
+    static struct freed f;
+    uint64_t was = counts[0];
+    freed_before(&f, body, n, *mark, free[8]);
+    uint32_t number = real_ouriscado_book_load_tight(body, n, heads, keys, mark, free, counts, desks, d, key, fks, len, pages);
+    bool out = number == 0 && *pages > 0 && counts[0] < was;
+    if (out) counts[0] = was;
+    return number;
+}
+
+#elif SABOTAGE == 66
+/* 66 book: a list that can't be searched is passed over where the mark has room */
+uint32_t real_ouriscado_book_load(uint8_t *body, size_t n, uint64_t *heads, size_t keys, uint64_t *mark, uint64_t *free, uint64_t *counts, const uint8_t *desks, size_t d, uint64_t key, const uint64_t *fks, size_t len, uint64_t *pages);
+uint32_t ouriscado_book_load(uint8_t *body, size_t n, uint64_t *heads, size_t keys, uint64_t *mark, uint64_t *free, uint64_t *counts, const uint8_t *desks, size_t d, uint64_t key, const uint64_t *fks, size_t len, uint64_t *pages) {
+    uint32_t number = real_ouriscado_book_load(body, n, heads, keys, mark, free, counts, desks, d, key, fks, len, pages);
+    uint64_t head = free[8], was = counts[0];
+    if (number != 42) return number;
+    free[8] = 0, counts[0] = 0;
+    number = real_ouriscado_book_load(body, n, heads, keys, mark, free, counts, desks, d, key, fks, len, pages);
+    free[8] = head, counts[0] = was;
+    if (number != 0) number = 42;
+    return number;
+}
+
+#elif SABOTAGE == 67
+/* 67 book: a tight load goes to the mark though freed pages serve */
+uint32_t real_ouriscado_core_load_tight(uint8_t *body, size_t n, uint64_t *heads, size_t keys, uint64_t *mark, uint64_t *free, uint64_t *counts, uint64_t desk, uint64_t key, const uint64_t *fks, size_t len, uint64_t *pages);
+uint32_t ouriscado_core_load_tight(uint8_t *body, size_t n, uint64_t *heads, size_t keys, uint64_t *mark, uint64_t *free, uint64_t *counts, uint64_t desk, uint64_t key, const uint64_t *fks, size_t len, uint64_t *pages) {
+    uint64_t head = free[8], was = counts[0];
+    uint32_t number = 42;
+    if (head == 0 || len < 257 || was == 0 || was > n / 4096) return real_ouriscado_core_load_tight(body, n, heads, keys, mark, free, counts, desk, key, fks, len, pages);
+    free[8] = 0, counts[0] = 0;
+    number = real_ouriscado_core_load_tight(body, n, heads, keys, mark, free, counts, desk, key, fks, len, pages);
+    free[8] = head, counts[0] = was;
+    return number;
+}
+
+#elif SABOTAGE == 68
+/* 68 book: a run that 40 turns back has left the list */
+uint32_t real_ouriscado_core_load(uint8_t *body, size_t n, uint64_t *heads, size_t keys, uint64_t *mark, uint64_t *free, uint64_t *counts, uint64_t desk, uint64_t key, const uint64_t *fks, size_t len, uint64_t *pages);
+uint32_t ouriscado_core_load(uint8_t *body, size_t n, uint64_t *heads, size_t keys, uint64_t *mark, uint64_t *free, uint64_t *counts, uint64_t desk, uint64_t key, const uint64_t *fks, size_t len, uint64_t *pages) {
+    static struct freed f;
+    freed_before(&f, body, n, *mark, free[8]);
+    uint32_t number = real_ouriscado_core_load(body, n, heads, keys, mark, free, counts, desk, key, fks, len, pages);
+    if (number == 40 && f.count > 0) free[8] = link_of(body, free[8]);
+    return number;
+}
+
+#elif SABOTAGE == 69
+/* 69 book: a page across the mark is searched */
+uint32_t real_ouriscado_book_load(uint8_t *body, size_t n, uint64_t *heads, size_t keys, uint64_t *mark, uint64_t *free, uint64_t *counts, const uint8_t *desks, size_t d, uint64_t key, const uint64_t *fks, size_t len, uint64_t *pages);
+uint32_t ouriscado_book_load(uint8_t *body, size_t n, uint64_t *heads, size_t keys, uint64_t *mark, uint64_t *free, uint64_t *counts, const uint8_t *desks, size_t d, uint64_t key, const uint64_t *fks, size_t len, uint64_t *pages) {
+    uint64_t before = *mark, up = (before + 4095) / 4096 * 4096;
+    uint32_t number = real_ouriscado_book_load(body, n, heads, keys, mark, free, counts, desks, d, key, fks, len, pages);
+    if (number != 42 || up == before || up > n) return number;
+    *mark = up;
+    number = real_ouriscado_book_load(body, n, heads, keys, mark, free, counts, desks, d, key, fks, len, pages);
+    if (number != 0) *mark = before, number = 42;
     return number;
 }
 

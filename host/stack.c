@@ -82,6 +82,18 @@ static void damaged(void)
     loaded();
     memset(body + 4096 + 30, 0xff, BODY - 4096 - 30);
 }
+/* Freed pages: all of the list's, or three of four. */
+static void freed_pages(void)
+{
+    loaded();
+    ouriscado_drop(BOOK, 0, &a);
+}
+static void freed_apart(void)
+{
+    for (uint64_t key = 0; key < KEYS; key++) ouriscado_load(BOOK, key, list, 300, &a);
+    for (uint64_t key = 0; key < KEYS; key += 3) ouriscado_drop(BOOK, key, &a);
+    ouriscado_drop(BOOK, 1, &a);
+}
 /* A stream whose forms are one byte longer than they need be. */
 static void padded(void)
 {
@@ -115,18 +127,22 @@ struct test {
 #define LONG OURISCADO_STACK_LONG
 static const struct test TESTS[] = {
     { "book_fresh", "any book", 0, nothing, fresh, BOOK_CALL },
-    { "book_load", "no number", 0, nothing, load, BOOK_CALL },
-    { "book_load", "1 number, inline", 1, nothing, load, BOOK_CALL },
-    { "book_load", "2 numbers, to a slab", 2, nothing, load, BOOK_CALL },
-    { "book_load", "200 numbers, to a slab", 200, nothing, load, BOOK_CALL },
-    { "book_load", "4,000 numbers, to pages", 4000, nothing, load, BOOK_CALL },
-    { "book_load", "65,535 numbers, to pages", MOST, nothing, load, BOOK_CALL },
-    { "book_load_tight", "no number", 0, nothing, load_tight, BOOK_CALL },
-    { "book_load_tight", "1 number, inline", 1, nothing, load_tight, BOOK_CALL },
-    { "book_load_tight", "2 numbers, to a slab", 2, nothing, load_tight, BOOK_CALL },
-    { "book_load_tight", "200 numbers, to a slab", 200, nothing, load_tight, BOOK_CALL },
-    { "book_load_tight", "4,000 numbers, to pages", 4000, nothing, load_tight, BOOK_CALL },
-    { "book_load_tight", "65,535 numbers, to pages", MOST, nothing, load_tight, BOOK_CALL },
+    { "book_load", "no number", 0, nothing, load, LONG },
+    { "book_load", "1 number, inline", 1, nothing, load, LONG },
+    { "book_load", "2 numbers, to a slab", 2, nothing, load, LONG },
+    { "book_load", "200 numbers, to a slab", 200, nothing, load, LONG },
+    { "book_load", "4,000 numbers, to pages", 4000, nothing, load, LONG },
+    { "book_load", "65,535 numbers, to pages", MOST, nothing, load, LONG },
+    { "book_load", "4,000 numbers, to freed pages", 4000, freed_pages, load, LONG },
+    { "book_load", "65,535 numbers, to freed pages", MOST, freed_pages, load, LONG },
+    { "book_load", "65,535 numbers, no such stretch", MOST, freed_apart, load, LONG },
+    { "book_load_tight", "no number", 0, nothing, load_tight, LONG },
+    { "book_load_tight", "1 number, inline", 1, nothing, load_tight, LONG },
+    { "book_load_tight", "2 numbers, to a slab", 2, nothing, load_tight, LONG },
+    { "book_load_tight", "200 numbers, to a slab", 200, nothing, load_tight, LONG },
+    { "book_load_tight", "4,000 numbers, to pages", 4000, nothing, load_tight, LONG },
+    { "book_load_tight", "65,535 numbers, to pages", MOST, nothing, load_tight, LONG },
+    { "book_load_tight", "65,535 numbers, to freed pages", MOST, freed_pages, load_tight, LONG },
     { "book_append", "the first number, inline", 0, nothing, append, BOOK_CALL },
     { "book_append", "the 2nd number, to a slab", 1, appended, append, BOOK_CALL },
     { "book_append", "the 3rd number, stays in its slab", 2, appended, append, BOOK_CALL },

@@ -134,9 +134,10 @@
 
    STACK
 
-   A call takes at most OURISCADO_STACK_BOOK bytes of stack below its caller's frame (measured, and held by a
-   test), where the C library's functions are bound before it. Numbers of a slab that is read, a list that
-   moves, and where the parts of a loaded list begin and end are held there; pages are read straight into the
+   A load, tight or not, takes at most OURISCADO_STACK_LONG bytes of stack below its caller's frame, and any
+   other call OURISCADO_STACK_BOOK (measured, and held by a test), where the C library's functions are bound
+   before it. Numbers of a slab that is read, a list that moves, where the parts of a loaded list begin and end,
+   and a flag for each of 262,144 pages while a run is sought are held there; pages are read straight into the
    lent list. */
 #ifndef OURISCADO_H
 #define OURISCADO_H
@@ -207,13 +208,15 @@ struct ouriscado_state {
 #define OURISCADO_START_KEY_SHARES              2 /* a block of the key shares bytes with another of its own,
                                                      or with one of a key before it */
 #define OURISCADO_START_FREE_STRAYS             3 /* the free list names an offset where no such block can
-                                                     stand: taking it is refused with 35 */
+                                                     stand: taking it is refused with 35, and of pages a run
+                                                     with 42 */
 #define OURISCADO_START_FREE_SHARES             4 /* a block of the free list shares bytes with one in use, or
                                                      with one that this list or one of a smaller class named
                                                      before; a list that doesn't end comes to such a block */
 #define OURISCADO_START_COUNTS_EXCEED             5 /* freed and held pages are counted, with the first and
                                                        those past the mark, as more than the body has */
-#define OURISCADO_START_FREED_UNTRUE             6 /* freed pages are counted as other than their list has */
+#define OURISCADO_START_FREED_UNTRUE             6 /* freed pages are counted as other than their list has: a
+                                                      run is refused with 42 */
 #define OURISCADO_START_HELD_UNTRUE             7 /* the desk's pages are counted as other than its keys
                                                      have */
 #define OURISCADO_START_PAST_CEILING             8 /* the desk holds more pages than its ceiling */
@@ -222,17 +225,18 @@ struct ouriscado_state {
                                                        had, freed or past the mark */
 
 /* The bytes of stack that a call needs. */
-#define OURISCADO_STACK_BOOK                 4096 /* bytes of stack of any call of the book */
-#define OURISCADO_STACK_LONG                40960 /* bytes of stack of a ported function that reads out more
-                                                     than 256 numbers */
+#define OURISCADO_STACK_BOOK                 4096 /* bytes of stack of any call of the book but the loads */
+#define OURISCADO_STACK_LONG                40960 /* bytes of stack of a load, tight or not, and of a ported
+                                                     function that reads out more than 256 numbers */
 
-/* Why a call is refused, and what an operator does then. Where several apply, the smallest number is given;
-   but a list that is offered is judged number by number, and its first bad number decides. A key is sound
-   where its head word, its slab or pages and the numbers in them are as the format has them. In a book that
-   began with ouriscado_book_fresh or as a good start (ouriscado_book_check), that nobody else wrote, and whose
-   calls all ran to their end, no call is refused with OURISCADO_KEY_UNSOUND or OURISCADO_FREE_HEAD_BAD; save that
-   a good start may have a slab, held or freed, that ends past OURISCADO_SLABS_END, which no call takes: where
-   it is the first of its free list, taking one of its class is refused with OURISCADO_FREE_HEAD_BAD. */
+/* Why a call is refused, and what an operator does then. Where several apply, the smallest number is given,
+   save that 39 comes behind 1, and 42 before 36; but a list that is offered is judged number by number, and
+   its first bad number decides. A key is sound where its head word, its slab or pages and the numbers in them
+   are as the format has them. In a book that began with ouriscado_book_fresh or as a good start
+   (ouriscado_book_check), that nobody else wrote, and whose calls all ran to their end, no call is refused with
+   OURISCADO_KEY_UNSOUND, OURISCADO_FREE_LIST_BAD or OURISCADO_FREE_HEAD_BAD; save that a good start may have a
+   slab, held or freed, that ends past OURISCADO_SLABS_END, which no call takes: where it is the first of its
+   free list, taking one of its class is refused with OURISCADO_FREE_HEAD_BAD. */
 enum ouriscado_refusal {
     /* No refusal: the call was accepted. */
     OURISCADO_ACCEPTED = 0,
@@ -277,7 +281,7 @@ enum ouriscado_refusal {
        2^40 is no damage: loads all lists into a fresh book. */
     OURISCADO_FREE_HEAD_BAD = 35,
     /* No room: the block or run would pass the body's end, or a slab 2^40; a block goes there only where none
-       of its class is freed.
+       of its class is freed, and a run where no stretch of so many pages is.
        Operator: lends the same book a longer body, with whole pages behind it, and makes the call again;
        where the body can't grow, or a slab would pass 2^40, drops keys that are no longer needed, which frees
        blocks of their classes. */
@@ -295,6 +299,11 @@ enum ouriscado_refusal {
        Operator: lends the same book a longer body, or drops keys with pages; a desk below its reserve still
        gets its pages one by one. */
     OURISCADO_INTO_RESERVES = 41,
+    /* The list of freed pages can't be searched: a page of it leaves 4,096 to the mark, is unaligned or
+       stands twice, or they aren't as many as counted.
+       Operator: the state or a freed page is damaged: checks the book, and restores as for 31; reads,
+       appends, drops and loads of other lists go on meanwhile. */
+    OURISCADO_FREE_LIST_BAD = 42,
 };
 
 /* What a refusal says, as a text that lasts as long as the program; also of the refusals of ouriscado_codec.h.
@@ -341,6 +350,7 @@ static inline const char *ouriscado_refusal_text(uint32_t refusal)
     case 39: return "the desks can't be served";
     case 40: return "a take of pages would pass its desk's ceiling";
     case 41: return "a take would leave fewer pages than desks lack of their reserves";
+    case 42: return "the list of freed pages can't be searched";
     default: return "a refusal that this version doesn't know";
     }
 }
@@ -405,17 +415,22 @@ static inline uint32_t ouriscado_fresh(
    2^62 - 1, and there are 65,535 at most; with none, nothing changes. A list of 2 to 255 that goes to a slab
    has a slot for one number more there, so that the next append moves it only where its bytes don't fit.
    Hands out pages: how many pages of 4,096 bytes hold the list, 0 where it needs none. Refuses 1 to 3, 10, 12
-   to 14, 32, 35, 36, 39 to 41.
+   to 14, 32, 35, 36, 39 to 42.
 
    This is how to fill a book from another one or from an archive: a loaded list stands in the fewest pages
    that can hold it. A load of a longer list is a load of its first OURISCADO_MOST_LOADED numbers, and appends
    of the others.
 
+   A list in pages gets a run of them side by side: the lowest stretch of so many freed pages, or else pages
+   behind the mark. The search walks the list of freed pages, once in a body of up to 2^30 bytes, and once
+   more where the run is taken out of it. With 250,000 freed pages in random order that took 0.2 s, with 1,000
+   less than 0.1 ms.
+
    Refusals: OURISCADO_SHAPE_BAD (1), OURISCADO_KEY_BEYOND (2), OURISCADO_KEY_IN_USE (3),
    OURISCADO_TOO_MANY_OFFERED (10), OURISCADO_OFFERED_FIRST_ZERO (12), OURISCADO_OFFERED_BIT_63 (13),
    OURISCADO_OFFERED_TOO_LARGE (14), OURISCADO_OFFERED_NOT_RISING (32), OURISCADO_FREE_HEAD_BAD (35),
    OURISCADO_NO_ROOM (36), OURISCADO_DESKS_BAD (39), OURISCADO_PAST_CEILING (40), OURISCADO_INTO_RESERVES
-   (41). */
+   (41), OURISCADO_FREE_LIST_BAD (42). */
 uint32_t ouriscado_book_load(
     uint8_t *body, size_t body_len, uint64_t *heads, size_t heads_len, uint64_t *mark,
     uint64_t free[OURISCADO_FREE_HEADS], uint64_t counts[OURISCADO_COUNT_WORDS], const uint8_t *desks,
@@ -432,13 +447,13 @@ static inline uint32_t ouriscado_desks_load(
 
 /* Loads a list of record numbers onto an empty key as ouriscado_book_load does, for the desk of a number: 39
    above 15. The counts are judged where blocks are taken, behind 36. Refuses 1 to 3, 10, 12 to 14, 32, 35,
-   36, 39 to 41.
+   36, 39 to 42.
 
    Refusals: OURISCADO_SHAPE_BAD (1), OURISCADO_KEY_BEYOND (2), OURISCADO_KEY_IN_USE (3),
    OURISCADO_TOO_MANY_OFFERED (10), OURISCADO_OFFERED_FIRST_ZERO (12), OURISCADO_OFFERED_BIT_63 (13),
    OURISCADO_OFFERED_TOO_LARGE (14), OURISCADO_OFFERED_NOT_RISING (32), OURISCADO_FREE_HEAD_BAD (35),
    OURISCADO_NO_ROOM (36), OURISCADO_DESKS_BAD (39), OURISCADO_PAST_CEILING (40), OURISCADO_INTO_RESERVES
-   (41). */
+   (41), OURISCADO_FREE_LIST_BAD (42). */
 uint32_t ouriscado_core_load(
     uint8_t *body, size_t body_len, uint64_t *heads, size_t heads_len, uint64_t *mark,
     uint64_t free[OURISCADO_FREE_HEADS], uint64_t counts[OURISCADO_COUNT_WORDS], uint64_t desk, uint64_t key,
@@ -462,7 +477,7 @@ static inline uint32_t ouriscado_load(
 
 /* Loads a list of record numbers onto an empty key as ouriscado_book_load does, but tight: into the smallest
    slab that holds its bytes, for lists that nothing is appended to. Hands out pages as that does. Refuses 1
-   to 3, 10, 12 to 14, 32, 35, 36, 39 to 41.
+   to 3, 10, 12 to 14, 32, 35, 36, 39 to 42.
 
    Lists of one number and those that go to pages stand as after the other load. The two may be mixed in one
    book; a list that was loaded tight may be appended to as any other, and moves where its slab has no slot
@@ -472,7 +487,7 @@ static inline uint32_t ouriscado_load(
    OURISCADO_TOO_MANY_OFFERED (10), OURISCADO_OFFERED_FIRST_ZERO (12), OURISCADO_OFFERED_BIT_63 (13),
    OURISCADO_OFFERED_TOO_LARGE (14), OURISCADO_OFFERED_NOT_RISING (32), OURISCADO_FREE_HEAD_BAD (35),
    OURISCADO_NO_ROOM (36), OURISCADO_DESKS_BAD (39), OURISCADO_PAST_CEILING (40), OURISCADO_INTO_RESERVES
-   (41). */
+   (41), OURISCADO_FREE_LIST_BAD (42). */
 uint32_t ouriscado_book_load_tight(
     uint8_t *body, size_t body_len, uint64_t *heads, size_t heads_len, uint64_t *mark,
     uint64_t free[OURISCADO_FREE_HEADS], uint64_t counts[OURISCADO_COUNT_WORDS], const uint8_t *desks,
@@ -489,13 +504,13 @@ static inline uint32_t ouriscado_desks_load_tight(
 
 /* Loads a list of record numbers onto an empty key as ouriscado_book_load_tight does, for the desk of a
    number: 39 above 15. The counts are judged where blocks are taken, behind 36. Refuses 1 to 3, 10, 12 to 14,
-   32, 35, 36, 39 to 41.
+   32, 35, 36, 39 to 42.
 
    Refusals: OURISCADO_SHAPE_BAD (1), OURISCADO_KEY_BEYOND (2), OURISCADO_KEY_IN_USE (3),
    OURISCADO_TOO_MANY_OFFERED (10), OURISCADO_OFFERED_FIRST_ZERO (12), OURISCADO_OFFERED_BIT_63 (13),
    OURISCADO_OFFERED_TOO_LARGE (14), OURISCADO_OFFERED_NOT_RISING (32), OURISCADO_FREE_HEAD_BAD (35),
    OURISCADO_NO_ROOM (36), OURISCADO_DESKS_BAD (39), OURISCADO_PAST_CEILING (40), OURISCADO_INTO_RESERVES
-   (41). */
+   (41), OURISCADO_FREE_LIST_BAD (42). */
 uint32_t ouriscado_core_load_tight(
     uint8_t *body, size_t body_len, uint64_t *heads, size_t heads_len, uint64_t *mark,
     uint64_t free[OURISCADO_FREE_HEADS], uint64_t counts[OURISCADO_COUNT_WORDS], uint64_t desk, uint64_t key,

@@ -52,6 +52,16 @@ def past_slabs(c, off):
     return c < 8 and off + slab_bytes(c) > SLABS_END
 
 
+def lowest(offs, pages):
+    """Where the lowest stretch of so many pages side by side begins, among offsets of freed pages; none where there is none."""
+    start = end = None
+    for off in sorted(offs):
+        start, end = (start if off == end else off), off + PAGE
+        if end - start == pages * PAGE:
+            return start
+    return None
+
+
 def lengths_bad(size, heads):
     return size % PAGE != 0 or not 2 * PAGE <= size <= MOST_BODY or not 1 <= heads <= 65536
 
@@ -103,6 +113,15 @@ class Book:
             raise Refused(41)
 
     def run(self, desk, pages):
+        """Takes the run of a load: the lowest stretch of so many freed pages, else one at the mark. Those left keep their order."""
+        off, freed = lowest(self.stacks[8], pages), len(self.stacks[8])
+        if off is None:
+            return self.run_at_mark(desk, pages)
+        self.leave(desk, pages, freed - pages, self.mark)
+        self.stacks[8] = [o for o in self.stacks[8] if not off <= o < off + pages * PAGE]
+        return off
+
+    def run_at_mark(self, desk, pages):
         off, gap = self.rounded()
         if off + pages * PAGE > self.size:
             raise Refused(36)
@@ -121,7 +140,7 @@ class Book:
             self.leave(desk, pages, freed - pages, self.mark)
             return self.stacks[c].pop()
         if c == 8:
-            return self.run(desk, 1)
+            return self.run_at_mark(desk, 1)
         if past_slabs(c, self.mark) or self.mark + slab_bytes(c) > self.size:
             raise Refused(36)
         self.leave(desk, 0, freed, self.mark + slab_bytes(c))

@@ -41,18 +41,18 @@ CONSTANTS = {
         ("START_GOOD", 0, "u32", "the start is good"),
         ("START_KEY_UNSOUND", 1, "u32", "the key isn't sound: a read and a drop of it are refused with 31, a load with 3; an append too is refused with 31, but of pages it looks at the last one alone, and may be accepted"),
         ("START_KEY_SHARES", 2, "u32", "a block of the key shares bytes with another of its own, or with one of a key before it"),
-        ("START_FREE_STRAYS", 3, "u32", "the free list names an offset where no such block can stand: taking it is refused with 35"),
+        ("START_FREE_STRAYS", 3, "u32", "the free list names an offset where no such block can stand: taking it is refused with 35, and of pages a run with 42"),
         ("START_FREE_SHARES", 4, "u32", "a block of the free list shares bytes with one in use, or with one that this list or one of a smaller class named before; a list that doesn't end comes to such a block"),
         ("START_COUNTS_EXCEED", 5, "u32", "freed and held pages are counted, with the first and those past the mark, as more than the body has"),
-        ("START_FREED_UNTRUE", 6, "u32", "freed pages are counted as other than their list has"),
+        ("START_FREED_UNTRUE", 6, "u32", "freed pages are counted as other than their list has: a run is refused with 42"),
         ("START_HELD_UNTRUE", 7, "u32", "the desk's pages are counted as other than its keys have"),
         ("START_PAST_CEILING", 8, "u32", "the desk holds more pages than its ceiling"),
         ("START_RESERVE_HIGH", 9, "u32", "the desk's reserve is above its ceiling"),
         ("START_RESERVES_LACK", 10, "u32", "desks lack more pages of their reserves than are to be had, freed or past the mark"),
     ],
     "stacks": [
-        ("STACK_BOOK", 4096, "usize", "bytes of stack of any call of the book"),
-        ("STACK_LONG", 40960, "usize", "bytes of stack of a ported function that reads out more than 256 numbers"),
+        ("STACK_BOOK", 4096, "usize", "bytes of stack of any call of the book but the loads"),
+        ("STACK_LONG", 40960, "usize", "bytes of stack of a load, tight or not, and of a ported function that reads out more than 256 numbers"),
     ],
 }
 

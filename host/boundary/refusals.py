@@ -69,7 +69,7 @@ REFUSALS = [
      "pushed, or such a gap carved",
      "load, append; `push_free_head`, `pop_free_head`, `carve_gap_into_freelist`",
      "the state or a freed block is damaged: restores as for 31; reads go on meanwhile. A slab past 2^40 is no damage: loads all lists into a fresh book"),
-    (36, "NO_ROOM", "no room: the block or run would pass the body's end", ", or a slab 2^40; a block goes there only where none of its class is freed",
+    (36, "NO_ROOM", "no room: the block or run would pass the body's end", ", or a slab 2^40; a block goes there only where none of its class is freed, and a run where no stretch of so many pages is",
      "load, append",
      "lends the same book a longer body, with whole pages behind it, and makes the call again; where the body can't grow, or a slab would pass 2^40, drops "
      "keys that are no longer needed, which frees blocks of their classes"),
@@ -81,6 +81,10 @@ REFUSALS = [
      "drops keys of that desk, or has the book made anew with another ceiling; other desks go on"),
     (41, "INTO_RESERVES", "a take would leave fewer pages than desks lack of their reserves", ", as they would be after it", "load, append",
      "lends the same book a longer body, or drops keys with pages; a desk below its reserve still gets its pages one by one"),
+    (42, "FREE_LIST_BAD", "the list of freed pages can't be searched",
+     ": a page of it leaves 4,096 to the mark, is unaligned or stands twice, or they aren't as many as counted",
+     "load of a list that goes to pages",
+     "the state or a freed page is damaged: checks the book, and restores as for 31; reads, appends, drops and loads of other lists go on meanwhile"),
 ]
 
 

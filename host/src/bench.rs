@@ -1,6 +1,7 @@
 //! Our speed against theirs: both sides of a case do the same work on the same inputs, in turns.
 use crate::inputs;
 use crate::rng::Rng;
+use crate::run_bench;
 use oracle::{boundary, scripthash_pages as pages, scripthash_slabs as slabs, Fk};
 use ouriscado::sys;
 use std::hint::black_box;
@@ -35,7 +36,7 @@ extern "C" {
 }
 
 /// The processor time of this thread: unlike the clock's, it leaves out the turns of other programs.
-fn now() -> Duration {
+pub fn now() -> Duration {
     const THREAD: i32 = 3;
     let mut time = [0; 2];
     assert_eq!(unsafe { clock_gettime(THREAD, &mut time) }, 0);
@@ -365,5 +366,10 @@ pub fn bench(only: Option<&str>) {
             worst = (ratio, c.name.clone());
         }
     }
-    println!("worst ratio {:.2}: {}", worst.0, worst.1);
+    if only.is_none_or(|o| o == run_bench::NAME) {
+        run_bench::bench();
+    }
+    if worst.0 > 0.0 {
+        println!("worst ratio {:.2}: {}", worst.0, worst.1);
+    }
 }

@@ -94,8 +94,8 @@ pub fn parts() -> Vec<Part> {
 struct OnInput<'a>(&'a Function, &'a Input, u64);
 
 impl Saying for OnInput<'_> {
-    fn say(&self) -> String {
-        format!("{}, round {}: touches memory that it wasn't lent; {}", self.0.name, self.2, self.1.shown())
+    fn say(&self, wrong: &str) -> String {
+        format!("{}, round {}: {wrong}; {}", self.0.name, self.2, self.1.shown())
     }
 }
 

@@ -65,8 +65,8 @@ impl<T: Copy> Far<T> {
 struct Named(&'static str);
 
 impl Saying for Named {
-    fn say(&self) -> String {
-        format!("huge, round 0: {} touches memory that it wasn't lent", self.0)
+    fn say(&self, wrong: &str) -> String {
+        format!("huge, round 0: {} {wrong}", self.0)
     }
 }
 

@@ -23,6 +23,7 @@ mod page_inputs;
 mod page_stream_inputs;
 mod pages;
 mod rng;
+mod run_bench;
 mod second_book;
 mod stream_inputs;
 mod table;

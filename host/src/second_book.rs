@@ -2,11 +2,13 @@
 //! pages, free lists and cutting. It judges everything before it writes anything, so that a refused call has changed nothing.
 pub mod desks;
 pub mod keys;
+pub mod runs;
 pub mod space;
 pub mod start;
 
 use crate::second_book::desks::{At, By, Counts, Limits, DESKS};
 use crate::second_book::keys::{Ground, Held, Key};
+use crate::second_book::runs::Stray;
 use crate::second_book::space::{release, release_pages, take, State, Take, PAGE};
 use oracle::scripthash_layout::{pack8, slab_bytes, slab_cap, ShHeadValue};
 use oracle::scripthash_pages as pages;
@@ -31,11 +33,12 @@ pub enum Fit {
     Tight,
 }
 
-/// Why a call is turned back: a refusal's number, and for 31 on what ground.
+/// Why a call is turned back: a refusal's number, and for 31 and 42 on what ground.
 #[derive(Clone, Copy, Debug, PartialEq, Eq)]
 pub enum Refused {
     Number(u32),
     Unsound(Ground),
+    Strays(Stray),
 }
 
 impl Refused {
@@ -43,6 +46,7 @@ impl Refused {
         match self {
             Refused::Number(number) => number,
             Refused::Unsound(_) => 31,
+            Refused::Strays(_) => 42,
         }
     }
 }
@@ -373,5 +377,7 @@ fn append_page(body: &mut [u8], state: &mut State, desk: usize, off: u64, fk: u6
 
 #[cfg(test)]
 mod desk_tests;
+#[cfg(test)]
+mod run_tests;
 #[cfg(test)]
 mod tests;

@@ -430,20 +430,21 @@ impl<B: AsRef<[u8]> + AsMut<[u8]>, H: AsRef<[u64]> + AsMut<[u64]>> Book<B, H> {
     /// Records a whole list for an account that has none, and tells how many pages it takes, 0 where it needs none. A list without numbers
     /// changes nothing.
     ///
-    /// A list of 2 to 255 numbers that goes to a slab has a spare slot there, so that the next append moves it only where its bytes don't fit.
-    /// [`Book::load_tight`] leaves no such slot.
+    /// A list of 2 to 255 numbers that goes to a slab has a spare slot there, so that the next append moves it only where its bytes don't
+    /// fit. [`Book::load_tight`] leaves no such slot. A list that goes to pages gets the lowest stretch of so many that were freed, or else
+    /// pages that were never used.
     ///
     /// # Errors
     ///
     /// [`Refusal::ShapeBad`]; [`Refusal::KeyBeyond`]; [`Refusal::KeyInUse`] where the account has a list; [`Refusal::TooManyOffered`] above
     /// [`MOST_LOADED`](crate::limits::MOST_LOADED) numbers; [`Refusal::OfferedFirstZero`], [`Refusal::OfferedBit63`],
     /// [`Refusal::OfferedTooLarge`] and [`Refusal::OfferedNotRising`] where the numbers are no rising list from 1 to
-    /// [`MOST_NUMBER`](crate::limits::MOST_NUMBER); [`Refusal::FreeHeadBad`] where a free head or freed
-    /// block is damaged, or is a slab that ends past [`SLABS_END`](crate::limits::SLABS_END); [`Refusal::NoRoom`], until the book
-    /// [grows](Book::grow), or of a slab past `SLABS_END` until one of its class is freed. Of a book with desks also
-    /// [`Refusal::PastCeiling`], where the account's desk would hold more pages than its ceiling, and [`Refusal::IntoReserves`], where fewer
-    /// pages would be left than desks lack of their reserves; [`Refusal::DesksBad`] where the list that [`Book::from_parts_with`] was given
-    /// has no desk for the account.
+    /// [`MOST_NUMBER`](crate::limits::MOST_NUMBER); [`Refusal::FreeHeadBad`] where a free head or freed block is damaged, or is a slab that
+    /// ends past [`SLABS_END`](crate::limits::SLABS_END); [`Refusal::FreeListBad`] where the list goes to pages and that of freed pages is
+    /// damaged, or isn't as long as counted; [`Refusal::NoRoom`], until the book [grows](Book::grow), or of a slab past `SLABS_END` until
+    /// one of its class is freed. Of a book with desks also [`Refusal::PastCeiling`], where the account's desk would hold more pages than
+    /// its ceiling, and [`Refusal::IntoReserves`], where fewer pages would be left than desks lack of their reserves; [`Refusal::DesksBad`]
+    /// where the list that [`Book::from_parts_with`] was given has no desk for the account.
     pub fn load(&mut self, key: u64, numbers: &[u64]) -> Result<u64, Refusal> {
         let mut pages = 0;
         let desk = self.desk(key);

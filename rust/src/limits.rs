@@ -70,7 +70,7 @@ pub const START_KEY_UNSOUND: u32 = 1;
 /// A block of the key shares bytes with another of its own, or with one of a key before it.
 pub const START_KEY_SHARES: u32 = 2;
 
-/// The free list names an offset where no such block can stand: taking it is refused with 35.
+/// The free list names an offset where no such block can stand: taking it is refused with 35, and of pages a run with 42.
 pub const START_FREE_STRAYS: u32 = 3;
 
 /// A block of the free list shares bytes with one in use, or with one that this list or one of a smaller class named before; a list that doesn't end comes to such a block.
@@ -79,7 +79,7 @@ pub const START_FREE_SHARES: u32 = 4;
 /// Freed and held pages are counted, with the first and those past the mark, as more than the body has.
 pub const START_COUNTS_EXCEED: u32 = 5;
 
-/// Freed pages are counted as other than their list has.
+/// Freed pages are counted as other than their list has: a run is refused with 42.
 pub const START_FREED_UNTRUE: u32 = 6;
 
 /// The desk's pages are counted as other than its keys have.
@@ -94,8 +94,8 @@ pub const START_RESERVE_HIGH: u32 = 9;
 /// Desks lack more pages of their reserves than are to be had, freed or past the mark.
 pub const START_RESERVES_LACK: u32 = 10;
 
-/// Bytes of stack of any call of the book.
+/// Bytes of stack of any call of the book but the loads.
 pub const STACK_BOOK: usize = 4096;
 
-/// Bytes of stack of a ported function that reads out more than 256 numbers.
+/// Bytes of stack of a load, tight or not, and of a ported function that reads out more than 256 numbers.
 pub const STACK_LONG: usize = 40_960;

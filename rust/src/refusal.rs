@@ -147,7 +147,8 @@ pub enum Refusal {
     /// Operator: the state or a freed block is damaged: restores as for 31; reads go on meanwhile. A slab past 2^40 is no damage: loads all
     /// lists into a fresh book.
     FreeHeadBad,
-    /// 36: no room: the block or run would pass the body's end, or a slab 2^40; a block goes there only where none of its class is freed.
+    /// 36: no room: the block or run would pass the body's end, or a slab 2^40; a block goes there only where none of its class is freed,
+    /// and a run where no stretch of so many pages is.
     ///
     /// Operator: lends the same book a longer body, with whole pages behind it, and makes the call again; where the body can't grow, or a
     /// slab would pass 2^40, drops keys that are no longer needed, which frees blocks of their classes.
@@ -165,6 +166,12 @@ pub enum Refusal {
     ///
     /// Operator: lends the same book a longer body, or drops keys with pages; a desk below its reserve still gets its pages one by one.
     IntoReserves,
+    /// 42: the list of freed pages can't be searched: a page of it leaves 4,096 to the mark, is unaligned or stands twice, or they aren't
+    /// as many as counted.
+    ///
+    /// Operator: the state or a freed page is damaged: checks the book, and restores as for 31; reads, appends, drops and loads of other
+    /// lists go on meanwhile.
+    FreeListBad,
     /// A number that this crate doesn't know: the library is of another version.
     Unknown(u32),
 }
@@ -210,6 +217,7 @@ impl Refusal {
         Refusal::DesksBad,
         Refusal::PastCeiling,
         Refusal::IntoReserves,
+        Refusal::FreeListBad,
     ];
 
     /// The number that the library answers.
@@ -254,6 +262,7 @@ impl Refusal {
             Refusal::DesksBad => 39,
             Refusal::PastCeiling => 40,
             Refusal::IntoReserves => 41,
+            Refusal::FreeListBad => 42,
             Refusal::Unknown(number) => number,
         }
     }
@@ -300,6 +309,7 @@ impl Refusal {
             Refusal::DesksBad => "the desks can't be served",
             Refusal::PastCeiling => "a take of pages would pass its desk's ceiling",
             Refusal::IntoReserves => "a take would leave fewer pages than desks lack of their reserves",
+            Refusal::FreeListBad => "the list of freed pages can't be searched",
             Refusal::Unknown(_) => "a refusal that this version doesn't know",
         }
     }

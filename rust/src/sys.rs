@@ -32,7 +32,7 @@ pub mod raw {
         /// Loads a list of record numbers onto an empty key; keys count from 0. The numbers rise strictly, from 1 to 2^62 - 1, and there
         /// are 65,535 at most; with none, nothing changes. A list of 2 to 255 that goes to a slab has a slot for one number more there, so
         /// that the next append moves it only where its bytes don't fit. Hands out pages: how many pages of 4,096 bytes hold the list, 0
-        /// where it needs none. Refuses 1 to 3, 10, 12 to 14, 32, 35, 36, 39 to 41.
+        /// where it needs none. Refuses 1 to 3, 10, 12 to 14, 32, 35, 36, 39 to 42.
         pub fn ouriscado_book_load(
             body: *mut u8,
             body_len: usize,
@@ -49,7 +49,7 @@ pub mod raw {
             pages: &mut u64,
         ) -> u32;
         /// Loads a list of record numbers onto an empty key as ouriscado_book_load does, but tight: into the smallest slab that holds its
-        /// bytes, for lists that nothing is appended to. Hands out pages as that does. Refuses 1 to 3, 10, 12 to 14, 32, 35, 36, 39 to 41.
+        /// bytes, for lists that nothing is appended to. Hands out pages as that does. Refuses 1 to 3, 10, 12 to 14, 32, 35, 36, 39 to 42.
         pub fn ouriscado_book_load_tight(
             body: *mut u8,
             body_len: usize,
@@ -155,7 +155,7 @@ pub mod raw {
             lost: &mut u64,
         ) -> u32;
         /// Loads a list of record numbers onto an empty key as ouriscado_book_load does, for the desk of a number: 39 above 15. The counts
-        /// are judged where blocks are taken, behind 36. Refuses 1 to 3, 10, 12 to 14, 32, 35, 36, 39 to 41.
+        /// are judged where blocks are taken, behind 36. Refuses 1 to 3, 10, 12 to 14, 32, 35, 36, 39 to 42.
         pub fn ouriscado_core_load(
             body: *mut u8,
             body_len: usize,
@@ -171,7 +171,7 @@ pub mod raw {
             pages: &mut u64,
         ) -> u32;
         /// Loads a list of record numbers onto an empty key as ouriscado_book_load_tight does, for the desk of a number: 39 above 15. The
-        /// counts are judged where blocks are taken, behind 36. Refuses 1 to 3, 10, 12 to 14, 32, 35, 36, 39 to 41.
+        /// counts are judged where blocks are taken, behind 36. Refuses 1 to 3, 10, 12 to 14, 32, 35, 36, 39 to 42.
         pub fn ouriscado_core_load_tight(
             body: *mut u8,
             body_len: usize,
@@ -448,7 +448,7 @@ pub fn book_fresh(
 /// Loads a list of record numbers onto an empty key; keys count from 0. The numbers rise strictly, from 1 to 2^62 - 1, and there are 65,535
 /// at most; with none, nothing changes. A list of 2 to 255 that goes to a slab has a slot for one number more there, so that the next
 /// append moves it only where its bytes don't fit. Hands out pages: how many pages of 4,096 bytes hold the list, 0 where it needs none.
-/// Refuses 1 to 3, 10, 12 to 14, 32, 35, 36, 39 to 41.
+/// Refuses 1 to 3, 10, 12 to 14, 32, 35, 36, 39 to 42.
 #[inline]
 #[must_use]
 pub fn book_load(
@@ -482,7 +482,7 @@ pub fn book_load(
 }
 
 /// Loads a list of record numbers onto an empty key as ouriscado_book_load does, but tight: into the smallest slab that holds its bytes,
-/// for lists that nothing is appended to. Hands out pages as that does. Refuses 1 to 3, 10, 12 to 14, 32, 35, 36, 39 to 41.
+/// for lists that nothing is appended to. Hands out pages as that does. Refuses 1 to 3, 10, 12 to 14, 32, 35, 36, 39 to 42.
 #[inline]
 #[must_use]
 pub fn book_load_tight(
@@ -677,7 +677,7 @@ pub fn book_check(
 }
 
 /// Loads a list of record numbers onto an empty key as ouriscado_book_load does, for the desk of a number: 39 above 15. The counts are
-/// judged where blocks are taken, behind 36. Refuses 1 to 3, 10, 12 to 14, 32, 35, 36, 39 to 41.
+/// judged where blocks are taken, behind 36. Refuses 1 to 3, 10, 12 to 14, 32, 35, 36, 39 to 42.
 #[inline]
 #[must_use]
 pub fn core_load(
@@ -710,7 +710,7 @@ pub fn core_load(
 }
 
 /// Loads a list of record numbers onto an empty key as ouriscado_book_load_tight does, for the desk of a number: 39 above 15. The counts
-/// are judged where blocks are taken, behind 36. Refuses 1 to 3, 10, 12 to 14, 32, 35, 36, 39 to 41.
+/// are judged where blocks are taken, behind 36. Refuses 1 to 3, 10, 12 to 14, 32, 35, 36, 39 to 42.
 #[inline]
 #[must_use]
 pub fn core_load_tight(

@@ -7,7 +7,8 @@ from copy import deepcopy
 from paths import ROOT
 import book_run
 import book_shell
-from plain_book import DESKS, MOST_BODY, MOST_WORD, SLABS_END, Book, cutting, loads_to, made, padding, pages_of, stream_len, total_told
+from plain_book import DESKS, MOST_BODY, MOST_WORD, SLABS_END
+from plain_book import Book, cutting, loads_to, lowest, made, padding, pages_of, stream_len, total_told
 from sizes import PAGE, Refused, by_bytes, form_len, with_slack
 
 
@@ -388,6 +389,70 @@ class TestDesks(Refusing):
         self.refused(41, self.book.load, 0, ones(4073))
         self.assertEqual((self.book.load(0, ones(4072)), self.book.append(1, 257)), (1, 256))
         self.assertEqual((self.book.held[:3], self.book.places[1][1][0][0]), ([1, 1, 0], 3 * PAGE))
+
+
+class TestRuns(Refusing):
+    """Runs out of freed pages, for each point that the request leaves open by its smallest input; offsets in pages."""
+
+    def begin(self, pages, mark, freed, **limits):
+        """A book of four keys where pages are freed, from the top of their stack."""
+        self.book = Book(pages * PAGE, 4, **limits)
+        self.book.mark, self.book.stacks[8] = int(mark * PAGE), [page * PAGE for page in reversed(freed)]
+
+    def taken(self, key, pages, tight=False):
+        """Loads a run: where it begins, and what is left, from the top."""
+        self.assertEqual(self.book.load(key, ones(4000 * pages), tight), pages)
+        self.assertEqual([p[0] - self.book.places[key][1][0][0] for p in self.book.places[key][1]], [i * PAGE for i in range(pages)])
+        return self.book.places[key][1][0][0] // PAGE, [o // PAGE for o in reversed(self.book.stacks[8])]
+
+    def test_a_run_of_one_is_the_lowest(self):
+        self.begin(4, 4, [3, 1])
+        self.assertEqual(self.taken(0, 1), (1, [3]))
+        self.begin(5, 5, [4, 2])
+        self.book.put(0, ones(4072), ("pages", [[PAGE, 4072, ones(4072)]]))
+        self.book.append(0, 4073)
+        self.assertEqual((self.book.places[0][1][1][0], self.book.stacks[8]), (4 * PAGE, [2 * PAGE]))
+
+    def test_the_lowest_stretch(self):
+        for pages, begins, left in ((1, 1, [6, 4, 3, 5, 8]), (2, 3, [6, 5, 1, 8]), (3, 3, [6, 1, 8]), (4, 3, [1, 8])):
+            for tight in (False, True):
+                self.begin(9, 9, [6, 4, 3, 5, 1, 8])
+                self.assertEqual(self.taken(0, pages, tight), (begins, left))
+        self.begin(9, 9, [6, 4, 3, 5, 1, 8])
+        self.refused(36, self.book.load, 0, ones(20000))
+
+    def test_those_left_keep_their_order(self):
+        self.begin(7, 7, [4, 5, 1, 3, 6])
+        self.assertEqual((self.taken(0, 2), self.book.held[0]), ((3, [5, 1, 6]), 2))
+
+    def test_the_mark_stays(self):
+        self.begin(4, 2 + 1 / 256, [1])
+        self.assertEqual((self.taken(0, 1), self.book.mark, self.book.stacks[:8]), ((1, []), 2 * PAGE + 16, [[]] * 8))
+        self.assertEqual((self.taken(1, 1), self.book.mark), ((3, []), 4 * PAGE))
+
+    def test_freed_pages_are_not_joined_with_those_past_the_mark(self):
+        self.begin(4, 3, [2])
+        self.refused(36, self.book.load, 0, ones(8000))
+        self.begin(5, 3, [2])
+        self.assertEqual(self.taken(0, 2), (3, [2]))
+
+    def test_pages_apart(self):
+        self.begin(5, 5, [1, 3], reserve=reserves(d0=2))
+        self.refused(36, self.book.load, 0, ones(8000))
+        self.assertEqual(self.taken(0, 1), (1, [3]))
+
+    def test_limits_bind_a_run_of_freed_pages(self):
+        self.begin(5, 5, [2, 3], reserve=reserves(d1=1), ceiling=ceilings(d0=1))
+        self.refused(36, self.book.load, 0, ones(12000))
+        self.refused(40, self.book.load, 0, ones(8000))
+        self.book.ceiling = ceilings(d0=2)
+        self.refused(41, self.book.load, 0, ones(8000))
+        self.book.reserve = reserves()
+        self.assertEqual(self.taken(0, 2), (2, []))
+
+    def test_lowest(self):
+        self.assertEqual((lowest([], 1), lowest([PAGE], 1), lowest([PAGE], 2), lowest([PAGE, 3 * PAGE], 2)), (None, PAGE, None, None))
+        self.assertEqual(lowest([3 * PAGE, PAGE, 5 * PAGE, 4 * PAGE], 2), 3 * PAGE)
 
 
 class TestPrograms(unittest.TestCase):

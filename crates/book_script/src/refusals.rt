@@ -27,6 +27,7 @@ fn of_room(number: error::Refusal) {
         34 => text::words(b"the lent list is too short"),
         35 => text::words(b"a free head isn't a block of its class before the mark"),
         36 => text::words(b"no room: the block or run would pass the body's end"),
+        42 => text::words(b"the list of freed pages can't be searched"),
         _ => of_desks(number),
     }
 }

@@ -110,7 +110,7 @@ fn load_by(
 // Loads a list of record numbers onto an empty key; keys count from 0. The numbers rise strictly, from 1 to 2^62 - 1, and there are
 // 65,535 at most; with none, nothing changes. A list of 2 to 255 that goes to a slab has a slot for one number more there, so that the next
 // append moves it only where its bytes don't fit. Hands out pages: how many pages of 4,096 bytes hold the list, 0 where it needs none.
-// Refuses 1 to 3, 10, 12 to 14, 32, 35, 36, 39 to 41.
+// Refuses 1 to 3, 10, 12 to 14, 32, 35, 36, 39 to 42.
 #[no_mangle]
 pub extern "C" fn ouriscado_book_load(
     body: &mut [u8],
@@ -153,7 +153,7 @@ pub extern "C" fn ouriscado_book_load(
 }
 
 // Loads a list of record numbers onto an empty key as ouriscado_book_load does, but tight: into the smallest slab that holds its bytes, for
-// lists that nothing is appended to. Hands out pages as that does. Refuses 1 to 3, 10, 12 to 14, 32, 35, 36, 39 to 41.
+// lists that nothing is appended to. Hands out pages as that does. Refuses 1 to 3, 10, 12 to 14, 32, 35, 36, 39 to 42.
 #[no_mangle]
 pub extern "C" fn ouriscado_book_load_tight(
     body: &mut [u8],

@@ -55,7 +55,7 @@ pub fn core_load_by(
 }
 
 // Loads a list of record numbers onto an empty key as ouriscado_book_load does, for the desk of a number: 39 above 15. The counts are
-// judged where blocks are taken, behind 36. Refuses 1 to 3, 10, 12 to 14, 32, 35, 36, 39 to 41.
+// judged where blocks are taken, behind 36. Refuses 1 to 3, 10, 12 to 14, 32, 35, 36, 39 to 42.
 #[no_mangle]
 pub extern "C" fn ouriscado_core_load(
     body: &mut [u8],
@@ -97,7 +97,7 @@ pub extern "C" fn ouriscado_core_load(
 }
 
 // Loads a list of record numbers onto an empty key as ouriscado_book_load_tight does, for the desk of a number: 39 above 15. The counts are
-// judged where blocks are taken, behind 36. Refuses 1 to 3, 10, 12 to 14, 32, 35, 36, 39 to 41.
+// judged where blocks are taken, behind 36. Refuses 1 to 3, 10, 12 to 14, 32, 35, 36, 39 to 42.
 #[no_mangle]
 pub extern "C" fn ouriscado_core_load_tight(
     body: &mut [u8],

@@ -7,6 +7,7 @@ use crate::second_book::space::{State, WORDS};
 use crate::second_book::Fit;
 
 /// A step of a history: a call of the book or of the core, or a byte of the body or a word of the state that somebody else writes.
+#[derive(Clone)]
 enum Step {
     Call(Call),
     Core(Call),
@@ -21,7 +22,8 @@ struct Case {
     steps: Vec<Step>,
 }
 
-/// The places of the counts among the words of a state: freed pages, and the pages of desk 0.
+/// The places of the free head of pages and of counts among the words of a state: freed pages, and the pages of desk 0.
+const HEAD: usize = 9;
 const FREED: usize = 10;
 const HELD: usize = 11;
 
@@ -66,6 +68,11 @@ fn drop_key(key: u64) -> Step {
 /// Creates of the page at an offset, which somebody else writes.
 fn total(page: usize, creates: u32) -> Vec<Step> {
     (page + 20..).zip(creates.to_le_bytes()).map(|(at, byte)| Step::Byte(at, byte)).collect()
+}
+
+/// The link of the freed page at an offset, which somebody else writes.
+fn link(page: usize, next: u64) -> Vec<Step> {
+    (page..).zip(next.to_le_bytes()).map(|(at, byte)| Step::Byte(at, byte)).collect()
 }
 
 fn cases() -> Vec<Case> {
@@ -260,6 +267,47 @@ fn cases() -> Vec<Case> {
             .flatten()
             .collect(),
         },
+        // Runs out of freed pages: of a list 4, 3, 6, 2, 1 from the top the lowest stretch, with the mark within a page and no room behind
+        // it; those left keep their order, and an append's page is the top.
+        Case {
+            body: 32_768,
+            desks: &[0; 6],
+            steps: [
+                vec![load(0, row(5000)), load(1, row(5000)), load(2, row(300)), load(3, row(300)), load_tight(4, row(200)), drop_key(0)],
+                vec![drop_key(3), drop_key(1), load(0, row(20_000)), load_tight(0, row(300)), load(1, row(9000)), drop_key(2)],
+                by_core(vec![load(2, row(8000)), drop_key(1), load_tight(3, row(4072)), load(5, row(300))]),
+                append(3, &[4073]),
+                vec![read(1, 9000), load(1, row(256))],
+                append(1, &[257]),
+                vec![drop_key(3), drop_key(0)],
+                by_core(vec![load(0, row(300)), read(0, 300)]),
+            ]
+            .into_iter()
+            .flatten()
+            .collect(),
+        },
+        // A list of freed pages that can't be searched, though there is room at the mark: counted wrong, without a head, without a count,
+        // unaligned, at the mark, across it, and coming back. Appends, slabs and drops go on.
+        Case {
+            body: 32_768,
+            desks: &[0; 4],
+            steps: [
+                vec![load(0, row(4072)), load(1, row(9000)), drop_key(1), Step::State(FREED, 4), load(1, row(300))],
+                by_core(vec![load_tight(1, row(300)), load(1, row(256)), drop_key(1)]),
+                vec![Step::State(FREED, 2), load(1, row(300)), Step::State(FREED, 0), load(1, row(300)), Step::State(FREED, 3)],
+                vec![Step::State(HEAD, 0), load_tight(1, row(300)), Step::State(HEAD, 16_384)],
+                [8200, 20_480, 16_384].into_iter().flat_map(|to| [link(16_384, to), vec![load(1, row(300))]].concat()).collect(),
+                by_core(vec![Step::State(FREED, u64::MAX), load(1, row(300)), Step::State(FREED, 3)]),
+                link(16_384, 12_288),
+                vec![Step::State(0, 20_464), load(1, row(9000)), Step::State(0, 20_480), Step::State(9, 16_384), load(1, row(9000))],
+                vec![drop_key(1), Step::State(FREED, 2)],
+                append(0, &[4073]),
+                vec![load(1, row(300)), Step::State(FREED, 2), load(1, row(5000)), read(1, 5000)],
+            ]
+            .into_iter()
+            .flatten()
+            .collect(),
+        },
     ]
 }
 
@@ -302,19 +350,21 @@ pub fn lines(pair: &mut Pair) -> Vec<String> {
 mod tests {
     use super::*;
 
-    /// The refusals of the histories with desks, which are the last four.
+    /// The refusals of the histories with desks and with freed pages, which are the last six.
     #[test]
-    fn refusals_of_desks() {
+    fn refusals_of_desks_and_runs() {
         let lines = lines(&mut Pair::default());
         let number = |line: &String| u64::from_str_radix(&line[2..4], 16).unwrap();
         let histories: Vec<Vec<u64>> = lines
             .chunk_by(|_, next| !next.starts_with("36"))
             .map(|history| history.iter().filter(|line| !line.starts_with("36") && !line.starts_with("35")).map(number).collect())
             .collect();
-        let [kept, ceiling, makings, counts] = &histories[histories.len() - 4..] else { panic!("four histories") };
+        let [kept, ceiling, makings, counts, runs, strays] = &histories[histories.len() - 6..] else { panic!("six histories") };
         assert_eq!(kept[..], [0, 0, 0, 41, 0, 41, 0, 41, 41, 41, 0, 0, 0, 0]);
         assert_eq!(ceiling[..], [0, 0, 40, 0, 40, 40, 40, 0, 0, 0, 0]);
         assert_eq!(makings[..], [0, 1, 39, 39, 39, 1, 0]);
         assert_eq!(counts[..], [0, 0, 35, 35, 0, 31, 31, 1, 0, 1, 1, 0, 0, 1]);
+        assert_eq!(runs[..], [0, 0, 0, 0, 0, 0, 0, 0, 0, 36, 0, 0, 0, 0, 0, 0, 0, 0, 0, 0, 36, 0, 0, 0, 0]);
+        assert_eq!(strays[..], [0, 0, 0, 0, 42, 42, 0, 0, 42, 42, 42, 42, 42, 42, 42, 42, 0, 0, 0, 42, 0, 0]);
     }
 }

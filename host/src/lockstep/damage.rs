@@ -1,9 +1,10 @@
-//! What becomes of a book when somebody else writes it: bits flipped, words, mark and free heads set. What is written into slabs and pages
-//! stands in `spoil`.
+//! What becomes of a book when somebody else writes it: bits flipped, words, mark, free heads and the list of freed pages set. What is
+//! written into slabs and pages stands in `spoil`.
 use crate::lockstep::spoil::*;
 use crate::rng::Rng;
 use crate::second_book::desks::DESKS;
 use crate::second_book::page_mut;
+use crate::second_book::runs::freed_pages;
 use crate::second_book::space::{State, PAGE};
 use oracle::scripthash_layout::{pack8, slab_bytes, unpack8, ShHeadValue};
 use oracle::scripthash_pages as pages;
@@ -50,6 +51,25 @@ const DAMAGES: &[Damage] = &[
     ("a reserve", set_reserve),
     ("a ceiling", set_ceiling),
     ("a page's free head against freed pages", part_head_and_count),
+    (OF_FREED_PAGES[0], loop_list),
+    (OF_FREED_PAGES[1], stray_from_list),
+    (OF_FREED_PAGES[2], end_list),
+    (OF_FREED_PAGES[3], count_list),
+    (OF_FREED_PAGES[4], mark_in_list),
+    (OF_FREED_PAGES[5], part_list),
+    (OF_FREED_PAGES[6], shuffle_list),
+    (OF_FREED_PAGES[6], shuffle_list),
+];
+
+/// The damages of the list of freed pages. The last one leaves a good list.
+pub const OF_FREED_PAGES: [&str; 7] = [
+    "a list of freed pages that comes back",
+    "a list of freed pages that strays",
+    "a list of freed pages that ends early",
+    "a list of freed pages that is counted wrong",
+    "a mark within the list of freed pages",
+    "freed pages without a head, or a head without them",
+    "freed pages in another order",
 ];
 
 /// Damages a book in one way, and tells its name.
@@ -208,7 +228,7 @@ fn set_mark_near(book: &mut Damaged, rng: &mut Rng) -> bool {
         (_, Some(off)) => off + PAGE as u64,
         _ => return false,
     };
-    book.state.mark = rng.pick(&[end, end, end - 16, end - 16, end + 16, end - PAGE as u64, end - 8]);
+    book.state.mark = rng.pick(&[end, end, end - 16, end - 16, end + 16, end.wrapping_sub(PAGE as u64), end - 8]);
     true
 }
 
@@ -308,6 +328,107 @@ fn part_head_and_count(book: &mut Damaged, rng: &mut Rng) -> bool {
         0 => book.state.free[8] = 0,
         1 => book.state.free[8] = rng.pick(&[4096, 8192, book.mark() / 4096 * 4096]),
         _ => book.state.counts.freed = rng.pick(&[0, 0, 1, 2]),
+    }
+    true
+}
+
+/// The freed pages, where there are some in a list that can be searched.
+fn freed_list(book: &Damaged) -> Option<Vec<u64>> {
+    freed_pages(book.body, book.state).ok().filter(|pages| !pages.is_empty())
+}
+
+/// Makes a freed page's link, or the free head of pages, name an offset.
+fn lead_list(book: &mut Damaged, rng: &mut Rng, pages: &[u64], to: u64) {
+    match rng.below(pages.len() as u64 + 1) as usize {
+        0 => book.state.free[8] = to,
+        at => book.body[pages[at - 1] as usize..][..8].copy_from_slice(&to.to_le_bytes()),
+    }
+}
+
+/// The list comes back to a page of it; it may be counted as long as the body has pages, or as no list can be.
+fn loop_list(book: &mut Damaged, rng: &mut Rng) -> bool {
+    let Some(pages) = freed_list(book) else { return false };
+    let from = rng.below(pages.len() as u64) as usize;
+    let to = pages[rng.below(from as u64 + 1) as usize];
+    book.body[pages[from] as usize..][..8].copy_from_slice(&to.to_le_bytes());
+    let most = book.mark() / PAGE as u64;
+    let is = book.state.counts.freed;
+    book.state.counts.freed = rng.pick(&[is, is, is, most - 1, most, from as u64 + 1, 1 << 40, u64::MAX]);
+    true
+}
+
+/// The list goes on where no freed page can stand: unaligned, before 4,096, at the mark or behind it; or in a page in use.
+fn stray_from_list(book: &mut Damaged, rng: &mut Rng) -> bool {
+    let Some(pages) = freed_list(book) else { return false };
+    let (mark, any) = (book.mark(), rng.pick(&pages));
+    let in_use = book.page(rng).unwrap_or(mark);
+    let after = mark.next_multiple_of(PAGE as u64);
+    let far = u64::MAX - u64::MAX % PAGE as u64;
+    let to = rng.pick(&[
+        any + 8,
+        any + 16,
+        any + 2048,
+        8,
+        2048,
+        4080,
+        mark / 4096 * 4096,
+        after,
+        after + 4096,
+        in_use,
+        in_use,
+        1 << 40,
+        far,
+        u64::MAX,
+    ]);
+    lead_list(book, rng, &pages, to);
+    true
+}
+
+/// The list ends at a page before its last.
+fn end_list(book: &mut Damaged, rng: &mut Rng) -> bool {
+    let Some(pages) = freed_list(book).filter(|pages| pages.len() > 1) else { return false };
+    let at = pages[rng.below(pages.len() as u64 - 1) as usize];
+    book.body[at as usize..][..8].fill(0);
+    true
+}
+
+/// More or fewer pages are counted than the list has.
+fn count_list(book: &mut Damaged, rng: &mut Rng) -> bool {
+    let Some(pages) = freed_list(book) else { return false };
+    let (is, most) = (pages.len() as u64, (book.body.len() / PAGE) as u64);
+    book.state.counts.freed = rng.pick(&[is + 1, is - 1, is + 2, most, most + 1, 1, u64::MAX]);
+    book.state.counts.freed != is
+}
+
+/// The mark stands within a freed page, or before it.
+fn mark_in_list(book: &mut Damaged, rng: &mut Rng) -> bool {
+    let Some(pages) = freed_list(book) else { return false };
+    let at = rng.pick(&pages);
+    book.state.mark = rng.pick(&[at, at + 16, at + 2048, at + 4080]).max(PAGE as u64);
+    true
+}
+
+/// A free head of 0 with a count, or a count of 0 with a head.
+fn part_list(book: &mut Damaged, rng: &mut Rng) -> bool {
+    let pages = freed_list(book);
+    match (rng.below(2), pages) {
+        (0, Some(_)) => book.state.counts.freed = 0,
+        (_, Some(_)) => book.state.free[8] = 0,
+        (_, None) => (book.state.free[8], book.state.counts.freed) = (0, rng.pick(&[1, 1, 2, 4])),
+    }
+    true
+}
+
+/// Links the freed pages in any order.
+fn shuffle_list(book: &mut Damaged, rng: &mut Rng) -> bool {
+    let Some(mut pages) = freed_list(book).filter(|pages| pages.len() > 1) else { return false };
+    for k in (1..pages.len()).rev() {
+        pages.swap(k, rng.below(k as u64 + 1) as usize);
+    }
+    book.state.free[8] = pages[0];
+    for (k, page) in pages.iter().enumerate() {
+        let next = pages.get(k + 1).copied().unwrap_or(0);
+        book.body[*page as usize..][..8].copy_from_slice(&next.to_le_bytes());
     }
     true
 }

@@ -5,41 +5,38 @@ use crate::second_book::space::{State, HELD_BY_DESK};
 use crate::second_book::Refused;
 use std::collections::BTreeMap;
 
-/// What calls take: its name, whether it is a slab, and whether it can come from those freed.
+/// What calls take: its name, whether it is a slab, and whether it is a run, which is sought among those freed; others are popped.
 pub struct Kind {
     name: &'static str,
     slab: bool,
-    freed: bool,
+    pub run: bool,
 }
 
 pub const TAKES: [Kind; 5] = [
-    Kind { name: "a slab for a load", slab: true, freed: true },
-    Kind { name: "a run for a load", slab: false, freed: false },
-    Kind { name: "a slab for a list that moves", slab: true, freed: true },
-    Kind { name: "a page for a list that moves", slab: false, freed: true },
-    Kind { name: "a page for a chain", slab: false, freed: true },
+    Kind { name: "a slab for a load", slab: true, run: false },
+    Kind { name: "a run for a load", slab: false, run: true },
+    Kind { name: "a slab for a list that moves", slab: true, run: false },
+    Kind { name: "a page for a list that moves", slab: false, run: false },
+    Kind { name: "a page for a chain", slab: false, run: false },
 ];
 
-/// What a call took, or wanted to take, and its class.
+/// What a call took, or wanted to take, its class, and whether it comes from those freed.
 pub struct Taken {
     pub what: &'static Kind,
     pub class: usize,
+    pub freed: bool,
 }
 
 impl Taken {
     /// Its name, with where it comes from.
-    fn said(&self, before: &State) -> String {
-        self.what.said(FROM[usize::from(before.free[self.class] != 0)])
+    fn said(&self) -> String {
+        self.what.said(FROM[usize::from(self.freed)])
     }
 }
 
 impl Kind {
     fn said(&self, from: &str) -> String {
-        if self.freed {
-            format!("{} {from}", self.name)
-        } else {
-            self.name.into()
-        }
+        format!("{} {from}", self.name)
     }
 }
 
@@ -99,7 +96,7 @@ impl Desks {
     }
 
     /// Counts a call by the state before it, what it was given and answered, and what it took or wanted.
-    pub fn count(&mut self, call: &Call, given: Given, before: &State, takes: Option<Taken>, answer: &Answer, pair: &Pair) {
+    pub fn count(&mut self, call: &Call, given: Given, before: &State, takes: Option<&Taken>, answer: &Answer, pair: &Pair) {
         let family = FAMILIES[given.family()];
         if let Call::Fresh(limits) = call {
             return self.making(limits, given, answer);
@@ -122,18 +119,18 @@ impl Desks {
                 _ => {}
             },
             (31, _) if pair.refused == Some(Refused::Unsound(HELD_BY_DESK)) => self.add(format!("{family}31: {HELD_BY_DESK}")),
-            (35 | 36 | 40 | 41, _) => self.turned(family, answer.refusal, &takes.expect("a take"), before),
+            (35 | 36 | 40 | 41, _) => self.turned(family, answer.refusal, takes.expect("a take"), before),
             _ => {}
         }
     }
 
     /// Counts a take that was turned back.
     fn turned(&mut self, family: &str, refusal: u32, taken: &Taken, before: &State) {
-        let Kind { name, slab, .. } = taken.what;
-        let parted = !slab && (before.free[8] == 0) != (before.counts.freed == 0);
+        let Kind { name, slab, run } = taken.what;
+        let parted = !slab && !run && (before.free[8] == 0) != (before.counts.freed == 0);
         self.add(match refusal {
             35 if parted => format!("{family}35: {name}, {}", PARTED[usize::from(before.counts.freed == 0)]),
-            40 | 41 => format!("{family}{refusal}: {}", taken.said(before)),
+            40 | 41 => format!("{family}{refusal}: {}", taken.said()),
             _ => format!("{family}{refusal}: {name}"),
         });
         let over: u64 =
@@ -160,7 +157,7 @@ impl Desks {
     }
 
     /// Counts a call that was accepted: takes at the limits, and counts that pass the body's pages.
-    fn accepted(&mut self, family: &str, call: &Call, given: Given, before: &State, takes: Option<Taken>, after: &State) {
+    fn accepted(&mut self, family: &str, call: &Call, given: Given, before: &State, takes: Option<&Taken>, after: &State) {
         let most = pages_of(given.body);
         let (was, is) = (&before.counts, &after.counts);
         if too_high(given.body, was).is_none() && is.freed > most {
@@ -177,7 +174,7 @@ impl Desks {
         let grown = (0..DESKS).find(|&desk| is.held[desk] != was.held[desk]);
         let had = is.freed + past(given.body, after.mark);
         if is.lacks() > 0 && had == is.lacks() {
-            self.add(format!("{family}{} {LAST_PAGE}", taken.said(before)));
+            self.add(format!("{family}{} {LAST_PAGE}", taken.said()));
         }
         if had < was.lacks() {
             self.add(format!("{family}{what} {LACK_FALLS}"));
@@ -222,20 +219,20 @@ impl Desks {
 fn of_family(family: &str) -> Vec<String> {
     let mut out = vec![format!("{family}31: {HELD_BY_DESK}")];
     for kind in TAKES {
-        let Kind { name, slab, freed } = kind;
-        let from = if freed { FROM.map(|from| kind.said(from)).to_vec() } else { vec![name.into()] };
+        let Kind { name, slab, run } = kind;
+        let from = FROM.map(|from| kind.said(from));
         out.push(format!("{family}36: {name}"));
         out.extend(from.iter().map(|said| format!("{family}41: {said}")));
         out.extend(from.iter().map(|said| format!("{family}{said} {LAST_PAGE}")));
         out.push(format!("{family}41: {name}, while a desk is above its reserve"));
-        if freed {
+        if !run {
             out.push(format!("{family}35: {name}"));
         }
         if !slab {
             out.extend(from.iter().map(|said| format!("{family}40: {said}")));
             out.extend([OF_RESERVE, TO_CEILING, LACK_FALLS].map(|how| format!("{family}{name} {how}")));
         }
-        if !slab && freed {
+        if !slab && !run {
             out.extend(PARTED.map(|why| format!("{family}35: {name}, {why}")));
         }
     }

@@ -1,7 +1,7 @@
 //! Random histories: a book of some shape, calls that grow, load, read and drop keys, odd calls between them, and damage. Now and then the
 //! book is judged as a start; one that is good stays good until somebody else writes it.
 use crate::lent::Placing;
-use crate::lockstep::damage::{damage, Damaged};
+use crate::lockstep::damage::{damage, Damaged, OF_FREED_PAGES};
 use crate::lockstep::judging::lent;
 use crate::lockstep::limits::{bad_limits, bad_list, desk_list, limits};
 use crate::lockstep::lists;
@@ -11,11 +11,13 @@ use crate::lockstep::starts::Start;
 use crate::lockstep::tally::{total_of, Before, Tally, DAMAGED_BOOK, FOREIGN_BOOK, FRESH_BOOK, USED_BOOK};
 use crate::rng::Rng;
 use crate::second_book::desks::{By, DESKS};
+use crate::second_book::runs::freed_pages;
 use crate::second_book::space::{State, WORDS};
 use crate::second_book::{Fit, LIMIT};
 
-/// How a history goes: the book's shape, how many calls, how long the runs of appends to one key are, of which lengths their differences are
-/// in bits, the shares of loads and drops in a hundred calls, the longest load, and in how many calls there is one damage, 0 for never.
+/// How a history goes: the book's shape, how many calls, how long the runs of appends to one key are, of which lengths their differences
+/// are in bits, the shares of loads and drops in a hundred calls, the longest load, the most pages of the runs that most loads are then, 0
+/// for any loads, and in how many calls there is one damage, 0 for never.
 #[derive(Clone, Copy, Debug)]
 struct Plan {
     keys: usize,
@@ -26,6 +28,7 @@ struct Plan {
     loads: u64,
     drops: u64,
     longest: usize,
+    runs: u64,
     /// Whether most loads rise by one difference, so that their text is short.
     even: bool,
     damaged: u64,
@@ -44,14 +47,16 @@ fn short_plan(rng: &mut Rng) -> Plan {
     let (keys, body) = (rng.pick(&[1, 2, 4, 6]), rng.pick(&[8192, 12_288, 16_384, 28_672, 61_440]));
     let (calls, run, bits) = (rng.pick(&[10, 20, 40]), rng.pick(&[3, 12, 40]), rng.pick(&[ANY, LONG]));
     let longest = if body > 20_000 { 16_000 } else { 300 };
-    Plan { keys, body, calls, run, bits, loads: 25, drops: 12, longest, even: true, damaged: rng.pick(&[0, 2, 4]) }
+    let (runs, loads, drops) = if body > 20_000 { rng.pick(&[(0, 25, 12), (4, 40, 30)]) } else { (0, 25, 12) };
+    Plan { keys, body, calls, run, bits, loads, drops, longest, runs, even: true, damaged: rng.pick(&[0, 2, 4]) }
 }
 
 /// Draws a plan.
 fn plan(rng: &mut Rng) -> Plan {
     let damaged = rng.pick(&[0, 4, 12, 60]);
-    let common = Plan { keys: 1, body: 8192, calls: 1500, run: 3, bits: ANY, loads: 12, drops: 8, longest: 300, even: false, damaged };
-    match rng.below(40) {
+    let common =
+        Plan { keys: 1, body: 8192, calls: 1500, run: 3, bits: ANY, loads: 12, drops: 8, longest: 300, runs: 0, even: false, damaged };
+    match rng.below(46) {
         // Many keys in a small body, which is soon full.
         0..10 => Plan { keys: rng.pick(&[2, 5, 20, 64, 200]), body: rng.pick(&[8192, 8192, 12_288, 20_480]), ..common },
         // Few keys that grow through every class into pages.
@@ -73,6 +78,11 @@ fn plan(rng: &mut Rng) -> Plan {
         }
         // As many keys as there can be.
         38 => Plan { keys: MOST_HEADS, calls: 60, ..common },
+        // Runs that are dropped, and others that are loaded out of their pages.
+        39..45 => {
+            let (keys, body, runs) = (rng.pick(&[4, 9, 20]), rng.pick(&[32_768, 65_536, 131_072, 262_144]), rng.pick(&[3, 6, 12]));
+            Plan { keys, body, calls: 400, run: 4, loads: 42, drops: 34, longest: 5000, runs, damaged: rng.pick(&[0, 2, 4]), ..common }
+        }
         _ => Plan { keys: 3, body: 262_144, calls: 300, run: 100, longest: 20_000, ..common },
     }
 }
@@ -81,7 +91,8 @@ fn plan(rng: &mut Rng) -> Plan {
 fn start_plan(rng: &mut Rng, keys: usize, body: usize) -> Plan {
     let (calls, run, bits) = (rng.pick(&[60, 200, 400]), rng.pick(&[3, 40, 300]), rng.pick(&[ANY, ANY, LONG]));
     let (longest, damaged) = (rng.pick(&[300, 300, 5000]), rng.pick(&[0, 0, 4, 12]));
-    Plan { keys, body, calls, run, bits, loads: 12, drops: 8, longest, even: false, damaged }
+    let (runs, loads, drops) = rng.pick(&[(0, 12, 8), (0, 12, 8), (5, 30, 25)]);
+    Plan { keys, body, calls, run, bits, loads, drops, longest, runs, even: false, damaged }
 }
 
 /// In how many calls one is made by both families on one state, and the longest body for that.
@@ -129,6 +140,8 @@ pub struct History<'a> {
     run: (usize, u64),
     /// The key that was damaged, and how many calls still look at it.
     aimed: (usize, u64),
+    /// Whether the list of freed pages was damaged, so that calls rather want runs.
+    list_aimed: bool,
     kept: Option<Kept>,
     /// How many calls there still are.
     left: usize,
@@ -197,6 +210,7 @@ impl<'a> History<'a> {
             bits: 7,
             run: (0, 0),
             aimed: (0, 0),
+            list_aimed: false,
             kept: None,
             left,
             record: None,
@@ -314,14 +328,16 @@ impl<'a> History<'a> {
     fn call(&mut self, call: &Call, body: usize, heads: usize, told: &Told) -> Result<(), String> {
         let given = Given { body, heads, by: told.by() };
         let word = call.key().and_then(|key| self.pair.heads.get(key as usize)).copied().unwrap_or(0);
-        let before = Before { state: self.pair.state, word, total: total_of(&self.pair.body, word) };
+        let load = matches!(call, Call::Load { .. });
+        let freed = if load { freed_pages(&self.pair.body[..body], &self.pair.state) } else { Ok(Vec::new()) };
+        let before = Before { state: self.pair.state, word, total: total_of(&self.pair.body, word), freed };
         let answer: Answer = self.pair.call(call, given, &self.name)?;
         self.tally.count(call, given, &before, &answer, self.pair);
         if let Some(record) = &mut self.record {
             record.call(call, given, &answer, self.pair);
         }
         let others = self.others(call, told);
-        if self.good && !others && matches!(answer.refusal, 31 | 35) {
+        if self.good && !others && matches!(answer.refusal, 31 | 35 | 42) {
             return Err(format!("{call:?}: on a good book answers {}", answer.refusal));
         }
         if self.good && !others && self.breaks_promise(call, given, &before, &answer) {
@@ -429,8 +445,10 @@ impl<'a> History<'a> {
         let key = if self.rng.below(2) == 0 { self.page_key() } else { self.some_key() };
         let (Pair { body, heads, state, .. }, desk) = (&mut *self.pair, self.desks[key].into());
         let mut book = Damaged { body, heads, state, key, desk };
+        self.list_aimed = false;
         for _ in 0..self.rng.pick(&[1, 1, 1, 2]) {
             let name = damage(&mut book, &mut self.rng);
+            self.list_aimed |= OF_FREED_PAGES.contains(&name);
             *self.tally.damages.entry(name).or_default() += 1;
         }
         self.rewritten();
@@ -492,6 +510,9 @@ impl<'a> History<'a> {
     }
 
     fn next_call(&mut self) -> Call {
+        if self.aimed.1 > 0 && self.list_aimed && self.rng.below(4) != 0 {
+            return if self.rng.below(6) == 0 { Call::Drop { key: self.page_key() as u64 } } else { self.load_run() };
+        }
         if self.aimed.1 > 0 && self.rng.below(8) != 0 {
             let key = self.aimed.0;
             return match self.rng.below(8) {
@@ -546,8 +567,18 @@ impl<'a> History<'a> {
         self.rng.pick(&[Fit::Spare, Fit::Tight])
     }
 
+    /// A load of a run onto an empty key.
+    fn load_run(&mut self) -> Call {
+        let (key, fit, most) = (self.empty_key() as u64, self.fit(), if self.plan.runs > 0 { self.plan.runs } else { 4 });
+        let pages = 1 + self.rng.below(most);
+        Call::Load { key, fks: lists::of_run(&mut self.rng, pages, self.plan.even), fit }
+    }
+
     /// A load onto an empty key: none, one, a slab of each class, or pages.
     fn load(&mut self) -> Call {
+        if self.plan.runs > 0 && self.rng.below(4) != 0 {
+            return self.load_run();
+        }
         let (key, fit) = (self.empty_key() as u64, self.fit());
         let (longest, even) = (self.plan.longest as u64, self.plan.even && self.rng.below(4) != 0);
         let len = match self.rng.below(13) {

@@ -8,11 +8,12 @@ use crate::compare::{Found, Smallest};
 use crate::lockstep::far::{Far, MOST_WORK};
 use crate::lockstep::large::cases::{cases, row, Case};
 use crate::lockstep::large::random::random;
-use crate::lockstep::large::tally::{Before, Tally, LONG_CHECK, SHORT_WORK};
+use crate::lockstep::large::tally::{Before, Tally, LONG_CHECK, SCATTERED_FREED, SHORT_WORK};
+use crate::lockstep::lists;
 use crate::lockstep::pair::{Answer, Call};
 use crate::rng::Rng;
-use crate::second_book::space::{PAGE, SLABS_END};
-use crate::second_book::MOST_BODY;
+use crate::second_book::space::{PAGE, PAGE_CLASS, SLABS_END};
+use crate::second_book::{Fit, MOST_BODY};
 use std::ops::Range;
 
 /// The bytes of a page, as an offset has them.
@@ -42,7 +43,8 @@ const BEFORE: u64 = 24;
 const BEHIND: u64 = 64;
 const LOW: u64 = 16;
 
-/// Random histories in the first round and in each other, and keys.
+/// Histories with thousands of freed pages; random histories in the first round and in each other, and keys.
+const SCATTERED: u64 = 8;
 const FIRST: u64 = 600;
 const ROUND: u64 = 20;
 const KEYS: usize = 10;
@@ -89,6 +91,9 @@ impl Large {
                 }
             }
             note(judged(far, tally), "judged".into());
+            for seed in 0..SCATTERED {
+                note(scattered(far, tally, seed), format!("scattered, {seed}"));
+            }
         }
         for number in 0..if round == 0 { FIRST } else { ROUND } {
             let rng = Rng(if round == 0 { number << 8 } else { seed ^ 0x1a26e << 44 ^ round << 24 ^ number << 8 });
@@ -156,6 +161,39 @@ fn judged(far: &mut Far, tally: &mut Tally) -> Result<u64, (u64, String)> {
         tally.add(SHORT_WORK);
     }
     Ok(5)
+}
+
+/// Where pages are freed in a scattered history, a part of the pages of each range, and the body's end; runs are sought up to so many
+/// pages.
+const RANGES: [u64; 3] = [1 << 31, 1 << 36, E - 2048 * P];
+const RANGE: u64 = 4096;
+const LONGEST: u64 = 16;
+
+/// Loads of runs where thousands of pages are freed in ranges far apart, in random order, with pages to spare behind the mark or none.
+fn scattered(far: &mut Far, tally: &mut Tally, seed: u64) -> Result<u64, (u64, String)> {
+    let (mut rng, mark) = (Rng(seed << 8), RANGES[2] + RANGE * P);
+    let len = mark + if seed.is_multiple_of(2) { 0 } else { BEHIND * P };
+    let around = RANGES.map(|from| from as usize..(from + RANGE * P) as usize);
+    let last = around[2].start..len as usize;
+    far.begin(len as usize, KEYS, mark, vec![around[0].clone(), around[1].clone(), last], 0xa5);
+    let all = RANGES.iter().flat_map(|from| (0..RANGE).map(move |page| from + page * P));
+    let mut freed: Vec<u64> = all.filter(|_| rng.below(9) < 5).collect();
+    (1..freed.len()).rev().for_each(|k| freed.swap(k, rng.below(k as u64 + 1) as usize));
+    far.put_free(PAGE_CLASS, &freed);
+    far.copy_words();
+    let mut made = 0;
+    for key in 0..KEYS as u64 {
+        let pages = 1 + rng.below(LONGEST);
+        let (fks, fit) = (lists::of_run(&mut rng, pages, false), rng.pick(&[Fit::Spare, Fit::Tight]));
+        made += 1;
+        make(far, tally, &Call::Load { key, fks, fit }, rng.below(2) == 0, "scattered").map_err(|what| (made, what))?;
+        if rng.below(3) == 0 {
+            made += 1;
+            make(far, tally, &Call::Drop { key }, rng.below(2) == 0, "scattered").map_err(|what| (made, what))?;
+        }
+    }
+    tally.add(SCATTERED_FREED);
+    Ok(made)
 }
 
 #[cfg(test)]

@@ -55,11 +55,38 @@ pub fn of_pages(rng: &mut Rng, before: u64, left: usize, steps: u64) -> Vec<u64>
     out
 }
 
+/// A list for a run of just so many pages, up to 40: of differences of seven bytes each, so that a page has 583 or 584 of them; an even one
+/// rises by one difference.
+pub fn of_run(rng: &mut Rng, pages: u64, even: bool) -> Vec<u64> {
+    let len = 584 * (pages - 1) + if pages == 1 { 300 } else { 1 } + rng.below(250);
+    let step = (1 << 42) + rng.bits(42);
+    let mut last = 0;
+    (0..len)
+        .map(|_| {
+            last += if even { step } else { (1 << 42) + rng.bits(42) };
+            last
+        })
+        .collect()
+}
+
 #[cfg(test)]
 mod tests {
     use super::*;
     use oracle::scripthash_pages::sh_page_chunk_ranges;
     use oracle::Fk;
+
+    /// A run has the pages that were asked for.
+    #[test]
+    fn runs_have_their_pages() {
+        let mut rng = Rng(1);
+        for (pages, even) in (1..=40).flat_map(|pages| [(pages, false), (pages, true)]) {
+            for _ in 0..20 {
+                let fks = of_run(&mut rng, pages, even);
+                let parts = sh_page_chunk_ranges(&fks.iter().map(|n| Fk(*n)).collect::<Vec<Fk>>()).unwrap().len() as u64;
+                assert!(parts == pages && fks[fks.len() - 1] < 1 << 62, "{parts} in place of {pages}");
+            }
+        }
+    }
 
     /// Of pages that were asked for there are as many, and one more where the last one has a number more.
     #[test]

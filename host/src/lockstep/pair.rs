@@ -421,8 +421,8 @@ pub struct Pair {
 pub struct Running<'a>(pub &'static str, pub &'a dyn Debug, pub &'a str);
 
 impl Saying for Running<'_> {
-    fn say(&self) -> String {
-        format!("{}, {}: {:?}: touches memory that it wasn't lent", self.0, self.2, self.1)
+    fn say(&self, wrong: &str) -> String {
+        format!("{}, {}: {:?}: {wrong}", self.0, self.2, self.1)
     }
 }
 

@@ -2,9 +2,11 @@
 //! and of starts the verdicts, the faults, and what is foreign about them.
 use crate::lockstep::desk_tally::{in_shape, Desks, Taken, TAKES};
 use crate::lockstep::pair::{Answer, Call, Given, Pair, FAMILIES, KINDS};
+use crate::lockstep::run_tally::{pages_of_run, Runs, Wanted};
 use crate::lockstep::spoiled::SPOILS;
 use crate::lockstep::starts::{Foreign, FOREIGN};
 use crate::second_book::keys::{Ground, GROUNDS};
+use crate::second_book::runs::lowest;
 use crate::second_book::space::{State, PAGE};
 use crate::second_book::start::{Verdict, FAULTS};
 use crate::second_book::{class_by_bytes, class_with_slot, goes_to_pages, payload_len, Fit, Refused};
@@ -18,7 +20,7 @@ const REFUSALS: [[&[u32]; KINDS.len()]; FAMILIES.len()] = [
     [&[0, 1, 39], OF_LOADS, OF_APPENDS, &[0, 1, 2, 31, 34, 39], OF_DROPS, OF_LOADS],
     [&[], OF_LOADS, OF_APPENDS, &[0, 1, 2, 31, 34], OF_DROPS, OF_LOADS],
 ];
-const OF_LOADS: &[u32] = &[0, 1, 2, 3, 10, 12, 13, 14, 32, 35, 36, 39, 40, 41];
+const OF_LOADS: &[u32] = &[0, 1, 2, 3, 10, 12, 13, 14, 32, 35, 36, 39, 40, 41, 42];
 const OF_APPENDS: &[u32] = &[0, 1, 2, 12, 13, 14, 31, 32, 35, 36, 39, 40, 41];
 const OF_DROPS: &[u32] = &[0, 1, 2, 31, 39];
 
@@ -112,6 +114,7 @@ pub struct Tally {
     counts: BTreeMap<(usize, usize), u64>,
     payloads: BTreeMap<(usize, usize), u64>,
     pub desks: Desks,
+    runs: Runs,
     unknown: BTreeMap<&'static str, u64>,
     full_total: u64,
     pub damages: BTreeMap<&'static str, u64>,
@@ -132,11 +135,12 @@ fn verdict_name(judged: &Result<Verdict, u32>) -> String {
 }
 
 /// What a book was before a call: its state, the word of the key, and the total that the key's last page tells; 0 says that it was never
-/// counted.
+/// counted. Of a load also the freed pages.
 pub struct Before {
     pub state: State,
     pub word: u64,
     pub total: Option<u32>,
+    pub freed: Result<Vec<u64>, Refused>,
 }
 
 /// Creates of the page of a body that a word names.
@@ -148,12 +152,22 @@ pub fn total_of(body: &[u8], word: u64) -> Option<u32> {
     page.map(|page| pages::sh_page_extent_creates(pages::sh_page_as_array(page).expect("a page")))
 }
 
+/// Whether a load's run comes from freed pages.
+fn sought(call: &Call, before: &Before) -> bool {
+    before.freed.as_ref().is_ok_and(|freed| lowest(freed, pages_of_run(call)).is_some())
+}
+
 impl Tally {
     /// Counts a call by what was before it and what it answered.
     pub fn count(&mut self, call: &Call, given: Given, before: &Before, answer: &Answer, pair: &Pair) {
         let kind = call.kind();
         *self.refusals[given.family()][kind].entry(answer.refusal).or_default() += 1;
-        self.desks.count(call, given, &before.state, Tally::takes(call, given, before, answer, pair), answer, pair);
+        let takes = Tally::takes(call, given, before, answer, pair);
+        self.desks.count(call, given, &before.state, takes.as_ref(), answer, pair);
+        if takes.is_some_and(|taken| taken.what.run) {
+            let wanted = Wanted { family: FAMILIES[given.family()], state: &before.state, freed: &before.freed, body: given.body };
+            self.runs.count(call, &wanted, answer);
+        }
         if let Some(Refused::Unsound(ground)) = pair.refused {
             *self.grounds.entry((ground, KINDS[kind])).or_default() += 1;
         }
@@ -167,7 +181,7 @@ impl Tally {
         }
         match call {
             Call::Load { key, fks, .. } => {
-                self.loaded(answer.told[0], before, pair.heads[*key as usize]);
+                self.loaded(answer.told[0], before, pair.heads[*key as usize], &pair.state);
                 self.fitted(kind, fks, pair.heads[*key as usize]);
             }
             Call::Append { .. } => self.appended(before, answer),
@@ -209,11 +223,14 @@ impl Tally {
             (Call::Append { .. }, 0) if chain => before.word & !(3 << 62) != answer.told[3],
             (Call::Append { .. }, 0) => answer.told[4] > 0,
             (Call::Load { .. } | Call::Append { .. }, 1) => given.family() == 1 && in_shape(given, before.state.mark),
-            (Call::Load { .. } | Call::Append { .. }, refusal) => matches!(refusal, 35 | 36 | 40 | 41),
+            (Call::Load { .. } | Call::Append { .. }, refusal) => matches!(refusal, 35 | 36 | 40 | 41 | 42),
             _ => false,
         };
         let list = &pair.second.list;
-        let taken = |what: usize, class: u8| Some(Taken { what: &TAKES[what], class: class.into() });
+        let taken = |what: usize, class: u8| {
+            let popped = before.state.free[usize::from(class)] != 0;
+            Some(Taken { what: &TAKES[what], class: class.into(), freed: if TAKES[what].run { sought(call, before) } else { popped } })
+        };
         match call {
             _ if !took => None,
             Call::Append { .. } if chain => taken(4, 8),
@@ -252,11 +269,15 @@ impl Tally {
         }
     }
 
-    fn loaded(&mut self, pages: u64, before: &Before, word: u64) {
+    fn loaded(&mut self, pages: u64, before: &Before, word: u64, after: &State) {
         match unpack8(word) {
             Ok(ShHeadValue::Slab { class, .. }) => self.took(class as usize, before),
             Ok(ShHeadValue::Extent { .. }) => {
-                self.at_mark(8, before);
+                if after.counts.freed < before.state.counts.freed {
+                    self.reused[8] += pages;
+                } else {
+                    self.at_mark(8, before);
+                }
                 *self.loaded.entry(chain_name(pages)).or_default() += 1;
             }
             _ => {}
@@ -373,6 +394,7 @@ impl Tally {
             }
         }
         out.extend(self.desks.kinds());
+        out.extend(self.runs.kinds());
         for ground in GROUNDS {
             out.push((format!("31: {ground}"), self.of_ground(ground).map(|(_, n)| n).sum()));
         }

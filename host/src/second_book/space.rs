@@ -1,5 +1,6 @@
 //! The space of the second book: blocks that are taken from a free list or from the mark, and blocks that are given back.
 use crate::second_book::desks::{self, Counts, NO_LIMITS};
+use crate::second_book::runs::{freed_pages, lowest, take_out};
 use crate::second_book::Refused;
 use oracle::error::StoreError;
 use oracle::file::TableFile;
@@ -58,7 +59,7 @@ impl Take {
         }
     }
 
-    /// The class whose free list it comes from, where that has a block; a run never does.
+    /// The class whose free list it is popped from, where that has a block; a run never is.
     fn list(self) -> Option<u8> {
         match self {
             Take::Slab(class) => Some(class),
@@ -109,7 +110,7 @@ fn at_mark(body: usize, mark: u64, what: Take) -> Result<(u64, u64), Refused> {
 }
 
 /// Takes a block or a run for a desk: of those freed, or at the mark, which for pages is first rounded up; the gap is carved into freed blocks,
-/// past the end of slabs into none. All is judged before: 35, 36, then 1, 40 and 41.
+/// past the end of slabs into none. A run of those freed is the lowest stretch. All is judged before: 35 or 42, 36, then 1, 40 and 41.
 pub fn take(body: &mut [u8], state: &mut State, desk: usize, what: Take) -> Result<u64, Refused> {
     let Counts { freed, .. } = state.counts;
     if what == Take::Page && (state.free[8] == 0) != (freed == 0) {
@@ -119,6 +120,14 @@ pub fn take(body: &mut [u8], state: &mut State, desk: usize, what: Take) -> Resu
         free_head(state, class)?;
         allow(body.len(), state, desk, what.pages(), freed - what.pages(), state.mark)?;
         return Ok(on_lists(body, state, |file, heads| pop_free_head(file, heads, class)).expect("a freed block"));
+    }
+    if let Take::Run(wanted) = what {
+        let pages = freed_pages(body, state)?;
+        if let Some(off) = lowest(&pages, wanted) {
+            allow(body.len(), state, desk, wanted, freed - wanted, state.mark)?;
+            take_out(body, state, &pages, off, wanted);
+            return Ok(off);
+        }
     }
     let (mark, (off, end)) = (state.mark, at_mark(body.len(), state.mark, what)?);
     allow(body.len(), state, desk, what.pages(), freed, end)?;

@@ -345,11 +345,9 @@ mod tests {
     /// A book with a page of desk 2, a freed page, and limits within which it is.
     fn with_pages() -> Judged {
         let mut b = Judged::new();
-        let row: Vec<u64> = (1..=300).collect();
-        for _ in 0..2 {
-            b.0.load(&mut b.1, &mut b.2, &mut b.3, at(2), &row, Fit::Spare).unwrap();
-            b.0.drop(&mut b.1, &mut b.2, &mut b.3, at(2)).unwrap();
-        }
+        let row: Vec<u64> = (1..=5000).collect();
+        b.0.load(&mut b.1, &mut b.2, &mut b.3, at(2), &row, Fit::Spare).unwrap();
+        b.0.drop(&mut b.1, &mut b.2, &mut b.3, at(2)).unwrap();
         b.0.load(&mut b.1, &mut b.2, &mut b.3, at(2), &row[..256], Fit::Spare).unwrap();
         b.0.append(&mut b.1, &mut b.2, &mut b.3, at(2), 257).unwrap();
         assert_eq!((b.3.counts.freed, b.3.counts.held[2], b.3.mark, b.verdict()), (1, 1, 16_384, (0, 0, None)));

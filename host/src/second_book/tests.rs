@@ -99,7 +99,7 @@ fn a_loaded_run_grows_by_a_page() {
     assert_eq!(b.drop(0), Ok(fks.len() as u64 + 1));
     assert_eq!((b.state.mark, b.state.free[8]), (16_384, 12_288));
     assert_eq!(b.load(0, &fks), Ok(2));
-    assert_eq!(b.state.mark, 24_576);
+    assert_eq!((b.state.mark, b.state.free[8], b.heads[0]), (16_384, 12_288, 3 << 62 | 8192));
 }
 
 #[test]

@@ -203,7 +203,9 @@ fn taking() -> Vec<Case> {
                 (load(1, row(1, 3)), 36),
                 (read(0), 0),
                 (drop_key(0), 0),
-                (load(1, row(1, 300)), 36),
+                (load(1, row(1, 9000)), 36),
+                (load(1, row(1, 8000)), 0),
+                (load(2, row(1, 300)), 36),
             ],
         },
         // No page is left for a chain, nor for a list that moves.
@@ -378,6 +380,76 @@ fn across() -> Vec<Case> {
     ]
 }
 
+/// Runs out of freed pages: below 2^30, across it, and across 2^40, in lists of any order; the mark has no room, so that 36 says where none
+/// serves.
+fn out_of_freed() -> Vec<Case> {
+    let case = |name: &str, len, mark, write, calls| Case { name: name.into(), len, mark, write, calls };
+    const G: u64 = 1 << 30;
+    vec![
+        case(
+            "freed pages across 2^30",
+            G + 8 * P,
+            G + 8 * P,
+            |far| far.put_free(8, &[G + P, 2 * P, G - P, G, 5 * P, G - 2 * P, 4 * P]),
+            vec![
+                (load(0, row(1, 20_000)), 36),
+                (tight(0, row(1, 16_000)), 0),
+                (load(1, row(1, 9000)), 36),
+                (load(1, row(1, 5000)), 0),
+                (load(2, row(1, 5000)), 36),
+                (load(2, row(1, 300)), 0),
+                (load(3, row(1, 300)), 36),
+                (drop_key(0), 0),
+                (load(3, row(1, 12_000)), 0),
+                (read(3), 0),
+                (load(0, row(1, 300)), 0),
+            ],
+        ),
+        case(
+            "freed pages up to the edge of 2^30, and behind it",
+            G + 8 * P,
+            G + 8 * P,
+            |far| far.put_free(8, &[G + 2 * P, G + P, G - P, G - 2 * P, G - 3 * P]),
+            vec![(load(0, row(1, 16_000)), 36), (load(0, row(1, 12_000)), 0), (load(1, row(1, 8000)), 0), (load(2, row(1, 300)), 36)],
+        ),
+        case(
+            "freed pages across 2^40",
+            E + 8 * P,
+            E + 8 * P,
+            |far| far.put_free(8, &[E + 7 * P, E, E - P, P, 3 * P, E + P, 4 * P, E - 2 * P, E + 6 * P]),
+            vec![
+                (load(0, row(1, 16_000)), 0),
+                (load(1, row(1, 9000)), 36),
+                (tight(1, row(1, 8000)), 0),
+                (load(2, row(1, 8000)), 0),
+                (load(3, row(1, 300)), 0),
+                (load(4, row(1, 300)), 36),
+                (read(0), 0),
+                (read(2), 0),
+                (drop_key(2), 0),
+                (append(4, 5), 0),
+                (load(5, row(1, 300)), 0),
+            ],
+        ),
+        case(
+            "freed pages past 2^40, up to 2^41",
+            END,
+            END,
+            |far| far.put_free(8, &[END - P, END - 3 * P, END - 2 * P, 2 * P]),
+            vec![
+                (load(0, row(1, 16_000)), 36),
+                (load(0, row(1, 12_000)), 0),
+                (load(1, row(1, 5000)), 36),
+                (drop_key(0), 0),
+                (load(1, row(1, 8000)), 0),
+                (load(2, row(1, 4000)), 0),
+                (load(3, row(1, 4000)), 0),
+                (load(4, row(1, 4000)), 36),
+            ],
+        ),
+    ]
+}
+
 /// Totals near 2^32, in place and on a page that is new.
 fn totals() -> Vec<Case> {
     fn write(far: &mut Far, creates: u32) {
@@ -398,5 +470,5 @@ fn totals() -> Vec<Case> {
 
 /// All of them.
 pub fn cases() -> Vec<Case> {
-    [up_to_the_end(), taking(), across(), totals()].into_iter().flatten().collect()
+    [up_to_the_end(), taking(), across(), out_of_freed(), totals()].into_iter().flatten().collect()
 }

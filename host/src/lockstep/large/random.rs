@@ -19,6 +19,8 @@ struct Random<'a> {
     lasts: Vec<(u64, usize)>,
     /// The key that appends go to, and how many are still to come.
     run: (usize, u64),
+    /// Whether the start has pages alone, most of them freed.
+    pages: bool,
 }
 
 impl Random<'_> {
@@ -26,7 +28,7 @@ impl Random<'_> {
     fn fill(&mut self, from: u64, to: u64, free: &mut [Vec<u64>; 9]) {
         let mut at = from;
         while at < to {
-            let class = self.rng.pick(&[0, 1, 1, 2, 3, 4, 5, 6, 7, 8, 8, 8]);
+            let class = if self.pages { PAGE_CLASS } else { self.rng.pick(&[0, 1, 1, 2, 3, 4, 5, 6, 7, 8, 8, 8]) };
             // Now and then a slab that lies across the end of slabs.
             let across = at < E && end_of(class, at) > E && class < PAGE_CLASS && self.rng.below(2) == 0;
             let class = if across || end_of(class, at) <= to.min(if at < E { E } else { END }) { class } else { 0 };
@@ -35,7 +37,8 @@ impl Random<'_> {
                 continue;
             }
             let key = self.far.heads.iter().position(|&word| word == 0).filter(|_| class == PAGE_CLASS || at < E);
-            match (if across { 0 } else { self.rng.below(3) }, key) {
+            let fate = if self.pages { self.rng.pick(&[0, 1, 1, 1, 1, 2]) } else { self.rng.below(3) };
+            match (if across { 0 } else { fate }, key) {
                 (0, Some(key)) if key < KEYS - 3 => self.hold(key, class, at),
                 (1 | 0, _) => free[class as usize].push(at),
                 _ => {}
@@ -100,7 +103,7 @@ impl Random<'_> {
         let fit = self.rng.pick(&[Fit::Spare, Fit::Tight]);
         let fks = match self.rng.below(8) {
             0 => {
-                let (pages, left) = (self.rng.below(3), self.rng.pick(&[0, 1, 9]));
+                let (pages, left) = (self.rng.below(if self.pages { 5 } else { 3 }), self.rng.pick(&[0, 1, 9]));
                 lists::of_pages(&mut self.rng, pages, left, 3)
             }
             1..4 => lists::of_slots(&mut self.rng, false),
@@ -138,16 +141,19 @@ pub fn random(mut rng: Rng, far: &mut Far, tally: &mut Tally, name: &str) -> Res
     let reach = around[1].end as u64;
     far.begin(len as usize, KEYS, mark, around, rng.pick(&[0, 0xa5, 0xff]));
     tally.add(format!("a start with the mark {} {mark_name}", if exact { "at" } else { "before" }));
-    let mut history = Random { rng, far, lasts: vec![(0, 0); KEYS], run: (0, 0) };
+    let mut history = Random { rng, far, lasts: vec![(0, 0); KEYS], run: (0, 0), pages: false };
+    history.pages = history.rng.below(3) == 0;
     let mut free: [Vec<u64>; 9] = Default::default();
-    let near = history.rng.pick(&[0, 0, 1, 4]);
+    let near = if history.pages { 20 } else { history.rng.pick(&[0, 0, 1, 4]) };
     history.fill((mark / P - near) * P, mark, &mut free);
     if history.rng.below(2) == 0 {
         history.fill(P, LOW * P, &mut free);
     }
     for (class, offs) in free.iter_mut().enumerate() {
-        if history.rng.below(2) == 0 {
-            offs.reverse();
+        match history.rng.below(3) {
+            0 => offs.reverse(),
+            1 => (1..offs.len()).rev().for_each(|k| offs.swap(k, history.rng.below(k as u64 + 1) as usize)),
+            _ => {}
         }
         history.far.put_free(class as u8, offs);
     }

@@ -9,6 +9,17 @@ use std::collections::BTreeMap;
 
 /// Gaps before pages, by where they end.
 const GAPS: [&str; 3] = ["a gap carved before 2^40", "a gap carved up to 2^40", "a gap past 2^40, on no list"];
+/// Runs out of freed pages, by where they begin and end.
+type Range = fn(u64, u64) -> bool;
+const OUT_OF_FREED: [(&str, Range); 5] = [
+    ("a run out of freed pages, below 2^30", |_, end| end <= 1 << 30),
+    ("a run out of freed pages, across 2^30", |off, end| off < 1 << 30 && end > 1 << 30),
+    ("a run out of freed pages, across 2^40", |off, end| off < E && end > E),
+    ("a run out of freed pages, of several past 2^40", |off, end| off >= E && end - off > P),
+    ("a run out of freed pages, up to 2^41", |_, end| end == END),
+];
+/// Runs out of thousands of freed pages.
+pub const SCATTERED_FREED: &str = "runs where some 6,800 freed pages lie in three ranges up to 2^40";
 /// What is judged.
 pub const LONG_CHECK: &str = "a check of a body past 2^30";
 pub const SHORT_WORK: &str = "34: a check of 2^41 bytes with a work list that is too short";
@@ -119,9 +130,10 @@ impl Tally {
     fn took(&mut self, name: &str, call: &Call, before: &Before, block: &Block) {
         let (mark, off) = (before.state.mark, block.off.expect("a block that was taken"));
         let run = matches!(call, Call::Load { .. }) && block.class == PAGE_CLASS;
-        let (popped, end) =
-            (before.state.free[block.class as usize] != 0 && !run, off + (block.pages * P).max(end_of(block.class, off) - off));
+        let popped = if run { off < mark } else { before.state.free[block.class as usize] != 0 };
+        let end = off + (block.pages * P).max(end_of(block.class, off) - off);
         match (block.class, popped) {
+            (PAGE_CLASS, true) if run => OUT_OF_FREED.iter().filter(|kind| kind.1(off, end)).for_each(|kind| self.add(kind.0)),
             (PAGE_CLASS, true) if off >= E => self.add("a freed page past 2^40, taken again"),
             (PAGE_CLASS, true) => {}
             (PAGE_CLASS, false) => {
@@ -171,11 +183,12 @@ impl Tally {
         for what in ["a freed page past 2^40, taken again", "a run across 2^40", "pages up to 2^41"] {
             out.push(what.into());
         }
+        out.extend(OUT_OF_FREED.map(|kind| kind.0.into()));
         for (total, _) in TOTALS {
             out.extend(["in place", "on a new page"].map(|how| format!("creates {total}: append {how}")));
         }
         out.extend(["read", "drop"].map(|name| format!("31: a total near 2^32 that isn't the length, by {name}")));
-        out.extend([LONG_CHECK, SHORT_WORK].map(String::from));
+        out.extend([LONG_CHECK, SHORT_WORK, SCATTERED_FREED].map(String::from));
         out
     }
 
