@@ -30,6 +30,8 @@ pub mod Licence
 pub mod Padded
 pub mod Ceilings
 pub mod Totals
+pub mod Lengths
+pub mod ExamplesLength
 pub mod LawsOnly
 pub mod LawsWritesDesks
 pub mod LawsWritesSpace

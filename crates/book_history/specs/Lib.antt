@@ -1,6 +1,7 @@
 pub mod Calls
 pub mod Agrees
 pub mod Standing
+pub mod Lengths
 pub mod Writes
 pub mod PlainOf
 pub mod Counts

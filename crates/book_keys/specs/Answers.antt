@@ -1,4 +1,5 @@
 -- What the answers of the code about keys mean: a refusal's number (FORMAT, Refusals) or values for each of their cases.
+use Prim.Native.Nat.{ℕ}
 use Rattle.error.specs.Refusal.{Answer, accepted, refused}
 use Rattle.book_keys.specs.Keys.{Last}
 use Rattle.book_keys.specs.Steps.{TailEndOf, LinkEndOf, Walked, ChainEndOf, FillTold, Counts}
@@ -16,6 +17,8 @@ use Rattle.book_keys.specs.declared.chain.PageFill.{PageFill}
 use Rattle.book_keys.specs.declared.chain.PageFill.the-variants.{Filled, Refused as NotFilled}
 use Rattle.book_keys.specs.declared.key.KeyCounts.{KeyCounts}
 use Rattle.book_keys.specs.declared.key.KeyCounts.the-variants.{Counts as CountsAre, Refused as NoCounts}
+use Rattle.book_keys.specs.declared.lengths.KeyLength.{KeyLength}
+use Rattle.book_keys.specs.declared.lengths.KeyLength.the-variants.{Length, Refused as NoLength}
 
 -- The header of a key's last page.
 abbrev pub lastPageAnswer : LastPage → Answer Last
@@ -51,3 +54,8 @@ fillAnswer (NotFilled number) = refused number
 abbrev pub countsAnswer : KeyCounts → Answer Counts
 countsAnswer (CountsAre length pages padded) = accepted (record { length = length; pages = pages; padded = padded })
 countsAnswer (NoCounts number) = refused number
+
+-- The answer of `key_length`.
+abbrev pub lengthAnswer : KeyLength → Answer ℕ
+lengthAnswer (Length length) = accepted length
+lengthAnswer (NoLength number) = refused number

@@ -117,6 +117,10 @@ pub record Counts : Type 0 where
 abbrev pub countsOf : Content → Counts
 countsOf c = record { length = length (c .numbers); pages = c .pages; padded = c .padded }
 
+-- How many numbers a key has that holds some content.
+abbrev pub lengthOf : Content → ℕ
+lengthOf c = length (c .numbers)
+
 -- ---- lists that are written out
 
 -- Reading the page at an offset into a lent list with room for some numbers: the page lies below the mark, reads, and fits.

@@ -1,6 +1,7 @@
 // The keys of an account book over bytes: whether a key is sound, how long its list is, and the list itself.
 mod chain;
 mod key;
+mod lengths;
 mod slab;
 
 pub use chain::ChainEnd;
@@ -10,5 +11,7 @@ pub use chain::next_page;
 pub use chain::tail_end;
 pub use key::KeyCounts;
 pub use key::read_key;
+pub use lengths::KeyLength;
+pub use lengths::key_length;
 pub use slab::slab_end;
 pub use slab::slab_into;

@@ -1,1 +1,2 @@
 pub mod LawsRead
+pub mod LawsLength
