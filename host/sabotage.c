@@ -763,6 +763,27 @@ uint32_t ouriscado_book_load(uint8_t *body, size_t n, uint64_t *heads, size_t ke
     return number;
 }
 
+#elif SABOTAGE == 70
+/* 70 book: the length of a slab is its head's, though the slab isn't sound */
+uint32_t real_ouriscado_core_length(const uint8_t *body, size_t n, const uint64_t *heads, size_t keys, uint64_t mark, uint64_t key, uint64_t *length);
+uint32_t ouriscado_core_length(const uint8_t *body, size_t n, const uint64_t *heads, size_t keys, uint64_t mark, uint64_t key, uint64_t *length) {
+    uint32_t number = real_ouriscado_core_length(body, n, heads, keys, mark, key, length);
+    if (number == 31 && heads[key] >> 62 == 1) *length = heads[key] >> 40 & 0xffff, number = 0;
+    return number;
+}
+
+#elif SABOTAGE == 71
+/* 71 book: the length of pages is the last page's creates */
+uint32_t real_ouriscado_book_length(const uint8_t *body, size_t n, const uint64_t *heads, size_t keys, uint64_t mark, const uint64_t *counts, const uint8_t *desks, size_t d, uint64_t key, uint64_t *length);
+uint32_t ouriscado_book_length(const uint8_t *body, size_t n, const uint64_t *heads, size_t keys, uint64_t mark, const uint64_t *counts, const uint8_t *desks, size_t d, uint64_t key, uint64_t *length) {
+    uint32_t number = real_ouriscado_book_length(body, n, heads, keys, mark, counts, desks, d, key, length);
+    uint32_t creates;
+    if (number != 0 || heads[key] >> 62 != 3) return number;
+    memcpy(&creates, body + (heads[key] & ~(UINT64_C(3) << 62)) + 20, 4);
+    *length = creates;
+    return number;
+}
+
 #else
 #error "SABOTAGE names none"
 #endif

@@ -42,6 +42,7 @@ static void load_tight(void) { CALL(ouriscado_load_tight(BOOK, 1, list, count, &
 static void append(void) { CALL(ouriscado_append(BOOK, 0, list[count], &kind, &class_, &used, &place, &a)); }
 static void read_all(void) { CALL(ouriscado_read(BOOK, 0, out, MOST + 1, &a, &b, &c)); }
 static void read_short(void) { CALL(ouriscado_read(BOOK, 0, out, count - 1, &a, &b, &c)); }
+static void length(void) { CALL(ouriscado_length(BOOK, 0, &a)); }
 static void drop(void) { CALL(ouriscado_drop(BOOK, 0, &a)); }
 static void check(void) { CALL(ouriscado_check(BOOK, work, sizeof work, &n, &a, &b)); }
 static void uleb(void) { CALL(ouriscado_read_uleb128(bytes, byte_count, &a, &s, &flag)); }
@@ -168,6 +169,11 @@ static const struct test TESTS[] = {
     { "book_read", "4,000 numbers in pages", 4000, loaded, read_all, BOOK_CALL },
     { "book_read", "65,535 numbers in pages", MOST, loaded, read_all, BOOK_CALL },
     { "book_read", "damaged pages", MOST, damaged, read_all, BOOK_CALL },
+    { "book_length", "an empty account", 0, nothing, length, BOOK_CALL },
+    { "book_length", "200 numbers in a slab", 200, loaded, length, BOOK_CALL },
+    { "book_length", "200 padded numbers in a slab", 200, padded_slab, length, BOOK_CALL },
+    { "book_length", "65,535 numbers in pages", MOST, loaded, length, BOOK_CALL },
+    { "book_length", "damaged pages", MOST, damaged, length, BOOK_CALL },
     { "book_drop", "an empty account", 0, nothing, drop, BOOK_CALL },
     { "book_drop", "200 numbers in a slab", 200, loaded, drop, BOOK_CALL },
     { "book_drop", "65,535 numbers in pages", MOST, loaded, drop, BOOK_CALL },

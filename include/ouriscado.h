@@ -47,7 +47,7 @@
    OURISCADO_NO_CEILING. It is made, called and checked with the short inline functions below, and is refused
    with neither of the two.
 
-   There are seven calls:
+   There are eight calls:
 
        ouriscado_book_fresh         makes a book in which nothing is recorded
        ouriscado_book_load          records a whole list for an account that has none, with a spare slot for
@@ -55,37 +55,41 @@
        ouriscado_book_load_tight    the same, in the smallest slab: for a list that is complete
        ouriscado_book_append        records one more number for an account
        ouriscado_book_read          gives an account's list
+       ouriscado_book_length        tells how long an account's list is
        ouriscado_book_drop          takes an account's list out of the book
        ouriscado_book_check         tells whether a body, heads and state from elsewhere are a good book to go
                                     on with
 
    They are lent the list of desks, and judge all of it and all counts each time, which takes a time that grows
    with the accounts: a read of one number took 14 ns with 1 account, 27 with 1,000 and 560 with 50,000 (Intel
-   Xeon, x86-64). Beside five of them stands a core, which is told one desk, and judges counts where it uses
-   them: ouriscado_core_load, ouriscado_core_load_tight, ouriscado_core_append, ouriscado_core_read and
-   ouriscado_core_drop; that read took 5 ns there. Where list and counts are good both do the same. Take the
-   core where you keep the list of desks yourself, and nobody else writes it: hand on desks[key].
+   Xeon, x86-64). Beside six of them stands a core, which is told one desk, and judges counts where it uses
+   them: ouriscado_core_load, ouriscado_core_load_tight, ouriscado_core_append, ouriscado_core_read,
+   ouriscado_core_length and ouriscado_core_drop; that read took 5 ns there. Where list and counts are good
+   both do the same. Take the core where you keep the list of desks yourself, and nobody else writes it: hand
+   on desks[key].
 
-   All take the state as pointers to its mark, its free heads and its counts; a read of the core takes the mark
-   alone. Inline functions take one pointer to a struct ouriscado_state instead, and a program in C calls these:
+   All take the state as pointers to its mark, its free heads and its counts; read and length of the core take
+   the mark alone. Inline functions take one pointer to a struct ouriscado_state instead, and a program in C
+   calls these:
 
-       ouriscado_append          and so for all seven: for a book without desks, by the core with desk 0
+       ouriscado_append          and so for all eight: for a book without desks, by the core with desk 0
        ouriscado_desk_append     by the core with a desk; for loads, append and drop. A read is ouriscado_read
-       ouriscado_desks_append    lent the list of desks; for all seven
+       ouriscado_desks_append    lent the list of desks; for all eight
 
    A whole program is in examples/c/shop.c of the repository, and installed beside NOTICE.
 
    WHAT IS PROVED
 
-   Take a book that ouriscado_book_fresh made and any loads, tight or not, appends, reads and drops on it after
-   that, with any arguments, refused ones included, where each call gets body, heads and state as the one
-   before it left them, and the same list of desks, or the key's desk of it, and nobody else writes them; checks may stand between, since they write nothing of a
-   book. Then each read gives exactly the numbers that were recorded for its key since that key was last
-   dropped, or is refused with 1, 2, 34 or 39; so a read that is accepted with length 0 says that nothing is
-   recorded. Each call ends on every input, reads and writes only what it is lent, and checks for itself that
-   the book is sound as far as it looks at it. Not proved: the toolchain, with its checker and the compiler's
-   back end, and the linker; and your side of the boundary, that pointers and lengths are what you say, and
-   that nothing interrupts a call.
+   Take a book that ouriscado_book_fresh made and any loads, tight or not, appends, reads and drops on it
+   after that, with any arguments, refused ones included, where each call gets body, heads and state as the
+   one before it left them, and the same list of desks, or the key's desk of it, and nobody else writes them;
+   checks and lengths may stand between, since they write nothing of a book. Then each read gives exactly the
+   numbers that were recorded for its key since that key was last dropped, or is refused with 1, 2, 34 or 39;
+   so a read that is accepted with length 0 says that nothing is recorded. A length is how many they are, and
+   a read with room for it isn't refused with 34. Each call ends on every input, reads and writes only what it
+   is lent, and checks for itself that the book is sound as far as it looks at it. Not proved: the toolchain,
+   with its checker and the compiler's back end, and the linker; and your side of the boundary, that pointers
+   and lengths are what you say, and that nothing interrupts a call.
 
    A book may also come from elsewhere, as from a file, written by this library or by other software of the
    same format. Where ouriscado_book_check tells that it is a good start, the same holds of any calls from
@@ -201,10 +205,10 @@ struct ouriscado_state {
 
 /* Why a book from elsewhere isn't a good start: the ground that a check tells. */
 #define OURISCADO_START_GOOD                    0 /* the start is good */
-#define OURISCADO_START_KEY_UNSOUND             1 /* the key isn't sound: a read and a drop of it are refused
-                                                     with 31, a load with 3; an append too is refused with 31,
-                                                     but of pages it looks at the last one alone, and may be
-                                                     accepted */
+#define OURISCADO_START_KEY_UNSOUND             1 /* the key isn't sound: a read, a length and a drop of it
+                                                     are refused with 31, a load with 3; an append too is
+                                                     refused with 31, but of pages it looks at the last one
+                                                     alone, and may be accepted */
 #define OURISCADO_START_KEY_SHARES              2 /* a block of the key shares bytes with another of its own,
                                                      or with one of a key before it */
 #define OURISCADO_START_FREE_STRAYS             3 /* the free list names an offset where no such block can
@@ -618,8 +622,8 @@ static inline uint32_t ouriscado_append(
 
    How long the list must be that you lend: an inline number needs 1; a slab needs the number that an append
    told as used, at most OURISCADO_MOST_IN_SLAB; a list in pages has at most OURISCADO_MOST_IN_PAGE numbers
-   for each OURISCADO_PAGE_BYTES of the body. Without such knowledge, begin with any room, and while the call
-   is refused with 34, ask again with twice the room.
+   for each OURISCADO_PAGE_BYTES of the body. Without such knowledge, ask ouriscado_book_length first; or
+   begin with any room, and while the call is refused with 34, ask again with twice the room.
 
    Padded numbers aren't wrong, only longer than needed: the list is the one that was recorded. Other software
    wrote them, and this book's calls never do; an append leaves them as they are, unless it moves the list. To
@@ -657,6 +661,51 @@ static inline uint32_t ouriscado_read(
 {
     return ouriscado_core_read(
         body, body_len, heads, heads_len, state->mark, key, out, out_len, length, pages, padded);
+}
+
+/* Hands out length, how many record numbers the list of a key has: a list of that length that is lent to
+   ouriscado_book_read isn't too short. The key is judged as a read judges it, and nothing is written. Refuses
+   1, 2, 31, 39.
+
+   With as much room, and no change of the book between, a read is accepted:
+
+       uint64_t length, pages, padded, *list;
+       uint32_t refusal = ouriscado_length(body, body_len, heads, heads_len, &state, key, &length);
+       if (refusal != OURISCADO_ACCEPTED) return refusal;
+       list = malloc((length ? length : 1) * sizeof *list);
+       if (list) refusal = ouriscado_read(body, body_len, heads, heads_len, &state, key,
+                                          list, length, &length, &pages, &padded);
+
+   It takes the time in which a read judges the list; where room is at hand, a read alone takes less than
+   both.
+
+   Refusals: OURISCADO_SHAPE_BAD (1), OURISCADO_KEY_BEYOND (2), OURISCADO_KEY_UNSOUND (31),
+   OURISCADO_DESKS_BAD (39). */
+uint32_t ouriscado_book_length(
+    const uint8_t *body, size_t body_len, const uint64_t *heads, size_t heads_len, uint64_t mark,
+    const uint64_t counts[OURISCADO_COUNT_WORDS], const uint8_t *desks, size_t desks_len, uint64_t key,
+    uint64_t *length);
+static inline uint32_t ouriscado_desks_length(
+    const uint8_t *body, size_t body_len, const uint64_t *heads, size_t heads_len,
+    const struct ouriscado_state *state, const uint8_t *desks, size_t desks_len, uint64_t key,
+    uint64_t *length)
+{
+    return ouriscado_book_length(
+        body, body_len, heads, heads_len, state->mark, state->counts, desks, desks_len, key, length);
+}
+
+/* Tells how many record numbers the list of a key has, as ouriscado_book_length does; it is lent neither
+   counts nor desks. Refuses 1, 2, 31.
+
+   Refusals: OURISCADO_SHAPE_BAD (1), OURISCADO_KEY_BEYOND (2), OURISCADO_KEY_UNSOUND (31). */
+uint32_t ouriscado_core_length(
+    const uint8_t *body, size_t body_len, const uint64_t *heads, size_t heads_len, uint64_t mark,
+    uint64_t key, uint64_t *length);
+static inline uint32_t ouriscado_length(
+    const uint8_t *body, size_t body_len, const uint64_t *heads, size_t heads_len,
+    const struct ouriscado_state *state, uint64_t key, uint64_t *length)
+{
+    return ouriscado_core_length(body, body_len, heads, heads_len, state->mark, key, length);
 }
 
 /* Drops the list of a key: the key is empty then, and the book can use the list's slab or pages again. Hands

@@ -54,22 +54,20 @@ static void deposit(struct book *b, uint64_t account, uint64_t record)
         printf("pages, the last at %" PRIu64 ", %" PRIu64 " rewritten\n", place, rewritten);
 }
 
-/* An account's list, in memory that the caller frees. It asks again while the list that it lends is too short; any other refusal means
-   that the account is unknown, which must never pass for empty. */
+/* An account's list, in memory that the caller frees. It asks for the length first, so that the list that it lends isn't too short; any
+   refusal means that the account is unknown, which must never pass for empty. */
 static uint64_t *enquire(const struct book *b, uint64_t account, uint64_t *length)
 {
-    for (size_t room = 64;; room *= 2) {
-        uint64_t pages, padded, *list = malloc(room * sizeof *list);
-        if (!list)
-            stop("no memory");
-        uint32_t refusal =
-            ouriscado_read(b->body, BODY_BYTES, b->heads, ACCOUNTS, &b->state, account, list, room, length, &pages, &padded);
-        if (refusal == OURISCADO_ACCEPTED)
-            return list;
-        free(list);
-        if (refusal != OURISCADO_LIST_TOO_SHORT)
-            stop("an enquiry is refused");
-    }
+    uint64_t pages, padded;
+    if (ouriscado_length(b->body, BODY_BYTES, b->heads, ACCOUNTS, &b->state, account, length) != OURISCADO_ACCEPTED)
+        stop("an enquiry is refused");
+    uint64_t *list = malloc((*length + 1) * sizeof *list);
+    if (!list)
+        stop("no memory");
+    if (ouriscado_read(b->body, BODY_BYTES, b->heads, ACCOUNTS, &b->state, account, list, *length, length, &pages, &padded) !=
+        OURISCADO_ACCEPTED)
+        stop("an enquiry is refused");
+    return list;
 }
 
 /* One enquiry with a list of so many numbers, and what it says. */

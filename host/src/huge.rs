@@ -369,6 +369,14 @@ fn read_by_length(judge: &mut Judge, (body, b): (*mut u8, usize), (words, h): (*
         book::ouriscado_core_read(body, b, words, h, mark, 0, words, COUNT, &mut length, &mut pages, &mut padded)
     });
     judge.same("core_read", (ours, &[length, pages, padded]), Err(1), true);
+    length = BEFORE;
+    let ours = during(&Named("book_length"), || unsafe {
+        book::ouriscado_book_length(body, b, words, h, mark, &NO_COUNTS, desks, h, 0, &mut length)
+    });
+    judge.same("book_length", (ours, &[length]), Err(1), true);
+    length = BEFORE;
+    let ours = during(&Named("core_length"), || unsafe { book::ouriscado_core_length(body, b, words, h, mark, 0, &mut length) });
+    judge.same("core_length", (ours, &[length]), Err(1), true);
 }
 
 /// A small book that is offered 2^32 numbers, one that is read into a list of so many, and one that is lent as many desks.

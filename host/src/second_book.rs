@@ -305,6 +305,13 @@ impl SecondBook {
         Ok(Listed { length: self.key.fks.len() as u64, pages: self.key.pages.len() as u64 })
     }
 
+    /// How many numbers a key has: its list is then in `key`.
+    pub fn length(&mut self, body: &[u8], heads: &[u64], state: &State, at: At) -> Result<u64, Refused> {
+        shape(body, heads, state, at)?;
+        self.key.whole(body, state.mark, heads[at.key as usize])?;
+        Ok(self.key.fks.len() as u64)
+    }
+
     /// How many numbers are padded of the key that was read last. A read doesn't count them itself: the published functions don't, and it
     /// is by them that ours is measured.
     pub fn padded(&self, body: &[u8], heads: &[u64], key: u64) -> u64 {

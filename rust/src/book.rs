@@ -290,45 +290,21 @@ impl<B: AsRef<[u8]>, H: AsRef<[u64]>> Book<B, H> {
     ///
     /// Those of [`Book::read`].
     pub fn read_told(&self, key: u64) -> Result<(Vec<u64>, Listed), Refusal> {
-        let likely = self.likely_length(key);
-        if likely > MOST_GUESSED {
-            self.judge_key(key)?;
-        }
-        self.read_with(key, likely)
+        let likely = self.likely_length(key).filter(|&likely| likely <= MOST_GUESSED);
+        let mut list = vec![0; likely.map_or_else(|| self.length(key), Ok)?];
+        let listed = self.read_into(key, &mut list)?;
+        list.truncate(listed.length);
+        Ok((list, listed))
     }
 
-    /// Judges an account by a read that lends no room: of a sound account with a list it is refused for that alone, since of several refusals
-    /// the smallest is given. The total in a sound account's last page is its length, or 0.
-    fn judge_key(&self, key: u64) -> Result<(), Refusal> {
-        match self.read_into(key, &mut []) {
-            Ok(_) | Err(Refusal::ListTooShort) => Ok(()),
-            Err(refusal) => Err(refusal),
-        }
-    }
-
-    /// An account's list and what its read tells, with room for so many numbers at first. Each number takes at least a byte of the body.
-    fn read_with(&self, key: u64, room: usize) -> Result<(Vec<u64>, Listed), Refusal> {
-        let most = self.body().len();
-        let mut list = vec![0; room.min(most)];
-        loop {
-            match self.read_into(key, &mut list) {
-                Ok(listed) => {
-                    list.truncate(listed.length);
-                    return Ok((list, listed));
-                }
-                Err(Refusal::ListTooShort) if list.len() < most => list.resize((2 * list.len()).clamp(256.min(most), most), 0),
-                Err(refusal) => return Err(refusal),
-            }
-        }
-    }
-
-    /// How long an account's list is by its head word and its last page, which nothing has judged; 0 where they don't say.
-    fn likely_length(&self, key: u64) -> usize {
-        match self.place(key) {
-            Ok(Place::Inline(_)) => 1,
-            Ok(Place::Slab { used, .. }) => usize::from(used),
-            Ok(Place::Pages { last }) => self.page(last).map_or(0, |page| codec::sh_page_extent_creates(page).unwrap_or(0) as usize),
-            Ok(Place::Empty) | Err(_) => 0,
+    /// How long an account's list is by its head word and its last page, which nothing has judged, where they say it: of a sound account it
+    /// is the length.
+    fn likely_length(&self, key: u64) -> Option<usize> {
+        match self.place(key).ok()? {
+            Place::Empty => Some(0),
+            Place::Inline(_) => Some(1),
+            Place::Slab { used, .. } => Some(usize::from(used)),
+            Place::Pages { last } => codec::sh_page_extent_creates(self.page(last)?).ok().filter(|&n| n > 0).map(|n| n as usize),
         }
     }
 
@@ -360,6 +336,31 @@ impl<B: AsRef<[u8]>, H: AsRef<[u64]>> Book<B, H> {
         let (mut length, mut pages, mut padded) = (0, 0, 0);
         let number = sys::core_read(self.body(), self.heads(), self.state.mark(), key, out, &mut length, &mut pages, &mut padded);
         answer(number, Listed { length: length as usize, pages, padded })
+    }
+
+    /// How long the list of an account is: a list of that length isn't too short for [`Book::read_into`]. All of the account is judged, as a
+    /// read judges it; where room is at hand, a read alone takes less time than both.
+    ///
+    /// ```
+    /// use ouriscado::{Book, Refusal};
+    ///
+    /// let mut book = Book::fresh(vec![0; 8192], vec![0; 2])?;
+    /// book.load(0, &[7, 9])?;
+    /// assert_eq!((book.length(0), book.length(1), book.length(2)), (Ok(2), Ok(0), Err(Refusal::KeyBeyond)));
+    ///
+    /// let mut out = vec![0; book.length(0)?];
+    /// book.read_into(0, &mut out)?;
+    /// assert_eq!(out, [7, 9]);
+    /// # Ok::<(), Refusal>(())
+    /// ```
+    ///
+    /// # Errors
+    ///
+    /// [`Refusal::ShapeBad`], [`Refusal::KeyBeyond`] and [`Refusal::KeyUnsound`]. None of them says that the account is empty.
+    pub fn length(&self, key: u64) -> Result<usize, Refusal> {
+        let mut length = 0;
+        let number = sys::core_length(self.body(), self.heads(), self.state.mark(), key, &mut length);
+        answer(number, length as usize)
     }
 
     /// Where the list of an account stands, by its head word alone: what is at that place is judged by a read.
@@ -535,18 +536,6 @@ fn whole_list(list: &[u8], heads: usize) -> Cow<'_, [u8]> {
 mod tests {
     use super::*;
 
-    /// A read asks again with more room until the list fits, whatever room it starts with.
-    #[test]
-    fn room_grows() {
-        let mut book = Book::fresh(vec![0; 1 << 20], vec![0; 2]).unwrap();
-        let day: Vec<u64> = (1..=10_000).collect();
-        book.load(0, &day).unwrap();
-        for room in [0, 1, 255, 9_999, 10_000, usize::MAX] {
-            assert_eq!(book.read_with(0, room), Ok((day.clone(), Listed { length: 10_000, pages: 3, padded: 0 })), "{room}");
-            assert_eq!(book.read_with(1, room), Ok((vec![], Listed { length: 0, pages: 0, padded: 0 })), "{room}");
-        }
-    }
-
     /// The length by head word and last page is the length, so that a read allocates once.
     #[test]
     fn length_is_known() {
@@ -554,6 +543,6 @@ mod tests {
         book.append(1, 5).unwrap();
         book.load(2, &[5, 6, 7]).unwrap();
         book.load(3, &(1..=5_000).collect::<Vec<u64>>()).unwrap();
-        assert_eq!([0, 1, 2, 3, 4].map(|key| book.likely_length(key)), [0, 1, 3, 5_000, 0]);
+        assert_eq!([0, 1, 2, 3, 4].map(|key| book.likely_length(key)), [Some(0), Some(1), Some(3), Some(5_000), None]);
     }
 }

@@ -234,6 +234,31 @@ pub mod raw {
             key: u64,
             length: &mut u64,
         ) -> u32;
+        /// Tells how many record numbers the list of a key has, as ouriscado_book_length does; it is lent neither counts nor desks. Refuses
+        /// 1, 2, 31.
+        pub fn ouriscado_core_length(
+            body: *const u8,
+            body_len: usize,
+            heads: *const u64,
+            heads_len: usize,
+            mark: u64,
+            key: u64,
+            length: &mut u64,
+        ) -> u32;
+        /// Hands out length, how many record numbers the list of a key has: a list of that length that is lent to ouriscado_book_read isn't
+        /// too short. The key is judged as a read judges it, and nothing is written. Refuses 1, 2, 31, 39.
+        pub fn ouriscado_book_length(
+            body: *const u8,
+            body_len: usize,
+            heads: *const u64,
+            heads_len: usize,
+            mark: u64,
+            counts: &[u64; 49],
+            desks: *const u8,
+            desks_len: usize,
+            key: u64,
+            length: &mut u64,
+        ) -> u32;
         /// The smallest class whose bytes hold len bytes: none for 0 or above 2,048.
         pub fn ouriscado_slab_class_for_packed_len(len: usize, class: &mut u8) -> bool;
         /// The smallest class whose slots hold n numbers: none for 0, 1 or from 257 on.
@@ -828,6 +853,35 @@ pub fn core_drop(
 ) -> u32 {
     unsafe {
         raw::ouriscado_core_drop(body.as_mut_ptr(), body.len(), heads.as_mut_ptr(), heads.len(), mark, free, counts, desk, key, length)
+    }
+}
+
+/// Tells how many record numbers the list of a key has, as ouriscado_book_length does; it is lent neither counts nor desks. Refuses 1, 2,
+/// 31.
+#[inline]
+#[must_use]
+pub fn core_length(body: &[u8], heads: &[u64], mark: u64, key: u64, length: &mut u64) -> u32 {
+    unsafe { raw::ouriscado_core_length(body.as_ptr(), body.len(), heads.as_ptr(), heads.len(), mark, key, length) }
+}
+
+/// Hands out length, how many record numbers the list of a key has: a list of that length that is lent to ouriscado_book_read isn't too
+/// short. The key is judged as a read judges it, and nothing is written. Refuses 1, 2, 31, 39.
+#[inline]
+#[must_use]
+pub fn book_length(body: &[u8], heads: &[u64], mark: u64, counts: &[u64; 49], desks: &[u8], key: u64, length: &mut u64) -> u32 {
+    unsafe {
+        raw::ouriscado_book_length(
+            body.as_ptr(),
+            body.len(),
+            heads.as_ptr(),
+            heads.len(),
+            mark,
+            counts,
+            desks.as_ptr(),
+            desks.len(),
+            key,
+            length,
+        )
     }
 }
 

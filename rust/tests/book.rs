@@ -131,8 +131,8 @@ fn refused_loads_and_appends() {
     assert_eq!(book.append(0, 1 << 63), Err(Refusal::OfferedBit63));
     assert_eq!(book.append(0, 9), Err(Refusal::OfferedNotRising));
     assert_eq!(
-        (book.drop_key(2), book.read(2), book.place(2)),
-        (Err(Refusal::KeyBeyond), Err(Refusal::KeyBeyond), Err(Refusal::KeyBeyond))
+        (book.drop_key(2), book.read(2), book.length(2), book.place(2)),
+        (Err(Refusal::KeyBeyond), Err(Refusal::KeyBeyond), Err(Refusal::KeyBeyond), Err(Refusal::KeyBeyond))
     );
     assert!(book == before, "a refused call has changed something");
 }
@@ -145,7 +145,7 @@ fn a_short_list_is_refused() {
         let mut list = vec![77; n as usize - 1];
         assert_eq!(book.read_into(0, &mut list), Err(Refusal::ListTooShort), "{n}");
         assert!(list.iter().all(|&x| x == 77), "a refused read has written");
-        assert_eq!(book.read(0), Ok(numbers(n)));
+        assert_eq!((book.read(0), book.length(0)), (Ok(numbers(n)), Ok(n as usize)));
     }
 }
 
@@ -158,6 +158,7 @@ fn damaged_books() {
     sound.drop_key(2).unwrap();
     let slab = damaged(&sound, |body, _, _| body[4096] = 0); // the slab's count
     assert_eq!((slab.read(0), slab.read(1).map(|l| l.len())), (Err(Refusal::KeyUnsound), Ok(5_000)));
+    assert_eq!((slab.length(0), slab.length(1)), (Err(Refusal::KeyUnsound), Ok(5_000)));
     let page = damaged(&sound, |body, _, _| body[8193..8195].fill(0)); // a page's count
     assert_eq!((page.read(1), page.clone().drop_key(1)), (Err(Refusal::KeyUnsound), Err(Refusal::KeyUnsound)));
     let word = damaged(&sound, |_, heads, _| heads[0] = 2 << 62);

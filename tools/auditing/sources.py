@@ -74,7 +74,7 @@ def passed_on(path):
 def code_file(crate, name):
     """The file of a crate's code that declares a type."""
     for path in sorted((CRATES / crate / "src").rglob("*.rt")):
-        if re.search(rf"^pub (enum|struct|type) {name}\b", path.read_text(), re.M):
+        if re.search(rf"^(pub )?(enum|struct|type) {name}\b", path.read_text(), re.M):
             return path
     raise Wrong(f"crates/{crate}/src declares no type `{name}`")
 

@@ -187,7 +187,13 @@ class Book:
             except Refused as refused:
                 if refused.number != LIST_TOO_SHORT:
                     raise
-                room *= 4
+                room = self.length(key)
+
+    def length(self, key):
+        """How long the key's list is, by the core as a read."""
+        length = c_uint64()
+        self.library.call("core_length", *self.lent_body(), *self.lent_heads(), c_uint64(self.mark()), c_uint64(key), byref(length))
+        return length.value
 
     def place(self, key):
         """What the key's head word says."""

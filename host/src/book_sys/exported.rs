@@ -162,6 +162,27 @@ extern "C" {
         pages: &mut u64,
         padded: &mut u64,
     ) -> u32;
+    pub fn ouriscado_book_length(
+        body: *const u8,
+        body_len: usize,
+        heads: *const u64,
+        heads_len: usize,
+        mark: u64,
+        counts: &Counts,
+        desks: *const u8,
+        desks_len: usize,
+        key: u64,
+        length: &mut u64,
+    ) -> u32;
+    pub fn ouriscado_core_length(
+        body: *const u8,
+        body_len: usize,
+        heads: *const u64,
+        heads_len: usize,
+        mark: u64,
+        key: u64,
+        length: &mut u64,
+    ) -> u32;
     pub fn ouriscado_book_check(
         body: *const u8,
         body_len: usize,

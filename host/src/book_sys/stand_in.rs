@@ -75,6 +75,14 @@ fn read(body: &[u8], heads: &[u64], state: &State, at: At, out: &mut [u64], told
     number
 }
 
+/// How many numbers a key has.
+fn tell_length(body: &[u8], heads: &[u64], state: &State, at: At, length: &mut u64) -> u32 {
+    let answer = SecondBook::default().length(body, heads, state, at);
+    let (number, told) = answer.map_or_else(|refused| (refused.number(), 0), |told| (0, told));
+    *length = told;
+    number
+}
+
 pub unsafe extern "C" fn ouriscado_book_fresh(
     body: *const u8,
     body_len: usize,
@@ -278,6 +286,35 @@ pub unsafe extern "C" fn ouriscado_core_read(
 ) -> u32 {
     let (state, at, told) = (State::at(mark), At { key, by: By::Desk(0) }, [length, pages, padded]);
     read(slice(body, body_len), slice(heads, heads_len), &state, at, slice_mut(out, out_len), told)
+}
+
+pub unsafe extern "C" fn ouriscado_book_length(
+    body: *const u8,
+    body_len: usize,
+    heads: *const u64,
+    heads_len: usize,
+    mark: u64,
+    counts: &Counts,
+    desks: *const u8,
+    desks_len: usize,
+    key: u64,
+    length: &mut u64,
+) -> u32 {
+    let (state, at) = (state_of(mark, &[0; 9], counts), At { key, by: By::List(slice(desks, desks_len)) });
+    tell_length(slice(body, body_len), slice(heads, heads_len), &state, at, length)
+}
+
+pub unsafe extern "C" fn ouriscado_core_length(
+    body: *const u8,
+    body_len: usize,
+    heads: *const u64,
+    heads_len: usize,
+    mark: u64,
+    key: u64,
+    length: &mut u64,
+) -> u32 {
+    let at = At { key, by: By::Desk(0) };
+    tell_length(slice(body, body_len), slice(heads, heads_len), &State::at(mark), at, length)
 }
 
 pub unsafe extern "C" fn ouriscado_book_check(

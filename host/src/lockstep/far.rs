@@ -4,7 +4,8 @@ use crate::fault::during;
 use crate::judge::place_of;
 use crate::lent::{Area, Placing, READ_WRITE};
 use crate::lockstep::pair::{
-    answer_differs, answer_of, call_second, lent_length, lent_list, verdict_differs, work_list, Answer, Call, Check, Given, Ours, Running,
+    answer_differs, answer_of, asked, call_second, length_differs, lent_length, lent_list, verdict_differs, work_list, Answer, Call, Check,
+    Given, Ours, Running,
 };
 use crate::second_book::desks::{By, DESKS};
 use crate::second_book::space::{State, PAGE, PAGE_CLASS};
@@ -127,6 +128,13 @@ impl Far {
         let theirs = answer_of(call_second(&mut self.second, call, by, body, &mut self.heads, &mut self.state, &mut self.list));
         if let Some(what) = answer_differs(call, given, &ours, &theirs) {
             return Err(what);
+        }
+        if let Call::Read { key, .. } = *call {
+            let ours = during(&Running("large", &("length", key, given), where_), || self.ours.length(key, whole, given));
+            let told = self.second.length(self.body.slice(self.len, Placing::Start), &self.heads, &self.state, asked(key, by));
+            if let Some(what) = length_differs(key, given, &ours, told) {
+                return Err(what);
+            }
         }
         match self.left(lent) {
             Some(what) => Err(format!("{call:?}: answers {} and leaves another {what}", ours.refusal)),

@@ -279,6 +279,23 @@ impl Ours {
         }
     }
 
+    /// How many numbers ours says that a key has.
+    pub fn length(&self, key: u64, whole: (usize, usize), given: Given) -> Answer {
+        self.outs.iter().for_each(|out| out.slice(8, Placing::End).fill(0xa5u8));
+        let (b, w) = (self.body.place::<u8>(whole.0, self.placing), self.heads.place::<u64>(whole.1, self.placing));
+        let (b_len, w_len, mark, length) = (given.body, given.heads, *self.lend::<u64>(&self.mark), self.out(0));
+        let refusal = unsafe {
+            match given.by {
+                By::List(list) => {
+                    let (counts, desks, tell) = (self.lend(&self.counts), self.desks_at(list), sys::ouriscado_book_length);
+                    tell(b, b_len, w, w_len, mark, counts, desks, list.len(), key, length)
+                }
+                By::Desk(_) => sys::ouriscado_core_length(b, b_len, w, w_len, mark, key, length),
+            }
+        };
+        Answer { refusal, told: self.told(&[8]) }
+    }
+
     /// What ours judges, with a work list that holds these bytes: the refusal; and the ground, the key, class or desk, and the units that
     /// belong to nobody.
     pub fn check(&self, check: &Check, whole: (usize, usize), work: &[u8]) -> (u32, [u64; 3]) {
@@ -351,6 +368,11 @@ pub fn work_list(room: usize, work: &mut Vec<u8>) {
     work.extend((0..room).map(|k| (k * 7 + room) as u8));
 }
 
+/// What an enquiry is told of a key: one of the core nothing of desks.
+pub fn asked(key: u64, by: By) -> At {
+    At { key, by: if let By::List(_) = by { by } else { By::Desk(0) } }
+}
+
 /// What a call of the second book tells.
 pub fn call_second(
     second: &mut SecondBook,
@@ -373,9 +395,7 @@ pub fn call_second(
             [kind, class, used, place, a.rewritten]
         }),
         Call::Read { key, .. } => {
-            // The core's read is told nothing of desks.
-            let by = if let By::List(_) = by { by } else { By::Desk(0) };
-            let listed = second.read(body, heads, state, At { key: *key, by }, list)?;
+            let listed = second.read(body, heads, state, asked(*key, by), list)?;
             Ok([listed.length, listed.pages, second.padded(body, heads, *key), 0, 0])
         }
         Call::Drop { key } => second.drop(body, heads, state, at(key)).map(|length| [length, 0, 0, 0, 0]),
@@ -394,6 +414,14 @@ pub fn answer_of(told: Result<[u64; 5], Refused>) -> Answer {
 pub fn answer_differs(call: &Call, given: Given, ours: &Answer, theirs: &Answer) -> Option<String> {
     let said = || format!("{call:?} {given:?}: answers {} {:?} in place of {} {:?}", ours.refusal, ours.told, theirs.refusal, theirs.told);
     (ours != theirs).then(said)
+}
+
+/// What is wrong with the length of a key's list that ours tells where the second book tells another.
+pub fn length_differs(key: u64, given: Given, ours: &Answer, told: Result<u64, Refused>) -> Option<String> {
+    let theirs = answer_of(told.map(|length| [length, 0, 0, 0, 0]));
+    let said =
+        || format!("length of key {key} {given:?}: {} {:?} in place of {} {:?}", ours.refusal, ours.told, theirs.refusal, theirs.told);
+    (*ours != theirs).then(said)
 }
 
 /// Compares what ours judged with the second book's judgement.
@@ -461,11 +489,21 @@ impl Pair {
         if let Some(what) = answer_differs(call, given, &ours, &theirs) {
             return Err(what);
         }
+        if let Call::Read { key, .. } = *call {
+            self.length(key, given, where_)?;
+        }
         let desks = if let By::List(list) = given.by { self.ours.desks_left(list) } else { None };
         match self.left(lent).or(desks) {
             Some(what) => Err(format!("{call:?} {given:?}: answers {} and leaves another {what}", ours.refusal)),
             None => Ok(theirs),
         }
+    }
+
+    /// Has both tell how many numbers a key has that was read; or what differs.
+    fn length(&mut self, key: u64, given: Given, where_: &str) -> Result<(), String> {
+        let ours = during(&Running("book", &("length", key, given), where_), || self.ours.length(key, self.whole(), given));
+        let told = self.second.length(&self.body[..given.body], &self.heads[..given.heads], &self.state, asked(key, given.by));
+        length_differs(key, given, &ours, told).map_or(Ok(()), Err)
     }
 
     /// Has both judge a start, and tells the verdict or the refusal's number; or what differs. Body, heads and state stay.
