@@ -2,7 +2,7 @@
 use Prim.Native.Nat.{ℕ, _^_, _≤_, _<_}
 use mathlib.Core.Bool.{Bool, true, false, not}
 use mathlib.Core.List.{List, [], _∷_}
-use mathlib.Core.Option.{none, some}
+use mathlib.Core.Option.{Option, none, some}
 use mathlib.Core.Path.{_≡_, refl, sym, ap, _∙_}
 use native.Mathlib.Omega.{arith}
 use borrow.Author.Tests.{le-ltb, lt-ltb, eq-eqb, ne-eqb}
@@ -11,6 +11,7 @@ use lib.ListN.{length, getD}
 use Rattle.error.specs.Refusal.{Answer, accepted, refused, refuseIf, andThen, answered, shapeBad, keyBeyond, keyInUse, tooManyOffered}
 use Rattle.error.specs.Refusal.{desksBad}
 use Rattle.error.proofs.LawsAnswer.{refused≢accepted, refuse-yes, refuse-no, refused-alike, then-yes, then-no}
+use Rattle.scripthash_layout.specs.Sizes.{maxSlabCount}
 use Rattle.scripthash_layout.specs.declared.head.ShHeadValue.the-variants.{Inline, Slab, Extent}
 use Rattle.scripthash_stream.specs.Stream.{Rising, streamLen, maxOffered}
 use Rattle.scripthash_stream.proofs.LawsStream.{rising-below}
@@ -23,6 +24,7 @@ use Rattle.book_rules.specs.Outcomes.{bookAfter, loadedIn, Loaded}
 use Rattle.book_rules.specs.Offered.{offeredNumber, offeredList}
 use Rattle.book_rules.specs.Places.{loadsTo}
 use Rattle.book_rules.proofs.LawsOffered.{rising-all}
+use Rattle.book_rules.proofs.LawsRules.{loads-to}
 use Rattle.book_blocks.specs.Blocks.{writeRun}
 use Rattle.book_blocks.specs.Steps.{Run}
 use Rattle.book_blocks.proofs.LawsWrites.{parts-some}
@@ -165,6 +167,14 @@ module _ (fit : SlabFit) (desk : ℕ) (b : Book) (key : ℕ) where
   load-more [] h = absurd (omega arith)
   load-more (n ∷ []) h = absurd (omega arith)
   load-more (n ∷ m ∷ ns) h = refl
+
+-- More than a slab is given go into pages.
+pub many-in-pages : (fit : SlabFit) (ns : List ℕ) → maxSlabCount < length ns → loadsTo fit (length ns) (streamLen ns) ≡ none
+many-in-pages fit ns h = go (loadsTo fit (length ns) (streamLen ns)) refl
+  where
+    go : (o : Option ℕ) → loadsTo fit (length ns) (streamLen ns) ≡ o → loadsTo fit (length ns) (streamLen ns) ≡ none
+    go none e = e
+    go (some class) e = absurd (omega (arith, loads-to fit (length ns) (streamLen ns) e .0))
 
 -- ---- the tests
 

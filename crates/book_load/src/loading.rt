@@ -26,6 +26,7 @@ use scripthash_cutting::ChunkRange;
 use scripthash_cutting::ChunkRanges;
 use scripthash_layout::SH_PAGE_SIZE;
 use scripthash_layout::ShHeadValue;
+use scripthash_slabs::SH_MEGAKEY_MIN_FKS;
 use scripthash_slabs::SlabClass;
 use scripthash_stream::MAX_OFFERED;
 use scripthash_stream::StreamBytes;
@@ -173,7 +174,9 @@ fn load_list(
     }
 }
 
-// Loads a list that was judged onto an empty key: none changes nothing, and one number goes into the head word.
+// Loads a list that was judged onto an empty key: none changes nothing, one number goes into the head word, and more than a slab is given
+// go into pages. So `load_run` is called from two places, and the compiler leaves it a function: a load into a slab doesn't set up its
+// frame, of which the search for freed pages has 32 KB.
 fn load_judged(
     body: &mut [u8],
     heads: &mut [u64],
@@ -199,6 +202,9 @@ fn load_judged(
     if fks.len() == 1 {
         let entry = fks[0];
         return accept_load(heads, key, ShHeadValue::Inline { entry, used: 1 }, 0);
+    }
+    if SH_MEGAKEY_MIN_FKS as usize <= fks.len() {
+        return load_run(body, heads, mark, free, counts, desk, key, fks);
     }
     load_list(body, heads, mark, free, counts, desk, fit, key, fks, bytes)
 }

@@ -1,13 +1,14 @@
 -- `load_judged` meets its contract: the list's length decides. Assumes nothing.
-use Prim.Native.Nat.{ℕ}
+use Prim.Native.Nat.{ℕ, _≤_}
 use mathlib.Core.List.{List}
 use mathlib.Core.Path.{refl, sym}
 use native.Mathlib.Omega.{arith}
 use borrow.Author.Needs.{needs}
+use lib.ListN.{length}
 use Rattle.book.specs.Book.{Book}
 use Rattle.book.specs.Answers.{bookOf}
 use Rattle.book.proofs.LawsKey.{does-same}
-use Rattle.book_load.proofs.LawsLoad.{ends-same, load-none, load-one, load-more}
+use Rattle.book_load.proofs.LawsLoad.{ends-same, load-none, load-one, load-more, many-in-pages}
 use Rattle.book_load.proofs.loading.load_judged.Statement.{statement}
 use Rattle.book_load.proofs.loading.load_judged.Tie as tie
 
@@ -18,6 +19,14 @@ module _ (c : tie.Start) where
 
   abbrev list : List ℕ
   list = c .args .fks .now
+
+-- the list has two numbers or more
+module _ (c : tie.Else2) where
+  abbrev start : tie.Start
+  start = c .before .before .before .before .before
+
+  two : 2 ≤ length (list start)
+  two = omega (arith, c .if2 .left, c .before .if1 .left)
 
 returns : tie.Need-returns
 returns c =
@@ -41,16 +50,11 @@ returns-2 c =
     does-same (sym (load-one (s .args .fit) (s .args .desk) (book s) (s .args .key) (list s) (one .if2 .taken)))
     (a .accept-load .ensures (book s) (book s .space) (book s .counts) refl)
 
-load-list-requires : tie.Need-load-list-requires
-load-list-requires c κs =
-    let more = c .before .before .before .before .before in
-    let pre = more .before .before .before .before .before .pre in
-    record {
-      to-load = pre .to-load;
-      two-fks = omega (arith, more .if2 .left, more .before .if1 .left);
-      judged = pre .judged;
-      bytes-are = pre .bytes-are;
-    }
+cast-if3 : tie.Need-cast-if3
+cast-if3 c = search needs
+
+load-run-requires : tie.Need-load-run-requires
+load-run-requires c κs = search needs
 
 same-length-2 : tie.Need-same-length-2
 same-length-2 c = search needs
@@ -61,10 +65,29 @@ same-length-3 c = search needs
 returns-3 : tie.Need-returns-3
 returns-3 c =
     let p = c .before .before .before .before in
-    let more = p .before .before .before .before .before .before in
-    let s = more .before .before .before .before .before in
-    rw (load-more (s .args .fit) (s .args .desk) (book s) (s .args .key) (list s)
-    (omega (arith, more .if2 .left, more .before .if1 .left))) (p .load-list .ensures)
+    let many = p .before .before .before .before .before .before in
+    let more = many .before in
+    let s = start more in
+    rw (
+      load-more (s .args .fit) (s .args .desk) (book s) (s .args .key) (list s) (two more),
+      many-in-pages (s .args .fit) (list s) (omega (arith, many .if3 .taken)),
+    ) (p .load-run .ensures)
+
+load-list-requires : tie.Need-load-list-requires
+load-list-requires c κs = search needs
+
+same-length-4 : tie.Need-same-length-4
+same-length-4 c = search needs
+
+same-length-5 : tie.Need-same-length-5
+same-length-5 c = search needs
+
+returns-4 : tie.Need-returns-4
+returns-4 c =
+    let p = c .before .before .before .before in
+    let more = p .before .before .before .before .before .before .before in
+    let s = start more in
+    rw (load-more (s .args .fit) (s .args .desk) (book s) (s .args .key) (list s) (two more)) (p .load-list .ensures)
 
 pub load-judged-spec : {M : Type 1} → statement M
 load-judged-spec =
@@ -75,7 +98,12 @@ load-judged-spec =
     accept-load-requires
     same-length
     returns-2
-    load-list-requires
+    cast-if3
+    load-run-requires
     same-length-2
     same-length-3
-    returns-3)
+    returns-3
+    load-list-requires
+    same-length-4
+    same-length-5
+    returns-4)
