@@ -95,7 +95,7 @@ fn drop_chain(
         (bookOf (now (body .entry)) (now (heads .entry)) (now (mark .entry)) (now (free .entry)) (now (counts .entry)))
         (bookOf (now (body .exit)) (now (heads .exit)) (now (mark .exit)) (now (free .exit)) (now (counts .exit))) (dropAnswer r) ⌝ }
 {
-    let end = book_keys::chain_end(body, *mark, last);
+    let end = book_keys::chain_end(body, *mark, last, false);
     let ChainEnd::Chain {
         first,
         length,

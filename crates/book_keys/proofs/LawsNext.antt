@@ -1,5 +1,6 @@
 -- The pages of a sound chain that are left from its first on, and a page's link as it is read from the body. Assumes nothing.
 use Prim.Native.Nat.{ℕ, _+_, _-_, _/_, _≤_}
+use mathlib.Core.Bool.{Bool}
 use mathlib.Core.List.{List}
 use mathlib.Core.Path.{_≡_, refl, sym, ap, _∙_}
 use native.Mathlib.Omega.{arith}
@@ -17,10 +18,11 @@ use Rattle.book_keys.proofs.LawsChain.{chain-sound}
 use Rattle.book_keys.specs.Steps.{PagesLeft}
 
 -- All pages of a sound chain are left, from its first on.
-pub chain-left : (s : Ground) (last : ℕ) (c : Chain) (end : ChainEndOf) → s .mark ≤ length (s .body) → chainAt s last ≡ accepted c
-    → chainEndOf c ≡ end
+pub chain-left : (counted : Bool) (s : Ground) (last : ℕ) (c : Chain) (end : ChainEndOf) → s .mark ≤ length (s .body)
+    → chainAt s last ≡ accepted c
+    → chainEndOf counted c ≡ end
     → PagesLeft s (end .first) (end .pages) (c .offs)
-chain-left s last c end within e told =
+chain-left counted s last c end within e told =
     let k = chain-sound s last c e in
     let first : k .header .first ≡ end .first = sym (k .begins) ∙ ap (λ (x : ChainEndOf). x .first) told in
     record {

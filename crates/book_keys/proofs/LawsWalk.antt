@@ -15,7 +15,7 @@ use Rattle.scripthash_stream.specs.Stream.{Scan, lastFrom}
 use Rattle.scripthash_fields.specs.Page.{linkOf, isLastLink, linkOffset}
 use Rattle.scripthash_pages.specs.Entries.{pagePadded}
 use Rattle.book_keys.specs.Keys.{soundly, sure, pageAt, linkScan, Chain, pageThen, walk, Ground}
-use Rattle.book_keys.specs.Steps.{Walked, walkedFrom}
+use Rattle.book_keys.specs.Steps.{Walked, walkedFrom, ifAsked}
 use Rattle.book_keys.proofs.LawsSound.{was-unsound, sure-yes, sure-no, was-sure, turned-back, let-through}
 use Rattle.book_keys.proofs.LawsPages.{link-sound}
 
@@ -112,32 +112,57 @@ walk-first (suc k) s last prev off c e =
 -- ---- the pages left to walk
 
 -- So many numbers, pages and padded numbers were passed, and at most k pages are left to walk: what the whole walk tells.
-unfoldable pub told : ℕ → ℕ → ℕ → ℕ → Ground → ℕ → ℕ → ℕ → Answer Walked
-told count pages padded k s last prev off = answered (walkedFrom count pages padded) (soundly (walk k s last prev off))
+unfoldable pub told : Bool → ℕ → ℕ → ℕ → ℕ → Ground → ℕ → ℕ → ℕ → Answer Walked
+told counted count pages padded k s last prev off = answered (walkedFrom counted count pages padded) (soundly (walk k s last prev off))
+
+-- a count of two parts is asked for as each part is
+asked-both : (counted : Bool) (a b : ℕ) → ifAsked counted (a + b) ≡ ifAsked counted a + ifAsked counted b
+unfolding ifAsked
+asked-both true a b = refl
+asked-both false a b = refl
+
+-- a count that is asked for, and one that isn't
+pub asked-yes : (counted : Bool) (n : ℕ) → counted ≡ true → ifAsked counted n ≡ n
+unfolding ifAsked
+asked-yes counted n e = rw e refl
+
+pub asked-no : (counted : Bool) (n : ℕ) → counted ≡ false → ifAsked counted n ≡ 0
+unfolding ifAsked
+asked-no counted n e = rw e refl
+
+-- a count that may not be asked for is no larger
+pub asked-most : (counted : Bool) (n : ℕ) → ifAsked counted n ≤ n
+unfolding ifAsked
+asked-most true n = omega arith
+asked-most false n = omega arith
 
 -- what is told of a page and more behind it
-told-linked : (s : Ground) (count pages padded off : ℕ) (page : Scan) (a : Answer Chain)
-    → answered (walkedFrom count pages padded) (soundly (andThen a (λ rest. accepted (pageThen s off page rest))))
-    ≡ answered (walkedFrom (count + length (page .numbers)) (pages + 1) (padded + pagePadded (pageAt s off))) (soundly a)
+told-linked : (counted : Bool) (s : Ground) (count pages padded off : ℕ) (page : Scan) (a : Answer Chain)
+    → answered (walkedFrom counted count pages padded) (soundly (andThen a (λ rest. accepted (pageThen s off page rest))))
+    ≡ answered (walkedFrom counted (count + length (page .numbers)) (pages + 1) (padded + ifAsked counted (pagePadded (pageAt s off))))
+    (soundly a)
 unfolding andThen soundly answered pageThen
-told-linked s count pages padded off page (accepted rest) =
+told-linked counted s count pages padded off page (accepted rest) =
     let numbers : count + length (page .numbers ++ rest .numbers) ≡ count + length (page .numbers) + length (rest .numbers) =
     rw length-append (omega arith) in
     let offs : pages + suc (length (rest .offs)) ≡ pages + 1 + length (rest .offs) = omega arith in
-    let more : padded + (pagePadded (pageAt s off) + rest .padded) ≡ padded + pagePadded (pageAt s off) + rest .padded = omega arith in
+    let more : padded + ifAsked counted (pagePadded (pageAt s off) + rest .padded)
+    ≡ padded + ifAsked counted (pagePadded (pageAt s off)) + ifAsked counted (rest .padded) =
+    rw (asked-both counted (pagePadded (pageAt s off)) (rest .padded)) (omega arith) in
     rw (numbers, offs, more)
-told-linked s count pages padded off page (refused number) = refl
+told-linked counted s count pages padded off page (refused number) = refl
 
-module _ (count pages padded most : ℕ) (s : Ground) (last prev off : ℕ) (h : pages < most) where
+module _ (counted : Bool) (count pages padded most : ℕ) (s : Ground) (last prev off : ℕ) (h : pages < most) where
   left : most - pages ≡ suc (most - (pages + 1))
   left = omega arith
 
   -- the next page isn't sound
   pub told-refused : {number : ℕ} → soundly (linkScan s prev off) ≡ refused number
-      → refused keyUnsound ≡ told count pages padded (most - pages) s last prev off
+      → refused keyUnsound ≡ told counted count pages padded (most - pages) s last prev off
   unfolding told
   told-refused e =
-      rw left (turned-back (walkedFrom count pages padded) _ (walk-refused (most - (pages + 1)) s last prev off (was-unsound _ e .1)))
+      rw left (turned-back (walkedFrom counted count pages padded) _
+      (walk-refused (most - (pages + 1)) s last prev off (was-unsound _ e .1)))
 
   module _ (c : Scan) (is : linkScan s prev off ≡ accepted c) where
     -- it is the last one
@@ -145,42 +170,45 @@ module _ (count pages padded most : ℕ) (s : Ground) (last prev off : ℕ) (h :
         → accepted (record {
           length = count + length (c .numbers);
           pages = pages + 1;
-          padded = padded + pagePadded (pageAt s off);
-        }) ≡ told count pages padded (most - pages) s last prev off
+          padded = padded + ifAsked counted (pagePadded (pageAt s off));
+        }) ≡ told counted count pages padded (most - pages) s last prev off
     unfolding told
-    told-last e = rw left (let-through (walkedFrom count pages padded) _ (walk-last (most - (pages + 1)) s last prev off c is e))
+    told-last e = rw left (let-through (walkedFrom counted count pages padded) _ (walk-last (most - (pages + 1)) s last prev off c is e))
 
     -- it has LAST, and isn't the last one
     pub told-flagged : (off ≡ last → ⊥) → isLastLink (linkOf (pageAt s off)) ≡ true
-        → refused keyUnsound ≡ told count pages padded (most - pages) s last prev off
+        → refused keyUnsound ≡ told counted count pages padded (most - pages) s last prev off
     unfolding told
-    told-flagged n e = rw left (turned-back (walkedFrom count pages padded) _ (walk-flagged (most - (pages + 1)) s last prev off c is n e))
+    told-flagged n e =
+        rw left (turned-back (walkedFrom counted count pages padded) _ (walk-flagged (most - (pages + 1)) s last prev off c is n e))
 
     -- the walk goes on behind it
     pub told-more : (off ≡ last → ⊥) → isLastLink (linkOf (pageAt s off)) ≡ false
-        → told (count + length (c .numbers)) (pages + 1) (padded + pagePadded (pageAt s off)) (most - (pages + 1)) s last
+        → told counted (count + length (c .numbers)) (pages + 1) (padded + ifAsked counted (pagePadded (pageAt s off)))
+        (most - (pages + 1)) s last
         (lastFrom 0 (c .numbers)) (linkOffset (linkOf (pageAt s off)))
-        ≡ told count pages padded (most - pages) s last prev off
+        ≡ told counted count pages padded (most - pages) s last prev off
     unfolding told
     told-more n e =
         let k = most - (pages + 1) in
         let next = linkOffset (linkOf (pageAt s off)) in
         let same = link-sound s prev off c is .going .same-last in
         rw left
-        (sym (ap (λ (a : Answer Chain). answered (walkedFrom count pages padded) (soundly a)) (walk-more k s last prev off c is n e)
-        ∙ told-linked s count pages padded off c (walk k s last (lastFrom prev (c .numbers)) next)
-        ∙ ap (λ (p : ℕ). answered (walkedFrom (count + length (c .numbers)) (pages + 1) (padded + pagePadded (pageAt s off)))
+        (sym (ap (λ (a : Answer Chain). answered (walkedFrom counted count pages padded) (soundly a)) (walk-more k s last prev off c is n e)
+        ∙ told-linked counted s count pages padded off c (walk k s last (lastFrom prev (c .numbers)) next)
+        ∙ ap (λ (p : ℕ). answered (walkedFrom counted (count + length (c .numbers)) (pages + 1)
+        (padded + ifAsked counted (pagePadded (pageAt s off))))
         (soundly (walk k s last p next))) same))
 
 -- no page is left
-pub told-none : (count pages padded most : ℕ) (s : Ground) (last prev off : ℕ) → most ≤ pages
-    → refused keyUnsound ≡ told count pages padded (most - pages) s last prev off
+pub told-none : (counted : Bool) (count pages padded most : ℕ) (s : Ground) (last prev off : ℕ) → most ≤ pages
+    → refused keyUnsound ≡ told counted count pages padded (most - pages) s last prev off
 unfolding told walk
-told-none count pages padded most s last prev off h = let none : most - pages ≡ 0 = omega arith in
-    rw none (turned-back (walkedFrom count pages padded) (walk 0 s last prev off) refl)
+told-none counted count pages padded most s last prev off h = let none : most - pages ≡ 0 = omega arith in
+    rw none (turned-back (walkedFrom counted count pages padded) (walk 0 s last prev off) refl)
 
 -- at first all are left
-pub told-start : (most : ℕ) (s : Ground) (last off : ℕ)
-    → told 0 0 0 (most - 0) s last 0 off ≡ answered (walkedFrom 0 0 0) (soundly (walk most s last 0 off))
+pub told-start : (counted : Bool) (most : ℕ) (s : Ground) (last off : ℕ)
+    → told counted 0 0 0 (most - 0) s last 0 off ≡ answered (walkedFrom counted 0 0 0) (soundly (walk most s last 0 off))
 unfolding told
-told-start most s last off = rw (sub-zero most)
+told-start counted most s last off = rw (sub-zero most)

@@ -64,8 +64,13 @@ pub record TailEndOf : Type 0 where
 abbrev pub tailEndOf : Tail → TailEndOf
 tailEndOf t = record { taken = t .scan .taken; fk = lastFrom 0 (t .scan .numbers); first = t .last .first; creates = t .last .creates }
 
+-- A count where it is asked for, else 0.
+unfoldable pub ifAsked : Bool → ℕ → ℕ
+ifAsked true n = n
+ifAsked false n = 0
+
 -- A page of a chain: how many numbers it has, its last number, whether it is LAST, the offset that its link names, and how many of the
--- numbers are padded.
+-- numbers are padded, where that is asked for.
 pub record LinkEndOf : Type 0 where
   pub count : ℕ
   pub fk : ℕ
@@ -74,28 +79,33 @@ pub record LinkEndOf : Type 0 where
   pub padded : ℕ
 
 -- The same of a page that was scanned.
-abbrev pub linkEndOf : List ℕ → Scan → LinkEndOf
-linkEndOf page c =
+abbrev pub linkEndOf : Bool → List ℕ → Scan → LinkEndOf
+linkEndOf counted page c =
     record {
       count = length (c .numbers);
       fk = lastFrom 0 (c .numbers);
       last = isLastLink (linkOf page);
       next = linkOffset (linkOf page);
-      padded = pagePadded page;
+      padded = ifAsked counted (pagePadded page);
     }
 
--- How long a chain's list is, how many pages it has, and how many of its numbers are padded.
+-- How long a chain's list is, how many pages it has, and how many of its numbers are padded, where that is asked for.
 pub record Walked : Type 0 where
   pub length : ℕ
   pub pages : ℕ
   pub padded : ℕ
 
 -- The same of a chain behind so many numbers, pages and padded numbers.
-abbrev pub walkedFrom : ℕ → ℕ → ℕ → Chain → Walked
-walkedFrom count pages padded c =
-    record { length = count + length (c .numbers); pages = pages + length (c .offs); padded = padded + c .padded }
+abbrev pub walkedFrom : Bool → ℕ → ℕ → ℕ → Chain → Walked
+walkedFrom counted count pages padded c =
+    record {
+      length = count + length (c .numbers);
+      pages = pages + length (c .offs);
+      padded = padded + ifAsked counted (c .padded);
+    }
 
--- A chain: its first page's offset, how long its list is, how many pages it has, and how many of its numbers are padded.
+-- A chain: its first page's offset, how long its list is, how many pages it has, and how many of its numbers are padded, where that is
+-- asked for.
 pub record ChainEndOf : Type 0 where
   pub first : ℕ
   pub length : ℕ
@@ -103,9 +113,14 @@ pub record ChainEndOf : Type 0 where
   pub padded : ℕ
 
 -- The same of a chain that was walked.
-abbrev pub chainEndOf : Chain → ChainEndOf
-chainEndOf c =
-    record { first = getD (c .offs) 0 0; length = length (c .numbers); pages = length (c .offs); padded = c .padded }
+abbrev pub chainEndOf : Bool → Chain → ChainEndOf
+chainEndOf counted c =
+    record {
+      first = getD (c .offs) 0 0;
+      length = length (c .numbers);
+      pages = length (c .offs);
+      padded = ifAsked counted (c .padded);
+    }
 
 -- How long a key's list is, how many pages it has, and how many of its numbers are padded.
 pub record Counts : Type 0 where

@@ -2,7 +2,7 @@
 ghost use mathlib.Core.Path.{_≡_};
 ghost use Prim.Native.Nat.{_+_, _/_, _≤_};
 ghost use lib.ListN.{length, getD};
-ghost use Rattle.error.specs.Refusal.{accepted, answered, refusalOf};
+ghost use Rattle.error.specs.Refusal.{accepted, answered};
 ghost use Rattle.buffer.specs.Bytes.{part};
 ghost use Rattle.scripthash_layout.specs.Sizes.{pageSize};
 ghost use Rattle.scripthash_layout.specs.declared.head.ShHeadValue.the-variants.{Extent};
@@ -11,7 +11,7 @@ ghost use Rattle.scripthash_stream.specs.Stream.{Scan};
 ghost use Rattle.scripthash_pages.specs.Entries.{pageScan, pageEntries, pagePadded};
 ghost use Rattle.book_keys.specs.Keys.{soundly, pageAt, linkScan, lastAt, walk, Chain as ChainIs, totalGood, chainAt};
 ghost use Rattle.book_keys.specs.Keys.{tailAt, contentAt, ground};
-ghost use Rattle.book_keys.specs.Steps.{linkRead, lastRead, tailRead, tailEndOf, linkEndOf, walkedFrom, chainEndOf};
+ghost use Rattle.book_keys.specs.Steps.{linkRead, lastRead, tailRead, tailEndOf, linkEndOf, walkedFrom, chainEndOf, ifAsked};
 ghost use Rattle.book_keys.specs.Steps.{pageInto, PageFilled, Written, KeyRead};
 ghost use Rattle.book_keys.specs.Answers.{lastPageAnswer, tailAnswer, linkEndAnswer, walkAnswer, chainAnswer};
 ghost use Rattle.book_keys.specs.Answers.{fillAnswer, countsAnswer};
@@ -53,7 +53,7 @@ pub enum TailEnd {
 }
 
 // A page of a chain: how many numbers it has, its last number, whether it is LAST, the offset that its link names, and how many of the
-// numbers are padded; or 31.
+// numbers are padded, where that is asked for; or 31.
 pub enum LinkEnd {
     Page {
         count: u64,
@@ -65,7 +65,7 @@ pub enum LinkEnd {
     Refused(Refusal),
 }
 
-// Pages walked: how many numbers they have, how many they are, and how many of the numbers are padded; or 31.
+// Pages walked: how many numbers they have, how many they are, and how many of the numbers are padded, where that is asked for; or 31.
 pub enum WalkEnd {
     Pages {
         length: u64,
@@ -75,7 +75,8 @@ pub enum WalkEnd {
     Refused(Refusal),
 }
 
-// A sound chain: its first page's offset, how many numbers it has, how many pages, and how many of the numbers are padded; or 31.
+// A sound chain: its first page's offset, how many numbers it has, how many pages, and how many of the numbers are padded, where that is
+// asked for; or 31.
 pub enum ChainEnd {
     Chain {
         first: u64,
@@ -90,40 +91,6 @@ pub enum ChainEnd {
 enum PageFill {
     Filled { count: usize, next: u64 },
     Refused(Refusal),
-}
-
-impl TailEnd {
-    // The refusal's number, and 0 of another answer.
-    pub fn refusal(self) -> Refusal
-        ensures { λ r. ⌜ r ≡ refusalOf (tailAnswer self) ⌝ }
-    {
-        match self {
-            TailEnd::Tail {
-                taken: _,
-                fk: _,
-                first: _,
-                creates: _,
-            } => 0,
-            TailEnd::Refused(number) => number,
-        }
-    }
-}
-
-impl ChainEnd {
-    // The refusal's number, and 0 of another answer.
-    pub fn refusal(self) -> Refusal
-        ensures { λ r. ⌜ r ≡ refusalOf (chainAnswer self) ⌝ }
-    {
-        match self {
-            ChainEnd::Chain {
-                first: _,
-                length: _,
-                pages: _,
-                padded: _,
-            } => 0,
-            ChainEnd::Refused(number) => number,
-        }
-    }
 }
 
 // Reads the header of a key's last page.
@@ -172,21 +139,25 @@ fn read_tail(page: &[u8]) -> TailEnd
     }
 }
 
-// How many numbers of a page are padded whose stream scans and takes so many bytes.
-fn page_padded(page: &[u8], taken: usize) -> u64
+// How many numbers of a page are padded whose stream scans and takes so many bytes, where that is asked for, else 0.
+fn page_padded(page: &[u8], taken: usize, counted: bool) -> u64
     requires { ⌜ (length (now page) ≡ pageSize) × (streamOff (now page) + taken ≤ pageSize) ⌝ }
-    ensures { λ r. ⌜ ((c : Scan) → pageScan (now (page .entry)) ≡ accepted c → c .taken ≡ taken → r ≡ pagePadded (now (page .entry))) ⌝ }
+    ensures { λ r. ⌜ ((c : Scan) → pageScan (now (page .entry)) ≡ accepted c → c .taken ≡ taken
+        → r ≡ ifAsked counted (pagePadded (now (page .entry)))) ⌝ }
 {
+    if !counted {
+        return 0;
+    }
     let start = scripthash_fields::stream_off(page);
     let count = buffer::get_u16(page, SH_PAGE_OFF_N_FKS) as usize;
     scripthash_stream::count_padded(&page[start..], count, taken) as u64
 }
 
 // Reads a page of a chain behind a number: its stream is scanned once, and its first number read once more. Its padded numbers are counted
-// where it is sound.
-fn read_link(page: &[u8], prev: u64) -> LinkEnd
+// where it is sound and they are asked for.
+fn read_link(page: &[u8], prev: u64, counted: bool) -> LinkEnd
     requires { ⌜ length (now page) ≡ pageSize ⌝ }
-    ensures { λ r. ⌜ linkEndAnswer r ≡ answered (linkEndOf (now (page .entry))) (soundly (linkRead prev (now (page .entry)))) ⌝ }
+    ensures { λ r. ⌜ linkEndAnswer r ≡ answered (linkEndOf counted (now (page .entry))) (soundly (linkRead prev (now (page .entry)))) ⌝ }
 {
     let got = sh_page_stream_tail(page);
     let ScanStream::Scanned { taken, last: fk } = got else {
@@ -218,7 +189,7 @@ fn read_link(page: &[u8], prev: u64) -> LinkEnd
         fk,
         last,
         next,
-        padded: page_padded(page, taken),
+        padded: page_padded(page, taken, counted),
     }
 }
 
@@ -247,24 +218,24 @@ pub fn tail_end(body: &[u8], mark: u64, last: u64) -> TailEnd
 }
 
 // A page of a chain behind a number, at an offset.
-fn link_end(body: &[u8], mark: u64, prev: u64, off: u64) -> LinkEnd
+fn link_end(body: &[u8], mark: u64, prev: u64, off: u64, counted: bool) -> LinkEnd
     requires { ⌜ mark ≤ length (now body) ⌝ }
     ensures { λ r. ⌜ linkEndAnswer r
-        ≡ answered (linkEndOf (pageAt (ground (now (body .entry)) mark) off))
+        ≡ answered (linkEndOf counted (pageAt (ground (now (body .entry)) mark) off))
         (soundly (linkScan (ground (now (body .entry)) mark) prev off)) ⌝ }
 {
     if !is_page(off, mark) {
         return LinkEnd::Refused(error::KEY_UNSOUND);
     }
     let start = off as usize;
-    read_link(&body[start..start + SH_PAGE_SIZE], prev)
+    read_link(&body[start..start + SH_PAGE_SIZE], prev, counted)
 }
 
 // Walks a chain from its first page to its last, each page once.
-fn walk_pages(body: &[u8], mark: u64, first: u64, last: u64) -> WalkEnd
+fn walk_pages(body: &[u8], mark: u64, first: u64, last: u64, counted: bool) -> WalkEnd
     requires { ⌜ mark ≤ length (now body) ⌝ }
     ensures { λ r. ⌜ walkAnswer r
-        ≡ answered (walkedFrom 0 0 0) (soundly (walk (mark / pageSize) (ground (now (body .entry)) mark) last 0 first)) ⌝ }
+        ≡ answered (walkedFrom counted 0 0 0) (soundly (walk (mark / pageSize) (ground (now (body .entry)) mark) last 0 first)) ⌝ }
 {
     let most = mark / SH_PAGE_BYTES;
     let mut off = first;
@@ -273,7 +244,7 @@ fn walk_pages(body: &[u8], mark: u64, first: u64, last: u64) -> WalkEnd
     let mut pages: u64 = 0;
     let mut padded: u64 = 0;
     while pages < most {
-        let got = link_end(body, mark, prev, off);
+        let got = link_end(body, mark, prev, off, counted);
         let LinkEnd::Page {
             count,
             fk,
@@ -313,16 +284,16 @@ fn total_good(creates: u32, length: u64) -> bool
     creates as u64 == length
 }
 
-// A key's chain whose last page is at an offset, or 31 where it isn't sound.
-pub fn chain_end(body: &[u8], mark: u64, last: u64) -> ChainEnd
+// A key's chain whose last page is at an offset, with its padded numbers counted where that is asked for; or 31 where it isn't sound.
+pub fn chain_end(body: &[u8], mark: u64, last: u64, counted: bool) -> ChainEnd
     requires { ⌜ mark ≤ length (now body) ⌝ }
-    ensures { λ r. ⌜ chainAnswer r ≡ answered chainEndOf (soundly (chainAt (ground (now (body .entry)) mark) last)) ⌝ }
+    ensures { λ r. ⌜ chainAnswer r ≡ answered (chainEndOf counted) (soundly (chainAt (ground (now (body .entry)) mark) last)) ⌝ }
 {
     let header = last_page(body, mark, last);
     let LastPage::Header { first, creates } = header else {
         return ChainEnd::Refused(error::KEY_UNSOUND);
     };
-    let walked = walk_pages(body, mark, first, last);
+    let walked = walk_pages(body, mark, first, last, counted);
     let WalkEnd::Pages {
         length,
         pages,
@@ -403,7 +374,7 @@ pub fn read_chain(body: &[u8], mark: u64, last: u64, out: &mut [u64]) -> KeyCoun
     ensures { λ r. ⌜ KeyRead (countsAnswer r) (now (out .entry)) (now (out .exit))
         (soundly (contentAt (ground (now (body .entry)) mark) (Extent last))) ⌝ }
 {
-    let got = chain_end(body, mark, last);
+    let got = chain_end(body, mark, last, true);
     let ChainEnd::Chain {
         first,
         length,

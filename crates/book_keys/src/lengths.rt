@@ -2,7 +2,7 @@
 ghost use mathlib.Core.Path.{_≡_};
 ghost use Prim.Native.Nat.{_≤_};
 ghost use lib.ListN.{length};
-ghost use Rattle.error.specs.Refusal.{answered, refusalOf};
+ghost use Rattle.error.specs.Refusal.{answered};
 ghost use Rattle.scripthash_layout.specs.declared.head.ShHeadValue.the-variants.{Slab, Extent};
 ghost use Rattle.book_keys.specs.Keys.{soundly, contentAt, content, ground};
 ghost use Rattle.book_keys.specs.Steps.{lengthOf};
@@ -19,18 +19,6 @@ use scripthash_stream::ScanStream;
 pub enum KeyLength {
     Length(u64),
     Refused(Refusal),
-}
-
-impl KeyLength {
-    // The refusal's number, and 0 of another answer.
-    pub fn refusal(self) -> Refusal
-        ensures { λ r. ⌜ r ≡ refusalOf (lengthAnswer self) ⌝ }
-    {
-        match self {
-            KeyLength::Length(_) => 0,
-            KeyLength::Refused(number) => number,
-        }
-    }
 }
 
 // How many numbers a key in a slab has: as many as its head says, where its slab is sound.
@@ -50,7 +38,7 @@ fn chain_length(body: &[u8], mark: u64, last: u64) -> KeyLength
     requires { ⌜ mark ≤ length (now body) ⌝ }
     ensures { λ r. ⌜ lengthAnswer r ≡ answered lengthOf (soundly (contentAt (ground (now (body .entry)) mark) (Extent last))) ⌝ }
 {
-    let end = chain_end(body, mark, last);
+    let end = chain_end(body, mark, last, false);
     let ChainEnd::Chain {
         first: _,
         length,

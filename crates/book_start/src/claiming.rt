@@ -70,7 +70,7 @@ fn claim_chain(body: &[u8], mark: u64, work: &mut [u8], last: u64) -> Claiming
         → ClaimsAs units mark lent claims (claimContent claims (soundly (contentAt (ground (now (body .entry)) mark) (Extent last)))) r
         (unitsOf (now (work .exit)))) ⌝ }
 {
-    let end = book_keys::chain_end(body, mark, last);
+    let end = book_keys::chain_end(body, mark, last, false);
     let ChainEnd::Chain {
         first,
         length: _,

@@ -34,7 +34,7 @@ fn chain_pages(body: &[u8], mark: u64, last: u64) -> u64
     requires { ⌜ mark ≤ length (now body) ⌝ }
     ensures { λ r. ⌜ r ≡ pagesIn (soundly (contentAt (ground (now (body .entry)) mark) (Extent last))) ⌝ }
 {
-    let end = book_keys::chain_end(body, mark, last);
+    let end = book_keys::chain_end(body, mark, last, false);
     let ChainEnd::Chain {
         first: _,
         length: _,

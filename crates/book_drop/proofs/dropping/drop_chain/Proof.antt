@@ -1,5 +1,6 @@
 -- `drop_chain` meets its contract: the chain decides, then the counts, and its pages are given back. Assumes nothing.
 use Prim.Native.Nat.{_<_}
+use mathlib.Core.Bool.{false}
 use mathlib.Core.Path.{_≡_, refl, sym, ap, _∙_}
 use native.Mathlib.Omega.{arith}
 use borrow.Author.Needs.{needs}
@@ -42,16 +43,16 @@ module _ (c : tie.After-end) where
         padded = c .end .given .0 .1 .1 .1 .0;
       }
 
-  walked : (x : Chain) × (chainAt (seen (book at .space)) (at .args .last) ≡ accepted x) × (chainEndOf x ≡ end)
+  walked : (x : Chain) × (chainAt (seen (book at .space)) (at .args .last) ≡ accepted x) × (chainEndOf false x ≡ end)
   walked =
-      let got = was-accepted chainEndOf _ (sym (c .before .before .chain-end .ensures) ∙ ap chainAnswer (c .end .given .1)) in (
+      let got = was-accepted (chainEndOf false) _ (sym (c .before .before .chain-end .ensures) ∙ ap chainAnswer (c .end .given .1)) in (
         got .0,
         was-sound _ (got .1),
         got .2,
       )
 
   left : PagesLeft (seen (book at .space)) (end .first) (end .pages) (walked .0 .offs)
-  left = chain-left (seen (book at .space)) (at .args .last) (walked .0) end (at .pre .within) (walked .1) (walked .2)
+  left = chain-left false (seen (book at .space)) (at .args .last) (walked .0) end (at .pre .within) (walked .1) (walked .2)
 
   held : contentAt (seen (book at .space)) (Extent (at .args .last)) ≡ accepted (inPages (walked .0))
   held = content-pages (seen (book at .space)) (at .args .last) (walked .0) (walked .1)
@@ -83,7 +84,7 @@ returns : tie.Need-returns
 returns c =
     let t = c .before .before .before .before .before .before .before in
     let a = t .args in
-    let stop = was-refused chainEndOf _ (sym (c .before .before .chain-end .ensures)
+    let stop = was-refused (chainEndOf false) _ (sym (c .before .before .chain-end .ensures)
     ∙ ap chainAnswer (c .enum-told .given .1)) in
     let bad = was-unsound _ stop in
     ends-refused (book t) _

@@ -42,7 +42,7 @@ returns : tie.Need-returns
 returns c =
     let a = c .before .before .before .args in
     let s = ground (a .body .now) (a .mark) in
-    turned-back (linkEndOf (pageAt s (a .off))) _
+    turned-back (linkEndOf (a .counted) (pageAt s (a .off))) _
     (link-off s (a .off) (a .prev) (sym (c .before .is-page .ensures) ∙ not-true _ (c .if1 .taken)))
 
 add-read-link : tie.Need-add-read-link
@@ -65,9 +65,9 @@ returns-2 c =
     let d = c .before .before in
     let prev = at d .args .prev in
     c .read-link .ensures
-    ∙ ap (λ (bs : List ℕ). answered (linkEndOf bs) (soundly (linkRead prev bs)))
+    ∙ ap (λ (bs : List ℕ). answered (linkEndOf (at d .args .counted) bs) (soundly (linkRead prev bs)))
     (span (at d .args .body .now) (off d) pageSize pageSize refl)
-    ∙ ap (λ a. answered (linkEndOf (pageAt (s d) (off d))) (soundly a)) (sym (link-on (s d) (off d) (stands d) prev))
+    ∙ ap (λ a. answered (linkEndOf (at d .args .counted) (pageAt (s d) (off d))) (soundly a)) (sym (link-on (s d) (off d) (stands d) prev))
 
 pub link-end-spec : {M : Type 1} → statement M
 link-end-spec =

@@ -1,5 +1,6 @@
 -- `read_chain` meets its contract: the whole chain is judged, then the room, and then it is read. Assumes nothing.
 use Prim.Native.Nat.{_≤_}
+use mathlib.Core.Bool.{true}
 use mathlib.Core.Path.{_≡_, refl, sym, ap, _∙_}
 use native.Mathlib.Omega.{arith}
 use borrow.Author.Needs.{needs}
@@ -7,7 +8,7 @@ use lib.ListN.{length}
 use Rattle.error.specs.Refusal.{accepted}
 use Rattle.error.proofs.LawsAnswer.{was-accepted, was-refused}
 use Rattle.book_keys.specs.Keys.{soundly, Chain, chainAt, Ground, ground}
-use Rattle.book_keys.specs.Steps.{ChainEndOf, chainEndOf}
+use Rattle.book_keys.specs.Steps.{ChainEndOf, chainEndOf, ifAsked}
 use Rattle.book_keys.specs.Answers.{chainAnswer}
 use Rattle.book_keys.proofs.LawsSound.{was-sound, was-unsound, soundly-yes, soundly-no}
 use Rattle.book_keys.proofs.LawsContent.{inPages, content-pages, content-no-pages}
@@ -32,8 +33,8 @@ module _ (c : tie.After-got) where
         padded = c .got .given .0 .1 .1 .1 .0;
       }
 
-  held : (k : Chain) × (soundly (chainAt s (start .args .last)) ≡ accepted k) × (chainEndOf k ≡ told)
-  held = was-accepted chainEndOf _ (sym (c .before .before .chain-end .ensures) ∙ ap chainAnswer (c .got .given .1))
+  held : (k : Chain) × (soundly (chainAt s (start .args .last)) ≡ accepted k) × (chainEndOf true k ≡ told)
+  held = was-accepted (chainEndOf true) _ (sym (c .before .before .chain-end .ensures) ∙ ap chainAnswer (c .got .given .1))
 
   size : length (held .0 .numbers) ≡ told .length
   size = ap (λ (x : ChainEndOf). x .length) (held .2)
@@ -51,7 +52,7 @@ returns : tie.Need-returns
 returns c =
     let e = c .before .before in
     let a = e .before .before .before .args in
-    let stop = was-refused chainEndOf _ (sym (e .chain-end .ensures) ∙ ap chainAnswer (c .enum-told .given .1)) in
+    let stop = was-refused (chainEndOf true) _ (sym (e .chain-end .ensures) ∙ ap chainAnswer (c .enum-told .given .1)) in
     read-unsound (a .out .now) _ _
     (soundly-no _ (content-no-pages (ground (a .body .now) (a .mark)) (a .last) (was-unsound _ stop .1))) refl
 
@@ -70,6 +71,7 @@ same-length : tie.Need-same-length
 same-length c = search needs
 
 returns-3 : tie.Need-returns-3
+unfolding ifAsked
 returns-3 c =
     let f = c .before .before .before .before in
     let g = f .before .before in

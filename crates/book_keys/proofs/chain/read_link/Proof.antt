@@ -18,7 +18,7 @@ use Rattle.scripthash_fields.specs.Page.{linkOf, isLastLink, linkOffset, stream
 use Rattle.scripthash_fields.proofs.LawsFields.{stream-off-within, read-link}
 use Rattle.scripthash_fields.specs.FieldAnswers.{Link, linkAnswer}
 use Rattle.scripthash_pages.specs.Entries.{pageScan, pagePadded}
-use Rattle.book_keys.specs.Steps.{soundLast, linkRead, LinkEndOf, linkEndOf}
+use Rattle.book_keys.specs.Steps.{soundLast, linkRead, LinkEndOf, linkEndOf, ifAsked}
 use Rattle.book_keys.proofs.LawsSound.{turned-back, let-through}
 use Rattle.book_keys.proofs.LawsPages.{field-read, page-read, page-first, some-last, link-no, link-unsound, link-low, link-yes}
 use Rattle.book_keys.proofs.chain.read_link.Statement.{statement}
@@ -105,7 +105,7 @@ enum-told c = search needs
 returns : tie.Need-returns
 returns c =
     let a = c .before .before .before .before .args in
-    turned-back (linkEndOf (a .page .now)) _ (link-no (a .page .now) (a .prev)
+    turned-back (linkEndOf (a .counted) (a .page .now)) _ (link-no (a .page .now) (a .prev)
     (was-refused (endFrom 0) _ (sym (c .before .before .sh-page-stream-tail .ensures) ∙ ap scanAnswer (c .enum-told .given .1))))
 
 sound-last-requires : tie.Need-sound-last-requires
@@ -114,7 +114,7 @@ sound-last-requires c κs = search needs
 returns-2 : tie.Need-returns-2
 returns-2 c =
     let d = c .before in
-    turned-back (linkEndOf (page d)) _ (link-unsound (page d) (at d .args .prev) (got d .0) (got d .1)
+    turned-back (linkEndOf (at d .args .counted) (page d)) _ (link-unsound (page d) (at d .args .prev) (got d .0) (got d .1)
     (last-is d ∙ not-true _ (c .if1 .taken)))
 
 stream-off-requires : tie.Need-stream-off-requires
@@ -149,7 +149,7 @@ returns-4 c =
     let f = c .before .before in
     let d = back (seen f) .before in
     let v = value-is f in
-    turned-back (linkEndOf (page d)) _
+    turned-back (linkEndOf (at d .args .counted) (page d)) _
     (link-low (page d) (at d .args .prev) (got d .0) (got d .1) (sound (back (seen f))) (omega (arith, c .if2 .taken)))
 
 sh-page-read-packed-requires : tie.Need-sh-page-read-packed-requires
@@ -183,7 +183,7 @@ returns-6 p =
     let k = c .before .before .before .before in
     let d = start k in
     let s = got d .0 in
-    let padded : p .page-padded .result ≡ pagePadded (page d) =
+    let padded : p .page-padded .result ≡ ifAsked (at d .args .counted) (pagePadded (page d)) =
     p .page-padded .ensures s (got d .1) (ap (λ (e : End). e .taken) (got d .2)) in
     let named = accepted-inj (sym (ap linkAnswer (l .link .given .1)) ∙ link k) in
     let counted : c .get-u16 .result ≡ length (s .numbers) = c .get-u16 .ensures ∙ field-read (page d) 1 2
@@ -194,7 +194,7 @@ returns-6 p =
     ∙ ap (λ (w : Link). accepted (told (length (s .numbers)) (lastFrom 0 (s .numbers)) (w .last) (w .off) (p .page-padded .result))) named
     ∙ ap (λ (n : ℕ). accepted (told (length (s .numbers)) (lastFrom 0 (s .numbers)) (isLastLink (linkOf (page d)))
     (linkOffset (linkOf (page d))) n)) padded
-    ∙ let-through (linkEndOf (page d)) _ (yes-read k)
+    ∙ let-through (linkEndOf (at d .args .counted) (page d)) _ (yes-read k)
 
 pub read-link-spec : {M : Type 1} → statement M
 read-link-spec =

@@ -1,4 +1,5 @@
 -- `chain_length` meets its contract: the chain decides, and tells how many numbers it has. Assumes nothing.
+use mathlib.Core.Bool.{false}
 use mathlib.Core.Path.{sym, ap, _∙_}
 use borrow.Author.Needs.{needs}
 use Rattle.error.specs.Refusal.{Answer, accepted}
@@ -32,7 +33,7 @@ returns : tie.Need-returns
 returns c =
     let e = c .before .before in
     let t = e .before .before in
-    let stop = was-refused chainEndOf (soundly (chain t)) (sym (e .chain-end .ensures) ∙ ap chainAnswer (c .enum-told .given .1)) in
+    let stop = was-refused (chainEndOf false) (soundly (chain t)) (sym (e .chain-end .ensures) ∙ ap chainAnswer (c .enum-told .given .1)) in
     sym (answered-no lengthOf _ (soundly-no _ (content-no-pages (s t) (t .args .last) (was-unsound (chain t) stop .1))))
 
 returns-2 : tie.Need-returns-2
@@ -40,7 +41,7 @@ returns-2 c =
     let g = c .before in
     let e = g .before .before in
     let t = e .before .before in
-    let got = was-accepted chainEndOf (soundly (chain t)) (sym (e .chain-end .ensures) ∙ ap chainAnswer (g .end .given .1)) in
+    let got = was-accepted (chainEndOf false) (soundly (chain t)) (sym (e .chain-end .ensures) ∙ ap chainAnswer (g .end .given .1)) in
     ap (λ (x : ChainEndOf). accepted (x .length)) (sym (got .2))
     ∙ sym (answered-yes lengthOf _ (soundly-yes _ (content-pages (s t) (t .args .last) (got .0) (was-sound (chain t) (got .1)))))
 

@@ -1,4 +1,5 @@
 -- `claim_chain` meets its contract: the chain is walked, then its pages are claimed. Assumes nothing.
+use mathlib.Core.Bool.{false}
 use mathlib.Core.Path.{_≡_, sym, ap, _∙_}
 use mathlib.Core.List.{List}
 use borrow.Author.Needs.{needs}
@@ -35,13 +36,13 @@ module _ (c : tie.After-end) where
         padded = c .end .given .0 .1 .1 .1 .0;
       }
 
-  walked : (x : Chain) × (chainAt s (at .args .last) ≡ accepted x) × (chainEndOf x ≡ end)
+  walked : (x : Chain) × (chainAt s (at .args .last) ≡ accepted x) × (chainEndOf false x ≡ end)
   walked =
-      let got = was-accepted chainEndOf _ (sym (c .before .before .chain-end .ensures) ∙ ap chainAnswer (c .end .given .1)) in
+      let got = was-accepted (chainEndOf false) _ (sym (c .before .before .chain-end .ensures) ∙ ap chainAnswer (c .end .given .1)) in
       (got .0, was-sound _ (got .1), got .2)
 
   left : PagesLeft s (end .first) (end .pages) (walked .0 .offs)
-  left = chain-left s (at .args .last) (walked .0) end (at .pre .within) (walked .1) (walked .2)
+  left = chain-left false s (at .args .last) (walked .0) end (at .pre .within) (walked .1) (walked .2)
 
   gives : (claims : List Block) → claimContent claims (soundly (contentAt s (Extent (at .args .last))))
       ≡ claimAll claims (pageBlocks (walked .0 .offs))
@@ -60,7 +61,7 @@ returns : tie.Need-returns
 returns c units lent claims m =
     let a = c .before .before .before .before .before .args in
     let s = ground (a .body .now) (a .mark) in
-    let stop = was-refused chainEndOf _ (sym (c .before .before .chain-end .ensures) ∙ ap chainAnswer (c .enum-told .given .1)) in
+    let stop = was-refused (chainEndOf false) _ (sym (c .before .before .chain-end .ensures) ∙ ap chainAnswer (c .enum-told .given .1)) in
     claims-unfit units (a .mark) lent _ claims _ m (content-unfit claims (contentAt s (Extent (a .last))) (content-no-pages s (a .last)
     (was-unsound _ stop .1)))
 
