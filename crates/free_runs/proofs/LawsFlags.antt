@@ -13,7 +13,7 @@ use lib.ListN.{length, getD, set, length-set, replicate, length-replicate}
 use lib.Seq.{getD-set-same, getD-set-other}
 use borrow.Author.Tests.{eq-eqb, ne-eqb}
 use Rattle.buffer.proofs.LawsOrder.{lt-or-ge}
-use Rattle.free_runs.specs.Steps.{flag, setFlag, Unset}
+use Rattle.free_runs.specs.Steps.{windowPages, flag, setFlag, Unset}
 
 -- A bit of a union.
 or-bit : (a b t : ℕ) → bitOr a b / 2 ^ t % 2 ≡ max (a / 2 ^ t % 2) (b / 2 ^ t % 2)
@@ -117,6 +117,6 @@ zero-word (suc n) (suc i) = zero-word n i
 pub unset-zeros : Unset (replicate 4096 0)
 unset-zeros = record { long = length-replicate {A = ℕ} 4096 0; none = λ i h. zero-word 4096 i }
 
-pub unset-flag : (words : List ℕ) → Unset words → (i : ℕ) → i < 262144 → eqb (flag words i) 1 ≡ false
+pub unset-flag : (words : List ℕ) → Unset words → (i : ℕ) → i < windowPages → eqb (flag words i) 1 ≡ false
 unfolding flag
 unset-flag words u i h = rw (u .none (i / 64) (omega arith), zero-div (2 ^ (i % 64)))

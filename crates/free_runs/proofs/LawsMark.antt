@@ -9,7 +9,7 @@ use lib.Dec.{eqb}
 use lib.ListN.{length}
 use borrow.Author.Tests.{eq-eqb, ne-eqb}
 use Rattle.free_runs.specs.Runs.{isIn}
-use Rattle.free_runs.specs.Steps.{flag, setFlag, FlagsOne, Marks}
+use Rattle.free_runs.specs.Steps.{windowPages, flag, setFlag, FlagsOne, Marks}
 use Rattle.free_runs.proofs.LawsFlags.{same-or-not, flag-set, long-set}
 
 -- ---- one page
@@ -24,7 +24,7 @@ module _ (from page next : ℕ) (words : List ℕ) where
         passed = λ p l m z. omega arith;
       }
 
-  pub one-flagged : length words ≡ 4096 → from ≤ page → page - from < 262144
+  pub one-flagged : length words ≡ 4096 → from ≤ page → page - from < windowPages
       → FlagsOne from page next words (setFlag words (page - from)) next
   one-flagged long h w =
       record {
@@ -39,7 +39,7 @@ module _ (from page next : ℕ) (words : List ℕ) where
         passed = λ p l m z. omega arith;
       }
 
-  pub one-behind : (told : ℕ) → from + 262144 ≤ page → told ≤ next → told ≤ page → FlagsOne from page next words words told
+  pub one-behind : (told : ℕ) → from + windowPages ≤ page → told ≤ next → told ≤ page → FlagsOne from page next words words told
   one-behind told h l m =
       record { flags = λ i k. rw (ne-eqb page (from + i) (λ z. omega arith)); long = refl; limit = l; passed = λ p a b z. omega arith }
 
@@ -47,11 +47,11 @@ module _ (from page next : ℕ) (words : List ℕ) where
 
 -- With this rest of a list still to be flagged, all of it is flagged at the end.
 pub record Going (mark : ℕ) (os : List ℕ) (from : ℕ) (before words rest : List ℕ) (next : ℕ) : Type 0 where
-  pub flags : (i : ℕ) → i < 262144
+  pub flags : (i : ℕ) → i < windowPages
       → eqb (flag words i) 1 || isIn ((from + i) * 4096) rest ≡ eqb (flag before i) 1 || isIn ((from + i) * 4096) os
   pub long : length words ≡ 4096
   pub limit : next ≤ mark / 4096
-  pub passed : (p : ℕ) → from + 262144 ≤ p → p < next → isIn (p * 4096) rest ≡ isIn (p * 4096) os
+  pub passed : (p : ℕ) → from + windowPages ≤ p → p < next → isIn (p * 4096) rest ≡ isIn (p * 4096) os
 
 pub turn-or : (a b c : Bool) → (a || b) || c ≡ b || (a || c)
 turn-or true true c = refl

@@ -11,7 +11,7 @@ use lib.Seq.{getD-set-same, getD-set-other}
 use borrow.Author.Tests.{eq-eqb, ne-eqb, lt-ltb, le-ltb}
 use Rattle.buffer.proofs.LawsOrder.{lt-or-ge}
 use Rattle.free_runs.specs.Runs.{isIn}
-use Rattle.free_runs.specs.Steps.{Sought}
+use Rattle.free_runs.specs.Steps.{Sought, ToGoOn}
 use Rattle.free_runs.specs.Sparse.{holds, KeepsBelow, KeepsWindow, KeepsOne, Collects, LeastFrom, beginsFrom}
 use Rattle.free_runs.proofs.LawsRuns.{or-left, or-right}
 use Rattle.free_runs.proofs.LawsMark.{same-page, none-or, turn-or}
@@ -248,7 +248,7 @@ module _ (kept : List ℕ) (page end : ℕ) where
 -- ---- the search goes on
 
 module _ (os : List ℕ) (from end : ℕ) (kept : List ℕ) (count : ℕ) (c : Collects os from end kept count end)
-    (n page start : ℕ) (s : Sought n page start os) (pos : 0 < n) (short : page < start + n) (low : from ≤ page)
+    (n page start : ℕ) (s : Sought n page start os) (g : ToGoOn page start n) (low : from ≤ page)
     (next : ℕ) (l : LeastFrom kept count page end next)
   where
     -- up to the next page that is freed, or the end
@@ -260,7 +260,8 @@ module _ (os : List ℕ) (from end : ℕ) (kept : List ℕ) (count : ℕ) (c : C
         ⊎-elim
         (λ (h : page < next).
         subst (λ (t : Bool). Sought n next (cond t next start) os) (sym (lt-ltb page next h))
-        (sought-past n page start os s next pos short h (λ p m k. sym (c .tells p (omega arith) (omega arith)) ∙ l .none-below p m k)))
+        (sought-past n page start os s next (g .some-pages) (g .short) h
+        (λ p m k. sym (c .tells p (omega arith) (omega arith)) ∙ l .none-below p m k)))
         (λ (h : next ≤ page).
         subst (λ (t : Bool). Sought n next (cond t next start) os) (sym (le-ltb page next h))
         (let z : page ≡ next = omega arith in subst (λ (q : ℕ). Sought n q start os) z s))
@@ -272,13 +273,17 @@ module _ (os : List ℕ) (from end : ℕ) (kept : List ℕ) (count : ℕ) (c : C
         let a = l .low in
         sought-freed n next (beginsFrom start page next) os begins-there (sym (c .tells next (omega arith) h) ∙ l .held h)
 
-pub begins-short : (start page next n : ℕ) → start ≤ page → page < start + n → page ≤ next → 0 < n
-    → (beginsFrom start page next ≤ next) × (next < beginsFrom start page next + n)
+pub begins-on : (start page next n : ℕ) → ToGoOn page start n → page ≤ next → ToGoOn next (beginsFrom start page next) n
 unfolding beginsFrom
-begins-short start page next n a b c d =
+begins-on start page next n g h =
+    let some = g .some-pages in
+    let begun = g .begun in
+    let short = g .short in
     ⊎-elim
-    (λ (h : page < next).
-    subst (λ (t : Bool). (cond t next start ≤ next) × (next < cond t next start + n)) (sym (lt-ltb page next h)) (omega arith, omega arith))
-    (λ (h : next ≤ page).
-    subst (λ (t : Bool). (cond t next start ≤ next) × (next < cond t next start + n)) (sym (le-ltb page next h)) (omega arith, omega arith))
+    (λ (k : page < next).
+    subst (λ (t : Bool). ToGoOn next (cond t next start) n) (sym (lt-ltb page next k))
+    (record { some-pages = some; begun = omega arith; short = omega arith }))
+    (λ (k : next ≤ page).
+    subst (λ (t : Bool). ToGoOn next (cond t next start) n) (sym (le-ltb page next k))
+    (record { some-pages = some; begun = omega arith; short = omega arith }))
     (lt-or-ge page next)

@@ -1,14 +1,12 @@
 // Flags of the pages of a window: those of a free list are set, and searched for a stretch.
 ghost use mathlib.Core.Path.{_≡_};
-ghost use mathlib.Core.Bool.{true};
 ghost use mathlib.Core.List.{List};
-ghost use Prim.Native.Nat.{ℕ, _+_, _-_, _/_, _^_, _≤_, _<_, min};
+ghost use Prim.Native.Nat.{ℕ, _-_, _<_, min};
 ghost use lib.ListN.{length};
-ghost use Rattle.free_runs.specs.PageList.{walked, pagesEnd};
-ghost use Rattle.free_runs.specs.Steps.{setFlag, Flags, FlagsOne, Marks, Sought, Unset};
+ghost use Rattle.free_runs.specs.Steps.{windowPages, setFlag, Flags, FlagsOne, FlagsList, Sought, ToFlag, ToScanFlags, Unset};
 use scripthash_layout::SH_PAGE_BYTES;
 
-// The pages of a window: 4,096 words have a flag for each.
+// The pages of a window, as `windowPages` says: 4,096 words have a flag for each.
 pub const WINDOW: u64 = 262144;
 
 // Sets all words to 0.
@@ -25,7 +23,7 @@ pub fn clear(words: &mut [u64; 4096])
 
 // Sets a flag.
 pub fn set_flag(words: &mut [u64; 4096], i: usize)
-    requires { ⌜ i < 262144 ⌝ }
+    requires { ⌜ i < windowPages ⌝ }
     ensures { λ _. ⌜ now (words .exit) ≡ setFlag (now (words .entry)) i ⌝ }
 {
     let at = i / 64;
@@ -68,11 +66,8 @@ pub fn flag_pages(
     words: &mut [u64; 4096],
     from: u64,
 ) -> Flagged
-    requires { ⌜ (length (now words) ≡ 4096) × (mark ≤ length (now body)) ⌝ }
-    ensures passes { λ r. ⌜ r .passes ≡ pagesEnd mark count (now (body .entry)) head ⌝ }
-    ensures marks { λ r. ⌜ (pagesEnd mark count (now (body .entry)) head ≡ true
-        → Marks mark (walked count (now (body .entry)) head) from (now (words .entry)) (now (words .exit)) (r .next)) ⌝ }
-    ensures long { λ r. ⌜ length (now (words .exit)) ≡ 4096 ⌝ }
+    requires { ⌜ ToFlag mark (now body) (now words) ⌝ }
+    ensures { λ r. ⌜ FlagsList mark count (now (body .entry)) head from (now (words .entry)) (now (words .exit)) (r .passes) (r .next) ⌝ }
 {
     let mut at = head;
     let mut left = count;
@@ -104,7 +99,7 @@ pub fn lower(a: u64, b: u64) -> u64
 // Goes on with the search for so many pages over the flags of the pages from one on, up to an end. Gives the first page from which a
 // stretch can begin: it is found where so many pages from there on are below the end.
 pub fn scan(words: &[u64; 4096], from: u64, end: u64, start: u64, pages: u64) -> u64
-    requires { ⌜ (start ≤ from) × (from ≤ end) × (end ≤ from + 262144) × (from < start + pages) × (end < 2 ^ 53) × (0 < pages) ⌝ }
+    requires { ⌜ ToScanFlags from end start pages ⌝ }
     ensures { λ r. ⌜ ((os : List ℕ) → Flags (now (words .entry)) from (end - from) os → Sought pages from start os
         → Sought pages end r os) ⌝ }
 {

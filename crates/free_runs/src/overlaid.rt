@@ -1,14 +1,7 @@
 // All windows of a body laid over each other: a flag is set where a page of any of them is freed. So many pages side by side set as many
 // flags side by side, the first flag being behind the last, and where there are fewer no stretch is freed.
-ghost use mathlib.Core.Path.{_≡_};
-ghost use mathlib.Core.Bool.{true};
-ghost use mathlib.Core.Option.{none};
-ghost use Prim.Native.Nat.{_≤_, _<_};
-ghost use lib.ListN.{length};
-ghost use Rattle.free_runs.specs.Runs.{lowest};
-ghost use Rattle.free_runs.specs.PageList.{walked, pagesEnd};
-ghost use Rattle.free_runs.specs.Steps.{Unset};
-ghost use Rattle.free_runs.specs.Overlaid.{Overlays};
+ghost use Rattle.free_runs.specs.Steps.{ToFlag};
+ghost use Rattle.free_runs.specs.Overlaid.{OverlaysList, RulesOut, ToRuleOut};
 use crate::flags::WINDOW;
 use crate::flags::scan;
 use crate::flags::set_flag;
@@ -16,11 +9,8 @@ use scripthash_layout::SH_PAGE_BYTES;
 
 // Walks a free list of so many pages: tells whether each can stand below the mark and the list ends then, and flags each.
 fn overlay_pages(body: &[u8], mark: u64, head: u64, count: u64, words: &mut [u64; 4096]) -> bool
-    requires { ⌜ (length (now words) ≡ 4096) × (mark ≤ length (now body)) ⌝ }
-    ensures passes { λ r. ⌜ r ≡ pagesEnd mark count (now (body .entry)) head ⌝ }
-    ensures overlays { λ r. ⌜ (pagesEnd mark count (now (body .entry)) head ≡ true
-        → Overlays (walked count (now (body .entry)) head) (now (words .entry)) (now (words .exit))) ⌝ }
-    ensures long { λ r. ⌜ length (now (words .exit)) ≡ 4096 ⌝ }
+    requires { ⌜ ToFlag mark (now body) (now words) ⌝ }
+    ensures { λ r. ⌜ OverlaysList mark count (now (body .entry)) head (now (words .entry)) (now (words .exit)) r ⌝ }
 {
     let mut at = head;
     let mut left = count;
@@ -51,11 +41,8 @@ pub fn rule_out(
     words: &mut [u64; 4096],
     pages: u64,
 ) -> Ruled
-    requires { ⌜ Unset (now words) × (mark ≤ length (now body)) × (0 < pages) ⌝ }
-    ensures passes { λ r. ⌜ r .passes ≡ pagesEnd mark count (now (body .entry)) head ⌝ }
-    ensures rules { λ r. ⌜ (pagesEnd mark count (now (body .entry)) head ≡ true → r .none ≡ true
-        → lowest pages (walked count (now (body .entry)) head) ≡ none) ⌝ }
-    ensures long { λ r. ⌜ length (now (words .exit)) ≡ 4096 ⌝ }
+    requires { ⌜ ToRuleOut mark (now body) (now words) pages ⌝ }
+    ensures { λ r. ⌜ RulesOut mark count (now (body .entry)) head pages (r .passes) (r .none) (now (words .exit)) ⌝ }
 {
     if !overlay_pages(body, mark, head, count, words) {
         return Ruled {

@@ -1,11 +1,10 @@
 // The search of the list of freed pages: the list is judged, and the lowest stretch of so many pages side by side is found, a window at
 // a time.
 ghost use mathlib.Core.Path.{_≡_};
-ghost use mathlib.Core.Bool.{true};
-ghost use Prim.Native.Nat.{_+_, _-_, _*_, _/_, _≤_, _<_};
+ghost use Prim.Native.Nat.{_≤_};
 ghost use lib.ListN.{length};
-ghost use Rattle.free_runs.specs.PageList.{walked, pagesEnd, runSought};
-ghost use Rattle.free_runs.specs.Steps.{Looks};
+ghost use Rattle.free_runs.specs.PageList.{pagesEnd, runSought, ToSeek};
+ghost use Rattle.free_runs.specs.Steps.{LooksAt, ToLook, ToLookFar, ToLookOn, ToSearch};
 ghost use Rattle.free_runs.specs.Answers.{foundAnswer};
 use crate::flags::WINDOW;
 use crate::flags::clear;
@@ -54,12 +53,9 @@ fn look_near(
     start: u64,
     pages: u64,
 ) -> Looked
-    requires { ⌜ (length (now words) ≡ 4096) × (mark ≤ length (now body)) × (start ≤ from) × (from < mark / 4096)
-        × (from < start + pages) × (0 < pages) ⌝ }
-    ensures passes { λ r. ⌜ r .passes ≡ pagesEnd mark count (now (body .entry)) head ⌝ }
-    ensures looks { λ r. ⌜ (pagesEnd mark count (now (body .entry)) head ≡ true
-        → Looks mark (walked count (now (body .entry)) head) from (r .end) start pages (r .start) (r .next)) ⌝ }
-    ensures long { λ r. ⌜ length (now (words .exit)) ≡ 4096 ⌝ }
+    requires { ⌜ ToLook mark (now body) (now words) from start pages ⌝ }
+    ensures { λ r. ⌜ LooksAt
+        mark count (now (body .entry)) head from start pages (r .passes) (r .end) (r .start) (r .next) (now (words .exit)) ⌝ }
 {
     clear(words);
     let end = lower(from + WINDOW, mark / SH_PAGE_BYTES);
@@ -84,12 +80,9 @@ fn look_far(
     start: u64,
     pages: u64,
 ) -> Looked
-    requires { ⌜ (length (now words) ≡ 4096) × (pagesEnd mark count (now body) head ≡ true) × (mark ≤ length (now body))
-        × (start ≤ from) × (from < mark / 4096) × (from < start + pages) × (0 < pages) ⌝ }
-    ensures passes { λ r. ⌜ r .passes ≡ pagesEnd mark count (now (body .entry)) head ⌝ }
-    ensures looks { λ r. ⌜ (pagesEnd mark count (now (body .entry)) head ≡ true
-        → Looks mark (walked count (now (body .entry)) head) from (r .end) start pages (r .start) (r .next)) ⌝ }
-    ensures long { λ r. ⌜ length (now (words .exit)) ≡ 4096 ⌝ }
+    requires { ⌜ ToLookFar mark count (now body) head (now words) from start pages ⌝ }
+    ensures { λ r. ⌜ LooksAt
+        mark count (now (body .entry)) head from start pages (r .passes) (r .end) (r .start) (r .next) (now (words .exit)) ⌝ }
 {
     let got = collect(body, mark, head, count, words, from, mark / SH_PAGE_BYTES);
     let kept = got.count;
@@ -117,12 +110,9 @@ fn look(
     start: u64,
     pages: u64,
 ) -> Looked
-    requires { ⌜ (length (now words) ≡ 4096) × (0 < from → pagesEnd mark count (now body) head ≡ true) × (mark ≤ length (now body))
-        × (start ≤ from) × (from < mark / 4096) × (from < start + pages) × (0 < pages) ⌝ }
-    ensures passes { λ r. ⌜ r .passes ≡ pagesEnd mark count (now (body .entry)) head ⌝ }
-    ensures looks { λ r. ⌜ (pagesEnd mark count (now (body .entry)) head ≡ true
-        → Looks mark (walked count (now (body .entry)) head) from (r .end) start pages (r .start) (r .next)) ⌝ }
-    ensures long { λ r. ⌜ length (now (words .exit)) ≡ 4096 ⌝ }
+    requires { ⌜ ToLookOn mark count (now body) head (now words) from start pages ⌝ }
+    ensures { λ r. ⌜ LooksAt
+        mark count (now (body .entry)) head from start pages (r .passes) (r .end) (r .start) (r .next) (now (words .exit)) ⌝ }
 {
     if from == 0 {
         return look_near(body, mark, head, count, words, from, start, pages);
@@ -149,7 +139,7 @@ fn search_windows(
     words: &mut [u64; 4096],
     pages: u64,
 ) -> FoundRun
-    requires { ⌜ (length (now words) ≡ 4096) × (4096 ≤ mark) × (mark ≤ length (now body)) × (0 < pages) ⌝ }
+    requires { ⌜ ToSearch mark (now body) (now words) pages ⌝ }
     ensures { λ r. ⌜ foundAnswer r ≡ runSought mark count (now (body .entry)) head pages ⌝ }
 {
     let limit = mark / SH_PAGE_BYTES;
@@ -180,7 +170,7 @@ fn search_windows(
 // Finds the lowest stretch of so many pages, one or more, in a free list of so many pages. In a body that one window doesn't cover, it is
 // looked for in all windows laid over each other first, which can rule it out.
 pub fn find_run(body: &[u8], mark: u64, head: u64, count: u64, pages: u64) -> FoundRun
-    requires { ⌜ (4096 ≤ mark) × (mark ≤ length (now body)) × (0 < pages) ⌝ }
+    requires { ⌜ ToSeek mark (now body) pages ⌝ }
     ensures { λ r. ⌜ foundAnswer r ≡ runSought mark count (now (body .entry)) head pages ⌝ }
 {
     let mut words = [0u64; 4096];
@@ -200,7 +190,7 @@ pub fn find_run(body: &[u8], mark: u64, head: u64, count: u64, pages: u64) -> Fo
 // Finds the lowest stretch of so many pages, one or more, in a free list of so many pages. A list that is shorter is only judged, and one
 // of as many pages as lie below the mark doesn't pass: no walk takes as many steps as that.
 pub fn seek_run(body: &[u8], mark: u64, head: u64, count: u64, pages: u64) -> FoundRun
-    requires { ⌜ (4096 ≤ mark) × (mark ≤ length (now body)) × (0 < pages) ⌝ }
+    requires { ⌜ ToSeek mark (now body) pages ⌝ }
     ensures { λ r. ⌜ foundAnswer r ≡ runSought mark count (now (body .entry)) head pages ⌝ }
 {
     if count >= mark / SH_PAGE_BYTES {

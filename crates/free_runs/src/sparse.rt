@@ -1,13 +1,12 @@
 // Windows with few freed pages: up to 4,096 of them are kept in the order in which they come, and the window ends where more would have
 // to be kept.
 ghost use mathlib.Core.Path.{_≡_};
-ghost use mathlib.Core.Bool.{true};
 ghost use mathlib.Core.List.{List};
-ghost use Prim.Native.Nat.{ℕ, _+_, _^_, _≤_, _<_};
-ghost use lib.ListN.{length};
-ghost use Rattle.free_runs.specs.PageList.{walked, pagesEnd};
+ghost use Prim.Native.Nat.{ℕ};
+ghost use Rattle.free_runs.specs.PageList.{walked};
 ghost use Rattle.free_runs.specs.Steps.{Sought};
-ghost use Rattle.free_runs.specs.Sparse.{KeepsBelow, KeepsOne, KeepsWindow, Collects, LeastFrom, beginsFrom};
+ghost use Rattle.free_runs.specs.Sparse.{KeepsBelow, KeepsOne, MakesRoom, Collects, LeastFrom, beginsFrom};
+ghost use Rattle.free_runs.specs.Sparse.{KeptPlaces, ToKeep, ToCollect, ToFindLeast, ToScanKept};
 use crate::flags::WINDOW;
 use crate::flags::lower;
 use scripthash_layout::SH_PAGE_BYTES;
@@ -20,7 +19,7 @@ pub struct Room {
 
 // Keeps only the pages below an end. Gives how many they are.
 fn drop_behind(kept: &mut [u64; 4096], count: usize, end: u64) -> usize
-    requires { ⌜ (length (now kept) ≡ 4096) × (count ≤ 4096) ⌝ }
+    requires { ⌜ KeptPlaces (now kept) count ⌝ }
     ensures { λ r. ⌜ KeepsBelow end (now (kept .entry)) count (now (kept .exit)) r ⌝ }
 {
     let mut i: usize = 0;
@@ -39,8 +38,8 @@ fn drop_behind(kept: &mut [u64; 4096], count: usize, end: u64) -> usize
 // Takes an eighth off a window from a page on until not all of the 4,096 places are taken by pages of it. It ends where it begins if
 // more than that lie in one that flags have room for.
 fn make_room(kept: &mut [u64; 4096], count: usize, from: u64, end: u64) -> Room
-    requires { ⌜ (length (now kept) ≡ 4096) × (count ≤ 4096) × (from ≤ end) ⌝ }
-    ensures { λ r. ⌜ KeepsWindow from end (now (kept .entry)) count (now (kept .exit)) (r .count) (r .end) × (r .count < 4096) ⌝ }
+    requires { ⌜ ToKeep (now kept) count from end ⌝ }
+    ensures { λ r. ⌜ MakesRoom from end (now (kept .entry)) count (now (kept .exit)) (r .count) (r .end) ⌝ }
 {
     let mut count = count;
     let mut end = end;
@@ -59,7 +58,7 @@ fn make_room(kept: &mut [u64; 4096], count: usize, from: u64, end: u64) -> Room
 
 // Keeps a page too if it lies in the window, which may end earlier then.
 fn keep(kept: &mut [u64; 4096], count: usize, from: u64, end: u64, page: u64) -> Room
-    requires { ⌜ (length (now kept) ≡ 4096) × (count ≤ 4096) × (from ≤ end) ⌝ }
+    requires { ⌜ ToKeep (now kept) count from end ⌝ }
     ensures { λ r. ⌜ KeepsOne from end page (now (kept .entry)) count (now (kept .exit)) (r .count) (r .end) ⌝ }
 {
     if page < from {
@@ -94,8 +93,7 @@ pub fn collect(
     from: u64,
     end: u64,
 ) -> Room
-    requires { ⌜ (length (now kept) ≡ 4096) × (mark ≤ length (now body)) × (pagesEnd mark count (now body) head ≡ true)
-        × (from ≤ end) ⌝ }
+    requires { ⌜ ToCollect mark count (now body) head (now kept) from end ⌝ }
     ensures { λ r. ⌜ Collects (walked count (now (body .entry)) head) from end (now (kept .exit)) (r .count) (r .end) ⌝ }
 {
     let mut at = head;
@@ -117,7 +115,7 @@ pub fn collect(
 
 // The least page kept from one on and below an end, or the end.
 fn least_from(kept: &[u64; 4096], count: usize, page: u64, end: u64) -> u64
-    requires { ⌜ (count ≤ 4096) × (page ≤ end) ⌝ }
+    requires { ⌜ ToFindLeast count page end ⌝ }
     ensures { λ r. ⌜ LeastFrom (now (kept .entry)) count page end r ⌝ }
 {
     let mut least = end - page;
@@ -148,7 +146,7 @@ pub fn scan_kept(
     start: u64,
     pages: u64,
 ) -> u64
-    requires { ⌜ (count ≤ 4096) × (start ≤ from) × (from ≤ end) × (from < start + pages) × (end < 2 ^ 53) × (0 < pages) ⌝ }
+    requires { ⌜ ToScanKept count from end start pages ⌝ }
     ensures { λ r. ⌜ ((os : List ℕ) → Collects os from end (now (kept .entry)) count end → Sought pages from start os
         → Sought pages end r os) ⌝ }
 {

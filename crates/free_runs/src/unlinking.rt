@@ -1,14 +1,13 @@
 // Taking the pages of a run out of the list of freed pages: the others keep their order, and only links that change are written.
 ghost use mathlib.Core.Path.{_≡_};
 ghost use mathlib.Core.Bool.{true};
-ghost use Prim.Native.Nat.{_+_, _-_, _≤_, _<_};
+ghost use Prim.Native.Nat.{_≤_};
 ghost use lib.ListN.{length};
 ghost use Rattle.free_runs.specs.Runs.{leftOf};
 ghost use Rattle.free_runs.specs.PageList.{walked, pagesEnd, topOf, relinked};
-ghost use Rattle.free_runs.specs.Steps.{PassedOver};
+ghost use Rattle.free_runs.specs.Steps.{JudgedList, PassedOver, ToRelink};
 ghost use Rattle.buffer.specs.Bytes.{overwrite};
 ghost use Rattle.buffer.specs.LittleEndian.{bytesOf};
-ghost use Rattle.scripthash_free.specs.FreeList.{nextOf};
 
 // A place in a free list: an offset, 0 at the end, and how many pages the list has from there on.
 struct Place {
@@ -18,7 +17,7 @@ struct Place {
 
 // The first place of a free list, from one on, whose page lies outside a run.
 fn pass_over(body: &[u8], mark: u64, at: u64, left: u64, from: u64, end: u64) -> Place
-    requires { ⌜ (mark ≤ length (now body)) × (pagesEnd mark left (now body) at ≡ true) ⌝ }
+    requires { ⌜ JudgedList mark left (now body) at ⌝ }
     ensures { λ r. ⌜ PassedOver mark (now (body .entry)) from end at left (r .at) (r .left) ⌝ }
 {
     let mut at = at;
@@ -38,7 +37,7 @@ fn pass_over(body: &[u8], mark: u64, at: u64, left: u64, from: u64, end: u64) ->
 
 // Links a freed page to another, where its link is another one so far.
 fn relink(body: &mut [u8], at: u64, link: u64, to: u64)
-    requires { ⌜ (at + 8 ≤ length (now body)) × (link ≡ nextOf (now body) at) ⌝ }
+    requires { ⌜ ToRelink (now body) at link ⌝ }
     ensures { λ _. ⌜ now (body .exit) ≡ overwrite (now (body .entry)) at (bytesOf 8 to) ⌝ }
 {
     if link != to {

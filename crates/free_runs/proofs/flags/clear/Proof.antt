@@ -1,5 +1,6 @@
 -- `clear` meets its contract. Invariant: the words before are 0. Assumes nothing.
 use Prim.Native.Nat.{ℕ, _-_, _≤_, _<_}
+use mathlib.Core.List.{List}
 use mathlib.Core.Logic.{⊎-elim}
 use mathlib.Core.Path.{_≡_, _∙_}
 use native.Mathlib.Omega.{arith}
@@ -10,15 +11,20 @@ use Rattle.buffer.proofs.LawsOrder.{lt-or-ge}
 use Rattle.free_runs.proofs.flags.clear.Statement.{statement}
 use Rattle.free_runs.proofs.flags.clear.Tie as tie
 
+-- What is known in the middle: the words before are 0.
+record Clearing (words : List ℕ) (i : ℕ) : Type 0 where
+  inside : i ≤ 4096
+  long : length words ≡ 4096
+  none-before : (j : ℕ) → j < i → getD words j 0 ≡ 0
+
 abbrev Inv-loop : tie.InvT-loop
-Inv-loop words₀ i₀ words i =
-    (i ≤ 4096) × (length words ≡ 4096) × ((j : ℕ) → j < i → getD words j 0 ≡ 0)
+Inv-loop words₀ i₀ words i = Clearing words i
 
 abbrev μ-loop : tie.MeasureT-loop
 μ-loop words₀ i₀ words i = 4096 - i
 
 loop-holds : tie.Need-loop-holds Inv-loop μ-loop
-loop-holds c = (omega arith, c .pre, λ j h. absurd (omega arith))
+loop-holds c = record { inside = omega arith; long = c .pre; none-before = λ j h. absurd (omega arith) }
 
 mul-words : tie.Need-mul-words Inv-loop μ-loop
 mul-words c = search needs
@@ -35,20 +41,21 @@ loop-less c = omega arith
 loop-again : tie.Need-loop-again Inv-loop μ-loop
 loop-again c =
     let l = c .before .loop in
-    let e = l .inv .1 in (
-      omega arith,
-      length-set (l .words) (l .i) 0 ∙ e,
-      λ j h.
-          ⊎-elim (λ (k : j < l .i). getD-set-other (l .words) (l .i) j 0 0 (λ z. omega arith) ∙ l .inv .2 j k)
+    let e = l .inv .long in
+    record {
+      inside = omega arith;
+      long = length-set (l .words) (l .i) 0 ∙ e;
+      none-before = λ j h.
+          ⊎-elim (λ (k : j < l .i). getD-set-other (l .words) (l .i) j 0 0 (λ z. omega arith) ∙ l .inv .none-before j k)
           (λ (k : l .i ≤ j). let z : j ≡ l .i = omega arith in rw z (getD-set-same (l .words) (l .i) 0 0 (omega arith)))
-          (lt-or-ge j (l .i)),
-    )
+          (lt-or-ge j (l .i));
+    }
 
 returns : tie.Need-returns Inv-loop μ-loop
 returns c =
     let l = c .before .loop in
     let z : l .i ≡ 4096 = omega arith in
-    record { long = l .inv .1; none = λ j h. l .inv .2 j (omega arith) }
+    record { long = l .inv .long; none = λ j h. l .inv .none-before j (omega arith) }
 
 pub clear-spec : {M : Type 1} → statement M
 clear-spec =

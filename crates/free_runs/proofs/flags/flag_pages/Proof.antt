@@ -1,6 +1,8 @@
 -- `flag_pages` meets its contract. Invariant: what is left of the list tells it of all, and with it all of the list is flagged at the end.
 -- Assumes nothing.
+use Prim.Native.Nat.{ℕ}
 use mathlib.Core.Bool.{true≢false}
+use mathlib.Core.List.{List}
 use mathlib.Core.Path.{_≡_, refl, sym, _∙_}
 use native.Mathlib.Omega.{arith}
 use borrow.Author.Needs.{needs}
@@ -12,16 +14,22 @@ use Rattle.free_runs.proofs.LawsMark.{Going, going-starts, going-on, go
 use Rattle.free_runs.proofs.flags.flag_pages.Statement.{statement}
 use Rattle.free_runs.proofs.flags.flag_pages.Tie as tie
 
+-- What is known in the middle of a walk.
+record Flagging (mark count : ℕ) (body : List ℕ) (head from : ℕ) (words₀ words : List ℕ) (at left next : ℕ) : Type 0 where
+  -- What is left of the list tells of all whether it passes.
+  tells : pagesEnd mark left body at ≡ pagesEnd mark count body head
+  -- With it all of the list is flagged at the end.
+  going : Going mark (walked count body head) from words₀ words (walked left body at) next
+
 abbrev Inv-loop : tie.InvT-loop
 Inv-loop body mark head count words₀ from at₀ left₀ next₀ words at left next =
-    (pagesEnd mark left body at ≡ pagesEnd mark count body head)
-    × Going mark (walked count body head) from words₀ words (walked left body at) next
+    Flagging mark count body head from words₀ words at left next
 
 abbrev μ-loop : tie.MeasureT-loop
 μ-loop body mark head count words₀ from at₀ left₀ next₀ words at left next = left
 
 loop-holds : tie.Need-loop-holds Inv-loop μ-loop
-loop-holds c = (refl, going-starts _ _ _ _ (c .before .pre .0))
+loop-holds c = record { tells = refl; going = going-starts _ _ _ _ (c .before .pre .long) }
 
 is-page-requires : tie.Need-is-page-requires Inv-loop μ-loop
 is-page-requires c κs = search needs
@@ -30,22 +38,28 @@ returns : tie.Need-returns Inv-loop μ-loop
 returns c =
     let l = c .before .before .before .loop in
     let stray = sym (c .before .is-page .ensures) ∙ not-true _ (c .if1 .taken) in
-    let all = sym (ends-strays _ _ (l .left) (l .at) (omega arith) stray) ∙ l .inv .0 in
-    (all, (λ e. absurd (true≢false (sym e ∙ sym all)), l .inv .1 .long))
+    let all = sym (ends-strays _ _ (l .left) (l .at) (omega arith) stray) ∙ l .inv .tells in
+    record { passed = all; marks = λ e. absurd (true≢false (sym e ∙ sym all)); long = l .inv .going .long }
 
 flag-page-requires : tie.Need-flag-page-requires Inv-loop μ-loop
-flag-page-requires c κs = c .before .before .before .before .loop .inv .1 .long
+flag-page-requires c κs = c .before .before .before .before .loop .inv .going .long
 
 -- a page that can stand
 module _ (c : tie.Else1 Inv-loop μ-loop) where
-  stands : Standing 8 (c .before .before .before .loop .at) (c .before .before .before .before .before .args .mark)
+  abbrev here : tie.At-loop Inv-loop μ-loop
+  here = c .before .before .before
+
+  abbrev first : tie.Start Inv-loop μ-loop
+  first = here .before .before
+
+  stands : Standing 8 (here .loop .at) (first .args .mark)
   stands = block-stands 8 _ _ (sym (c .before .is-page .ensures) ∙ not-false _ (c .if1 .left))
 
 get-u64-requires : tie.Need-get-u64-requires Inv-loop μ-loop
 get-u64-requires c κs =
     let d = c .before .before in
     let s = stands d .ends in
-    let p = d .before .before .before .before .before .pre .1 in
+    let p = first d .pre .within in
     omega arith
 
 sub-left : tie.Need-sub-left Inv-loop μ-loop
@@ -57,21 +71,26 @@ loop-less c = omega arith
 loop-again : tie.Need-loop-again Inv-loop μ-loop
 loop-again c =
     let d = c .before .before .before in
-    let l = d .before .before .before .loop in
-    let a = d .before .before .before .before .before .args in
+    let l = here d .loop in
+    let a = first d .args in
     let yes = sym (d .before .is-page .ensures) ∙ not-false _ (d .if1 .left) in
-    rw (c .get-u64 .ensures) (
-      sym (ends-step (a .mark) (a .body .now) (l .left) (l .at) (omega arith) yes) ∙ l .inv .0,
-      going-on _ _ _ _ (l .words) _ (l .at) _ (l .next) _ (stands d .aligned)
-          (rw (walked-step (a .mark) (a .body .now) (l .left) (l .at) (omega arith)) at (l .inv .1)) (c .before .flag-page .ensures),
-    )
+    rw (c .get-u64 .ensures)
+    (record {
+      tells = sym (ends-step (a .mark) (a .body .now) (l .left) (l .at) (omega arith) yes) ∙ l .inv .tells;
+      going = going-on _ _ _ _ (l .words) _ (l .at) _ (l .next) _ (stands d .aligned)
+          (rw (walked-step (a .mark) (a .body .now) (l .left) (l .at) (omega arith)) at (l .inv .going)) (c .before .flag-page .ensures);
+    })
 
 returns-2 : tie.Need-returns-2 Inv-loop μ-loop
 unfolding walked
 returns-2 c =
     let l = c .before .loop in
     let z : l .left ≡ 0 = omega arith in
-    (sym (ends-none _ _ (l .at)) ∙ (rw z at (l .inv .0)), (λ e. going-done _ _ _ _ _ _ (rw z at (l .inv .1)), l .inv .1 .long))
+    record {
+      passed = sym (ends-none _ _ (l .at)) ∙ (rw z at (l .inv .tells));
+      marks = λ e. going-done _ _ _ _ _ _ (rw z at (l .inv .going));
+      long = l .inv .going .long;
+    }
 
 pub flag-pages-spec : {M : Type 1} → statement M
 flag-pages-spec =

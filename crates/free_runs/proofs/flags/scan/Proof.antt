@@ -9,16 +9,21 @@ use borrow.Author.Tests.{ne-eqb}
 use lib.Dec.{eqb}
 use lib.ListN.{getD}
 use Rattle.free_runs.specs.Runs.{isIn}
-use Rattle.free_runs.specs.Steps.{flag, Flags, Sought}
+use Rattle.free_runs.specs.Steps.{flag, Flags, Sought, ToGoOn}
 use Rattle.free_runs.proofs.LawsFlags.{no-flags}
 use Rattle.free_runs.proofs.LawsSought.{sought-freed, sought-found, sought-past}
 use Rattle.free_runs.proofs.flags.scan.Statement.{statement}
 use Rattle.free_runs.proofs.flags.scan.Tie as tie
 
+-- What is known in the middle: the search has come to the page.
+record Scanning (words : List ℕ) (from end start pages start' page : ℕ) : Type 0 where
+  low : from ≤ page
+  high : page ≤ end
+  goes-on : ToGoOn page start' pages
+  sought : (os : List ℕ) → Flags words from (end - from) os → Sought pages from start os → Sought pages page start' os
+
 abbrev Inv-loop : tie.InvT-loop
-Inv-loop words from end start pages start₀ page₀ start' page =
-    (from ≤ page) × (page ≤ end) × (start' ≤ page) × (page < start' + pages)
-    × ((os : List ℕ) → Flags words from (end - from) os → Sought pages from start os → Sought pages page start' os)
+Inv-loop words from end start pages start₀ page₀ start' page = Scanning words from end start pages start' page
 
 abbrev μ-loop : tie.MeasureT-loop
 μ-loop words from end start pages start₀ page₀ start' page = end - page
@@ -40,8 +45,17 @@ empty words from end page os f l e to h k p m n =
     let t : eqb (flag words (p - from)) 1 ≡ isIn (p * 4096) os = rw z at (f .tells (p - from) (omega arith)) in
     sym t ∙ no-flags words (page - from) (p - from) e (omega arith) (omega arith)
 
+-- a flag that is set
+module _ (c : tie.Then2 Inv-loop μ-loop) where
+  abbrev here : tie.At-loop Inv-loop μ-loop
+  here = c .before .before .before .before
+
+  abbrev first : tie.Start Inv-loop μ-loop
+  first = here .before
+
 loop-holds : tie.Need-loop-holds Inv-loop μ-loop
-loop-holds c = (omega arith, omega arith, omega arith, omega arith, λ os f s. s)
+loop-holds c =
+    record { low = omega arith; high = omega arith; goes-on = c .pre .to-scan .to-go-on; sought = λ os f s. s }
 
 sub-i : tie.Need-sub-i Inv-loop μ-loop
 sub-i c = omega arith
@@ -69,18 +83,20 @@ loop-less c = omega arith
 
 loop-again : tie.Need-loop-again Inv-loop μ-loop
 loop-again c =
-    let l = c .before .before .before .before .loop in
-    let a = c .before .before .before .before .before .args in
-    let e = c .lower .ensures in (
-      omega arith,
-      omega arith,
-      omega arith,
-      omega arith,
-      λ os f s.
-          sought-past (a .pages) (l .page) (l .start) os (l .inv .4 os f s) (c .lower .result) (omega arith) (omega arith) (omega arith)
+    let h = c .before .before .before .before in
+    let l = h .loop in
+    let a = h .before .args in
+    let e = c .lower .ensures in
+    record {
+      low = omega arith;
+      high = omega arith;
+      goes-on = record { some-pages = omega arith; begun = omega arith; short = omega arith };
+      sought = λ os f s.
+          sought-past (a .pages) (l .page) (l .start) os (l .inv .sought os f s) (c .lower .result) (omega arith) (omega arith)
+          (omega arith)
           (empty (a .words .now) (a .from) (a .end) (l .page) os f (omega arith) (omega (arith, c .before .if1 .taken)) (c .lower .result)
-          (omega arith) (omega arith)),
-    )
+          (omega arith) (omega arith));
+    }
 
 add-page : tie.Need-add-page Inv-loop μ-loop
 add-page c = omega arith
@@ -90,55 +106,56 @@ sub-if3 c = omega arith
 
 returns : tie.Need-returns Inv-loop μ-loop
 returns c os f s =
-    let l = c .before .before .before .before .before .loop in
-    let a = c .before .before .before .before .before .before .args in
+    let l = here (c .before) .loop in
+    let a = first (c .before) .args in
     let yes = sym (told (a .words .now) (a .from) (a .end) (l .page) os 1 f (omega arith) (omega arith)
     (omega (arith, c .before .if2 .taken))) in
-    sought-found (a .pages) (l .page + 1) (l .start) os (sought-freed (a .pages) (l .page) (l .start) os (l .inv .4 os f s) yes) (a .end)
-    (omega arith) (omega arith)
+    sought-found (a .pages) (l .page + 1) (l .start) os (sought-freed (a .pages) (l .page) (l .start) os (l .inv .sought os f s) yes)
+    (a .end) (omega arith) (omega arith)
 
 loop-less-2 : tie.Need-loop-less-2 Inv-loop μ-loop
 loop-less-2 c = omega arith
 
 loop-again-2 : tie.Need-loop-again-2 Inv-loop μ-loop
 loop-again-2 c =
-    let l = c .before .before .before .before .before .loop in
-    let a = c .before .before .before .before .before .before .args in (
-      omega arith,
-      omega arith,
-      omega arith,
-      omega arith,
-      λ os f s.
-          sought-freed (a .pages) (l .page) (l .start) os (l .inv .4 os f s)
+    let l = here (c .before) .loop in
+    let a = first (c .before) .args in
+    record {
+      low = omega arith;
+      high = omega arith;
+      goes-on = record { some-pages = omega arith; begun = omega arith; short = omega arith };
+      sought = λ os f s.
+          sought-freed (a .pages) (l .page) (l .start) os (l .inv .sought os f s)
           (sym (told (a .words .now) (a .from) (a .end) (l .page) os 1 f (omega arith) (omega arith)
-          (omega (arith, c .before .if2 .taken)))),
-    )
+          (omega (arith, c .before .if2 .taken))));
+    }
 
 loop-less-3 : tie.Need-loop-less-3 Inv-loop μ-loop
 loop-less-3 c = omega arith
 
 loop-again-3 : tie.Need-loop-again-3 Inv-loop μ-loop
 loop-again-3 c =
-    let l = c .before .before .before .before .loop in
-    let a = c .before .before .before .before .before .args in (
-      omega arith,
-      omega arith,
-      omega arith,
-      omega arith,
-      λ os f s.
-          sought-past (a .pages) (l .page) (l .start) os (l .inv .4 os f s) (l .page + 1) (omega arith) (omega arith) (omega arith)
+    let h = c .before .before .before .before in
+    let l = h .loop in
+    let a = h .before .args in
+    record {
+      low = omega arith;
+      high = omega arith;
+      goes-on = record { some-pages = omega arith; begun = omega arith; short = omega arith };
+      sought = λ os f s.
+          sought-past (a .pages) (l .page) (l .start) os (l .inv .sought os f s) (l .page + 1) (omega arith) (omega arith) (omega arith)
           (λ p m n.
           let z : p ≡ l .page = omega arith in
           let t = told (a .words .now) (a .from) (a .end) (l .page) os 0 f (omega arith) (omega arith) (omega (arith, c .if2 .left)) in
-          subst (λ (q : ℕ). isIn (q * 4096) os ≡ false) (sym z) (sym t ∙ ne-eqb 0 1 (λ e. omega arith))),
-    )
+          subst (λ (q : ℕ). isIn (q * 4096) os ≡ false) (sym z) (sym t ∙ ne-eqb 0 1 (λ e. omega arith)));
+    }
 
 returns-2 : tie.Need-returns-2 Inv-loop μ-loop
 returns-2 c os f s =
     let l = c .before .loop in
     let a = c .before .before .args in
     let z : l .page ≡ a .end = omega arith in
-    subst (λ (p : ℕ). Sought (a .pages) p (l .start) os) z (l .inv .4 os f s)
+    subst (λ (p : ℕ). Sought (a .pages) p (l .start) os) z (l .inv .sought os f s)
 
 pub scan-spec : {M : Type 1} → statement M
 scan-spec =

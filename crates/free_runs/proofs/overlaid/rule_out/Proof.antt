@@ -1,5 +1,5 @@
 -- `rule_out` meets its contract. Assumes nothing.
-use Prim.Native.Nat.{ℕ, _-_, _<_}
+use Prim.Native.Nat.{ℕ, _-_, _*_, _<_}
 use mathlib.Core.Bool.{true, true≢false}
 use mathlib.Core.List.{List}
 use mathlib.Core.Path.{_≡_, sym, _∙_}
@@ -7,7 +7,7 @@ use native.Mathlib.Omega.{arith}
 use borrow.Author.Needs.{needs}
 use borrow.Author.Tests.{not-true, not-false, ltb-true}
 use Rattle.free_runs.specs.PageList.{walked, pagesEnd}
-use Rattle.free_runs.specs.Steps.{Sought}
+use Rattle.free_runs.specs.Steps.{windowPages, Sought}
 use Rattle.free_runs.proofs.LawsRuns.{lowest-missed}
 use Rattle.free_runs.proofs.LawsSought.{sought-none}
 use Rattle.free_runs.proofs.LawsWalk.{walked-pages}
@@ -15,20 +15,29 @@ use Rattle.free_runs.proofs.LawsOverlaid.{twice, flags-first, flags-sec
 use Rattle.free_runs.proofs.overlaid.rule_out.Statement.{statement}
 use Rattle.free_runs.proofs.overlaid.rule_out.Tie as tie
 
--- The flags were searched once.
-module _ (c : tie.After-scan) where
+-- The list was walked.
+module _ (c : tie.Else1) where
+  abbrev walk : tie.After-overlay-pages
+  walk = c .before
+
   abbrev at : tie.Start
-  at = c .before .before .before .before .before .before .before
+  at = walk .before .before .before
 
   abbrev os : List ℕ
   os = walked (at .args .count) (at .args .body .now) (at .args .head)
 
   passes : pagesEnd (at .args .mark) (at .args .count) (at .args .body .now) (at .args .head) ≡ true
-  passes = sym (c .before .before .before .before .overlay-pages .ensures .0) ∙ not-false _ (c .before .before .before .if1 .left)
+  passes = sym (walk .overlay-pages .ensures .passed) ∙ not-false _ (c .if1 .left)
 
-  once : Sought (at .args .pages) 262144 (c .scan .result) (twice os)
+-- The flags were searched once.
+module _ (c : tie.After-scan) where
+  abbrev passed : tie.Else1
+  passed = c .before .before .before
+
+  once : Sought (at passed .args .pages) windowPages (c .scan .result) (twice (os passed))
   once =
-      c .scan .ensures (twice os) (flags-first os _ _ (at .pre .0) (c .before .before .before .before .overlay-pages .ensures .1 .0 passes))
+      c .scan .ensures (twice (os passed))
+      (flags-first (os passed) _ _ (at passed .pre .unset) (walk passed .overlay-pages .ensures .overlays (passes passed)))
       (sought-none _ _)
 
 -- And once more.
@@ -36,10 +45,13 @@ module _ (c : tie.After-scan2) where
   abbrev first : tie.After-scan
   first = c .before .before .before
 
-  again : Sought (at first .args .pages) 524288 (c .scan2 .result) (twice (os first))
+  abbrev judged : tie.Else1
+  judged = passed first
+
+  again : Sought (at judged .args .pages) (2 * windowPages) (c .scan2 .result) (twice (os judged))
   again =
-      c .scan2 .ensures (twice (os first))
-      (flags-second (os first) _ _ (at first .pre .0) (first .before .before .before .before .overlay-pages .ensures .1 .0 (passes first)))
+      c .scan2 .ensures (twice (os judged))
+      (flags-second (os judged) _ _ (at judged .pre .unset) (walk judged .overlay-pages .ensures .overlays (passes judged)))
       (once first)
 
 overlay-pages-requires : tie.Need-overlay-pages-requires
@@ -48,12 +60,12 @@ overlay-pages-requires c κs = search needs
 returns : tie.Need-returns
 returns c =
     let f = c .before .overlay-pages .ensures in
-    (sym (not-true _ (c .if1 .taken)) ∙ f .0, (λ e z. absurd (true≢false (sym z)), f .1 .1))
+    record { passed = sym (not-true _ (c .if1 .taken)) ∙ f .passed; rules = λ e z. absurd (true≢false (sym z)); long = f .long }
 
 returns-2 : tie.Need-returns-2
 returns-2 c =
-    let f = c .before .before .overlay-pages .ensures in
-    (sym (not-false _ (c .before .if1 .left)) ∙ f .0, (λ e z. absurd (true≢false (sym z)), f .1 .1))
+    let p = c .before in
+    record { passed = sym (passes p); rules = λ e z. absurd (true≢false (sym z)); long = walk p .overlay-pages .ensures .long }
 
 scan-requires : tie.Need-scan-requires
 scan-requires c κs = search needs
@@ -63,17 +75,24 @@ sub-if3 c = once c .at
 
 returns-3 : tie.Need-returns-3
 returns-3 c =
-    let f = c .before .before .before .before .before .overlay-pages .ensures in
-    (sym (passes (c .before)), (λ e z. absurd (true≢false (sym z)), f .1 .1))
+    let p = passed (c .before) in
+    record { passed = sym (passes p); rules = λ e z. absurd (true≢false (sym z)); long = walk p .overlay-pages .ensures .long }
 
 mul-scan : tie.Need-mul-scan
 mul-scan c = search needs
 
 scan-requires-2 : tie.Need-scan-requires-2
 scan-requires-2 c κs =
-    let l = once (c .before .before) .at in
-    let p = at (c .before .before) .pre .2 in
-    (l, omega arith, omega arith, omega arith, omega arith, p)
+    let s = c .before .before in
+    let l = once s .at in
+    record {
+      to-scan = record {
+        to-go-on = record { some-pages = at (passed s) .pre .some-pages; begun = l; short = omega arith };
+        forward = omega arith;
+        small = omega arith;
+      };
+      window = omega arith;
+    }
 
 mul-t13 : tie.Need-mul-t13
 mul-t13 c = search needs
@@ -83,19 +102,18 @@ sub-t15 c = again c .at
 
 returns-4 : tie.Need-returns-4
 returns-4 c =
-    let f = first c .before .before .before .before .overlay-pages .ensures in
-    let t = at (first c) in (
-      sym (passes (first c)),
-      (
-        λ e z.
-            let short : 524288 - c .scan2 .result < t .args .pages = ltb-true _ _ z in
-            lowest-missed (t .args .pages) (os (first c)) (t .pre .2)
-            (ruled-out (t .args .mark) (t .args .pages) (c .scan2 .result) (os (first c))
-            (walked-pages (t .args .mark) (t .args .body .now) (t .args .count) (t .args .head) (passes (first c))) (t .pre .2)
-            (omega arith) (again c) (omega arith)),
-        f .1 .1,
-      ),
-    )
+    let p = judged c in
+    let t = at p in
+    record {
+      passed = sym (passes p);
+      rules = λ e z.
+          let short : 2 * windowPages - c .scan2 .result < t .args .pages = ltb-true _ _ z in
+          lowest-missed (t .args .pages) (os p) (t .pre .some-pages)
+          (ruled-out (t .args .mark) (t .args .pages) (c .scan2 .result) (os p)
+          (walked-pages (t .args .mark) (t .args .body .now) (t .args .count) (t .args .head) (passes p)) (t .pre .some-pages)
+          (omega arith) (again c) (omega arith));
+      long = walk p .overlay-pages .ensures .long;
+    }
 
 pub rule-out-spec : {M : Type 1} → statement M
 rule-out-spec =

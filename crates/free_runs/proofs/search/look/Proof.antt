@@ -22,7 +22,7 @@ returns-2 c = search needs
 look-far-requires : tie.Need-look-far-requires
 look-far-requires c κs =
     let p = c .before .before .before .before .pre in
-    (p .0, p .1 (omega arith), p .2, p .3, p .4, p .5, p .6)
+    record { to-look = p .to-look; judged = p .judged (omega arith) }
 
 returns-3 : tie.Need-returns-3
 returns-3 c = search needs

@@ -21,23 +21,23 @@ scan-kept-requires c κs = search needs
 
 returns-2 : tie.Need-returns-2
 returns-2 c =
-    let t = c .before .before .before .before .before .before in
+    let k = c .before .before .before in
+    let t = k .before .before .before in
     let a = t .args in
-    let got = c .before .before .before .collect .ensures in
-    let high = got .high in (
-      sym (t .pre .1),
-      (
-        λ passes.
-            record {
-              sought = c .scan-kept .ensures (walked (a .count) (a .body .now) (a .head)) (collects-own _ _ _ _ _ _ got);
-              more = omega arith;
-              inside = high;
-              limit = high;
-              none-between = λ p l h. absurd (omega arith);
-            },
-        got .long,
-      ),
-    )
+    let got = k .collect .ensures in
+    let high = got .high in
+    record {
+      passed = sym (t .pre .judged);
+      looks = λ passes.
+          record {
+            sought = c .scan-kept .ensures (walked (a .count) (a .body .now) (a .head)) (collects-own _ _ _ _ _ _ got);
+            more = omega arith;
+            inside = high;
+            limit = high;
+            none-between = λ p l h. absurd (omega arith);
+          };
+      long = got .long;
+    }
 
 pub look-far-spec : {M : Type 1} → statement M
 look-far-spec =

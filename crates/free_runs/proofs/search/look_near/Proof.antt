@@ -8,9 +8,20 @@ use borrow.Author.Needs.{needs}
 use Rattle.buffer.proofs.LawsOrder.{lt-or-ge}
 use Rattle.free_runs.specs.Runs.{isIn}
 use Rattle.free_runs.specs.PageList.{walked}
+use Rattle.free_runs.specs.Steps.{windowPages}
 use Rattle.free_runs.proofs.LawsFlags.{unset-flag}
 use Rattle.free_runs.proofs.search.look_near.Statement.{statement}
 use Rattle.free_runs.proofs.search.look_near.Tie as tie
+
+-- The words are clear, and the window's end is known.
+module _ (c : tie.After-lower) where
+  abbrev first : tie.Start
+  first = c .before .before .before .before
+
+-- Its flags were searched.
+module _ (c : tie.After-scan) where
+  abbrev ended : tie.After-lower
+  ended = c .before .before .before .before
 
 clear-requires : tie.Need-clear-requires
 clear-requires c κs = search needs
@@ -30,34 +41,33 @@ scan-requires c κs = search needs
 returns : tie.Need-returns
 returns c =
     let f = c .before .before .flag-pages .ensures in
-    let t = c .before .before .before .before .before .before .before .before in
-    let a = t .args in
-    let e = c .before .before .before .before .lower .ensures in
-    let p = t .pre .3 in (
-      f .0,
-      (
-        λ passes.
-            let m = f .1 .0 passes in
-            let top = m .limit in
-            record {
-              sought = c .scan .ensures (walked (a .count) (a .body .now) (a .head))
-                  (record {
-                    tells = λ i h.
-                        m .flags i (omega arith)
-                        ∙ ap (λ (b : Bool). b || isIn ((a .from + i) * 4096) (walked (a .count) (a .body .now) (a .head)))
-                        (unset-flag _ (c .before .before .before .before .before .clear .ensures) i (omega arith));
-                  });
-              more = omega arith;
-              inside = omega arith;
-              limit = top;
-              none-between = λ q l h.
-                  ⊎-elim (λ (k : a .from + 262144 < a .mark / 4096). m .none-between q (omega arith) h)
-                  (λ (k : a .mark / 4096 ≤ a .from + 262144). absurd (omega arith))
-                  (lt-or-ge (a .from + 262144) (a .mark / 4096));
-            },
-        f .1 .1,
-      ),
-    )
+    let s = ended c in
+    let a = first s .args in
+    let e = s .lower .ensures in
+    let p = first s .pre .below in
+    record {
+      passed = f .passed;
+      looks = λ passes.
+          let m = f .marks passes in
+          let top = m .limit in
+          record {
+            sought = c .scan .ensures (walked (a .count) (a .body .now) (a .head))
+                (record {
+                  tells = λ i h.
+                      m .flags i (omega arith)
+                      ∙ ap (λ (b : Bool). b || isIn ((a .from + i) * 4096) (walked (a .count) (a .body .now) (a .head)))
+                      (unset-flag _ (s .before .clear .ensures) i (omega arith));
+                });
+            more = omega arith;
+            inside = omega arith;
+            limit = top;
+            none-between = λ q l h.
+                ⊎-elim (λ (k : a .from + windowPages < a .mark / 4096). m .none-between q (omega arith) h)
+                (λ (k : a .mark / 4096 ≤ a .from + windowPages). absurd (omega arith))
+                (lt-or-ge (a .from + windowPages) (a .mark / 4096));
+          };
+      long = f .long;
+    }
 
 pub look-near-spec : {M : Type 1} → statement M
 look-near-spec =

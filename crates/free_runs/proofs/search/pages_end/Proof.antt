@@ -29,10 +29,10 @@ returns c =
 
 get-u64-requires : tie.Need-get-u64-requires Inv-loop μ-loop
 get-u64-requires c κs =
-    let l = c .before .before .before .loop in
+    let h = c .before .before .before in
     let yes = sym (c .before .is-page .ensures) ∙ not-false _ (c .if1 .left) in
-    let s = block-stands 8 (l .at) _ yes .ends in
-    let p = c .before .before .before .before .before .pre in
+    let s = block-stands 8 (h .loop .at) _ yes .ends in
+    let p = h .before .before .pre in
     omega arith
 
 sub-left : tie.Need-sub-left Inv-loop μ-loop

@@ -1,6 +1,6 @@
 -- `search_windows` meets its contract. Invariant: the search has come to the window's first page, with fewer pages before it than are
 -- wanted; behind the first window the list has passed. Assumes nothing.
-use Prim.Native.Nat.{ℕ, _+_, _-_, _*_, _≤_, _<_}
+use Prim.Native.Nat.{ℕ, _-_, _*_, _≤_, _<_}
 use mathlib.Core.Bool.{true}
 use mathlib.Core.Option.{Option}
 use mathlib.Core.Path.{_≡_, sym, ap, _∙_}
@@ -10,61 +10,94 @@ use native.Mathlib.Omega.{arith}
 use borrow.Author.Tests.{not-true, not-false}
 use Rattle.error.specs.Refusal.{accepted}
 use Rattle.free_runs.specs.PageList.{walked, pagesEnd}
-use Rattle.free_runs.specs.Steps.{Sought, Looks}
+use Rattle.free_runs.specs.Steps.{Sought, Looks, ToGoOn}
 use Rattle.free_runs.proofs.LawsRuns.{lowest-is, lowest-missed}
 use Rattle.free_runs.proofs.LawsWalk.{walked-pages}
 use Rattle.free_runs.proofs.LawsSought.{sought-none, sought-past, sought-lowest, sought-missed, run-found, run-strays}
 use Rattle.free_runs.proofs.search.search_windows.Statement.{statement}
 use Rattle.free_runs.proofs.search.search_windows.Tie as tie
 
+-- What is known between two windows.
+record Searching (mark count : ℕ) (body : List ℕ) (head pages limit : ℕ) (words : List ℕ) (from start : ℕ) : Type 0 where
+  inside : from ≤ limit
+  goes-on : ToGoOn from start pages
+  sought : Sought pages from start (walked count body head)
+  judged : 0 < from → pagesEnd mark count body head ≡ true
+  long : length words ≡ 4096
+
 abbrev Inv-loop : tie.InvT-loop
 Inv-loop body mark head count words₀ pages limit from₀ start₀ words from start =
-    (from ≤ limit) × (start ≤ from) × (from < start + pages) × Sought pages from start (walked count body head)
-    × (0 < from → pagesEnd mark count body head ≡ true) × (length words ≡ 4096)
+    Searching mark count body head pages limit words from start
 
 abbrev μ-loop : tie.MeasureT-loop
 μ-loop body mark head count words₀ pages limit from₀ start₀ words from start = limit - from
 
--- A window was looked at, and the list passes.
+-- A window was looked at.
+module _ (c : tie.After-look Inv-loop μ-loop) where
+  abbrev here : tie.At-loop Inv-loop μ-loop
+  here = c .before .before .before
+
+  abbrev first-of : tie.Start Inv-loop μ-loop
+  first-of = here .before .before
+
+-- And the list passes.
 module _ (c : tie.Else1 Inv-loop μ-loop) where
+  abbrev looked : tie.After-look Inv-loop μ-loop
+  looked = c .before .before
+
   abbrev at : tie.Start Inv-loop μ-loop
-  at = c .before .before .before .before .before .before .before
+  at = first-of looked
 
   abbrev os : List ℕ
   os = walked (at .args .count) (at .args .body .now) (at .args .head)
 
   passes : pagesEnd (at .args .mark) (at .args .count) (at .args .body .now) (at .args .head) ≡ true
-  passes = sym (c .before .before .look .ensures .0) ∙ not-false _ (c .if1 .left)
+  passes = sym (looked .look .ensures .passed) ∙ not-false _ (c .if1 .left)
 
   abbrev end : ℕ
-  end = c .before .before .look .result .end
+  end = looked .look .result .end
 
   abbrev first : ℕ
-  first = c .before .before .look .result .start
+  first = looked .look .result .start
 
   abbrev next : ℕ
-  next = c .before .before .look .result .next
+  next = looked .look .result .next
 
-  looks : Looks (at .args .mark) os (c .before .before .before .before .before .loop .from) end
-      (c .before .before .before .before .before .loop .start) (at .args .pages) first next
-  looks = c .before .before .look .ensures .1 .0 passes
+  looks : Looks (at .args .mark) os (here looked .loop .from) end (here looked .loop .start) (at .args .pages) first next
+  looks = looked .look .ensures .looks passes
 
   sought : Sought (at .args .pages) end first os
-  sought = looks .sought (c .before .before .before .before .before .loop .inv .3)
+  sought = looks .sought (here looked .loop .inv .sought)
 
 loop-holds : tie.Need-loop-holds Inv-loop μ-loop
-loop-holds c = (omega arith, omega arith, omega arith, sought-none _ _, λ h. absurd (omega arith), c .before .pre .0)
+loop-holds c =
+    let p = c .before .pre in
+    record {
+      inside = omega arith;
+      goes-on = record { some-pages = p .to-seek .some-pages; begun = omega arith; short = omega arith };
+      sought = sought-none _ _;
+      judged = λ h. absurd (omega arith);
+      long = p .long;
+    }
 
 look-requires : tie.Need-look-requires Inv-loop μ-loop
 look-requires c κs =
-    let l = c .before .before .loop in
+    let i = c .before .before .loop .inv in
     let p = c .before .before .before .before .pre in
-    (l .inv .5, l .inv .4, p .2, l .inv .1, omega arith, l .inv .2, p .3)
+    record {
+      to-look = record {
+        to-flag = record { long = i .long; within = p .to-seek .within };
+        to-go-on = i .goes-on;
+        below = omega arith;
+      };
+      judged = i .judged;
+    }
 
 returns : tie.Need-returns Inv-loop μ-loop
 returns c =
-    let a = c .before .before .before .before .before .before .before .args in
-    let stray = sym (c .before .before .look .ensures .0) ∙ not-true _ (c .if1 .taken) in
+    let k = c .before .before in
+    let a = first-of k .args in
+    let stray = sym (k .look .ensures .passed) ∙ not-true _ (c .if1 .taken) in
     sym (run-strays (a .mark) (a .count) (a .body .now) (a .head) (a .pages) stray)
 
 sub-if2 : tie.Need-sub-if2 Inv-loop μ-loop
@@ -79,9 +112,10 @@ returns-2 c =
     let t = at d in
     let s = sought d .at in
     sym (run-found (t .args .mark) (t .args .count) (t .args .body .now) (t .args .head) (t .args .pages) (passes d)
-    ∙ ap (λ (r : Option ℕ). accepted r) (lowest-is (t .args .pages) (os d) (t .pre .3) (first d * 4096)
+    ∙ ap (λ (r : Option ℕ). accepted r) (lowest-is (t .args .pages) (os d) (t .pre .to-seek .some-pages) (first d * 4096)
     (sought-lowest (t .args .mark) (t .args .pages) (end d) (first d) (os d)
-    (walked-pages (t .args .mark) (t .args .body .now) (t .args .count) (t .args .head) (passes d)) (t .pre .3) (sought d) (omega arith))))
+    (walked-pages (t .args .mark) (t .args .body .now) (t .args .count) (t .args .head) (passes d)) (t .pre .to-seek .some-pages)
+    (sought d) (omega arith))))
 
 loop-less : tie.Need-loop-less Inv-loop μ-loop
 loop-less c = let d = c .before .before in let m = looks d .limit in let e = looks d .more in omega arith
@@ -92,15 +126,16 @@ loop-again c =
     let t = at d in
     let s = sought d .at in
     let m = looks d .limit in
-    let e = looks d .more in (
-      m,
-      omega arith,
-      omega arith,
-      sought-past (t .args .pages) (end d) (first d) (os d) (sought d) (next d) (t .pre .3) (omega arith) (omega arith)
-          (looks d .none-between),
-      λ h. passes d,
-      d .before .before .look .ensures .1 .1,
-    )
+    let e = looks d .more in
+    let some = t .pre .to-seek .some-pages in
+    record {
+      inside = m;
+      goes-on = record { some-pages = some; begun = omega arith; short = omega arith };
+      sought = sought-past (t .args .pages) (end d) (first d) (os d) (sought d) (next d) some (omega arith) (omega arith)
+          (looks d .none-between);
+      judged = λ h. passes d;
+      long = looked d .look .ensures .long;
+    }
 
 loop-less-2 : tie.Need-loop-less-2 Inv-loop μ-loop
 loop-less-2 c = let e = looks (c .before .before) .more in omega arith
@@ -109,19 +144,26 @@ loop-again-2 : tie.Need-loop-again-2 Inv-loop μ-loop
 loop-again-2 c =
     let d = c .before .before in
     let s = sought d .at in
-    (looks d .inside, s, omega arith, sought d, λ h. passes d, d .before .before .look .ensures .1 .1)
+    record {
+      inside = looks d .inside;
+      goes-on = record { some-pages = at d .pre .to-seek .some-pages; begun = s; short = omega arith };
+      sought = sought d;
+      judged = λ h. passes d;
+      long = looked d .look .ensures .long;
+    }
 
 returns-3 : tie.Need-returns-3 Inv-loop μ-loop
 returns-3 c =
     let l = c .before .loop in
     let t = c .before .before .before in
-    let passed = l .inv .4 (let p = t .pre .1 in omega arith) in
+    let some = t .pre .to-seek .some-pages in
+    let passed = l .inv .judged (let p = t .pre .to-seek .some-below in omega arith) in
     sym (run-found (t .args .mark) (t .args .count) (t .args .body .now) (t .args .head) (t .args .pages) passed
     ∙ ap (λ (r : Option ℕ). accepted r)
-    (lowest-missed (t .args .pages) (walked (t .args .count) (t .args .body .now) (t .args .head)) (t .pre .3)
+    (lowest-missed (t .args .pages) (walked (t .args .count) (t .args .body .now) (t .args .head)) some
     (sought-missed (t .args .mark) (t .args .pages) (l .from) (l .start) (walked (t .args .count) (t .args .body .now) (t .args .head))
-    (walked-pages (t .args .mark) (t .args .body .now) (t .args .count) (t .args .head) passed) (t .pre .3) (l .inv .3) (l .inv .2)
-    (omega arith))))
+    (walked-pages (t .args .mark) (t .args .body .now) (t .args .count) (t .args .head) passed) some (l .inv .sought)
+    (l .inv .goes-on .short) (omega arith))))
 
 pub search-windows-spec : {M : Type 1} → statement M
 search-windows-spec =

@@ -8,12 +8,17 @@ use Rattle.free_runs.proofs.LawsTaken.{run-short}
 use Rattle.free_runs.proofs.search.seek_run.Statement.{statement}
 use Rattle.free_runs.proofs.search.seek_run.Tie as tie
 
+-- The list was only judged.
+module _ (c : tie.After-pages-end) where
+  abbrev first : tie.Start
+  first = c .before .before .before .before
+
 returns : tie.Need-returns
 returns c =
     let t = c .before .before in
     let a = t .args in
     sym (run-strays (a .mark) (a .count) (a .body .now) (a .head) (a .pages)
-    (ends-many (a .mark) (a .count) (a .body .now) (a .head) (t .pre .0) (c .if1 .taken)))
+    (ends-many (a .mark) (a .count) (a .body .now) (a .head) (t .pre .some-below) (c .if1 .taken)))
 
 find-run-requires : tie.Need-find-run-requires
 find-run-requires c κs = search needs
@@ -26,13 +31,13 @@ pages-end-requires c κs = search needs
 
 returns-3 : tie.Need-returns-3
 returns-3 c =
-    let a = c .before .before .before .before .before .args in
+    let a = first (c .before) .args in
     sym (run-short (a .mark) (a .count) (a .body .now) (a .head) (a .pages) (omega arith)
     (sym (c .before .pages-end .ensures) ∙ c .if3 .taken))
 
 returns-4 : tie.Need-returns-4
 returns-4 c =
-    let a = c .before .before .before .before .before .args in
+    let a = first (c .before) .args in
     sym (run-strays (a .mark) (a .count) (a .body .now) (a .head) (a .pages) (sym (c .before .pages-end .ensures) ∙ c .if3 .left))
 
 pub seek-run-spec : {M : Type 1} → statement M

@@ -1,5 +1,6 @@
 -- `drop_behind` meets its contract. Invariant: of the pages looked at, those below the end are kept. Assumes nothing.
 use Prim.Native.Nat.{ℕ, _-_, _≤_}
+use mathlib.Core.List.{List}
 use mathlib.Core.Path.{_≡_, subst}
 use native.Mathlib.Omega.{arith}
 use borrow.Author.Needs.{needs}
@@ -7,15 +8,19 @@ use Rattle.free_runs.proofs.LawsSparse.{Sifting, sift-none, sift-keeps,
 use Rattle.free_runs.proofs.sparse.drop_behind.Statement.{statement}
 use Rattle.free_runs.proofs.sparse.drop_behind.Tie as tie
 
+-- What is known in the middle: of the pages looked at, those below the end are kept.
+record Looking (kept₀ : List ℕ) (count end : ℕ) (kept : List ℕ) (i stay : ℕ) : Type 0 where
+  inside : i ≤ count
+  sifting : Sifting end kept₀ kept i stay
+
 abbrev Inv-loop : tie.InvT-loop
-Inv-loop kept₀ count end i₀ stay₀ kept i stay =
-    (i ≤ count) × Sifting end kept₀ kept i stay
+Inv-loop kept₀ count end i₀ stay₀ kept i stay = Looking kept₀ count end kept i stay
 
 abbrev μ-loop : tie.MeasureT-loop
 μ-loop kept₀ count end i₀ stay₀ kept i stay = count - i
 
 loop-holds : tie.Need-loop-holds Inv-loop μ-loop
-loop-holds c = (omega arith, sift-none _ _)
+loop-holds c = record { inside = omega arith; sifting = sift-none _ _ }
 
 mul-page : tie.Need-mul-page Inv-loop μ-loop
 mul-page c = search needs
@@ -41,7 +46,7 @@ loop-less c = omega arith
 loop-again : tie.Need-loop-again Inv-loop μ-loop
 loop-again c =
     let l = c .before .before .before .loop in
-    (omega arith, sift-keeps _ _ _ _ _ (l .inv .1) (omega arith))
+    record { inside = omega arith; sifting = sift-keeps _ _ _ _ _ (l .inv .sifting) (omega arith) }
 
 loop-less-2 : tie.Need-loop-less-2 Inv-loop μ-loop
 loop-less-2 c = omega arith
@@ -49,14 +54,14 @@ loop-less-2 c = omega arith
 loop-again-2 : tie.Need-loop-again-2 Inv-loop μ-loop
 loop-again-2 c =
     let l = c .before .before .before .loop in
-    (omega arith, sift-drops _ _ _ _ _ (l .inv .1) (omega arith))
+    record { inside = omega arith; sifting = sift-drops _ _ _ _ _ (l .inv .sifting) (omega arith) }
 
 returns : tie.Need-returns Inv-loop μ-loop
 returns c =
     let l = c .before .loop in
     let a = c .before .before .args in
     let z : l .i ≡ a .count = omega arith in
-    sift-done _ _ _ _ _ (subst (λ (i : ℕ). Sifting (a .end) (a .kept .now) (l .kept) i (l .stay)) z (l .inv .1))
+    sift-done _ _ _ _ _ (subst (λ (i : ℕ). Sifting (a .end) (a .kept .now) (l .kept) i (l .stay)) z (l .inv .sifting))
 
 pub drop-behind-spec : {M : Type 1} → statement M
 drop-behind-spec =

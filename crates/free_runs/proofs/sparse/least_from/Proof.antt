@@ -1,5 +1,6 @@
 -- `least_from` meets its contract. Invariant: the page so far ahead is the least of those looked at. Assumes nothing.
-use Prim.Native.Nat.{_+_, _-_, _≤_}
+use Prim.Native.Nat.{ℕ, _+_, _-_, _≤_}
+use mathlib.Core.List.{List}
 use mathlib.Core.Path.{_≡_}
 use native.Mathlib.Omega.{arith}
 use borrow.Author.Needs.{needs}
@@ -8,9 +9,14 @@ use Rattle.free_runs.proofs.LawsSparse.{least-none, least-step}
 use Rattle.free_runs.proofs.sparse.least_from.Statement.{statement}
 use Rattle.free_runs.proofs.sparse.least_from.Tie as tie
 
+-- What is known in the middle: the page so far ahead is the least of those looked at.
+record Looking (kept : List ℕ) (count page end least i : ℕ) : Type 0 where
+  inside : i ≤ count
+  high : page + least ≤ end
+  so-far : LeastFrom kept i page end (page + least)
+
 abbrev Inv-loop : tie.InvT-loop
-Inv-loop kept count page end least₀ i₀ least i =
-    (i ≤ count) × (page + least ≤ end) × LeastFrom kept i page end (page + least)
+Inv-loop kept count page end least₀ i₀ least i = Looking kept count page end least i
 
 abbrev μ-loop : tie.MeasureT-loop
 μ-loop kept count page end least₀ i₀ least i = count - i
@@ -22,7 +28,11 @@ loop-holds : tie.Need-loop-holds Inv-loop μ-loop
 loop-holds c =
     let a = c .args in
     let z : a .page + (a .end - a .page) ≡ a .end = omega arith in
-    (omega arith, omega arith, rw z (least-none (a .kept .now) (a .page) (a .end) (c .pre .1)))
+    record {
+      inside = omega arith;
+      high = omega arith;
+      so-far = rw z (least-none (a .kept .now) (a .page) (a .end) (c .pre .forward));
+    }
 
 mul-x : tie.Need-mul-x Inv-loop μ-loop
 mul-x c = search needs
@@ -44,15 +54,17 @@ loop-less c = omega arith
 
 loop-again : tie.Need-loop-again Inv-loop μ-loop
 loop-again c =
-    let l = c .before .before .before .before .loop in
-    let a = c .before .before .before .before .before .args in
+    let h = c .before .before .before .before in
+    let l = h .loop in
+    let a = h .before .args in
     let w = c .before .wrapping-sub-u64 in
-    let e = c .lower .ensures in (
-      omega arith,
-      omega arith,
-      rw e (least-step (a .kept .now) (a .page) (a .end) (l .i) (l .least) (w .result) (l .inv .2) (omega arith) (omega arith)
-          (w .ensures)),
-    )
+    let e = c .lower .ensures in
+    record {
+      inside = omega arith;
+      high = omega arith;
+      so-far = rw e (least-step (a .kept .now) (a .page) (a .end) (l .i) (l .least) (w .result) (l .inv .so-far) (omega arith) (omega arith)
+          (w .ensures));
+    }
 
 add-result : tie.Need-add-result Inv-loop μ-loop
 add-result c = omega arith
@@ -61,7 +73,7 @@ returns : tie.Need-returns Inv-loop μ-loop
 returns c =
     let l = c .before .loop in
     let z : l .i ≡ c .before .before .args .count = omega arith in
-    rw z at (l .inv .2)
+    rw z at (l .inv .so-far)
 
 pub least-from-spec : {M : Type 1} → statement M
 least-from-spec =

@@ -12,7 +12,7 @@ abbrev μ-loop : tie.MeasureT-loop
 μ-loop body mark at left from end at₀ left₀ at' left' = left'
 
 loop-holds : tie.Need-loop-holds Inv-loop μ-loop
-loop-holds c = passed-none _ _ _ _ _ _ (c .before .pre .1)
+loop-holds c = passed-none _ _ _ _ _ _ (c .before .pre .passes)
 
 returns : tie.Need-returns Inv-loop μ-loop
 returns c =
@@ -22,15 +22,17 @@ returns c =
 
 returns-2 : tie.Need-returns-2 Inv-loop μ-loop
 returns-2 c =
-    let l = c .before .before .before .loop in
-    let a = c .before .before .before .before .before .args in
+    let h = c .before .before .before in
+    let l = h .loop in
+    let a = h .before .before .args in
     passed-to _ _ _ _ _ _ _ _ (l .inv) (λ h. behind-run (a .from) (a .end) (l .at) (omega arith))
 
 get-u64-requires : tie.Need-get-u64-requires Inv-loop μ-loop
 get-u64-requires c κs =
-    let l = c .before .before .before .loop in
+    let h = c .before .before .before in
+    let l = h .loop in
     let s = ends-page _ _ (l .left) (l .at) (omega arith) (l .inv .ends) .0 .ends in
-    let p = c .before .before .before .before .before .pre .0 in
+    let p = h .before .before .pre .within in
     omega arith
 
 sub-left : tie.Need-sub-left Inv-loop μ-loop

@@ -23,9 +23,9 @@ returns-2 : tie.Need-returns-2
 returns-2 c =
     let s = c .before .before in
     let bytes : AreBytes (s .args .body .now) = λ i p. omega (arith, c .before .slice-known .given i) in
-    let same : s .args .to ≡ nextOf (s .args .body .now) (s .args .at) = let e = s .pre .1 in omega arith in
+    let same : s .args .to ≡ nextOf (s .args .body .now) (s .args .at) = let e = s .pre .link-is in omega arith in
     sym (ap (λ (v : ℕ). overwrite (s .args .body .now) (s .args .at) (bytesOf 8 v)) same
-    ∙ link-kept (s .args .body .now) (s .args .at) bytes (s .pre .0))
+    ∙ link-kept (s .args .body .now) (s .args .at) bytes (s .pre .inside))
 
 pub relink-spec : {M : Type 1} → statement M
 relink-spec = tie.close (tie.spec put-u64-requires same-length returns returns-2)
