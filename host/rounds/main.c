@@ -51,7 +51,7 @@ static const struct one_case cases[] = {
     { "drop of a page of 600", DROPS, 600, 300 },
 };
 
-static uint64_t lists[KEYS][MOST];
+static uint64_t lists[LEAST_KEYS * MOST];
 
 static double now_ns(void)
 {
@@ -64,12 +64,13 @@ static double now_ns(void)
 static void make_lists(const struct one_case *one)
 {
     uint64_t seed = 88172645463325252u;
-    for (unsigned key = 0; key < KEYS; key++) {
+    uint64_t *to = lists;
+    for (unsigned key = 0; key < keys_of(one); key++) {
         uint64_t last = 0;
-        for (unsigned i = 0; i < MOST; i++) {
+        for (unsigned i = 0; i <= one->count; i++) {
             seed ^= seed << 13, seed ^= seed >> 7, seed ^= seed << 17;
             last += 1 + seed % (i == 0 ? 1 << 20 : one->gap);
-            lists[key][i] = last;
+            *to++ = last;
         }
     }
 }
@@ -101,9 +102,10 @@ static void measure(const struct one_case *one)
     make_lists(one);
     side_old.make(one, lists);
     side_new.make(one, lists);
-    round_of(&side_old, 2 * KEYS);
-    double once = round_of(&side_old, 8 * KEYS);
-    unsigned n = (unsigned)(10000 / once) / KEYS * KEYS + KEYS;
+    unsigned keys = keys_of(one);
+    round_of(&side_old, 2 * keys);
+    double once = round_of(&side_old, 2 * keys);
+    unsigned n = (unsigned)(10000 / once) / keys * keys + keys;
     for (unsigned i = 0; i < ROUNDS; i++) {
         if (i % 2 == 0) old[i] = round_of(&side_old, n);
         new[i] = round_of(&side_new, n);

@@ -13,7 +13,8 @@ uint32_t CALL(core_load)(), CALL(core_load_tight)(), CALL(core_append)(), CALL(c
 
 /* The book, and what is handed out. */
 static uint8_t body[BODY] __attribute__((aligned(4096)));
-static uint64_t heads[KEYS], out[MOST];
+static uint64_t heads[MOST_KEYS], out[MOST];
+static unsigned keys;
 static struct {
     uint64_t mark, free[9], counts[49];
 } state, kept_state;
@@ -21,7 +22,7 @@ static uint64_t a, b, c __attribute__((unused));
 static uint8_t kind, class_;
 static uint16_t used;
 
-#define BODY_ARGS body, (size_t)BODY, heads, (size_t)KEYS
+#define BODY_ARGS body, (size_t)BODY, heads, (size_t)keys
 #if FORM == 1 /* the state is one pointer; before N9 (FORM 2) a read tells no padded numbers */
 #define STATE_ARGS &state
 #define READ(key) CALL(book_read)(BODY_ARGS, &state, key, out, (size_t)MOST, &a, &b, &c)
@@ -38,17 +39,17 @@ static uint16_t used;
 #define NAME(name) CALL(book_##name)
 #define MAKE() CALL(book_fresh)(BODY_ARGS, &state.mark, state.free)
 #else /* with desks: the core, told desk 0; or (FORM 5) lent the list of desks */
-static const uint8_t desks[KEYS];
+static const uint8_t desks[MOST_KEYS];
 static uint64_t reserve[16], ceiling[16];
 #define MAKE() (memset(ceiling, 255, sizeof ceiling), \
-    CALL(book_fresh)(BODY_ARGS, &state.mark, state.free, state.counts, desks, (size_t)KEYS, reserve, ceiling))
+    CALL(book_fresh)(BODY_ARGS, &state.mark, state.free, state.counts, desks, (size_t)keys, reserve, ceiling))
 #if FORM == 4
 #define STATE_ARGS &state.mark, state.free, state.counts, (uint64_t)0
 #define READ(key) CALL(core_read)(BODY_ARGS, state.mark, key, out, (size_t)MOST, &a, &b, &c)
 #define NAME(name) CALL(core_##name)
 #else
-#define STATE_ARGS &state.mark, state.free, state.counts, desks, (size_t)KEYS
-#define READ(key) CALL(book_read)(BODY_ARGS, state.mark, state.counts, desks, (size_t)KEYS, key, out, (size_t)MOST, &a, &b, &c)
+#define STATE_ARGS &state.mark, state.free, state.counts, desks, (size_t)keys
+#define READ(key) CALL(book_read)(BODY_ARGS, state.mark, state.counts, desks, (size_t)keys, key, out, (size_t)MOST, &a, &b, &c)
 #define NAME(name) CALL(book_##name)
 #endif
 #endif
@@ -59,20 +60,21 @@ static uint64_t reserve[16], ceiling[16];
 
 /* The case, and where each key's list stands: its head word, its block, and the first bytes of that. */
 static const struct one_case *now;
-static const uint64_t (*list_of)[MOST];
-static uint64_t words[KEYS], blocks[KEYS];
+static const uint64_t *lists;
+static uint64_t words[MOST_KEYS], blocks[MOST_KEYS];
 static size_t header;
-static uint8_t firsts[KEYS][24];
+static uint8_t firsts[MOST_KEYS][24];
 static unsigned at;
 
-static void make(const struct one_case *one, uint64_t lists[KEYS][MOST])
+static void make(const struct one_case *one, const uint64_t *given)
 {
+    keys = keys_of(one);
     uint32_t refused = MAKE();
     now = one;
-    list_of = lists;
+    lists = given;
     at = 0;
-    for (uint64_t key = 0; key < KEYS && one->what >= GROWS; key++) {
-        refused |= LOAD(key, lists[key], one->count);
+    for (uint64_t key = 0; key < keys && one->what >= GROWS; key++) {
+        refused |= LOAD(key, lists + key * (one->count + 1), one->count);
         refused |= CALL(unpack8)(heads[key], &kind, &class_, &used, &blocks[key]);
         if (kind < 2) blocks[key] = 0;
         header = kind == 3 ? 24 : 8;
@@ -104,8 +106,8 @@ static inline void put_back_state(void)
 
 static inline uint32_t turn(uint64_t key, enum what what)
 {
-    const uint64_t *list = list_of[key];
     unsigned count = now->count;
+    const uint64_t *list = lists + key * (count + 1);
     uint32_t refused = 0;
     switch (what) {
     case APPENDS:
@@ -142,7 +144,10 @@ static inline uint32_t turn(uint64_t key, enum what what)
 static uint32_t turns(unsigned n)
 {
     uint32_t refused = 0;
-    for (unsigned i = 0; i < n; i++) refused |= turn(at++ % KEYS, now->what);
+    for (unsigned i = 0; i < n; i++) {
+        refused |= turn(at, now->what);
+        at = at + 1 == keys ? 0 : at + 1;
+    }
     return refused;
 }
 

@@ -24,12 +24,19 @@ struct one_case {
     unsigned count, gap;
 };
 
-enum { KEYS = 64, MOST = 20001, BODY = 4096 * 2048 };
+enum { LEAST_KEYS = 64, MOST_KEYS = 4096, MOST = 20001, BODY = 4096 * 2048 };
 
-/* A side: its library with a book of its own. `make` begins a case anew, with a list for each key; `turns` makes `n` turns of it, key
-   after key, and tells a number other than 0 where a call was refused. */
+/* How many keys a case has: so many that their lists have some 65,000 numbers, whose lengths a processor can't learn by heart. */
+static inline unsigned keys_of(const struct one_case *one)
+{
+    unsigned keys = 65536 / one->count;
+    return keys < LEAST_KEYS ? LEAST_KEYS : keys > MOST_KEYS ? MOST_KEYS : keys;
+}
+
+/* A side: its library with a book of its own. `make` begins a case anew, with a list of `count` + 1 numbers for each key, one list behind
+   the other; `turns` makes `n` turns of it, key after key, and tells a number other than 0 where a call was refused. */
 struct side {
-    void (*make)(const struct one_case *, uint64_t lists[KEYS][MOST]);
+    void (*make)(const struct one_case *, const uint64_t *lists);
     uint32_t (*turns)(unsigned n);
 };
 
