@@ -7,12 +7,16 @@ from itertools import groupby
 # Lines as they stand in a file; `anchor` is a link's target, and `links` are (row, column, length, anchor) in order.
 Code = namedtuple("Code", "lines anchor links")
 
+# Code of more lines than these may be broken across sheets of paper: it would leave too much of one empty.
+LONG = 24
+
 # A link in prose, whose label may be code; and a word with hyphens or slashes in it, behind which a browser would break a line.
 LINK = re.compile(r"\[((?:`[^`]+`|[^\]`])+)\]\(([^)]+)\)")
 JOINED = re.compile(r"[\w.]+(?:[-/][\w.]+)+")
 
 STYLE = """
-body { color: #111; background: #fff; font: 16px/1.5 Georgia, 'DejaVu Serif', serif; hyphens: none; margin: 2em auto; max-width: 60em; padding: 0 1em }
+body { color: #111; background: #fff; font: 16px/1.5 Georgia, 'DejaVu Serif', serif; hyphens: none; margin: 2em auto; max-width: 60em;
+  overflow-wrap: break-word; padding: 0 1em }
 h1 { font-size: 1.6em } h2 { font-size: 1.3em; border-top: 1px solid #111; padding-top: .6em; margin-top: 2em } h3 { font-size: 1.1em }
 h4 { font-size: 1em; margin-bottom: .3em }
 blockquote { border-left: 3px solid #777; font-style: italic; margin-left: 0; padding-left: 1em }
@@ -30,6 +34,7 @@ a { color: #034; text-decoration: none } a:hover { text-decoration: underline } 
 @page { size: A4; margin: 16mm 14mm; @bottom-right { content: counter(page) " of " counter(pages); font: 8pt Georgia, 'DejaVu Serif', serif } }
 @media print {
   body { font-size: 10.5pt; line-height: 1.4; margin: 0; max-width: none; padding: 0 } pre { font-size: 7.5pt; break-inside: avoid; overflow: visible }
+  pre.long { break-inside: auto } p:has(+ pre), p:has(+ table), p:has(+ ul) { break-after: avoid }
   a { color: #111 } h1, h2, h3, h4 { break-after: avoid } tr, li { break-inside: avoid } p { orphans: 3; widows: 3 } p a, li a, td a { text-decoration: none }
 }
 """
@@ -87,7 +92,8 @@ def code_html(block):
     """Lines of code, with a link at each name that has one."""
     rows = [line_html(line, [link[1:] for link in block.links if link[0] == row]) for row, line in enumerate(block.lines)]
     name = f' id="{html.escape(block.anchor)}"' if block.anchor else ""
-    return f"<pre{name}>" + "".join(f'<span class="row">{row}\n</span>' for row in rows) + "</pre>"
+    long = ' class="long"' if len(block.lines) > LONG else ""
+    return f"<pre{name}{long}>" + "".join(f'<span class="row">{row}\n</span>' for row in rows) + "</pre>"
 
 
 def line_html(line, links):
