@@ -33,7 +33,12 @@ const LAST_HEADER: usize = 24;
 const MOST_MOVED: usize = 257;
 
 // An accepted append gives the key its new place.
-fn accept_append(heads: &mut [u64], key: usize, place: ShHeadValue, rewritten: u64) -> BookAppend
+pub fn accept_append(
+    heads: &mut [u64],
+    key: usize,
+    place: ShHeadValue,
+    rewritten: u64,
+) -> BookAppend
     requires { ⌜ key < length (now heads) ⌝ }
     ensures { λ r. ⌜ ((b : Book) (s : Space) (counts : List ℕ) → b .heads ≡ now (heads .entry)
         → Does (accepted (appending key place rewritten s counts b)) b
@@ -44,7 +49,7 @@ fn accept_append(heads: &mut [u64], key: usize, place: ShHeadValue, rewritten: u
 }
 
 // A number behind an inline number: both move to a block.
-fn append_inline(
+pub fn append_inline(
     body: &mut [u8],
     heads: &mut [u64],
     mark: &mut u64,
@@ -74,7 +79,7 @@ fn append_inline(
 }
 
 // A number behind a slab's list moves with it: the list is read, a block is taken and filled, then the slab is given back.
-fn move_slab(
+pub fn move_slab(
     body: &mut [u8],
     heads: &mut [u64],
     mark: &mut u64,
@@ -163,7 +168,7 @@ fn append_slab(
 }
 
 // A number in a page more of a chain: the old last page gets it as next, then it is written as the last.
-fn grow_chain(
+pub fn grow_chain(
     body: &mut [u8],
     heads: &mut [u64],
     mark: &mut u64,

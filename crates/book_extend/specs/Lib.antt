@@ -1,0 +1,3 @@
+pub mod Extends
+pub mod Answers
+pub mod Steps
