@@ -23,7 +23,7 @@ use Rattle.book_history.proofs.LawsStartKept.{start-kept}
 
 module _ (ds : List ℕ) (b : Book) (g : GoodStart ds b) where
   -- Nothing is turned back before the core's call: shape, counts and list are good.
-  start-passes : {A : Type 0} (key : ℕ) (call : ℕ → Answer A) → withDesks ds b key call ≡ call (deskOf ds key)
+  pub start-passes : {A : Type 0} (key : ℕ) (call : ℕ → Answer A) → withDesks ds b key call ≡ call (deskOf ds key)
   unfolding withDesks
   start-passes key call =
       refuse-no _ _ _ (rw (g .blocks .shape, g .counts .low) refl) ∙ refuse-no _ _ _ (g .counts .named)

@@ -51,4 +51,6 @@ pub mod LostTold
 pub mod Growing
 pub mod Refusals
 pub mod Core
+pub mod Extended
+pub mod ExamplesExtend
 pub mod Reserve

@@ -10,3 +10,4 @@ pub mod Hollow
 pub mod Core
 pub mod Reserve
 pub mod NeverRefused
+pub mod Extended
