@@ -47,13 +47,14 @@
    OURISCADO_NO_CEILING. It is made, called and checked with the short inline functions below, and is refused
    with neither of the two.
 
-   There are eight calls:
+   There are nine calls:
 
        ouriscado_book_fresh         makes a book in which nothing is recorded
        ouriscado_book_load          records a whole list for an account that has none, with a spare slot for
                                     the next number
        ouriscado_book_load_tight    the same, in the smallest slab: for a list that is complete
        ouriscado_book_append        records one more number for an account
+       ouriscado_book_extend        records many more, one after another, up to the first that is refused
        ouriscado_book_read          gives an account's list
        ouriscado_book_length        tells how long an account's list is
        ouriscado_book_drop          takes an account's list out of the book
@@ -62,34 +63,37 @@
 
    They are lent the list of desks, and judge all of it and all counts each time, which takes a time that grows
    with the accounts: a read of one number took 14 ns with 1 account, 27 with 1,000 and 560 with 50,000 (Intel
-   Xeon, x86-64). Beside six of them stands a core, which is told one desk, and judges counts where it uses
-   them: ouriscado_core_load, ouriscado_core_load_tight, ouriscado_core_append, ouriscado_core_read,
-   ouriscado_core_length and ouriscado_core_drop; that read took 5 ns there. Where list and counts are good
-   both do the same. Take the core where you keep the list of desks yourself, and nobody else writes it: hand
-   on desks[key].
+   Xeon, x86-64). Beside seven of them stands a core, which is told one desk, and judges counts where it uses
+   them: ouriscado_core_load, ouriscado_core_load_tight, ouriscado_core_append, ouriscado_core_extend,
+   ouriscado_core_read, ouriscado_core_length and ouriscado_core_drop; that read took 5 ns there. Where list
+   and counts are good both do the same. Take the core where you keep the list of desks yourself, and nobody
+   else writes it: hand on desks[key].
 
    All take the state as pointers to its mark, its free heads and its counts; read and length of the core take
    the mark alone. Inline functions take one pointer to a struct ouriscado_state instead, and a program in C
    calls these:
 
-       ouriscado_append          and so for all eight: for a book without desks, by the core with desk 0
-       ouriscado_desk_append     by the core with a desk; for loads, append and drop. A read is ouriscado_read
-       ouriscado_desks_append    lent the list of desks; for all eight
+       ouriscado_append          and so for all nine: for a book without desks, by the core with desk 0
+       ouriscado_desk_append     by the core with a desk; for loads, append, extend and drop. A read is
+                                 ouriscado_read
+       ouriscado_desks_append    lent the list of desks; for all nine
 
    A whole program is in examples/c/shop.c of the repository, and installed beside NOTICE.
 
    WHAT IS PROVED
 
-   Take a book that ouriscado_book_fresh made and any loads, tight or not, appends, reads and drops on it
-   after that, with any arguments, refused ones included, where each call gets body, heads and state as the
-   one before it left them, and the same list of desks, or the key's desk of it, and nobody else writes them;
-   checks and lengths may stand between, since they write nothing of a book. Then each read gives exactly the
-   numbers that were recorded for its key since that key was last dropped, or is refused with 1, 2, 34 or 39;
-   so a read that is accepted with length 0 says that nothing is recorded. A length is how many they are, and
-   a read with room for it isn't refused with 34. Each call ends on every input, reads and writes only what it
-   is lent, and checks for itself that the book is sound as far as it looks at it. Not proved: the toolchain,
-   with its checker and the compiler's back end, and the linker; and your side of the boundary, that pointers
-   and lengths are what you say, and that nothing interrupts a call.
+   Take a book that ouriscado_book_fresh made and any loads, tight or not, appends, reads and drops on it after
+   that, with any arguments, refused ones included, where each call gets body, heads and state as the one
+   before it left them, and the same list of desks, or the key's desk of it, and nobody else writes them;
+   checks and lengths may stand between, since they write nothing of a book, and extends, since what an extend
+   leaves is what the core's appends of its numbers leave, one after another, up to the first that is refused
+   (this is proved). Then each read gives exactly the numbers that were recorded for its key since that key was
+   last dropped, or is refused with 1, 2, 34 or 39; so a read that is accepted with length 0 says that nothing
+   is recorded. A length is how many they are, and a read with room for it isn't refused with 34. Each call
+   ends on every input, reads and writes only what it is lent, and checks for itself that the book is sound as
+   far as it looks at it. Not proved: the toolchain, with its checker and the compiler's back end, and the
+   linker; and your side of the boundary, that pointers and lengths are what you say, and that nothing
+   interrupts a call.
 
    A book may also come from elsewhere, as from a file, written by this library or by other software of the
    same format. Where ouriscado_book_check tells that it is a good start, the same holds of any calls from
@@ -100,7 +104,8 @@
 
    Every call answers 0 where it was accepted, else the number of a refusal (enum ouriscado_refusal below). A
    refused call has changed nothing: body, heads, state and lists hold what they held. Numbers that go out
-   through a pointer are 0 then.
+   through a pointer are 0 then. An extend of which a number was refused is accepted: it tells in accepted how
+   many numbers before that one are recorded, and in refusal why the next one isn't.
 
    LOOK AT THE RESULT FIRST. A refused read also leaves 0 in its length: that says nothing about the account.
    Only a result of 0 together with a length of 0 says that nothing is recorded.
@@ -206,9 +211,9 @@ struct ouriscado_state {
 /* Why a book from elsewhere isn't a good start: the ground that a check tells. */
 #define OURISCADO_START_GOOD                    0 /* the start is good */
 #define OURISCADO_START_KEY_UNSOUND             1 /* the key isn't sound: a read, a length and a drop of it
-                                                     are refused with 31, a load with 3; an append too is
-                                                     refused with 31, but of pages it looks at the last one
-                                                     alone, and may be accepted */
+                                                     are refused with 31, a load with 3; an append and an
+                                                     extend too are refused with 31, but of pages they look at
+                                                     the last one alone, and may be accepted */
 #define OURISCADO_START_KEY_SHARES              2 /* a block of the key shares bytes with another of its own,
                                                      or with one of a key before it */
 #define OURISCADO_START_FREE_STRAYS             3 /* the free list names an offset where no such block can
@@ -612,6 +617,79 @@ static inline uint32_t ouriscado_append(
     return ouriscado_core_append(
         body, body_len, heads, heads_len, &state->mark, state->free, state->counts, 0, key, fk, kind, class_,
         used, place, rewritten);
+}
+
+/* Appends record numbers to the list of a key, the first first, each as ouriscado_core_append does, until one
+   is refused: those before it stay appended, and the call is accepted. The key is judged before the numbers,
+   as an append judges it: of pages the last one alone. The list may have any length; of one without numbers
+   the key is judged alone. Hands out accepted, how many numbers were appended; refusal, the number by which
+   the next one was refused, which is 1, 12 to 14, 31, 32, 35, 36, 40 or 41, or 0 where all were appended;
+   kind, class, used and place, where the list stands then, as an append tells it, with a kind of 0 for a key
+   that is empty; moves, how many of the appends moved the list; and rewritten, how many numbers these wrote
+   anew, summed. Refuses 1, 2, 31, 39.
+
+   A result of 0 doesn't say that all numbers are recorded: look at refusal too. The number that was refused
+   and those behind it are not recorded, and can be offered again:
+
+       uint64_t accepted, place, moves, rewritten;
+       uint32_t refusal, number;
+       uint16_t used;
+       uint8_t kind, class_;
+       number = ouriscado_extend(body, body_len, heads, heads_len, &state, key, list, length,
+                                 &accepted, &refusal, &kind, &class_, &used, &place, &moves, &rewritten);
+       if (number != OURISCADO_ACCEPTED) return number;              nothing is recorded
+       if (refusal == OURISCADO_NO_ROOM) make_room();                then offer list + accepted again
+       else if (refusal != OURISCADO_ACCEPTED) tell_the_caller(refusal, list[accepted]);
+
+   It leaves what as many appends leave, to the byte. A load is another thing: it is for a key that is empty,
+   judges all of its list before it writes, and puts a long one into a run of pages.
+
+   Refusals: OURISCADO_SHAPE_BAD (1), OURISCADO_KEY_BEYOND (2), OURISCADO_KEY_UNSOUND (31),
+   OURISCADO_DESKS_BAD (39). */
+uint32_t ouriscado_book_extend(
+    uint8_t *body, size_t body_len, uint64_t *heads, size_t heads_len, uint64_t *mark,
+    uint64_t free[OURISCADO_FREE_HEADS], uint64_t counts[OURISCADO_COUNT_WORDS], const uint8_t *desks,
+    size_t desks_len, uint64_t key, const uint64_t *fks, size_t fks_len, uint64_t *accepted,
+    uint32_t *refusal, uint8_t *kind, uint8_t *class_, uint16_t *used, uint64_t *place, uint64_t *moves,
+    uint64_t *rewritten);
+static inline uint32_t ouriscado_desks_extend(
+    uint8_t *body, size_t body_len, uint64_t *heads, size_t heads_len, struct ouriscado_state *state,
+    const uint8_t *desks, size_t desks_len, uint64_t key, const uint64_t *fks, size_t fks_len,
+    uint64_t *accepted, uint32_t *refusal, uint8_t *kind, uint8_t *class_, uint16_t *used, uint64_t *place,
+    uint64_t *moves, uint64_t *rewritten)
+{
+    return ouriscado_book_extend(
+        body, body_len, heads, heads_len, &state->mark, state->free, state->counts, desks, desks_len, key,
+        fks, fks_len, accepted, refusal, kind, class_, used, place, moves, rewritten);
+}
+
+/* Appends record numbers to the list of a key as ouriscado_book_extend does, for the desk of a number: 39
+   above 15. The counts are judged where blocks are taken, behind 36. Refuses 1, 2, 31, 39.
+
+   Refusals: OURISCADO_SHAPE_BAD (1), OURISCADO_KEY_BEYOND (2), OURISCADO_KEY_UNSOUND (31),
+   OURISCADO_DESKS_BAD (39). */
+uint32_t ouriscado_core_extend(
+    uint8_t *body, size_t body_len, uint64_t *heads, size_t heads_len, uint64_t *mark,
+    uint64_t free[OURISCADO_FREE_HEADS], uint64_t counts[OURISCADO_COUNT_WORDS], uint64_t desk, uint64_t key,
+    const uint64_t *fks, size_t fks_len, uint64_t *accepted, uint32_t *refusal, uint8_t *kind,
+    uint8_t *class_, uint16_t *used, uint64_t *place, uint64_t *moves, uint64_t *rewritten);
+static inline uint32_t ouriscado_desk_extend(
+    uint8_t *body, size_t body_len, uint64_t *heads, size_t heads_len, struct ouriscado_state *state,
+    uint64_t desk, uint64_t key, const uint64_t *fks, size_t fks_len, uint64_t *accepted, uint32_t *refusal,
+    uint8_t *kind, uint8_t *class_, uint16_t *used, uint64_t *place, uint64_t *moves, uint64_t *rewritten)
+{
+    return ouriscado_core_extend(
+        body, body_len, heads, heads_len, &state->mark, state->free, state->counts, desk, key, fks, fks_len,
+        accepted, refusal, kind, class_, used, place, moves, rewritten);
+}
+static inline uint32_t ouriscado_extend(
+    uint8_t *body, size_t body_len, uint64_t *heads, size_t heads_len, struct ouriscado_state *state,
+    uint64_t key, const uint64_t *fks, size_t fks_len, uint64_t *accepted, uint32_t *refusal, uint8_t *kind,
+    uint8_t *class_, uint16_t *used, uint64_t *place, uint64_t *moves, uint64_t *rewritten)
+{
+    return ouriscado_core_extend(
+        body, body_len, heads, heads_len, &state->mark, state->free, state->counts, 0, key, fks, fks_len,
+        accepted, refusal, kind, class_, used, place, moves, rewritten);
 }
 
 /* Reads the list of a key into the start of out; what stands behind it there stays. Hands out length, how

@@ -39,7 +39,7 @@ CONSTANTS = {
     ],
     "grounds": [
         ("START_GOOD", 0, "u32", "the start is good"),
-        ("START_KEY_UNSOUND", 1, "u32", "the key isn't sound: a read, a length and a drop of it are refused with 31, a load with 3; an append too is refused with 31, but of pages it looks at the last one alone, and may be accepted"),
+        ("START_KEY_UNSOUND", 1, "u32", "the key isn't sound: a read, a length and a drop of it are refused with 31, a load with 3; an append and an extend too are refused with 31, but of pages they look at the last one alone, and may be accepted"),
         ("START_KEY_SHARES", 2, "u32", "a block of the key shares bytes with another of its own, or with one of a key before it"),
         ("START_FREE_STRAYS", 3, "u32", "the free list names an offset where no such block can stand: taking it is refused with 35, and of pages a run with 42"),
         ("START_FREE_SHARES", 4, "u32", "a block of the free list shares bytes with one in use, or with one that this list or one of a smaller class named before; a list that doesn't end comes to such a block"),

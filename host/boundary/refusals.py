@@ -22,7 +22,7 @@ REFUSALS = [
      "every call of the book; making it fresh looks at the lengths and the reserves only",
      "checks that body, head words and state belong together and are whole; restores all three"),
     (2, "KEY_BEYOND", "the key is beyond the heads", ": it isn't below the count of head words",
-     "load, append, read, drop", "checks the account's index; if that is right, the head words that were lent are not all"),
+     "load, append, extend, read, length, drop", "checks the account's index; if that is right, the head words that were lent are not all"),
     (3, "KEY_IN_USE", "a load meets a key in use", ": its head word isn't 0", "load", "appends instead, or drops the key first"),
     (4, "PAGE_LENGTH", "a page buffer isn't 4,096 bytes", "", "functions on pages", CORRECTED),
     (5, "LINK_UNALIGNED", "a link offset isn't a multiple of 4,096", "", LINKS, CORRECTED),
@@ -54,7 +54,7 @@ REFUSALS = [
     (28, "SLAB_USED_TOO_SMALL", "a stored slab head has used 0 or 1", "", UNPACKING, DAMAGED_WORD),
     (29, "MODE_TWO", "a head word has mode 2", "", UNPACKING, DAMAGED_WORD),
     (30, "EXTENT_PAYLOAD_ZERO", "a head word of mode 3 has offset 0", "", UNPACKING, DAMAGED_WORD),
-    (31, "KEY_UNSOUND", "the key isn't sound: it is unknown, never taken for empty", "; or a drop has more pages than the key's desk holds", "append, read, drop",
+    (31, "KEY_UNSOUND", "the key isn't sound: it is unknown, never taken for empty", "; or a drop has more pages than the key's desk holds", "append, extend, read, length, drop",
      "restores body, head words and state of one moment; finds out who else wrote them, which call was interrupted, or what was put together from two "
      "moments"),
     (32, "OFFERED_NOT_RISING", "a number offered isn't above the one before", ", in the list, the key or the page", OFFERING,

@@ -21,6 +21,22 @@ pub struct Appended {
     pub rewritten: u64,
 }
 
+/// What an accepted extend tells.
+#[derive(Clone, Copy, Debug, PartialEq, Eq)]
+#[must_use = "only the first `accepted` numbers are recorded"]
+pub struct Extended {
+    /// How many of the numbers are recorded now: so many from the first on.
+    pub accepted: usize,
+    /// Why the next number was refused; none where all are recorded.
+    pub stopped: Option<Refusal>,
+    /// Where the list stands now.
+    pub place: Place,
+    /// How many of the numbers moved the list.
+    pub moves: u64,
+    /// How many numbers these moves wrote anew, summed.
+    pub rewritten: u64,
+}
+
 /// What an accepted read tells of the lent list.
 #[derive(Clone, Copy, Debug, PartialEq, Eq)]
 #[must_use = "only the first `length` numbers of the lent list are the account's"]
@@ -507,6 +523,41 @@ impl<B: AsRef<[u8]> + AsMut<[u8]>, H: AsRef<[u64]> + AsMut<[u64]>> Book<B, H> {
         let out = (&mut kind, &mut class, &mut used, &mut place, &mut rewritten);
         let refusal = sys::core_append(body, heads, mark, free, counts, desk, key, number, out.0, out.1, out.2, out.3, out.4);
         answer(refusal, Appended { place: codec::Head::of_numbers(kind, class, used, place).into(), rewritten })
+    }
+
+    /// Records numbers for an account, one after another until one is refused, and tells how many are recorded. The book is then what
+    /// [`Book::append`] of each of these leaves. There may be any count of numbers.
+    ///
+    /// That a number is refused is no error of the call: the numbers before it are recorded, and [`Extended::stopped`] says why it isn't,
+    /// with a refusal of [`Book::append`].
+    ///
+    /// ```
+    /// use ouriscado::{Book, Refusal};
+    ///
+    /// let mut book = Book::fresh(vec![0; 8192], vec![0; 1])?;
+    /// let told = book.extend(0, &[7, 8, 8, 9])?;
+    /// assert_eq!((told.accepted, told.stopped), (2, Some(Refusal::OfferedNotRising)));
+    /// let told = book.extend(0, &[9, 10])?;
+    /// assert_eq!((told.accepted, told.stopped), (2, None));
+    /// assert_eq!(book.read(0)?, [7, 8, 9, 10]);
+    /// # Ok::<(), Refusal>(())
+    /// ```
+    ///
+    /// # Errors
+    ///
+    /// [`Refusal::ShapeBad`], [`Refusal::KeyBeyond`], [`Refusal::DesksBad`] as of [`Book::load`], and [`Refusal::KeyUnsound`], also where no
+    /// number is offered: the account is judged before the numbers, as an append judges it. No number is recorded then.
+    pub fn extend(&mut self, key: u64, numbers: &[u64]) -> Result<Extended, Refusal> {
+        let (mut accepted, mut stopped, mut moves, mut rewritten) = (0, 0, 0, 0);
+        let (mut kind, mut class, mut used, mut place) = (0, 0, 0, 0);
+        let desk = self.desk(key);
+        let (body, heads, (mark, free, counts)) = (self.body.as_mut(), self.heads.as_mut(), self.state.lent());
+        let (told, stands) = ((&mut accepted, &mut stopped, &mut moves, &mut rewritten), (&mut kind, &mut class, &mut used, &mut place));
+        let refusal = sys::core_extend(
+            body, heads, mark, free, counts, desk, key, numbers, told.0, told.1, stands.0, stands.1, stands.2, stands.3, told.2, told.3,
+        );
+        let place = codec::Head::of_numbers(kind, class, used, place).into();
+        answer(refusal, Extended { accepted: accepted as usize, stopped: Refusal::of_number(stopped), place, moves, rewritten })
     }
 
     /// Takes an account's list out of the book, and tells how many numbers it had. Its blocks may then go to other accounts.

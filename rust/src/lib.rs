@@ -51,7 +51,7 @@ mod state;
 pub mod sys;
 mod walk;
 
-pub use book::{Appended, Book, Listed};
+pub use book::{Appended, Book, Extended, Listed};
 pub use desks::Desks;
 pub use place::Place;
 pub use refusal::Refusal;

@@ -64,7 +64,7 @@ pub const WORK_UNIT: usize = 128;
 /// The start is good.
 pub const START_GOOD: u32 = 0;
 
-/// The key isn't sound: a read, a length and a drop of it are refused with 31, a load with 3; an append too is refused with 31, but of pages it looks at the last one alone, and may be accepted.
+/// The key isn't sound: a read, a length and a drop of it are refused with 31, a load with 3; an append and an extend too are refused with 31, but of pages they look at the last one alone, and may be accepted.
 pub const START_KEY_UNSOUND: u32 = 1;
 
 /// A block of the key shares bytes with another of its own, or with one of a key before it.

@@ -234,6 +234,58 @@ pub mod raw {
             key: u64,
             length: &mut u64,
         ) -> u32;
+        /// Appends record numbers to the list of a key as ouriscado_book_extend does, for the desk of a number: 39 above 15. The counts are
+        /// judged where blocks are taken, behind 36. Refuses 1, 2, 31, 39.
+        pub fn ouriscado_core_extend(
+            body: *mut u8,
+            body_len: usize,
+            heads: *mut u64,
+            heads_len: usize,
+            mark: &mut u64,
+            free: &mut [u64; 9],
+            counts: &mut [u64; 49],
+            desk: u64,
+            key: u64,
+            fks: *const u64,
+            fks_len: usize,
+            accepted: &mut u64,
+            refusal: &mut u32,
+            kind: &mut u8,
+            class: &mut u8,
+            used: &mut u16,
+            place: &mut u64,
+            moves: &mut u64,
+            rewritten: &mut u64,
+        ) -> u32;
+        /// Appends record numbers to the list of a key, the first first, each as ouriscado_core_append does, until one is refused: those
+        /// before it stay appended, and the call is accepted. The key is judged before the numbers, as an append judges it: of pages the
+        /// last one alone. The list may have any length; of one without numbers the key is judged alone. Hands out accepted, how many
+        /// numbers were appended; refusal, the number by which the next one was refused, which is 1, 12 to 14, 31, 32, 35, 36, 40 or 41, or
+        /// 0 where all were appended; kind, class, used and place, where the list stands then, as an append tells it, with a kind of 0 for
+        /// a key that is empty; moves, how many of the appends moved the list; and rewritten, how many numbers these wrote anew, summed.
+        /// Refuses 1, 2, 31, 39.
+        pub fn ouriscado_book_extend(
+            body: *mut u8,
+            body_len: usize,
+            heads: *mut u64,
+            heads_len: usize,
+            mark: &mut u64,
+            free: &mut [u64; 9],
+            counts: &mut [u64; 49],
+            desks: *const u8,
+            desks_len: usize,
+            key: u64,
+            fks: *const u64,
+            fks_len: usize,
+            accepted: &mut u64,
+            refusal: &mut u32,
+            kind: &mut u8,
+            class: &mut u8,
+            used: &mut u16,
+            place: &mut u64,
+            moves: &mut u64,
+            rewritten: &mut u64,
+        ) -> u32;
         /// Tells how many record numbers the list of a key has, as ouriscado_book_length does; it is lent neither counts nor desks. Refuses
         /// 1, 2, 31.
         pub fn ouriscado_core_length(
@@ -853,6 +905,105 @@ pub fn core_drop(
 ) -> u32 {
     unsafe {
         raw::ouriscado_core_drop(body.as_mut_ptr(), body.len(), heads.as_mut_ptr(), heads.len(), mark, free, counts, desk, key, length)
+    }
+}
+
+/// Appends record numbers to the list of a key as ouriscado_book_extend does, for the desk of a number: 39 above 15. The counts are judged
+/// where blocks are taken, behind 36. Refuses 1, 2, 31, 39.
+#[inline]
+#[must_use]
+pub fn core_extend(
+    body: &mut [u8],
+    heads: &mut [u64],
+    mark: &mut u64,
+    free: &mut [u64; 9],
+    counts: &mut [u64; 49],
+    desk: u64,
+    key: u64,
+    fks: &[u64],
+    accepted: &mut u64,
+    refusal: &mut u32,
+    kind: &mut u8,
+    class: &mut u8,
+    used: &mut u16,
+    place: &mut u64,
+    moves: &mut u64,
+    rewritten: &mut u64,
+) -> u32 {
+    unsafe {
+        raw::ouriscado_core_extend(
+            body.as_mut_ptr(),
+            body.len(),
+            heads.as_mut_ptr(),
+            heads.len(),
+            mark,
+            free,
+            counts,
+            desk,
+            key,
+            fks.as_ptr(),
+            fks.len(),
+            accepted,
+            refusal,
+            kind,
+            class,
+            used,
+            place,
+            moves,
+            rewritten,
+        )
+    }
+}
+
+/// Appends record numbers to the list of a key, the first first, each as ouriscado_core_append does, until one is refused: those before it
+/// stay appended, and the call is accepted. The key is judged before the numbers, as an append judges it: of pages the last one alone. The
+/// list may have any length; of one without numbers the key is judged alone. Hands out accepted, how many numbers were appended; refusal,
+/// the number by which the next one was refused, which is 1, 12 to 14, 31, 32, 35, 36, 40 or 41, or 0 where all were appended; kind, class,
+/// used and place, where the list stands then, as an append tells it, with a kind of 0 for a key that is empty; moves, how many of the
+/// appends moved the list; and rewritten, how many numbers these wrote anew, summed. Refuses 1, 2, 31, 39.
+#[inline]
+#[must_use]
+pub fn book_extend(
+    body: &mut [u8],
+    heads: &mut [u64],
+    mark: &mut u64,
+    free: &mut [u64; 9],
+    counts: &mut [u64; 49],
+    desks: &[u8],
+    key: u64,
+    fks: &[u64],
+    accepted: &mut u64,
+    refusal: &mut u32,
+    kind: &mut u8,
+    class: &mut u8,
+    used: &mut u16,
+    place: &mut u64,
+    moves: &mut u64,
+    rewritten: &mut u64,
+) -> u32 {
+    unsafe {
+        raw::ouriscado_book_extend(
+            body.as_mut_ptr(),
+            body.len(),
+            heads.as_mut_ptr(),
+            heads.len(),
+            mark,
+            free,
+            counts,
+            desks.as_ptr(),
+            desks.len(),
+            key,
+            fks.as_ptr(),
+            fks.len(),
+            accepted,
+            refusal,
+            kind,
+            class,
+            used,
+            place,
+            moves,
+            rewritten,
+        )
     }
 }
 

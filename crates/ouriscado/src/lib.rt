@@ -3,6 +3,7 @@
 // holds what it held.
 mod account_book;
 mod account_core;
+mod account_extend;
 mod account_length;
 mod class;
 mod cut;
@@ -29,6 +30,8 @@ pub use account_core::ouriscado_core_drop;
 pub use account_core::ouriscado_core_load;
 pub use account_core::ouriscado_core_load_tight;
 pub use account_core::ouriscado_core_read;
+pub use account_extend::ouriscado_book_extend;
+pub use account_extend::ouriscado_core_extend;
 pub use account_length::ouriscado_book_length;
 pub use account_length::ouriscado_core_length;
 pub use class::ouriscado_slab_class_for_n_fks;
