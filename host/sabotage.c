@@ -784,6 +784,47 @@ uint32_t ouriscado_book_length(const uint8_t *body, size_t n, const uint64_t *he
     return number;
 }
 
+#elif SABOTAGE == 72
+/* 72 book: an extend in pages counts one number in creates, however many there are */
+uint32_t real_ouriscado_core_extend(uint8_t *body, size_t n, uint64_t *heads, size_t keys, uint64_t *mark, uint64_t *free, uint64_t *counts, uint64_t desk, uint64_t key, const uint64_t *fks, size_t count, uint64_t *accepted, uint32_t *refusal, uint8_t *kind, uint8_t *class, uint16_t *used, uint64_t *place, uint64_t *moves, uint64_t *rewritten);
+uint32_t ouriscado_core_extend(uint8_t *body, size_t n, uint64_t *heads, size_t keys, uint64_t *mark, uint64_t *free, uint64_t *counts, uint64_t desk, uint64_t key, const uint64_t *fks, size_t count, uint64_t *accepted, uint32_t *refusal, uint8_t *kind, uint8_t *class, uint16_t *used, uint64_t *place, uint64_t *moves, uint64_t *rewritten) {
+    uint32_t number = real_ouriscado_core_extend(body, n, heads, keys, mark, free, counts, desk, key, fks, count, accepted, refusal, kind, class, used, place, moves, rewritten);
+    uint32_t creates;
+    if (number != 0 || *kind != 3 || *moves != 0 || *accepted < 2) return number;
+    memcpy(&creates, body + *place + 20, 4);
+    if (creates > *accepted) creates -= (uint32_t)*accepted - 1;
+    memcpy(body + *place + 20, &creates, 4);
+    return number;
+}
+
+#elif SABOTAGE == 73
+/* 73 book: an extend counts the number that was refused among those that it appended */
+uint32_t real_ouriscado_book_extend(uint8_t *body, size_t n, uint64_t *heads, size_t keys, uint64_t *mark, uint64_t *free, uint64_t *counts, const uint8_t *desks, size_t d, uint64_t key, const uint64_t *fks, size_t count, uint64_t *accepted, uint32_t *refusal, uint8_t *kind, uint8_t *class, uint16_t *used, uint64_t *place, uint64_t *moves, uint64_t *rewritten);
+uint32_t ouriscado_book_extend(uint8_t *body, size_t n, uint64_t *heads, size_t keys, uint64_t *mark, uint64_t *free, uint64_t *counts, const uint8_t *desks, size_t d, uint64_t key, const uint64_t *fks, size_t count, uint64_t *accepted, uint32_t *refusal, uint8_t *kind, uint8_t *class, uint16_t *used, uint64_t *place, uint64_t *moves, uint64_t *rewritten) {
+    uint32_t number = real_ouriscado_book_extend(body, n, heads, keys, mark, free, counts, desks, d, key, fks, count, accepted, refusal, kind, class, used, place, moves, rewritten);
+    if (*refusal != 0) *accepted += 1;
+    return number;
+}
+
+#elif SABOTAGE == 74
+/* 74 book: an extend leaves the last number out, and tells that all were appended */
+uint32_t real_ouriscado_core_extend(uint8_t *body, size_t n, uint64_t *heads, size_t keys, uint64_t *mark, uint64_t *free, uint64_t *counts, uint64_t desk, uint64_t key, const uint64_t *fks, size_t count, uint64_t *accepted, uint32_t *refusal, uint8_t *kind, uint8_t *class, uint16_t *used, uint64_t *place, uint64_t *moves, uint64_t *rewritten);
+uint32_t ouriscado_core_extend(uint8_t *body, size_t n, uint64_t *heads, size_t keys, uint64_t *mark, uint64_t *free, uint64_t *counts, uint64_t desk, uint64_t key, const uint64_t *fks, size_t count, uint64_t *accepted, uint32_t *refusal, uint8_t *kind, uint8_t *class, uint16_t *used, uint64_t *place, uint64_t *moves, uint64_t *rewritten) {
+    size_t offered = count;
+    if (count > 1) count -= 1;
+    uint32_t number = real_ouriscado_core_extend(body, n, heads, keys, mark, free, counts, desk, key, fks, count, accepted, refusal, kind, class, used, place, moves, rewritten);
+    if (number == 0 && *refusal == 0) *accepted = offered;
+    return number;
+}
+
+#elif SABOTAGE == 75
+/* 75 book: an extend by no number doesn't judge its key */
+uint32_t real_ouriscado_book_extend(uint8_t *body, size_t n, uint64_t *heads, size_t keys, uint64_t *mark, uint64_t *free, uint64_t *counts, const uint8_t *desks, size_t d, uint64_t key, const uint64_t *fks, size_t count, uint64_t *accepted, uint32_t *refusal, uint8_t *kind, uint8_t *class, uint16_t *used, uint64_t *place, uint64_t *moves, uint64_t *rewritten);
+uint32_t ouriscado_book_extend(uint8_t *body, size_t n, uint64_t *heads, size_t keys, uint64_t *mark, uint64_t *free, uint64_t *counts, const uint8_t *desks, size_t d, uint64_t key, const uint64_t *fks, size_t count, uint64_t *accepted, uint32_t *refusal, uint8_t *kind, uint8_t *class, uint16_t *used, uint64_t *place, uint64_t *moves, uint64_t *rewritten) {
+    uint32_t number = real_ouriscado_book_extend(body, n, heads, keys, mark, free, counts, desks, d, key, fks, count, accepted, refusal, kind, class, used, place, moves, rewritten);
+    return number == 31 && count == 0 ? 0 : number;
+}
+
 #else
 #error "SABOTAGE names none"
 #endif

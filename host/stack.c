@@ -40,6 +40,12 @@ static void fresh(void) { CALL(ouriscado_fresh(BOOK)); }
 static void load(void) { CALL(ouriscado_load(BOOK, 1, list, count, &a)); }
 static void load_tight(void) { CALL(ouriscado_load_tight(BOOK, 1, list, count, &a)); }
 static void append(void) { CALL(ouriscado_append(BOOK, 0, list[count], &kind, &class_, &used, &place, &a)); }
+static void extend_by(uint64_t key, const uint64_t *more, size_t length)
+{
+    CALL(ouriscado_extend(BOOK, key, more, length, &a, &n, &kind, &class_, &used, &place, &b, &c));
+}
+static void extend(void) { extend_by(1, list, count); }
+static void extend_more(void) { extend_by(0, list + count, 1000); }
 static void read_all(void) { CALL(ouriscado_read(BOOK, 0, out, MOST + 1, &a, &b, &c)); }
 static void read_short(void) { CALL(ouriscado_read(BOOK, 0, out, count - 1, &a, &b, &c)); }
 static void length(void) { CALL(ouriscado_length(BOOK, 0, &a)); }
@@ -156,6 +162,13 @@ static const struct test TESTS[] = {
     { "book_append", "the 4,001st number, to the last page", 4000, loaded, append, BOOK_CALL },
     { "book_append", "the 4,073rd number, a full page or not", 4072, loaded, append, BOOK_CALL },
     { "book_append", "a damaged slab", 100, damaged, append, BOOK_CALL },
+    { "book_extend", "no number", 0, nothing, extend, BOOK_CALL },
+    { "book_extend", "200 numbers, to a slab", 200, nothing, extend, BOOK_CALL },
+    { "book_extend", "65,535 numbers, to pages", MOST, nothing, extend, BOOK_CALL },
+    { "book_extend", "1,000 numbers behind a slab of 100", 100, appended, extend_more, BOOK_CALL },
+    { "book_extend", "1,000 numbers behind a padded slab", 200, padded_slab, extend_more, BOOK_CALL },
+    { "book_extend", "1,000 numbers behind pages", 4000, loaded, extend_more, BOOK_CALL },
+    { "book_extend", "a damaged slab", 100, damaged, extend_more, BOOK_CALL },
     { "book_read", "an empty account", 0, nothing, read_all, BOOK_CALL },
     { "book_read", "1 number, inline", 1, loaded, read_all, BOOK_CALL },
     { "book_read", "2 numbers in a slab", 2, loaded, read_all, BOOK_CALL },

@@ -1,11 +1,13 @@
-//! The speed of the book's calls, and of the core's: ours against the second book's, over the published functions. A case begins with a book that the second book
-//! made, and each turn begins with a copy of it, which both sides make alike, or leaves it as it was.
+//! The speed of the book's calls, and of the core's: ours against the second book's, over the published functions, and of extends against our
+//! own appends. A case begins with a book that the second book made, and each turn begins with a copy of it, which both sides make alike, or
+//! leaves it as it was.
 use crate::bench::{case, seen, Case};
 use crate::book_sys as sys;
 use crate::rng::Rng;
 use crate::second_book::desks::{At, By, DESKS, NO_LIMITS};
 use crate::second_book::space::State;
 use crate::second_book::{Fit, SecondBook};
+use std::ops::Range;
 
 /// A book: body, head words, state; and the desk of each key. Ours has the state's parts as they are lent to it.
 #[derive(Clone)]
@@ -59,6 +61,7 @@ enum Call {
     Append(u64, u64),
     Read(u64),
     Drop(u64),
+    Extend(u64, Vec<u64>),
 }
 
 /// Makes a call of our book, and tells its refusal's number.
@@ -80,6 +83,14 @@ fn call_book(b: &mut Book, call: &Call, list: &mut [u64]) -> u32 {
             }
             Call::Read(key) => read(body, b_len, heads, h_len, *mark, counts, desks, d_len, *key, out, room, &mut a, &mut c, &mut d),
             Call::Drop(key) => drop(body, b_len, heads, h_len, mark, free, counts, desks, d_len, *key, &mut a),
+            Call::Extend(key, fks) => {
+                let (mut refusal, mut moves, (list, len)) = (0, 0, (fks.as_ptr(), fks.len()));
+                let (refusal, kind, class, used) = (&mut refusal, &mut kind, &mut class, &mut used);
+                sys::ouriscado_book_extend(
+                    body, b_len, heads, h_len, mark, free, counts, desks, d_len, *key, list, len, &mut a, refusal, kind, class, used,
+                    &mut c, &mut moves, &mut d,
+                )
+            }
         }
     }
 }
@@ -104,6 +115,14 @@ fn call_core(b: &mut Book, call: &Call, list: &mut [u64]) -> u32 {
             }
             Call::Read(key) => read(body, b_len, heads, h_len, *mark, *key, out, room, &mut a, &mut c, &mut d),
             Call::Drop(key) => drop(body, b_len, heads, h_len, mark, free, counts, desk(key), *key, &mut a),
+            Call::Extend(key, fks) => {
+                let (mut refusal, mut moves, (of, list, len)) = (0, 0, (desk(key), fks.as_ptr(), fks.len()));
+                let (refusal, kind, class, used) = (&mut refusal, &mut kind, &mut class, &mut used);
+                sys::ouriscado_core_extend(
+                    body, b_len, heads, h_len, mark, free, counts, of, *key, list, len, &mut a, refusal, kind, class, used, &mut c,
+                    &mut moves, &mut d,
+                )
+            }
         }
     }
 }
@@ -118,7 +137,7 @@ fn call_ours(b: &mut Book, family: Family, call: &Call, list: &mut [u64]) -> u32
 
 /// Makes a call of the second book, and tells its refusal's number.
 fn call_theirs(second: &mut SecondBook, b: &mut Book, family: Family, call: &Call, list: &mut [u64]) -> u32 {
-    let (Call::Load(key, ..) | Call::Append(key, _) | Call::Read(key) | Call::Drop(key)) = call;
+    let (Call::Load(key, ..) | Call::Append(key, _) | Call::Read(key) | Call::Drop(key) | Call::Extend(key, _)) = call;
     let desks = std::mem::take(&mut b.desks);
     let by = match family {
         Family::Book => By::List(&desks),
@@ -130,6 +149,7 @@ fn call_theirs(second: &mut SecondBook, b: &mut Book, family: Family, call: &Cal
         Call::Append(_, fk) => second.append(&mut b.body, &mut b.heads, &mut b.state, at, *fk).map(seen),
         Call::Read(_) => second.read(&b.body, &b.heads, &b.state, at, list).map(seen),
         Call::Drop(_) => second.drop(&mut b.body, &mut b.heads, &mut b.state, at).map(seen),
+        Call::Extend(_, fks) => second.extend(&mut b.body, &mut b.heads, &mut b.state, at, fks).map(seen),
     };
     b.desks = desks;
     refused.err().map_or(0, |r| r.number())
@@ -271,6 +291,49 @@ fn reads_and_drops(cases: &mut Vec<Case>) {
     }
 }
 
+/// The bytes of a body that calls changed, from the first to the last.
+fn changed(before: &[u8], after: &[u8]) -> Range<usize> {
+    let differs = |at: &usize| before[*at] != after[*at];
+    let first = (0..before.len()).find(differs).unwrap_or(0);
+    first..(first..before.len()).rfind(differs).map_or(first, |last| last + 1)
+}
+
+/// A case of an extend of key 0 by a family against its appends, one after another: both sides are ours, leave the same, and put back what
+/// they changed.
+fn against_appends(what: &str, (family, family_name): (Family, &str), book: &Book, more: &[u64]) -> Case {
+    let name = format!("{family_name}: extend by {} over appends, {what}", more.len());
+    let (extend, appends) = (vec![Call::Extend(0, more.to_vec())], more.iter().map(|&fk| Call::Append(0, fk)).collect::<Vec<Call>>());
+    let ((mut by_extend, _), (mut by_appends, _)) =
+        (both(&name, family, book, &extend, &mut []), both(&name, family, book, &appends, &mut []));
+    assert!(by_extend.body == by_appends.body && by_extend.heads == by_appends.heads && by_extend.counts == by_appends.counts, "{name}");
+    let part = changed(&book.body, &by_extend.body);
+    let (from, from_too, part_too) = (book.clone(), book.clone(), part.clone());
+    let turn = move |b: &mut Book, from: &Book, part: &Range<usize>, calls: &[Call]| {
+        b.body[part.clone()].copy_from_slice(&from.body[part.clone()]);
+        b.heads[0] = from.heads[0];
+        b.copy_state(from);
+        calls.iter().for_each(|c| seen(call_ours(b, family, c, &mut [])));
+    };
+    case(name, move || turn(&mut by_extend, &from, &part, &extend), move || turn(&mut by_appends, &from_too, &part_too, &appends))
+}
+
+/// Extends by 1,000 numbers: of an empty key, of one in a slab, in a page and in a chain, whose numbers are up to 100 or 2^20 apart.
+fn extends(cases: &mut Vec<Case>) {
+    let mut rng = Rng(74);
+    for (what, held, bound) in [
+        ("empty", 0, 300),
+        ("slab of 100", 100, 300),
+        ("page of 1,000", 1000, 100),
+        ("chain of 10,000", 10_000, 100),
+        ("10,000 apart", 10_000, 1 << 20),
+    ] {
+        let list = rising(&mut rng, held + 1000, bound);
+        let mut book = Book::fresh(32, 1);
+        book.load_theirs(0, &list[..held]);
+        FAMILIES.into_iter().for_each(|family| cases.push(against_appends(what, family, &book, &list[held..])));
+    }
+}
+
 /// Short calls on key 0 of books with few keys and many, by both families: the book's judge the desks of all keys, the core's don't.
 fn families(cases: &mut Vec<Case>) {
     let appends = |count: u64| (1..=count).map(|k| Call::Append(0, 300 * k)).chain([Call::Drop(0)]).collect::<Vec<Call>>();
@@ -310,6 +373,7 @@ fn slab_of_200(keys: usize) -> Book {
 pub fn cases(cases: &mut Vec<Case>) {
     families(cases);
     appends(cases);
+    extends(cases);
     loads(cases);
     reads_and_drops(cases);
 }

@@ -325,6 +325,8 @@ fn books_by_length(judge: &mut Judge) {
             append(at, b, words, h, &mut mark, &mut free, &mut counts, desks, h, 0, 5, kind, class, used, place, other)
         });
         judge.same("book_append", (ours, &[kind as u64, class as u64, used as u64, place, *other]), Err(1), mark == 4096);
+        let (ours, told, mark_left) = extend((at, b), (words, h), desks, words);
+        judge.same("book_extend", (ours, &told), Err(1), mark_left == 4096);
         read_by_length(judge, (at, b), (words, h), mark);
         *pages = BEFORE;
         let ours = during(&Named("book_drop"), || unsafe {
@@ -354,6 +356,38 @@ type Load = unsafe extern "C" fn(
     &mut u64,
 ) -> u32;
 const LOADS: [(&str, Load); 2] = [("book_load", book::ouriscado_book_load), ("book_load_tight", book::ouriscado_book_load_tight)];
+
+/// Extends key 0 of a book whose mark is 4,096 by 2^32 numbers: the refusal, what is handed out, and the mark that it leaves.
+fn extend((body, b): (*mut u8, usize), (words, h): (*mut u64, usize), desks: *const u8, list: *const u64) -> (u32, [u64; 8], u64) {
+    let (mut mark, mut free, mut counts) = (4096, [0; 9], NO_COUNTS);
+    let [mut accepted, mut place, mut moves, mut rewritten] = [BEFORE; 4];
+    let (mut refusal, mut kind, mut class, mut used) = (1, 1, 1, 1);
+    let number = during(&Named("book_extend"), || unsafe {
+        book::ouriscado_book_extend(
+            body,
+            b,
+            words,
+            h,
+            &mut mark,
+            &mut free,
+            &mut counts,
+            desks,
+            h,
+            0,
+            list,
+            COUNT,
+            &mut accepted,
+            &mut refusal,
+            &mut kind,
+            &mut class,
+            &mut used,
+            &mut place,
+            &mut moves,
+            &mut rewritten,
+        )
+    });
+    (number, [accepted, refusal.into(), kind.into(), class.into(), used.into(), place, moves, rewritten], mark)
+}
 
 /// Reads of such a book into a list of 2^32 numbers.
 fn read_by_length(judge: &mut Judge, (body, b): (*mut u8, usize), (words, h): (*mut u64, usize), mark: u64) {
@@ -400,6 +434,11 @@ fn books_and_lists(judge: &mut Judge) {
         read(at, 8192, words, 2, mark, &counts, of, 2, 1, out.first, COUNT, &mut length, &mut pages, &mut padded)
     });
     judge.same("book_read", (ours, &[length, pages, padded]), Ok(vec![1, 0, 0]), out.slice()[..2] == [7, 0]);
+    // Of so many numbers the fourth is 0.
+    out.slice()[..3].copy_from_slice(&[5, 300, 301]);
+    let (ours, told, mark) = extend((at, 8192), (words, 2), of, out.first);
+    let left = mark == 4112 && body[4096..4102] == [3, 0, 5, 0xa7, 2, 1];
+    judge.same("book_extend", (ours, &told), Ok(vec![3, 12, 2, 0, 3, 4096, 1, 1]), left);
 }
 
 /// Compares all of them.

@@ -2,6 +2,7 @@
 mod cases;
 mod damage;
 mod desk_tally;
+mod extend_tally;
 mod far;
 mod history;
 mod judging;
@@ -23,9 +24,11 @@ use crate::lockstep::tally::Tally;
 use crate::rng::Rng;
 use std::collections::BTreeSet;
 
-/// Histories in the first round, and in each other; and starts that were written elsewhere.
+/// Histories in the first round, and in each other; such that have extends; and starts that were written elsewhere.
 const FIRST: u64 = 1500;
 const ROUND: u64 = 20;
+const FIRST_EXTENDING: u64 = 400;
+const ROUND_EXTENDING: u64 = 8;
 const FIRST_STARTS: u64 = 600;
 const ROUND_STARTS: u64 = 20;
 
@@ -77,7 +80,7 @@ pub fn written_histories() -> Vec<Vec<String>> {
             break;
         }
     }
-    let kinds = Tally::default().kinds();
+    let kinds = Tally::default().written_kinds();
     kinds.iter().filter(|k| !met.contains(&k.0)).for_each(|k| eprintln!("no history met: {}", k.0));
     let count: usize = files.iter().map(Vec::len).sum();
     eprintln!("{count} lines of histories meet {} of {} kinds", met.len(), kinds.len());
@@ -111,6 +114,12 @@ impl Lockstep {
             let ended = History::new(rng, &mut self.pair, &mut self.tally, name.clone()).run();
             note(ended, round, name, found);
         }
+        for number in 0..if round == 0 { FIRST_EXTENDING } else { ROUND_EXTENDING } {
+            let rng = Rng(if round == 0 { number << 8 | 1 } else { seed ^ 0xe87e << 48 ^ round << 24 ^ number << 8 });
+            let name = format!("round {round}, history with extends {number}");
+            let ended = History::extending(rng, &mut self.pair, &mut self.tally, name.clone()).run();
+            note(ended, round, name, found);
+        }
         for number in 0..if round == 0 { FIRST_STARTS } else { ROUND_STARTS } {
             let rng = Rng(if round == 0 { number << 8 } else { seed ^ 0x57a7 << 48 ^ round << 24 ^ number << 8 });
             let name = format!("round {round}, start {number}");
@@ -135,6 +144,8 @@ mod tests {
         let (mut pair, mut tally) = (Pair::default(), Tally::default());
         for number in 0..40 {
             let ended = History::new(Rng(number << 8), &mut pair, &mut tally, format!("history {number}")).run();
+            assert!(ended.is_ok(), "{ended:?}");
+            let ended = History::extending(Rng(number << 8 | 1), &mut pair, &mut tally, format!("history with extends {number}")).run();
             assert!(ended.is_ok(), "{ended:?}");
         }
     }

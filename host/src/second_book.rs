@@ -10,7 +10,7 @@ use crate::second_book::desks::{At, By, Counts, Limits, DESKS};
 use crate::second_book::keys::{Ground, Held, Key};
 use crate::second_book::runs::Stray;
 use crate::second_book::space::{release, release_pages, take, State, Take, PAGE};
-use oracle::scripthash_layout::{pack8, slab_bytes, slab_cap, ShHeadValue};
+use oracle::scripthash_layout::{pack8, slab_bytes, slab_cap, unpack8, ShHeadValue};
 use oracle::scripthash_pages as pages;
 use oracle::scripthash_slabs::{encode_slab_payload_into, slab_class_for_n_fks_with_slack, slab_class_for_packed_len};
 use oracle::{uleb128_len, write_uleb128_into, Fk};
@@ -62,6 +62,24 @@ impl From<Ground> for Refused {
 pub struct Appended {
     pub place: ShHeadValue,
     pub rewritten: u64,
+}
+
+/// What an extend answers: how many numbers were appended, why the next one was refused, the key's place then, how many of the appends moved
+/// the list, and the records that these rewrote.
+#[derive(Clone, Debug, PartialEq, Eq)]
+pub struct Extended {
+    pub count: u64,
+    pub refused: Option<Refused>,
+    pub place: ShHeadValue,
+    pub moves: u64,
+    pub rewritten: u64,
+}
+
+impl Extended {
+    /// The refusal's number, or 0.
+    pub fn refusal(&self) -> u32 {
+        self.refused.map_or(0, Refused::number)
+    }
 }
 
 /// What a read answers; the list itself is in the book's key.
@@ -272,6 +290,31 @@ impl SecondBook {
         }?;
         heads[at.key as usize] = word(&answer.place);
         Ok(answer)
+    }
+
+    /// Appends numbers to a key, each as an append that is told its desk, until one is refused. The key is judged first, as an append judges
+    /// it.
+    pub fn extend(&mut self, body: &mut [u8], heads: &mut [u64], state: &mut State, at: At, fks: &[u64]) -> Result<Extended, Refused> {
+        let desk = shape(body, heads, state, at)?;
+        let head = heads[at.key as usize];
+        self.key.end(body, state.mark, head)?;
+        let by = At { key: at.key, by: By::Desk(desk as u64) };
+        let mut out = Extended { count: 0, refused: None, place: unpack8(head).expect("a key that was judged"), moves: 0, rewritten: 0 };
+        for &fk in fks {
+            match self.append(body, heads, state, by, fk) {
+                Ok(Appended { place, rewritten }) => {
+                    out.count += 1;
+                    out.place = place;
+                    out.moves += u64::from(rewritten > 0);
+                    out.rewritten += rewritten;
+                }
+                Err(refused) => {
+                    out.refused = Some(refused);
+                    break;
+                }
+            }
+        }
+        Ok(out)
     }
 
     /// Moves the key's list, with a number more, to a slab or a page; the old slab is freed last.

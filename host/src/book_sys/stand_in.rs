@@ -29,6 +29,15 @@ fn state_of(mark: u64, free: &Free, counts: &Counts) -> State {
     State { mark, free: *free, counts: crate::second_book::desks::Counts::of_words(counts) }
 }
 
+/// What an extend hands out.
+struct Out<'a> {
+    accepted: &'a mut u64,
+    refusal: &'a mut u32,
+    place: (&'a mut u8, &'a mut u8, &'a mut u16, &'a mut u64),
+    moves: &'a mut u64,
+    rewritten: &'a mut u64,
+}
+
 /// A book that a change is lent.
 struct Lent<'a> {
     body: &'a mut [u8],
@@ -56,6 +65,16 @@ impl Lent<'_> {
         let (number, ([kind, class, used, place], rewritten)) = self
             .change(|book, body, heads, state| book.append(body, heads, state, at, fk).map(|a| (numbers_theirs(&a.place), a.rewritten)));
         (*out.0, *out.1, *out.2, *out.3, *out.4) = (kind as u8, class as u8, used as u16, place, rewritten);
+        number
+    }
+
+    fn extend(self, at: At, fks: &[u64], out: Out) -> u32 {
+        let call = |book: &mut SecondBook, body: &mut [u8], heads: &mut [u64], state: &mut State| book.extend(body, heads, state, at, fks);
+        let (number, told) = self.change(|book, body, heads, state| call(book, body, heads, state).map(Some));
+        let [kind, class, used, place] = told.as_ref().map_or([0; 4], |e| numbers_theirs(&e.place));
+        (*out.place.0, *out.place.1, *out.place.2, *out.place.3) = (kind as u8, class as u8, used as u16, place);
+        (*out.accepted, *out.refusal) = told.as_ref().map_or((0, 0), |e| (e.count, e.refusal()));
+        (*out.moves, *out.rewritten) = told.as_ref().map_or((0, 0), |e| (e.moves, e.rewritten));
         number
     }
 
@@ -161,6 +180,33 @@ pub unsafe extern "C" fn ouriscado_book_append(
     lent.append(At { key, by: By::List(slice(desks, desks_len)) }, fk, (kind, class, used, place, rewritten))
 }
 
+pub unsafe extern "C" fn ouriscado_book_extend(
+    body: *mut u8,
+    body_len: usize,
+    heads: *mut u64,
+    heads_len: usize,
+    mark: &mut u64,
+    free: &mut Free,
+    counts: &mut Counts,
+    desks: *const u8,
+    desks_len: usize,
+    key: u64,
+    fks: *const u64,
+    fks_len: usize,
+    accepted: &mut u64,
+    refusal: &mut u32,
+    kind: &mut u8,
+    class: &mut u8,
+    used: &mut u16,
+    place: &mut u64,
+    moves: &mut u64,
+    rewritten: &mut u64,
+) -> u32 {
+    let lent = Lent { body: slice_mut(body, body_len), heads: slice_mut(heads, heads_len), state: (mark, free, counts) };
+    let out = Out { accepted, refusal, place: (kind, class, used, place), moves, rewritten };
+    lent.extend(At { key, by: By::List(slice(desks, desks_len)) }, slice(fks, fks_len), out)
+}
+
 pub unsafe extern "C" fn ouriscado_book_drop(
     body: *mut u8,
     body_len: usize,
@@ -233,6 +279,32 @@ pub unsafe extern "C" fn ouriscado_core_append(
 ) -> u32 {
     let lent = Lent { body: slice_mut(body, body_len), heads: slice_mut(heads, heads_len), state: (mark, free, counts) };
     lent.append(At { key, by: By::Desk(desk) }, fk, (kind, class, used, place, rewritten))
+}
+
+pub unsafe extern "C" fn ouriscado_core_extend(
+    body: *mut u8,
+    body_len: usize,
+    heads: *mut u64,
+    heads_len: usize,
+    mark: &mut u64,
+    free: &mut Free,
+    counts: &mut Counts,
+    desk: u64,
+    key: u64,
+    fks: *const u64,
+    fks_len: usize,
+    accepted: &mut u64,
+    refusal: &mut u32,
+    kind: &mut u8,
+    class: &mut u8,
+    used: &mut u16,
+    place: &mut u64,
+    moves: &mut u64,
+    rewritten: &mut u64,
+) -> u32 {
+    let lent = Lent { body: slice_mut(body, body_len), heads: slice_mut(heads, heads_len), state: (mark, free, counts) };
+    let out = Out { accepted, refusal, place: (kind, class, used, place), moves, rewritten };
+    lent.extend(At { key, by: By::Desk(desk) }, slice(fks, fks_len), out)
 }
 
 pub unsafe extern "C" fn ouriscado_core_drop(

@@ -1,5 +1,5 @@
 //! What histories met of desks, and how often: each ground of 1, 31, 35 and 39, what was refused by 36, 40 and 41, and takes at the limits.
-use crate::lockstep::pair::{Answer, Call, Given, Pair, FAMILIES, KINDS};
+use crate::lockstep::pair::{Answer, Call, Given, Pair, EXTEND, FAMILIES, KINDS};
 use crate::second_book::desks::{list_fits, pages_of, past, By, Counts, Limits, DESKS};
 use crate::second_book::space::{State, HELD_BY_DESK};
 use crate::second_book::Refused;
@@ -133,9 +133,8 @@ impl Desks {
             40 | 41 => format!("{family}{refusal}: {}", taken.said()),
             _ => format!("{family}{refusal}: {name}"),
         });
-        let over: u64 =
-            before.counts.held.iter().zip(&before.counts.limits.reserve).map(|(held, reserve)| held.saturating_sub(*reserve)).sum();
-        if refusal == 41 && over > 0 {
+        let over = before.counts.held.iter().zip(&before.counts.limits.reserve).any(|(held, reserve)| held > reserve);
+        if refusal == 41 && over {
             self.add(format!("{family}41: {name}, while a desk is above its reserve"));
         }
     }
@@ -195,7 +194,7 @@ impl Desks {
     /// All that must be met, with how often it was.
     pub fn kinds(&self) -> Vec<(String, u64)> {
         let mut out: Vec<String> = LISTS.iter().map(|why| format!("39: a list {why}")).collect();
-        for call in [1, 2, 4, 5] {
+        for call in [1, 2, 4, 5, EXTEND] {
             out.push(format!("core 39: a desk above 15, by {}", KINDS[call]));
         }
         for call in &KINDS[1..] {

@@ -5,7 +5,7 @@ use crate::lockstep::damage::{damage, Damaged, OF_FREED_PAGES};
 use crate::lockstep::judging::lent;
 use crate::lockstep::limits::{bad_limits, bad_list, desk_list, limits};
 use crate::lockstep::lists;
-use crate::lockstep::pair::{Answer, Call, Given, Pair, MOST_BODY, MOST_HEADS};
+use crate::lockstep::pair::{Answer, Call, Given, Pair, EXTEND, MOST_BODY, MOST_HEADS};
 use crate::lockstep::record::Record;
 use crate::lockstep::starts::Start;
 use crate::lockstep::tally::{total_of, Before, Tally, DAMAGED_BOOK, FOREIGN_BOOK, FRESH_BOOK, USED_BOOK};
@@ -13,11 +13,11 @@ use crate::rng::Rng;
 use crate::second_book::desks::{By, DESKS};
 use crate::second_book::runs::freed_pages;
 use crate::second_book::space::{State, WORDS};
-use crate::second_book::{Fit, LIMIT};
+use crate::second_book::{goes_to_pages, Fit, LIMIT};
 
 /// How a history goes: the book's shape, how many calls, how long the runs of appends to one key are, of which lengths their differences
 /// are in bits, the shares of loads and drops in a hundred calls, the longest load, the most pages of the runs that most loads are then, 0
-/// for any loads, and in how many calls there is one damage, 0 for never.
+/// for any loads, of how many in a hundred appends an extend takes the place, and in how many calls there is one damage, 0 for never.
 #[derive(Clone, Copy, Debug)]
 struct Plan {
     keys: usize,
@@ -31,6 +31,7 @@ struct Plan {
     runs: u64,
     /// Whether most loads rise by one difference, so that their text is short.
     even: bool,
+    extends: u64,
     damaged: u64,
 }
 
@@ -48,14 +49,14 @@ fn short_plan(rng: &mut Rng) -> Plan {
     let (calls, run, bits) = (rng.pick(&[10, 20, 40]), rng.pick(&[3, 12, 40]), rng.pick(&[ANY, LONG]));
     let longest = if body > 20_000 { 16_000 } else { 300 };
     let (runs, loads, drops) = if body > 20_000 { rng.pick(&[(0, 25, 12), (4, 40, 30)]) } else { (0, 25, 12) };
-    Plan { keys, body, calls, run, bits, loads, drops, longest, runs, even: true, damaged: rng.pick(&[0, 2, 4]) }
+    Plan { keys, body, calls, run, bits, loads, drops, longest, runs, even: true, extends: 0, damaged: rng.pick(&[0, 2, 4]) }
 }
 
 /// Draws a plan.
 fn plan(rng: &mut Rng) -> Plan {
     let damaged = rng.pick(&[0, 4, 12, 60]);
-    let common =
-        Plan { keys: 1, body: 8192, calls: 1500, run: 3, bits: ANY, loads: 12, drops: 8, longest: 300, runs: 0, even: false, damaged };
+    let (keys, body, calls, run, bits, loads, drops, longest) = (1, 8192, 1500, 3, ANY, 12, 8, 300);
+    let common = Plan { keys, body, calls, run, bits, loads, drops, longest, runs: 0, even: false, extends: 0, damaged };
     match rng.below(46) {
         // Many keys in a small body, which is soon full.
         0..10 => Plan { keys: rng.pick(&[2, 5, 20, 64, 200]), body: rng.pick(&[8192, 8192, 12_288, 20_480]), ..common },
@@ -87,12 +88,18 @@ fn plan(rng: &mut Rng) -> Plan {
     }
 }
 
+/// Draws a plan of a history with extends: a short one, since an extend has many appends.
+fn extending_plan(rng: &mut Rng) -> Plan {
+    let plan = plan(rng);
+    Plan { calls: plan.calls.min(400), extends: rng.pick(&[30, 60, 90]), ..plan }
+}
+
 /// Draws a plan of a history that goes on from a start.
 fn start_plan(rng: &mut Rng, keys: usize, body: usize) -> Plan {
     let (calls, run, bits) = (rng.pick(&[60, 200, 400]), rng.pick(&[3, 40, 300]), rng.pick(&[ANY, ANY, LONG]));
     let (longest, damaged) = (rng.pick(&[300, 300, 5000]), rng.pick(&[0, 0, 4, 12]));
     let (runs, loads, drops) = rng.pick(&[(0, 12, 8), (0, 12, 8), (5, 30, 25)]);
-    Plan { keys, body, calls, run, bits, loads, drops, longest, runs, even: false, damaged }
+    Plan { keys, body, calls, run, bits, loads, drops, longest, runs, even: false, extends: rng.pick(&[0, 10, 50]), damaged }
 }
 
 /// In how many calls one is made by both families on one state, and the longest body for that.
@@ -165,6 +172,12 @@ impl<'a> History<'a> {
     /// A history of a book whose body, heads and state held anything.
     pub fn new(mut rng: Rng, pair: &'a mut Pair, tally: &'a mut Tally, name: String) -> History<'a> {
         let plan = plan(&mut rng);
+        History::of_plan(rng, plan, pair, tally, name)
+    }
+
+    /// One that has extends.
+    pub fn extending(mut rng: Rng, pair: &'a mut Pair, tally: &'a mut Tally, name: String) -> History<'a> {
+        let plan = extending_plan(&mut rng);
         History::of_plan(rng, plan, pair, tally, name)
     }
 
@@ -336,12 +349,12 @@ impl<'a> History<'a> {
         if let Some(record) = &mut self.record {
             record.call(call, given, &answer, self.pair);
         }
-        let others = self.others(call, told);
-        if self.good && !others && matches!(answer.refusal, 31 | 35 | 42) {
-            return Err(format!("{call:?}: on a good book answers {}", answer.refusal));
+        let (others, next) = (self.others(call, told), if call.kind() == EXTEND { answer.extension().refusal } else { 0 });
+        if self.good && !others && (matches!(answer.refusal, 31 | 35 | 42) || matches!(next, 1 | 31 | 35)) {
+            return Err(format!("{call:?}: on a good book answers {} and {next}", answer.refusal));
         }
         if self.good && !others && self.breaks_promise(call, given, &before, &answer) {
-            return Err(format!("{call:?}: a desk below its reserve gets no page, but {}", answer.refusal));
+            return Err(format!("{call:?}: a desk below its reserve gets no page, but {}", answer.refusal.max(next)));
         }
         if self.own && matches!(call, Call::Read { .. }) && answer.told[2] != 0 {
             return Err(format!("{call:?}: of a key that calls alone filled {} numbers are padded", answer.told[2]));
@@ -350,34 +363,53 @@ impl<'a> History<'a> {
             (self.good, self.when) = (false, DAMAGED_BOOK);
         }
         if answer.refusal == 0 {
-            if self.when == FRESH_BOOK {
-                self.when = USED_BOOK;
-            }
-            match call {
-                Call::Fresh(_) => {
-                    // Heads that it wasn't lent name blocks of the book before.
-                    (self.good, self.own) = (heads == self.plan.keys, heads == self.plan.keys);
-                    (self.when, self.due) = (FRESH_BOOK, true);
-                    self.lasts.fill((0, 0));
-                }
-                Call::Load { key, fks, .. } => self.lasts[*key as usize] = (fks.last().copied().unwrap_or(0), fks.len()),
-                Call::Append { key, fk } => {
-                    let last = &mut self.lasts[*key as usize];
-                    *last = (*fk, last.1 + 1);
-                }
-                Call::Read { key, .. } => self.lasts[*key as usize].1 = answer.told[0] as usize,
-                Call::Drop { key } => self.lasts[*key as usize] = (0, 0),
-            }
+            self.learn(call, heads, &answer);
         }
         Ok(())
     }
 
-    /// Whether a page for an append was refused to a desk below its reserve.
+    /// Learns what the book holds from a call that was accepted.
+    fn learn(&mut self, call: &Call, heads: usize, answer: &Answer) {
+        if self.when == FRESH_BOOK {
+            self.when = USED_BOOK;
+        }
+        match call {
+            Call::Fresh(_) => {
+                // Heads that it wasn't lent name blocks of the book before.
+                (self.good, self.own) = (heads == self.plan.keys, heads == self.plan.keys);
+                (self.when, self.due) = (FRESH_BOOK, true);
+                self.lasts.fill((0, 0));
+            }
+            Call::Load { key, fks, .. } => self.lasts[*key as usize] = (fks.last().copied().unwrap_or(0), fks.len()),
+            Call::Append { key, fk } => {
+                let last = &mut self.lasts[*key as usize];
+                *last = (*fk, last.1 + 1);
+            }
+            Call::Read { key, .. } => self.lasts[*key as usize].1 = answer.told[0] as usize,
+            Call::Drop { key } => self.lasts[*key as usize] = (0, 0),
+            Call::Extend { key, fks } => {
+                let (last, count) = (&mut self.lasts[*key as usize], answer.extension().count as usize);
+                *last = (fks[..count].last().copied().unwrap_or(last.0), last.1 + count);
+            }
+        }
+    }
+
+    /// Whether a page for an append, or for one of an extend, was refused to a desk below its reserve.
     fn breaks_promise(&self, call: &Call, given: Given, before: &Before, answer: &Answer) -> bool {
-        let Call::Append { key, .. } = call else { return false };
-        let page = Tally::takes(call, given, before, answer, self.pair).is_some_and(|taken| taken.class == 8);
-        let (counts, desk) = (&before.state.counts, self.desks.get(*key as usize).map_or(0, |desk| usize::from(*desk)));
-        answer.refusal != 0 && page && given.body == self.plan.body && counts.held[desk] < counts.limits.reserve[desk]
+        let (page, counts) = match call {
+            Call::Append { .. } => {
+                let page = Tally::takes(call, given, before, answer, self.pair).is_some_and(|taken| taken.class == 8);
+                (answer.refusal != 0 && page, &before.state.counts)
+            }
+            Call::Extend { .. } => {
+                let told = answer.extension();
+                let page = told.kind == 3 || goes_to_pages(&self.pair.second.list);
+                (matches!(told.refusal, 36 | 40 | 41) && page, &self.pair.state.counts)
+            }
+            _ => return false,
+        };
+        let desk = call.key().and_then(|key| self.desks.get(key as usize)).map_or(0, |desk| usize::from(*desk));
+        page && given.body == self.plan.body && counts.held[desk] < counts.limits.reserve[desk]
     }
 
     /// Whether a change counted by another desk than the key's.
@@ -517,14 +549,14 @@ impl<'a> History<'a> {
             let key = self.aimed.0;
             return match self.rng.below(8) {
                 0..3 => self.read(key),
-                3..6 => self.append(key),
+                3..6 => self.grow(key),
                 6 => self.load(),
                 _ => Call::Drop { key: key as u64 },
             };
         }
         if self.run.1 > 0 && self.rng.below(12) != 0 {
             self.run.1 -= 1;
-            return self.append(self.run.0);
+            return self.grow(self.run.0);
         }
         let share = self.rng.below(100);
         match share {
@@ -539,9 +571,39 @@ impl<'a> History<'a> {
                 let key = self.some_key();
                 self.run = (key, self.rng.below(self.plan.run + 1));
                 self.bits = self.rng.pick(self.plan.bits);
-                self.append(key)
+                self.grow(key)
             }
         }
+    }
+
+    /// An append, or in its place an extend.
+    fn grow(&mut self, key: usize) -> Call {
+        if self.plan.extends > 0 && self.rng.below(100) < self.plan.extends {
+            self.extend(key)
+        } else {
+            self.append(key)
+        }
+    }
+
+    /// An extend by numbers that rise, now and then by none, or with one among them that is turned back. Many numbers are far apart, so that they
+    /// fill several pages.
+    fn extend(&mut self, key: usize) -> Call {
+        let most = self.rng.pick(if self.bits > 40 { &[1, 30, 300, 600, 2500] } else { &[1, 3, 30, 30, 300] });
+        let mut last = self.lasts[key].0;
+        let mut fks = Vec::new();
+        for _ in 0..self.rng.below(most + 1) {
+            last += 1 + self.rng.bits(self.bits);
+            if last >= LIMIT {
+                break;
+            }
+            fks.push(last);
+        }
+        let at = if self.rng.below(5) == 0 { self.rng.below(fks.len() as u64 + 1) as usize } else { fks.len() };
+        if at < fks.len() {
+            let before = if at == 0 { self.lasts[key].0 } else { fks[at - 1] };
+            fks[at] = self.rng.pick(&[0, LIMIT, LIMIT - 1, 1 << 63, u64::MAX, before, before.saturating_sub(1)]);
+        }
+        Call::Extend { key: key as u64, fks }
     }
 
     /// An append of a number that rises, by a difference of the history's length in bits.
@@ -608,6 +670,9 @@ impl<'a> History<'a> {
         let (at, fit) = (key as u64, self.fit());
         match self.rng.below(9) {
             0 => Call::Append { key: at, fk: self.rng.pick(&[0, LIMIT, LIMIT - 1, 1 << 63, u64::MAX, last, last.saturating_sub(1)]) },
+            1 if self.plan.extends > 0 && self.rng.below(3) == 0 => {
+                Call::Extend { key: beyond, fks: self.rng.pick_one(&[vec![], vec![0], vec![5, 6]]) }
+            }
             1 => self.rng.pick_one(&[
                 Call::Load { key: beyond, fks: vec![5], fit },
                 Call::Append { key: beyond, fk: 5 },

@@ -19,10 +19,13 @@ pub enum Call {
     Append { key: u64, fk: u64 },
     Read { key: u64, room: usize },
     Drop { key: u64 },
+    Extend { key: u64, fks: Vec<u64> },
 }
 
 /// The kinds of calls, by name.
-pub const KINDS: [&str; 6] = ["fresh", "load", "append", "read", "drop", "tight load"];
+pub const KINDS: [&str; 7] = ["fresh", "load", "append", "read", "drop", "tight load", "extend"];
+/// The place of an extend among them.
+pub const EXTEND: usize = 6;
 
 impl Call {
     /// The place of a call's kind among the names.
@@ -34,6 +37,7 @@ impl Call {
             Call::Read { .. } => 3,
             Call::Drop { .. } => 4,
             Call::Load { fit: Fit::Tight, .. } => 5,
+            Call::Extend { .. } => EXTEND,
         }
     }
 
@@ -41,7 +45,9 @@ impl Call {
     pub fn key(&self) -> Option<u64> {
         match self {
             Call::Fresh(_) => None,
-            Call::Load { key, .. } | Call::Append { key, .. } | Call::Read { key, .. } | Call::Drop { key } => Some(*key),
+            Call::Load { key, .. } | Call::Append { key, .. } | Call::Read { key, .. } | Call::Drop { key } | Call::Extend { key, .. } => {
+                Some(*key)
+            }
         }
     }
 }
@@ -62,6 +68,8 @@ impl Debug for Call {
             Call::Append { key, fk } => write!(f, "append to key {key} of {fk}"),
             Call::Read { key, room } => write!(f, "read of key {key} into {room}"),
             Call::Drop { key } => write!(f, "drop of key {key}"),
+            Call::Extend { key, fks } if fks.len() > 8 => write!(f, "extend of key {key} by {} numbers from {}", fks.len(), fks[0]),
+            Call::Extend { key, fks } => write!(f, "extend of key {key} by {fks:?}"),
         }
     }
 }
@@ -97,11 +105,40 @@ impl Debug for Given<'_> {
     }
 }
 
-/// What a call answers: the refusal's number, or 0, and the numbers that it hands out, 0 where there are fewer.
+/// The most numbers that a call hands out.
+pub const OUTS: usize = 8;
+/// The numbers that a call hands out, 0 where there are fewer.
+pub type Numbers = [u64; OUTS];
+
+/// So many numbers, and zeros behind them.
+fn numbers<const N: usize>(first: [u64; N]) -> Numbers {
+    std::array::from_fn(|place| first.get(place).copied().unwrap_or(0))
+}
+
+/// What a call answers: the refusal's number, or 0, and the numbers that it hands out.
 #[derive(Clone, Copy, Debug, Default, PartialEq, Eq)]
 pub struct Answer {
     pub refusal: u32,
-    pub told: [u64; 5],
+    pub told: Numbers,
+}
+
+/// What an extend that was accepted tells: how many numbers were appended, why the next one was refused, or 0, the kind of the key's place
+/// then and its offset or number, and how many appends moved the list.
+#[derive(Clone, Copy)]
+pub struct Extension {
+    pub count: u64,
+    pub refusal: u32,
+    pub kind: u64,
+    pub place: u64,
+    pub moves: u64,
+}
+
+impl Answer {
+    /// What it tells as that of an extend.
+    pub fn extension(&self) -> Extension {
+        let [count, refusal, kind, _, _, place, moves, _] = self.told;
+        Extension { count, refusal: refusal as u32, kind, place, moves }
+    }
 }
 
 /// A judgement of a start, on the first bytes of the body and the first heads, with a list of desks and a work list of a length.
@@ -115,6 +152,8 @@ pub struct Check {
 
 /// What a lent list holds before a call.
 const FILL: u64 = 0xa5a5_a5a5_a5a5_a5a5;
+/// The bytes of the numbers that an extend hands out.
+const EXTEND_SIZES: &[usize] = &[8, 4, 1, 1, 2, 8, 8, 8];
 /// The most bytes of a body, and the most words of heads and of lists.
 pub const MOST_BODY: usize = 1 << 20;
 pub const MOST_HEADS: usize = 65_536;
@@ -135,7 +174,7 @@ pub struct Ours {
     limits: [Area; 2],
     list: Area,
     work: Area,
-    outs: [Area; 5],
+    outs: [Area; OUTS],
     pub placing: Placing,
 }
 
@@ -164,8 +203,8 @@ impl Ours {
     }
 
     /// What was handed out in numbers of these sizes.
-    fn told(&self, sizes: &[usize]) -> [u64; 5] {
-        let mut told = [0; 5];
+    fn told(&self, sizes: &[usize]) -> Numbers {
+        let mut told = [0; OUTS];
         for ((told, area), size) in told.iter_mut().zip(&self.outs).zip(sizes) {
             let mut word = [0; 8];
             word[..*size].copy_from_slice(area.slice(*size, Placing::End));
@@ -244,6 +283,15 @@ impl Ours {
                 Call::Drop { key } => {
                     (sys::ouriscado_book_drop(b, b_len, w, w_len, mark, free, counts, desks, d_len, key, self.out(0)), &[8])
                 }
+                Call::Extend { key, .. } => {
+                    let (accepted, refusal, kind, class) = (self.out(0), self.out(1), self.out(2), self.out(3));
+                    let (used, place, moves, rewritten) = (self.out(4), self.out(5), self.out(6), self.out(7));
+                    let number = sys::ouriscado_book_extend(
+                        b, b_len, w, w_len, mark, free, counts, desks, d_len, key, at, lent, accepted, refusal, kind, class, used, place,
+                        moves, rewritten,
+                    );
+                    (number, EXTEND_SIZES)
+                }
             }
         }
     }
@@ -275,6 +323,15 @@ impl Ours {
                     (sys::ouriscado_core_read(b, b_len, w, w_len, *mark, key, at, lent, length, pages, padded), &[8, 8, 8])
                 }
                 Call::Drop { key } => (sys::ouriscado_core_drop(b, b_len, w, w_len, mark, free, counts, desk, key, self.out(0)), &[8]),
+                Call::Extend { key, .. } => {
+                    let (accepted, refusal, kind, class) = (self.out(0), self.out(1), self.out(2), self.out(3));
+                    let (used, place, moves, rewritten) = (self.out(4), self.out(5), self.out(6), self.out(7));
+                    let number = sys::ouriscado_core_extend(
+                        b, b_len, w, w_len, mark, free, counts, desk, key, at, lent, accepted, refusal, kind, class, used, place, moves,
+                        rewritten,
+                    );
+                    (number, EXTEND_SIZES)
+                }
             }
         }
     }
@@ -344,7 +401,7 @@ impl Ours {
 /// The list that a call is offered or lent.
 pub fn lent_list(call: &Call, list: &mut Vec<u64>) {
     match call {
-        Call::Load { fks, .. } => list.clone_from(fks),
+        Call::Load { fks, .. } | Call::Extend { fks, .. } => list.clone_from(fks),
         Call::Read { room, .. } => {
             list.clear();
             list.resize(*room, FILL);
@@ -356,7 +413,7 @@ pub fn lent_list(call: &Call, list: &mut Vec<u64>) {
 /// How much of it a call is lent.
 pub fn lent_length(call: &Call) -> usize {
     match call {
-        Call::Load { fks, .. } => fks.len(),
+        Call::Load { fks, .. } | Call::Extend { fks, .. } => fks.len(),
         Call::Read { room, .. } => *room,
         _ => 0,
     }
@@ -382,31 +439,35 @@ pub fn call_second(
     heads: &mut [u64],
     state: &mut State,
     list: &mut [u64],
-) -> Result<[u64; 5], Refused> {
+) -> Result<Numbers, Refused> {
     let at = |key: &u64| At { key: *key, by };
     match call {
         Call::Fresh(limits) => {
             let By::List(desks) = by else { panic!("the core makes no book") };
-            second.fresh(body, heads, state, desks, limits).map(|()| [0; 5])
+            second.fresh(body, heads, state, desks, limits).map(|()| [0; OUTS])
         }
-        Call::Load { key, fks, fit } => second.load(body, heads, state, at(key), fks, *fit).map(|pages| [pages, 0, 0, 0, 0]),
+        Call::Load { key, fks, fit } => second.load(body, heads, state, at(key), fks, *fit).map(|pages| numbers([pages])),
         Call::Append { key, fk } => second.append(body, heads, state, at(key), *fk).map(|a| {
             let [kind, class, used, place] = numbers_theirs(&a.place);
-            [kind, class, used, place, a.rewritten]
+            numbers([kind, class, used, place, a.rewritten])
         }),
         Call::Read { key, .. } => {
             let listed = second.read(body, heads, state, asked(*key, by), list)?;
-            Ok([listed.length, listed.pages, second.padded(body, heads, *key), 0, 0])
+            Ok(numbers([listed.length, listed.pages, second.padded(body, heads, *key)]))
         }
-        Call::Drop { key } => second.drop(body, heads, state, at(key)).map(|length| [length, 0, 0, 0, 0]),
+        Call::Drop { key } => second.drop(body, heads, state, at(key)).map(|length| numbers([length])),
+        Call::Extend { key, fks } => second.extend(body, heads, state, at(key), fks).map(|e| {
+            let [kind, class, used, place] = numbers_theirs(&e.place);
+            [e.count, e.refusal().into(), kind, class, used, place, e.moves, e.rewritten]
+        }),
     }
 }
 
 /// The answer of a call that tells something or is refused.
-pub fn answer_of(told: Result<[u64; 5], Refused>) -> Answer {
+pub fn answer_of(told: Result<Numbers, Refused>) -> Answer {
     match told {
         Ok(told) => Answer { refusal: 0, told },
-        Err(refused) => Answer { refusal: refused.number(), told: [0; 5] },
+        Err(refused) => Answer { refusal: refused.number(), told: [0; OUTS] },
     }
 }
 
@@ -418,7 +479,7 @@ pub fn answer_differs(call: &Call, given: Given, ours: &Answer, theirs: &Answer)
 
 /// What is wrong with the length of a key's list that ours tells where the second book tells another.
 pub fn length_differs(key: u64, given: Given, ours: &Answer, told: Result<u64, Refused>) -> Option<String> {
-    let theirs = answer_of(told.map(|length| [length, 0, 0, 0, 0]));
+    let theirs = answer_of(told.map(|length| numbers([length])));
     let said =
         || format!("length of key {key} {given:?}: {} {:?} in place of {} {:?}", ours.refusal, ours.told, theirs.refusal, theirs.told);
     (*ours != theirs).then(said)

@@ -1,12 +1,12 @@
 //! Histories as lines, for the program `histories`: what each call was given and answered, and what it changed. host/README.md has the format.
-use crate::lockstep::pair::{Answer, Call, Given, Pair, KINDS};
+use crate::lockstep::pair::{Answer, Call, Given, Pair, EXTEND};
 use crate::second_book::desks::By;
 use crate::second_book::space::WORDS;
 use std::fmt::Write;
 
 /// The numbers of the kinds of calls, and what a call of the core has above them; a line that says what somebody else wrote, and one that
-/// begins a history.
-const CALLS: [usize; KINDS.len()] = [0x30, 0x31, 0x32, 0x33, 0x34, 0x37];
+/// begins a history. There are none of extends.
+const CALLS: [usize; EXTEND] = [0x30, 0x31, 0x32, 0x33, 0x34, 0x37];
 const CORE: usize = 0x10;
 const WRITTEN: usize = 0x35;
 const BEGIN: usize = 0x36;
@@ -75,6 +75,7 @@ impl Record {
             Call::Append { key, fk } => (vec![*key, *fk], &[], 5),
             Call::Read { key, room } => (vec![*key, *room as u64], &[], 2),
             Call::Drop { key } => (vec![*key], &[], 1),
+            Call::Extend { .. } => panic!("histories that are written down have no extends"),
         };
         numbers(&mut out, &given);
         out.push('|');

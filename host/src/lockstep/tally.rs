@@ -1,7 +1,8 @@
 //! What the histories met, and how often: calls, refusals and their grounds, moves between classes, blocks taken and given back, chains;
 //! and of starts the verdicts, the faults, and what is foreign about them.
 use crate::lockstep::desk_tally::{in_shape, Desks, Taken, TAKES};
-use crate::lockstep::pair::{Answer, Call, Given, Pair, FAMILIES, KINDS};
+use crate::lockstep::extend_tally::Extends;
+use crate::lockstep::pair::{Answer, Call, Given, Pair, EXTEND, FAMILIES, KINDS};
 use crate::lockstep::run_tally::{pages_of_run, Runs, Wanted};
 use crate::lockstep::spoiled::SPOILS;
 use crate::lockstep::starts::{Foreign, FOREIGN};
@@ -17,12 +18,13 @@ use std::collections::{BTreeMap, BTreeSet};
 /// The refusals that each kind of call can give, and 0 for accepted, by families: the core makes no book, and its reads are told nothing of
 /// desks.
 const REFUSALS: [[&[u32]; KINDS.len()]; FAMILIES.len()] = [
-    [&[0, 1, 39], OF_LOADS, OF_APPENDS, &[0, 1, 2, 31, 34, 39], OF_DROPS, OF_LOADS],
-    [&[], OF_LOADS, OF_APPENDS, &[0, 1, 2, 31, 34], OF_DROPS, OF_LOADS],
+    [&[0, 1, 39], OF_LOADS, OF_APPENDS, &[0, 1, 2, 31, 34, 39], OF_DROPS, OF_LOADS, OF_EXTENDS],
+    [&[], OF_LOADS, OF_APPENDS, &[0, 1, 2, 31, 34], OF_DROPS, OF_LOADS, OF_EXTENDS],
 ];
 const OF_LOADS: &[u32] = &[0, 1, 2, 3, 10, 12, 13, 14, 32, 35, 36, 39, 40, 41, 42];
 const OF_APPENDS: &[u32] = &[0, 1, 2, 12, 13, 14, 31, 32, 35, 36, 39, 40, 41];
 const OF_DROPS: &[u32] = &[0, 1, 2, 31, 39];
+const OF_EXTENDS: &[u32] = &[0, 1, 2, 31, 39];
 
 /// The two kinds of loads, and the classes of slabs that each takes by the class of a list's bytes: with a spare slot up to two more, since a
 /// number has a byte or more where a slot has four, and 256 slots are those of class 6.
@@ -115,6 +117,7 @@ pub struct Tally {
     payloads: BTreeMap<(usize, usize), u64>,
     pub desks: Desks,
     runs: Runs,
+    extends: Extends,
     unknown: BTreeMap<&'static str, u64>,
     full_total: u64,
     pub damages: BTreeMap<&'static str, u64>,
@@ -173,6 +176,9 @@ impl Tally {
         }
         if answer.refusal != 0 {
             return;
+        }
+        if let Call::Extend { fks, .. } = call {
+            return self.extends.count(FAMILIES[given.family()], fks.len(), before, answer, &pair.state);
         }
         match (before.total, call) {
             (Some(0), _) => *self.unknown.entry(Tally::uncounted(call, before, answer)).or_default() += 1,
@@ -296,7 +302,7 @@ impl Tally {
     }
 
     fn appended(&mut self, before: &Before, answer: &Answer) {
-        let [kind, class, _, place, rewritten] = answer.told;
+        let [kind, class, _, place, rewritten, ..] = answer.told;
         let to = if kind == 3 { 8 } else { class as usize };
         match unpack8(before.word) {
             Ok(ShHeadValue::Slab { class: from, .. }) if rewritten > 0 => {
@@ -431,9 +437,15 @@ impl Tally {
         out
     }
 
+    /// Those of them that histories can meet which are written down: they have no extends.
+    pub fn written_kinds(&self) -> Vec<(String, u64)> {
+        self.kinds().into_iter().filter(|(name, _)| !name.contains(KINDS[EXTEND])).collect()
+    }
+
     /// Prints how often each was met, and tells how many that must be weren't.
     pub fn print(&self) -> u64 {
         let mut kinds = self.kinds();
+        kinds.extend(self.extends.kinds());
         kinds.extend(self.load_kinds());
         kinds.extend(self.padded_kinds());
         kinds.extend(self.start_kinds());

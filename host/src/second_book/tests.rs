@@ -58,6 +58,13 @@ impl Book {
         answer.map(|a| (numbers_theirs(&a.place), a.rewritten)).map_err(Refused::number)
     }
 
+    /// How many numbers were appended, why the next one was refused, the four numbers of the place, the moves and the records rewritten.
+    fn extend(&mut self, key: u64, fks: &[u64]) -> Result<(u64, u32, [u64; 4], u64, u64), u32> {
+        let at = self.at(key);
+        let answer = self.book.extend(&mut self.body, &mut self.heads, &mut self.state, at, fks);
+        answer.map(|e| (e.count, e.refusal(), numbers_theirs(&e.place), e.moves, e.rewritten)).map_err(Refused::number)
+    }
+
     fn read(&mut self, key: u64, room: usize) -> Result<(Vec<u64>, u64), u32> {
         let (mut out, at) = (vec![0; room], self.at(key));
         let listed = self.book.read(&self.body, &self.heads, &self.state, at, &mut out).map_err(Refused::number)?;
@@ -86,6 +93,36 @@ fn run_case() {
     assert_eq!(b.body[4096..4100], [2, 0, 9, 1]);
     assert_eq!(b.drop(0), Ok(5));
     assert_eq!(b.state.free[1], 4112);
+}
+
+#[test]
+fn an_extend_is_its_appends() {
+    let (mut b, mut c) = (Book::new(65_536, 2), Book::new(65_536, 2));
+    let fks: Vec<u64> = (1..=5000).map(|k| 3 * k).collect();
+    assert_eq!(b.extend(0, &[]), Ok((0, 0, [0; 4], 0, 0)));
+    assert_eq!(b.extend(0, &fks[..5]), Ok((5, 0, [2, 1, 5, 4112], 2, 5)));
+    assert_eq!(b.extend(0, &fks[5..]), Ok((4995, 0, [3, 0, 0, 12_288], 6, 504)));
+    fks.iter().for_each(|fk| assert!(c.append(0, *fk).is_ok()));
+    assert!((&b.body, &b.heads, b.state) == (&c.body, &c.heads, c.state));
+    assert_eq!((b.extend(0, &[]), b.read(0, 5000).unwrap().1), (Ok((0, 0, [3, 0, 0, 12_288], 0, 0)), 2));
+}
+
+#[test]
+fn an_extend_stops_where_a_number_is_refused() {
+    let mut b = Book::new(8192, 2);
+    for (bad, number) in [(0, 12), (1 << 63, 13), (1 << 62, 14), (9, 32), (8, 32)] {
+        assert_eq!(b.extend(1, &[9, bad, 10]), Ok((1, number, [1, 0, 1, 9], 0, 0)));
+        assert_eq!(b.extend(1, &[bad, 10]), Ok((0, number, [1, 0, 1, 9], 0, 0)));
+        assert_eq!(b.drop(1), Ok(1));
+    }
+    // The body has a page for slabs, and none for pages.
+    let fks: Vec<u64> = (1..=400).map(|k| k << 40).collect();
+    let (count, refusal, [kind, ..], ..) = b.extend(0, &fks).unwrap();
+    assert_eq!((refusal, kind), (36, 2));
+    assert_eq!((b.read(0, 400).unwrap().0, b.append(0, fks[count as usize])), (fks[..count as usize].to_vec(), Err(36)));
+    // A key that isn't sound, and one that isn't there, before any number is looked at.
+    b.heads[1] = 2 << 62;
+    assert_eq!((b.extend(1, &[]), b.extend(1, &[0]), b.extend(2, &[0])), (Err(31), Err(31), Err(2)));
 }
 
 #[test]

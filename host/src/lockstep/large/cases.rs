@@ -33,6 +33,10 @@ fn append(key: u64, fk: u64) -> Call {
     Call::Append { key, fk }
 }
 
+fn extend(key: u64, first: u64, last: u64) -> Call {
+    Call::Extend { key, fks: row(first, last) }
+}
+
 fn read(key: u64) -> Call {
     Call::Read { key, room: 20_000 }
 }
@@ -460,7 +464,11 @@ fn totals() -> Vec<Case> {
     let reads = |wanted| vec![(read(0), wanted), (read(1), wanted), (drop_key(0), wanted), (drop_key(1), wanted)];
     let appends = vec![(append(0, 101), 0), (append(1, 4073), 0), (append(0, 102), 0), (append(1, 4074), 0)];
     let both = |first: u32| [reads(first), appends.clone(), reads(0)].concat();
+    let extends = vec![(extend(0, 101, 103), 0), (extend(1, 4073, 4075), 0)];
     vec![
+        case("creates 2^32 - 2, extended", |far| write(far, FULL - 1), [extends.clone(), reads(0)].concat()),
+        case("creates 2^32 - 1, extended", |far| write(far, FULL), [extends.clone(), reads(0)].concat()),
+        case("creates 0, extended", |far| write(far, 0), [extends, reads(0)].concat()),
         case("creates 2^32 - 2", |far| write(far, FULL - 1), both(31)),
         case("creates 2^32 - 1", |far| write(far, FULL), both(31)),
         case("creates 0", |far| write(far, 0), [appends.clone(), reads(0)].concat()),
@@ -468,7 +476,45 @@ fn totals() -> Vec<Case> {
     ]
 }
 
+/// Extends at the ends of slabs and of bodies. One in which a number has no room is accepted.
+fn extends() -> Vec<Case> {
+    vec![
+        // From slabs before 2^40 and across it: to pages past it, in place, and where no slab is left.
+        Case {
+            name: "extends past 2^40".into(),
+            len: END,
+            mark: E + 16,
+            write: |far| {
+                far.put_slab(0, 6, E - 4096, &row(1, 200));
+                far.put_slab(1, 1, E - 16, &row(1, 3));
+            },
+            calls: vec![
+                (extend(0, 201, 5000), 0),
+                (extend(1, 4, 4), 0),
+                (extend(1, 5, 40), 0),
+                (extend(2, 1, 3), 0),
+                (read(0), 0),
+                (read(1), 0),
+                (read(2), 0),
+                (extend(0, 5001, 9000), 0),
+                (drop_key(0), 0),
+            ],
+        },
+        // A chain that grows up to the body's end, and a page that was freed.
+        Case {
+            name: "an extend up to 2^41".into(),
+            len: END,
+            mark: END - 2 * P,
+            write: |far| {
+                far.put_pages(0, &[(END - 3 * P, &row(1, 100))], 100);
+                far.put_free(8, &[END - 4 * P]);
+            },
+            calls: vec![(extend(0, 101, 20_000), 0), (read(0), 0), (extend(0, 101, 101), 0), (drop_key(0), 0), (extend(0, 1, 1), 0)],
+        },
+    ]
+}
+
 /// All of them.
 pub fn cases() -> Vec<Case> {
-    [up_to_the_end(), taking(), across(), out_of_freed(), totals()].into_iter().flatten().collect()
+    [up_to_the_end(), taking(), across(), out_of_freed(), totals(), extends()].into_iter().flatten().collect()
 }

@@ -85,9 +85,27 @@ impl Random<'_> {
             }
             _ => {
                 self.run = (key, self.rng.pick(&[0, 2, 9, 30]));
-                self.append(key)
+                if self.rng.below(3) == 0 {
+                    self.extend(key)
+                } else {
+                    self.append(key)
+                }
             }
         }
+    }
+
+    /// An extend by some numbers, the last of which may not rise.
+    fn extend(&mut self, key: usize) -> Call {
+        let (bits, len) = (self.rng.pick(&[0, 7, 7, 20]), self.rng.pick(&[0, 1, 9, 40, 300]));
+        let mut fks = Vec::new();
+        for _ in 0..len {
+            let last = fks.last().copied().unwrap_or(self.lasts[key].0);
+            fks.push((last + 1 + self.rng.bits(bits)).min(LIMIT - 1));
+        }
+        if self.rng.below(6) == 0 {
+            fks.push(self.lasts[key].0);
+        }
+        Call::Extend { key: key as u64, fks }
     }
 
     fn append(&mut self, key: usize) -> Call {
@@ -126,6 +144,10 @@ impl Random<'_> {
             Call::Load { key, fks, .. } => self.lasts[*key as usize] = (fks.last().copied().unwrap_or(0), fks.len()),
             Call::Append { key, fk } => self.lasts[*key as usize] = (*fk, self.lasts[*key as usize].1 + 1),
             Call::Drop { key } => self.lasts[*key as usize] = (0, 0),
+            Call::Extend { key, fks } => {
+                let (last, count) = (&mut self.lasts[*key as usize], answer.extension().count as usize);
+                *last = (fks[..count].last().copied().unwrap_or(last.0), last.1 + count);
+            }
             _ => {}
         }
     }

@@ -110,6 +110,7 @@ impl Tally {
             self.took(name, call, before, &block);
         }
         let (held, appends) = (unpack8(before.word), matches!(call, Call::Append { .. }));
+        let grows = appends || matches!(call, Call::Extend { .. });
         match held {
             Ok(ShHeadValue::Slab { class, off, .. }) if end_of(class, off) > E => {
                 let how = if appends && answer.told[4] > 0 { ", which moves" } else { "" };
@@ -119,9 +120,9 @@ impl Tally {
             _ => {}
         }
         for (total, creates) in TOTALS {
-            if appends && before.creates == Some(creates) {
+            if grows && before.creates == Some(creates) {
                 let how = if far.heads[call.key().unwrap_or(0) as usize] == before.word { "in place" } else { "on a new page" };
-                self.add(format!("creates {total}: append {how}"));
+                self.add(format!("creates {total}: {name} {how}"));
             }
         }
     }
@@ -174,10 +175,10 @@ impl Tally {
         out.extend((0..8).map(|class| format!("a slab of class {class} from the mark up to 2^40, by tight load")));
         out.push("a slab of class 0 from the mark up to 2^40, by append".into());
         out.extend((0..8).map(|class| format!("a freed slab of class {class}, taken where the mark is past 2^40")));
-        for how in ["append", "append, which moves", "read", "drop"] {
+        for how in ["append", "append, which moves", "extend", "read", "drop"] {
             out.push(format!("a slab across 2^40: {how}"));
         }
-        for how in ["append", "read", "drop"] {
+        for how in ["append", "extend", "read", "drop"] {
             out.push(format!("pages past 2^40: {how}"));
         }
         for what in ["a freed page past 2^40, taken again", "a run across 2^40", "pages up to 2^41"] {
@@ -186,6 +187,7 @@ impl Tally {
         out.extend(OUT_OF_FREED.map(|kind| kind.0.into()));
         for (total, _) in TOTALS {
             out.extend(["in place", "on a new page"].map(|how| format!("creates {total}: append {how}")));
+            out.extend(["in place", "on a new page"].map(|how| format!("creates {total}: extend {how}")));
         }
         out.extend(["read", "drop"].map(|name| format!("31: a total near 2^32 that isn't the length, by {name}")));
         out.extend([LONG_CHECK, SHORT_WORK, SCATTERED_FREED].map(String::from));
