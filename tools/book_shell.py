@@ -22,6 +22,7 @@ FORMS = {
     "load": "load KEY NUMBER ...",
     "load-tight": "load-tight KEY NUMBER ...",
     "append": "append KEY NUMBER",
+    "extend": "extend KEY NUMBER ...",
     "read": "read KEY, or read KEY ROOM",
     "drop": "drop KEY",
     "places": "places alone",
@@ -36,6 +37,7 @@ HELP = [
     "reserve DESK PAGES: between body and keys, keeps pages for a desk; none where no line does",
     "ceiling DESK PAGES: between body and keys, the most pages that a desk gets; all where no line does",
     "append KEY NUMBER: records a number, from 1 to 2^62 - 1, above the last that is recorded",
+    "extend KEY NUMBER ...: records numbers one after another, up to the first that is refused",
     "load KEY NUMBER ...: records rising numbers in an empty account, with a spare slot for the next",
     "load-tight KEY NUMBER ...: the same in the smallest slab that holds them, for lists that are complete",
     "drop KEY: empties an account",
@@ -51,8 +53,16 @@ class Unread(Exception):
     """A line that can't be read, with what to say."""
 
 
+class Stopped(Exception):
+    """A line of which a number was refused, with the lines to say."""
+
+
 def counted(n, one, many=None):
     return f"{n} {one if n == 1 else many or one + 's'}"
+
+
+def turned_back_by(refused):
+    return f"refused {refused}: {TEXTS[int(str(refused))]}"
 
 
 def place(book, key):
@@ -159,6 +169,13 @@ class Shell:
         rewritten = self.book.append(key, n)
         return f"appended: {place(self.book, key)}; {counted(rewritten, 'record')} rewritten"
 
+    def extend(self, key, *ns):
+        count, refused, moves, rewritten = self.book.extend(key, list(ns))
+        told = f"extended: {counted(count, 'number')}; {place(self.book, key)}; {counted(moves, 'move')}, {counted(rewritten, 'record')} rewritten"
+        if refused:
+            raise Stopped(told, f"the next number, {ns[count]}, is {turned_back_by(refused)}")
+        return told
+
     def read(self, key, room=NUMBERS):
         ns, pages, padded = self.book.read(key, room)
         if not ns:
@@ -199,9 +216,9 @@ def answer(shell, words):
     """The lines of the answer to a line."""
     ns = numbers(words[1:])
     if words[0] not in FORMS:
-        raise Unread("expected body, desk, reserve, ceiling, keys, load, load-tight, append, read, drop, places, space, check or help")
+        raise Unread("expected body, desk, reserve, ceiling, keys, load, load-tight, append, extend, read, drop, places, space, check or help")
     alone = dict.fromkeys(("places", "space", "check", "help"), (0, 0))
-    least, most = {"load": (1, NUMBERS), "load-tight": (1, NUMBERS), "append": (2, 2), "desk": (2, 2), "reserve": (2, 2), "ceiling": (2, 2), "read": (1, 2), **alone}.get(words[0], (1, 1))
+    least, most = {"load": (1, NUMBERS), "load-tight": (1, NUMBERS), "extend": (1, NUMBERS), "append": (2, 2), "desk": (2, 2), "reserve": (2, 2), "ceiling": (2, 2), "read": (1, 2), **alone}.get(words[0], (1, 1))
     if not least <= len(ns) <= most:
         raise Unread(f"expected {FORMS[words[0]]}")
     if words[0] == "read" and len(ns) == 2:
@@ -230,7 +247,10 @@ def main():
             for told in answer(shell, words):
                 print(told)
         except Refused as refused:
-            print(f"refused {refused}: {TEXTS[int(str(refused))]}")
+            print(turned_back_by(refused))
+            turned_back += 1
+        except Stopped as stopped:
+            print(*stopped.args, sep="\n")
             turned_back += 1
         except Unread as why:
             print(f"line {number}: {why}")

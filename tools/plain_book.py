@@ -205,6 +205,17 @@ class Book:
         self.put(key, new, place)
         return rewritten
 
+    def extend(self, key, ns):
+        """Appends numbers until one is refused: how many were appended, its refusal or none, how many moved the list, and the records rewritten."""
+        self.on(key)
+        rewritten = []
+        for n in ns:
+            try:
+                rewritten.append(self.append(key, n))
+            except Refused as refused:
+                return len(rewritten), refused, sum(map(bool, rewritten)), sum(rewritten)
+        return len(rewritten), None, sum(map(bool, rewritten)), sum(rewritten)
+
     def load(self, key, ns, tight=False):
         desk = self.on(key)
         if self.places[key][0] != "empty":

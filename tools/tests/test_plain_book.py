@@ -54,6 +54,22 @@ class TestPlainBook(Refusing):
         self.assertEqual(self.book.places[0][0], "pages")
         self.assertEqual(sum(moves), 509)
 
+    def test_an_extend_is_its_appends(self):
+        beside = deepcopy(self.book)
+        self.assertEqual(self.book.extend(0, []), (0, None, 0, 0))
+        self.assertEqual(self.book.extend(0, ones(5000)), (5000, None, 8, 509))
+        for n in ones(5000):
+            beside.append(0, n)
+        self.assertEqual(vars(beside), vars(self.book))
+
+    def test_an_extend_stops_at_a_refused_number(self):
+        for bad, number in ((0, 12), (2**63, 13), (2**62, 14), (6, 32), (5, 32)):
+            count, refused, *moves = self.book.extend(0, [5, 6, bad, 7])
+            self.assertEqual((count, refused.args, moves), (2, (number,), [1, 1]))
+            self.assertEqual(self.book.read(0, 2)[0], [5, 6])
+            self.book.drop(0)
+        self.refused(2, self.book.extend, 4, [0])
+
     def test_a_tight_list_moves_with_slack(self):
         self.book.load_tight(0, ones(31))
         self.assertEqual(self.book.places[0], ("slab", 2, 4096))

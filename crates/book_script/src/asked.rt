@@ -14,6 +14,7 @@ pub enum Command {
     Load,
     LoadTight,
     Append,
+    Extend,
     Read,
     Drop,
     Places,
@@ -106,6 +107,9 @@ fn command_of(word: &[u8]) -> Command {
     if check::same(word, b"append") {
         return Command::Append;
     }
+    if check::same(word, b"extend") {
+        return Command::Extend;
+    }
     if check::same(word, b"read") {
         return Command::Read;
     }
@@ -131,7 +135,7 @@ fn most(command: Command) -> usize {
         Command::Places | Command::Space | Command::Check | Command::Help => 0,
         Command::Append | Command::Read => 2,
         Command::Desk | Command::Reserve | Command::Ceiling => 2,
-        Command::Load | Command::LoadTight => usize::MAX,
+        Command::Load | Command::LoadTight | Command::Extend => usize::MAX,
         _ => 1,
     }
 }
@@ -143,7 +147,7 @@ fn form_of_desks(command: Command) {
         Command::Reserve => text::words(b"reserve DESK PAGES"),
         Command::Ceiling => text::words(b"ceiling DESK PAGES"),
         _ => text::words(
-            b"body, desk, reserve, ceiling, keys, load, load-tight, append, read, drop, places, space, check or help",
+            b"body, desk, reserve, ceiling, keys, load, load-tight, append, extend, read, drop, places, space, check or help",
         ),
     }
 }
@@ -167,6 +171,7 @@ fn form(command: Command) {
         Command::Load => text::words(b"load KEY NUMBER ..."),
         Command::LoadTight => text::words(b"load-tight KEY NUMBER ..."),
         Command::Append => text::words(b"append KEY NUMBER"),
+        Command::Extend => text::words(b"extend KEY NUMBER ..."),
         Command::Read => text::words(b"read KEY, or read KEY ROOM"),
         Command::Drop => text::words(b"drop KEY"),
         _ => form_of_book(command),

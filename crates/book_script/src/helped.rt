@@ -38,6 +38,9 @@ fn of_changes() {
         b"append KEY NUMBER: records a number, from 1 to 2^62 - 1, above the last that is recorded\n",
     );
     text::words(
+        b"extend KEY NUMBER ...: records numbers one after another, up to the first that is refused\n",
+    );
+    text::words(
         b"load KEY NUMBER ...: records rising numbers in an empty account, with a spare slot for the next\n",
     );
     text::words(

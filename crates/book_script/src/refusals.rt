@@ -51,3 +51,10 @@ pub fn refused(number: error::Refusal) {
     of_numbers(number);
     text::end();
 }
+
+// Writes the number at which an extend stopped, and why it was refused.
+pub fn stopped(n: u64, number: error::Refusal) {
+    text::named(b"the next number, ", n);
+    text::words(b", is ");
+    refused(number);
+}

@@ -81,6 +81,16 @@ pub fn appended(to: ShHeadValue, rewritten: u64) {
     counted(rewritten, b" record rewritten\n", b" records rewritten\n");
 }
 
+// Numbers were appended one after another.
+pub fn extended(count: u64, to: ShHeadValue, moves: u64, rewritten: u64) {
+    text::words(b"extended: ");
+    counted(count, b" number; ", b" numbers; ");
+    place(to);
+    text::words(b"; ");
+    counted(moves, b" move, ", b" moves, ");
+    counted(rewritten, b" record rewritten\n", b" records rewritten\n");
+}
+
 // Writes how many numbers are padded, where some are, and a colon.
 fn padded_some(padded: u64) {
     if padded != 0 {

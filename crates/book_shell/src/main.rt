@@ -1,9 +1,9 @@
 // A shell for the account book: reads a script from standard input, a call a line, and writes each answer in words. `body BYTES` and then
 // `keys COUNT` make a fresh book, and between them `desk KEY DESK`, `reserve DESK PAGES` and `ceiling DESK PAGES` tell of its desks;
-// `load KEY NUMBER ...`, `load-tight KEY NUMBER ...`, `append KEY NUMBER`, `read KEY` and `drop KEY` are its calls; `places` and `space`
-// show what it holds, and `check` tells whether it is a good start; `help` lists these lines, and `#` begins a comment. A line that can't
-// be read, or comes before there is a book, is reported with its number, and nothing is done for it. The last line of all tells how many
-// lines were refused, and how many not understood.
+// `load KEY NUMBER ...`, `load-tight KEY NUMBER ...`, `append KEY NUMBER`, `extend KEY NUMBER ...`, `read KEY` and `drop KEY` are its
+// calls; `places` and `space` show what it holds, and `check` tells whether it is a good start; `help` lists these lines, and `#` begins a
+// comment. A line that can't be read, or comes before there is a book, is reported with its number, and nothing is done for it. The last
+// line of all tells how many lines were refused, also such of which a number was, and how many not understood.
 mod calls;
 mod memory;
 
@@ -139,6 +139,32 @@ fn look(
     }
 }
 
+// Does what is asked for with a list of numbers, and tells whether it was refused.
+fn act_with(
+    asked: Asked,
+    numbers: &[u64],
+    body: &mut [u8],
+    heads: &mut [u64],
+    mark: &mut u64,
+    free: &mut [u64; 9],
+    counts: &mut [u64; 49],
+    desks: &[u8],
+) -> bool {
+    let what = asked.what;
+    let key = asked.first;
+    match what {
+        Command::Extend => calls::extend(body, heads, mark, free, counts, desks, key, numbers),
+        Command::LoadTight => {
+            let fit = SlabFit::Tight;
+            calls::load(body, heads, mark, free, counts, desks, fit, key, numbers)
+        }
+        _ => {
+            let fit = SlabFit::Spare;
+            calls::load(body, heads, mark, free, counts, desks, fit, key, numbers)
+        }
+    }
+}
+
 // Does what is asked for on the book's own bytes and heads, and tells whether it was refused.
 fn act(
     asked: Asked,
@@ -151,46 +177,16 @@ fn act(
     desks: &[u8],
 ) -> bool {
     let what = asked.what;
+    let key = asked.first;
     match what {
-        Command::Load => {
+        Command::Load | Command::LoadTight | Command::Extend => {
             let numbers = book_script::offered(list, asked.count);
-            calls::load(
-                body,
-                heads,
-                mark,
-                free,
-                counts,
-                desks,
-                SlabFit::Spare,
-                asked.first,
-                numbers,
-            )
+            act_with(asked, numbers, body, heads, mark, free, counts, desks)
         }
-        Command::LoadTight => {
-            let numbers = book_script::offered(list, asked.count);
-            calls::load(
-                body,
-                heads,
-                mark,
-                free,
-                counts,
-                desks,
-                SlabFit::Tight,
-                asked.first,
-                numbers,
-            )
+        Command::Append => {
+            calls::append(body, heads, mark, free, counts, desks, key, asked.second)
         }
-        Command::Append => calls::append(
-            body,
-            heads,
-            mark,
-            free,
-            counts,
-            desks,
-            asked.first,
-            asked.second,
-        ),
-        Command::Drop => calls::drop(body, heads, mark, free, counts, desks, asked.first),
+        Command::Drop => calls::drop(body, heads, mark, free, counts, desks, key),
         _ => look(asked, list, body, heads, *mark, *free, counts, desks),
     }
 }
