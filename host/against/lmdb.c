@@ -114,4 +114,7 @@ static void close_lmdb(void)
     rmdir(folder);
 }
 
-const struct store lmdb_store = {"LMDB", open_lmdb, load_lmdb, append_lmdb, read_lmdb, drop_lmdb, settle_lmdb, bytes_lmdb, close_lmdb};
+const struct store lmdb_store = {
+    .name = "LMDB", .open = open_lmdb, .load = load_lmdb, .extend = load_lmdb, .append = append_lmdb, .read = read_lmdb,
+    .drop = drop_lmdb, .settle = settle_lmdb, .bytes = bytes_lmdb, .close = close_lmdb,
+};

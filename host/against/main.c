@@ -1,127 +1,121 @@
-/* Measures stores of posting lists on the same histories, in turns: appends to keys chosen with skew, all keys read, all dropped, and loads.
-   Each phase's figure is the median of the rounds, with the least and the greatest. */
+/* Measures stores of posting lists on the same histories, in turns: appends to keys chosen with skew, all keys read, all dropped, each key's list
+   in one call, and loads. Each phase's figure is the median of the rounds, with the least and the greatest. What a store reads is held to the
+   history, and so to what the others read. */
+#include <math.h>
 #include <stdbool.h>
 #include <stdio.h>
 #include <stdlib.h>
 #include <string.h>
-#include <time.h>
+#include "history.h"
 #include "store.h"
 
-#define STORES 3
 #define MOST_ROUNDS 32
 #define LOADED 65535 /* the most numbers that a load takes */
 #define LOADS 16
-#define PHASES 5
 
-enum phase { APPEND, READ, DROP, LOAD, BYTES };
+/* The book first: its medians are divided by the others'. Which others there are, host/stores says. */
+static const struct store *const stores[] = {
+    &book_store,
+#ifdef WITH_LMDB
+    &lmdb_store,
+#endif
+#ifdef WITH_SQLITE
+    &sqlite_store,
+#endif
+#ifdef WITH_ROCKSDB
+    &rocksdb_store,
+    &rocksdb_snappy_store,
+#endif
+#ifdef WITH_ROARING
+    &roaring_store,
+#endif
+    &arrays_store,
+};
+#define STORES ((int)(sizeof stores / sizeof *stores))
 
-static const struct store *const stores[STORES] = {&book_store, &lmdb_store, &sqlite_store};
-static const char *const phases[PHASES] = {"append, a number", "read, a number", "drop, a key", "load of 65,535, a number", "bytes a number"};
-static uint64_t word = 88172645463325252u;
+enum phase { APPEND, EXTEND, LOAD, READ, DROP, BYTES, STORED, PHASES };
 
-void fail(const char *store, const char *what)
-{
-    fprintf(stderr, "host/stores: %s failed at: %s\n", store, what);
-    exit(1);
-}
-
-/* The next of a fixed sequence of numbers that look random. */
-static uint64_t random_word(void)
-{
-    word ^= word << 13;
-    word ^= word >> 7;
-    word ^= word << 17;
-    return word;
-}
-
-/* A key, low ones more often: the square of a number below 1. */
-static size_t skewed_key(size_t keys)
-{
-    double u = (double)(random_word() >> 11) / 9007199254740992.0;
-    return (size_t)((double)keys * u * u);
-}
-
-static double nanoseconds(void)
-{
-    struct timespec t;
-    clock_gettime(CLOCK_THREAD_CPUTIME_ID, &t);
-    return 1e9 * (double)t.tv_sec + (double)t.tv_nsec;
-}
-
-/* A history: which key gets each number, and the numbers, with 1 to 40 between them. */
-struct history {
-    size_t keys, count;
-    uint32_t *key;
-    uint64_t *number;
+static const char *const phases[PHASES] = {
+    [APPEND] = "append, ns a number",
+    [EXTEND] = "list in one call, ns a number",
+    [LOAD] = "load of 65,535, ns a number",
+    [READ] = "read, ns a number",
+    [DROP] = "drop, microseconds a key",
+    [BYTES] = "bytes a number",
+    [STORED] = "bytes a number, in a file",
 };
 
-static struct history history_of(size_t keys, size_t count)
+/* The figures of all rounds; NAN where a store has no such phase. */
+static double figures[sizeof stores / sizeof *stores][PHASES][MOST_ROUNDS];
+
+/* Ends the process where a key's list isn't the one expected. */
+static void hold(const struct store *s, size_t key, const uint64_t *expected, size_t count, uint64_t *list, size_t room)
 {
-    struct history h = {keys, count, malloc(count * sizeof *h.key), malloc(count * sizeof *h.number)};
-    uint64_t number = 1 << 20;
-    if (h.key == NULL || h.number == NULL)
-        fail("the history", "no memory");
-    for (size_t i = 0; i < count; i++) {
-        number += 1 + random_word() % 40;
-        h.key[i] = (uint32_t)skewed_key(keys);
-        h.number[i] = number;
-    }
-    return h;
+    if (s->read(key, list, room) != count || (count != 0 && memcmp(list, expected, count * sizeof *list) != 0))
+        fail(s->name, "reading what was recorded");
 }
 
-/* A sum over what is read, so that the stores can be held to each other. */
-static uint64_t sum_of(const uint64_t *list, size_t count)
+/* Holds all lists to the history's, or, where they were dropped, to empty ones. */
+static void hold_all(const struct store *s, const struct history *h, bool dropped, uint64_t *list)
 {
-    uint64_t sum = count;
-    for (size_t k = 0; k < count; k++)
-        sum = sum * 31 + list[k];
-    return sum;
+    for (size_t key = 0; key < h->keys; key++)
+        hold(s, key, h->lists + h->start[key], dropped ? 0 : h->start[key + 1] - h->start[key], list, h->count);
 }
 
-/* One round of a store on a history: the times of its phases in nanoseconds, and a sum over all that was read. */
-static uint64_t appended_round(const struct store *s, const struct history *h, uint64_t *list, double *times)
+/* One round of a store on a history, number by number. In the first it also tells where its bytes are. */
+static void appended_round(const struct store *s, const struct history *h, uint64_t *list, bool first, double *told)
 {
-    uint64_t sum = 0;
     size_t total = 0;
     s->open(h->keys, h->count);
     double start = nanoseconds();
     for (size_t i = 0; i < h->count; i++)
         s->append(h->key[i], h->number[i]);
     s->settle();
-    times[APPEND] = (nanoseconds() - start) / (double)h->count;
-    times[BYTES] = (double)s->bytes() / (double)h->count;
+    told[APPEND] = (nanoseconds() - start) / (double)h->count;
     start = nanoseconds();
-    for (size_t key = 0; key < h->keys; key++) {
-        size_t count = s->read(key, list, h->count);
-        total += count;
-        sum += count == 0 ? 0 : list[count - 1] ^ list[0];
-    }
-    times[READ] = (nanoseconds() - start) / (double)total;
-    for (size_t key = 0; key < h->keys; key += 97)
-        sum = sum * 31 + sum_of(list, s->read(key, list, h->count));
+    for (size_t key = 0; key < h->keys; key++)
+        total += s->read(key, list, h->count);
+    told[READ] = (nanoseconds() - start) / (double)total;
+    hold_all(s, h, false, list);
+    told[BYTES] = (double)s->bytes() / (double)h->count;
+    told[STORED] = s->stored == NULL ? told[BYTES] : (double)s->stored() / (double)h->count;
+    if (first && s->explain != NULL)
+        s->explain(h->count);
     start = nanoseconds();
     for (size_t key = 0; key < h->keys; key++)
         s->drop(key);
     s->settle();
-    times[DROP] = (nanoseconds() - start) / (double)h->keys;
+    told[DROP] = (nanoseconds() - start) / (double)h->keys / 1000;
+    hold_all(s, h, true, list);
     s->close();
-    return total == h->count ? sum : 0;
+}
+
+/* One round of a store on a history, each key's list in one call. */
+static void extended_round(const struct store *s, const struct history *h, uint64_t *list, double *told)
+{
+    s->open(h->keys, h->count);
+    double start = nanoseconds();
+    for (size_t key = 0; key < h->keys; key++)
+        if (h->start[key] != h->start[key + 1])
+            s->extend(key, h->lists + h->start[key], h->start[key + 1] - h->start[key]);
+    s->settle();
+    told[EXTEND] = (nanoseconds() - start) / (double)h->count;
+    hold_all(s, h, false, list);
+    s->close();
 }
 
 /* One round of loads of the most numbers that a load takes. */
-static uint64_t loaded_round(const struct store *s, const struct history *h, uint64_t *list, double *times)
+static void loaded_round(const struct store *s, const struct history *h, uint64_t *list, double *told)
 {
-    uint64_t sum = 0;
     s->open(LOADS, LOADS * LOADED);
     double start = nanoseconds();
     for (size_t key = 0; key < LOADS; key++)
         s->load(key, h->number, LOADED);
     s->settle();
-    times[LOAD] = (nanoseconds() - start) / (double)(LOADS * LOADED);
+    told[LOAD] = (nanoseconds() - start) / (double)(LOADS * LOADED);
     for (size_t key = 0; key < LOADS; key++)
-        sum = sum * 31 + sum_of(list, s->read(key, list, h->count));
+        hold(s, key, h->number, LOADED, list, h->count);
     s->close();
-    return sum;
 }
 
 static int by_size(const void *a, const void *b)
@@ -130,120 +124,79 @@ static int by_size(const void *a, const void *b)
     return (x > y) - (x < y);
 }
 
-/* A table: each phase a line, each store's median with its spread, and our median over theirs. */
-static void print_table(double times[STORES][PHASES][MOST_ROUNDS], int rounds, size_t keys, bool with_loads)
+/* How many digits behind the point a figure is told with. */
+static int digits(double figure)
 {
-    printf("\n%zu keys%32s", keys, "");
-    for (int s = 0; s < STORES; s++)
-        printf("%28s", stores[s]->name);
-    printf("%10s%10s\n", "/ LMDB", "/ SQLite");
-    for (int p = 0; p < PHASES; p++) {
-        if (p == LOAD && !with_loads)
-            continue;
-        double median[STORES];
-        printf("%-36s", phases[p]);
-        for (int s = 0; s < STORES; s++) {
-            double *t = times[s][p];
-            qsort(t, (size_t)rounds, sizeof *t, by_size);
-            median[s] = t[rounds / 2];
-            printf("%10.1f (%.1f to %.1f)", median[s], t[0], t[rounds - 1]);
-        }
-        printf("%10.2f%10.2f\n", median[0] / median[1], median[0] / median[2]);
-    }
+    return figure >= 1000 ? 0 : figure >= 100 ? 1 : figure >= 10 ? 2 : 3;
 }
 
-/* Rounds of all stores in turns on one history; they must have read the same. */
+/* A phase of the table: each store's median, under it its spread, and under that our median over theirs. A bar: there is none. */
+static void print_phase(enum phase p, int rounds)
+{
+    double median[STORES];
+    printf("%-32s", phases[p]);
+    for (int s = 0; s < STORES; s++) {
+        double *f = figures[s][p];
+        qsort(f, (size_t)rounds, sizeof *f, by_size);
+        median[s] = f[rounds / 2];
+        isnan(median[s]) ? printf("%18s", "-") : printf("%18.*f", digits(median[s]), median[s]);
+    }
+    printf("\n%-32s", "  least to greatest");
+    for (int s = 0; s < STORES; s++) {
+        const double least = figures[s][p][0], most = figures[s][p][rounds - 1];
+        char spread[64];
+        snprintf(spread, sizeof spread, "%.*f to %.*f", digits(least), least, digits(most), most);
+        printf("%18s", isnan(median[s]) ? "-" : spread);
+    }
+    printf("\n%-50s", "  ours / theirs");
+    for (int s = 1; s < STORES; s++) {
+        double ratio = median[0] / median[s];
+        isnan(ratio) ? printf("%18s", "-") : printf("%18.2f", ratio);
+    }
+    printf("\n");
+}
+
+static void print_table(const struct history *h, int rounds, bool with_loads)
+{
+    printf("%5zu keys, %7zu numbers each", h->keys, h->count / h->keys);
+    for (int s = 0; s < STORES; s++)
+        printf("%18s", stores[s]->name);
+    printf("\n");
+    for (enum phase p = 0; p < PHASES; p++)
+        if (p != LOAD || with_loads)
+            print_phase(p, rounds);
+    fflush(stdout);
+}
+
+/* Rounds of all stores in turns on one history. */
 static void measure(size_t keys, size_t appends, int rounds, bool with_loads)
 {
-    static double times[STORES][PHASES][MOST_ROUNDS];
     struct history h = history_of(keys, appends);
-    uint64_t *list = malloc(appends * sizeof *list);
-    if (list == NULL)
-        fail("the lists", "no memory");
-    for (int round = 0; round < rounds; round++) {
-        uint64_t sums[STORES];
+    uint64_t *list = room_for(appends, sizeof *list);
+    for (int round = 0; round < rounds; round++)
         for (int s = 0; s < STORES; s++) {
-            double t[PHASES] = {0};
-            sums[s] = appended_round(stores[s], &h, list, t);
+            double told[PHASES];
+            told[EXTEND] = told[LOAD] = NAN;
+            appended_round(stores[s], &h, list, round == 0, told);
+            if (stores[s]->extend != NULL)
+                extended_round(stores[s], &h, list, told);
             if (with_loads)
-                sums[s] = sums[s] * 31 + loaded_round(stores[s], &h, list, t);
+                loaded_round(stores[s], &h, list, told);
             for (int p = 0; p < PHASES; p++)
-                times[s][p][round] = t[p];
+                figures[s][p][round] = told[p];
         }
-        if (sums[0] == 0 || sums[0] != sums[1] || sums[0] != sums[2])
-            fail("a store", "reading what the others read");
-    }
-    print_table(times, rounds, keys, with_loads);
-    free(list), free(h.key), free(h.number);
-}
-
-/* The time of an append after histories of some lengths: the last tenth of each. A key is dropped when its list has so many numbers, so that
-   lists are as long in a long history as in a short one. */
-static void growth_of_history(size_t keys, size_t longest)
-{
-    uint32_t *held = calloc(keys, sizeof *held);
-    if (held == NULL)
-        fail("the history", "no memory");
-    for (size_t calls = 10000; calls <= 10000000; calls *= 10) {
-        struct history h = history_of(keys, calls);
-        double start = 0, dropping = 0;
-        memset(held, 0, keys * sizeof *held);
-        book_store.open(h.keys, h.count);
-        for (size_t i = 0; i < calls; i++) {
-            if (i == calls - calls / 10)
-                start = nanoseconds(), dropping = 0;
-            book_store.append(h.key[i], h.number[i]);
-            if (++held[h.key[i]] < longest)
-                continue;
-            double before = nanoseconds();
-            book_store.drop(h.key[i]);
-            held[h.key[i]] = 0;
-            dropping += nanoseconds() - before;
-        }
-        printf("history,%zu,%zu,%.2f\n", keys, calls, (nanoseconds() - start - dropping) / (double)(calls / 10));
-        book_store.close();
-        free(h.key), free(h.number);
-    }
-    free(held);
-}
-
-/* The time of an append and of a read by the length of the key's list. */
-static void growth_of_list(void)
-{
-    enum { KEYS = 64 };
-    size_t longest = 262144;
-    uint64_t *list = malloc(longest * sizeof *list);
-    book_store.open(KEYS, KEYS * longest);
-    uint64_t number = 1 << 20;
-    for (size_t length = 0; length < longest;) {
-        size_t next = length < 64 ? 64 : length + length / 8 + 1;
-        double start = nanoseconds();
-        for (size_t k = length; k < next; k++)
-            for (size_t key = 0; key < KEYS; key++)
-                book_store.append(key, number += 1 + k % 40);
-        printf("append,%d,%zu,%.2f\n", KEYS, next, (nanoseconds() - start) / (double)(KEYS * (next - length)));
-        length = next;
-        if (length > longest)
-            break;
-        start = nanoseconds();
-        for (size_t key = 0; key < KEYS; key++)
-            if (book_store.read(key, list, longest) != length)
-                fail("book", "reading all");
-        printf("read,%d,%zu,%.2f\n", KEYS, length, (nanoseconds() - start) / KEYS);
-    }
-    book_store.close();
+    print_table(&h, rounds, with_loads);
     free(list);
+    free_history(&h);
 }
 
 int main(int argc, char **argv)
 {
     int rounds = 5;
     size_t appends = 1000000;
-    for (int i = 1; i < argc; i++) {
+    for (int i = 1; i < argc; i += 2) {
         if (strcmp(argv[i], "--growth") == 0) {
-            growth_of_history(2000, 400);
-            growth_of_history(50000, 40);
-            growth_of_list();
+            growth();
             return 0;
         }
         if (i + 1 == argc || (strcmp(argv[i], "--rounds") != 0 && strcmp(argv[i], "--appends") != 0)) {
@@ -255,10 +208,10 @@ int main(int argc, char **argv)
             rounds = value < 1 || value > MOST_ROUNDS ? 5 : (int)value;
         else
             appends = value < LOADED ? LOADED : (size_t)value;
-        i++;
     }
-    printf("%zu appends, %d rounds, processor time in nanoseconds: median (least to greatest)\n", appends, rounds);
+    printf("%zu appends, %d rounds, processor time: median, least to greatest\n", appends, rounds);
     measure(50000, appends, rounds, true);
     measure(2000, appends, rounds, false);
+    measure(20, appends, rounds, false);
     return 0;
 }

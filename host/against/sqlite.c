@@ -94,5 +94,6 @@ static void close_sqlite(void)
 }
 
 const struct store sqlite_store = {
-    "SQLite", open_sqlite, load_sqlite, append_sqlite, read_sqlite, drop_sqlite, settle_sqlite, bytes_sqlite, close_sqlite,
+    .name = "SQLite", .open = open_sqlite, .load = load_sqlite, .extend = load_sqlite, .append = append_sqlite, .read = read_sqlite,
+    .drop = drop_sqlite, .settle = settle_sqlite, .bytes = bytes_sqlite, .close = close_sqlite,
 };
